@@ -1,0 +1,11 @@
+pub mod Ports
+pub mod CountLaws
+pub mod PutLaws
+pub mod PutsPart
+pub mod ToldLaws
+pub mod Name
+pub mod Memory
+pub mod MemoryView
+pub mod Steps
+pub mod Written
+pub mod Pos
