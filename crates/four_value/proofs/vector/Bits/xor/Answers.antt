@@ -1,0 +1,14 @@
+use Rattle.std.proofs.Common.{rules}
+use Rattle.four_value.proofs.Tables.{binary_from, xor_table, same_width, below_at, plane_bounds}
+use Rattle.four_value.specs.Vector.{xor_digit}
+use Rattle.four_value.proofs.vector.Bits.xor.Goals as goal
+
+pub returns : goal.returns
+returns c = binary_from xor_digit _ _ _ _ _ _ _ _ _ _ c.self.view_is c.other.view_is c.requires (xor_table _ _ _ _)
+
+pub invariant_of-result : goal.invariant_of-result
+invariant_of-result c =
+    let e = same_width _ _ _ _ _ _ _ _ c.self.view_is c.other.view_is c.requires in
+    let k = below_at _ _ _ e c.other.invariant.value_fits in
+    let l = below_at _ _ _ e c.other.invariant.unknown_fits in
+    search (rules, plane_bounds)
