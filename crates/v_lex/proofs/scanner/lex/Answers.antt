@@ -1,0 +1,30 @@
+use Rattle.std.proofs.Common.{◌≡◌, Some, None, length, ap, sym, ◌∙◌, arith}
+use Rattle.std.proofs.lemmas.List.{length_push}
+use Rattle.v_syntax.specs.Lexing.{earlier, earliest, left_open, faults_of}
+use Rattle.v_lex.specs.Found.{of_found}
+use Rattle.v_lex.specs.States.{state_of}
+use Rattle.v_lex.proofs.ScanLaws.{is_first, has_places, is_lexed, fault_is, earliest_none}
+use Rattle.v_lex.proofs.scanner.lex.Goals as goal
+
+pub returns-in-Some-clause-refused : goal.returns-in-Some-clause-refused
+returns-in-Some-clause-refused c =
+    let f = of_found c.in_ok-found.found in
+    let s = state_of c.in_ok-found.state in
+    let o : c.first_open.result ≡ earliest (left_open s.conditionals) = c.first_open.ensures ∙ ap (λ cs. earliest (left_open cs)) c.deref.ensures.value in
+    let e : earliest (faults_of c.args.text.now) ≡ Some c.in-Some.broken = sym (is_first f s c.args.text.now c.in_ok-found.ensures.found) ∙ ap (earlier f.first) (sym o) ∙ sym c.earlier.ensures ∙ c.in-Some.is in
+    rw c.from.ensures (fault_is c.in-Some.broken (earliest (faults_of c.args.text.now)) e)
+
+pub new-requires : goal.new-requires
+new-requires c =
+    let h = has_places (of_found c.in_ok-found.found) (state_of c.in_ok-found.state) c.args.text.now c.in_ok-found.ensures.found in
+    let k = length_push c.in_ok-found.found.places.items (length c.args.text.now) in
+    rw c.in_ok-push.ensures.items (omega arith)
+
+pub returns-clause-tokens : goal.returns-clause-tokens
+returns-clause-tokens c =
+    let f = of_found c.in_ok-found.found in
+    let s = state_of c.in_ok-found.state in
+    let text = c.args.text.now in
+    let o : c.first_open.result ≡ earliest (left_open s.conditionals) = c.first_open.ensures ∙ ap (λ cs. earliest (left_open cs)) c.deref.ensures.value in
+    let e : earliest (faults_of text) ≡ None = sym (is_first f s text c.in_ok-found.ensures.found) ∙ ap (earlier f.first) (sym o) ∙ sym c.earlier.ensures ∙ c.in_default.is in
+    (earliest_none (faults_of text) e, c.new.ensures ∙ rw (c.in_ok-push.ensures.items, c.unwrap_or-step.ensures) (is_lexed f s text c.in_ok-found.ensures.found c.in_ok-found.ensures.state))

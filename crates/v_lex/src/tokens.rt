@@ -1,0 +1,94 @@
+//! The tokens of a text.
+
+ghost use Rattle.std.specs.Prelude.{◌≡◌, ◌≤◌, ◌<◌, ◌+◌, ◌↔◌, length, slice_index, slice_index_or, IsTrue};
+
+use std::marker::Model;
+use v_syntax::Token;
+
+/// The tokens of a text with their byte places, and what its directives set: the unit of time at its end, and the
+/// least precision.
+#[derive(Drop)]
+pub struct Tokens {
+    tokens: Vec<Token>,
+    places: Vec<u32>,
+    unit: u64,
+    step: u64,
+}
+
+impl Model for Tokens {
+    ghost use Rattle.std.specs.Prelude.{◌≡◌, ◌+◌, length};
+    ghost use Rattle.v_syntax.specs.Lexing.{Lexed};
+
+    ghost Value = { Lexed };
+
+    ghost view = { λ t. record { tokens = t.tokens.items; places = t.places.items; unit = t.unit; step = t.step } };
+
+    ghost invariant = { λ t. length t.places.items ≡ length t.tokens.items + 1 };
+}
+
+impl Tokens {
+    /// The tokens, their places and behind them the end of the text, the unit, and the least precision.
+    pub(crate) fn new(tokens: Vec<Token>, places: Vec<u32>, unit: u64, step: u64) -> Tokens
+        requires { length places.items ≡ length tokens.items + 1 }
+        ensures { result ≡ record { tokens = tokens.items; places = places.items; unit = unit; step = step } }
+    {
+        Tokens {
+            tokens,
+            places,
+            unit,
+            step,
+        }
+    }
+
+    /// How many tokens the text has. It has one place more.
+    pub fn len(&self) -> usize
+        ensures is { result ≡ length self.now.tokens }
+        ensures places { length self.now.places ≡ result + 1 }
+    {
+        self.tokens.len()
+    }
+
+    /// Whether the text has no token.
+    pub fn is_empty(&self) -> bool
+        ensures { IsTrue result ↔ (length self.now.tokens ≡ 0) }
+    {
+        self.tokens.is_empty()
+    }
+
+    /// The byte place of token `i`, counted from 0; the last place, behind all tokens, is the end of the text.
+    pub fn place(&self, i: usize) -> u32
+        requires { i ≤ length self.now.tokens }
+        ensures { result ≡ slice_index self.now.places i }
+    {
+        self.places[i]
+    }
+
+    /// Token `i`.
+    pub fn token(&self, i: usize) -> &Token
+        requires { i < length self.now.tokens }
+        ensures { result.now ≡ slice_index_or self.now.tokens i result.now }
+    {
+        &self.tokens[i]
+    }
+
+    /// All tokens in order.
+    pub fn as_slice(&self) -> &[Token]
+        ensures { result.now ≡ self.now.tokens }
+    {
+        &self.tokens
+    }
+
+    /// The unit of time that holds at the end of the text, in femtoseconds (IEEE 1364-2005, clause 19.8).
+    pub fn unit(&self) -> u64
+        ensures { result ≡ self.now.unit }
+    {
+        self.unit
+    }
+
+    /// The least precision of all `timescale` directives, in femtoseconds; 1 ns where there is none.
+    pub fn step(&self) -> u64
+        ensures { result ≡ self.now.step }
+    {
+        self.step
+    }
+}

@@ -1,0 +1,186 @@
+-- The tokens of a text, their places, and the rules that it breaks.
+use Rattle.std.specs.Prelude.{ℕ, zero, suc, ◌+◌, ◌-◌, min, Bool, true, false, not, ◌&&◌, nat_le, List, [], ◌∷◌, ◌++◌, length, take, map, Option, Some, None, unwrap_or, if◌then◌else◌}
+use Rattle.std.specs.List.{slice_get}
+use Rattle.std.specs.Str.{bytes_eq}
+use lib.Chars.{codes}
+use Rattle.v_syntax.specs.declared.token.Token.{Token}
+use Rattle.v_syntax.specs.declared.directive.Directive.{Directive}
+use Rattle.v_syntax.specs.declared.directive.Directive.TheVariants.{TimeScale, Define, Undef, IfDef, IfNDef, ElsIf, Else, EndIf, ResetAll, DefaultNetType, Unnamed, Broken}
+use Rattle.v_syntax.specs.declared.directive.LexRule.{LexRule}
+use Rattle.v_syntax.specs.declared.directive.LexRule.TheVariants as rule
+use Rattle.v_syntax.specs.declared.directive.BrokenRule.{BrokenRule}
+use Rattle.v_syntax.specs.declared.directive.Content.{Content}
+use Rattle.v_syntax.specs.declared.directive.Content.TheVariants as content
+use Rattle.v_syntax.specs.declared.directive.Conditional.{Conditional}
+use Rattle.v_syntax.specs.Pieces.{piece_at}
+
+-- what the directives before a place have set
+pub record State : Type 0 where
+  -- which names are defined
+  pub defined : List ℕ → Bool
+  -- the open conditionals, the innermost last
+  pub conditionals : List Conditional
+  -- the unit of time, in femtoseconds
+  pub unit : ℕ
+  -- the least precision so far, in femtoseconds
+  pub step : Option ℕ
+
+abbrev pub nanosecond : ℕ
+nanosecond = 1000000
+
+-- ---- definitions
+
+abbrev pub no_name : List ℕ → Bool
+no_name name = false
+
+-- the defined names, with one that is defined or not
+abbrev pub with_name : (List ℕ → Bool) → List ℕ → Bool → List ℕ → Bool
+with_name defined name is_defined other = if bytes_eq name other then is_defined else defined other
+
+-- COCOTB_SIM is defined at the start.
+unfoldable pub start : State
+start = record { defined = with_name no_name (codes "COCOTB_SIM") true; conditionals = []; unit = nanosecond; step = None }
+
+-- ---- conditionals
+
+abbrev pub innermost : List Conditional → Option Conditional
+innermost cs = slice_get cs (length cs - 1)
+
+abbrev pub outer : List Conditional → List Conditional
+outer cs = take (length cs - 1) cs
+
+abbrev pub taken_in : Option Conditional → Bool
+taken_in None = true
+taken_in (Some c) = c.is_taken
+
+-- the part at hand is taken
+unfoldable pub is_taken : List Conditional → Bool
+is_taken cs = taken_in (innermost cs)
+
+-- one more conditional, with the truth of its condition
+abbrev pub opened : List Conditional → ℕ → Bool → List Conditional
+opened cs place holds = cs ++ record { place = place; is_taken = is_taken cs && holds; may_take = is_taken cs && not holds; has_else = false } ∷ []
+
+-- the next part of a conditional, with the truth of its condition
+abbrev pub next_part : Conditional → Bool → Bool → Conditional
+next_part c holds is_else = record { place = c.place; is_taken = c.may_take && holds; may_take = c.may_take && not holds; has_else = is_else }
+
+abbrev pub may_go_on : Option Conditional → Bool
+may_go_on None = false
+may_go_on (Some c) = not c.has_else
+
+abbrev pub with_next_part : List Conditional → Bool → Bool → Option Conditional → List Conditional
+with_next_part cs holds is_else None = cs
+with_next_part cs holds is_else (Some c) = if c.has_else then cs else outer cs ++ next_part c holds is_else ∷ []
+
+-- ---- directives
+
+abbrev pub least : Option ℕ → ℕ → ℕ
+least None n = n
+least (Some m) n = min m n
+
+-- what a directive at a place makes of the state
+unfoldable pub after_directive : State → ℕ → Directive → State
+after_directive s place (TimeScale unit precision) = record s { unit = unit; step = Some (least s.step precision) }
+after_directive s place (Define name) = record s { defined = with_name s.defined name true }
+after_directive s place (Undef name) = record s { defined = with_name s.defined name false }
+after_directive s place (IfDef name) = record s { conditionals = opened s.conditionals place (s.defined name) }
+after_directive s place (IfNDef name) = record s { conditionals = opened s.conditionals place (not (s.defined name)) }
+after_directive s place (ElsIf name) = record s { conditionals = with_next_part s.conditionals (s.defined name) false (innermost s.conditionals) }
+after_directive s place Else = record s { conditionals = with_next_part s.conditionals true true (innermost s.conditionals) }
+after_directive s place EndIf = record s { conditionals = outer s.conditionals }
+after_directive s place ResetAll = record s { unit = nanosecond }
+after_directive s place DefaultNetType = s
+after_directive s place Unnamed = record s { conditionals = opened s.conditionals place false }
+after_directive s place Broken = s
+
+abbrev pub is_open : Option Conditional → Bool
+is_open None = false
+is_open (Some c) = true
+
+-- the directive has its parts, and stands where it may
+unfoldable pub is_allowed : State → Directive → Bool
+is_allowed s (TimeScale unit precision) = true
+is_allowed s (Define name) = true
+is_allowed s (Undef name) = true
+is_allowed s (IfDef name) = true
+is_allowed s (IfNDef name) = true
+is_allowed s (ElsIf name) = may_go_on (innermost s.conditionals)
+is_allowed s Else = may_go_on (innermost s.conditionals)
+is_allowed s EndIf = is_open (innermost s.conditionals)
+is_allowed s ResetAll = true
+is_allowed s DefaultNetType = true
+is_allowed s Unnamed = false
+is_allowed s Broken = false
+
+-- ---- the whole text
+
+-- what stands in a text from a place on, and the state at its end
+pub record Scan : Type 0 where
+  pub tokens : List Token
+  pub places : List ℕ
+  pub faults : List BrokenRule
+  pub last : State
+
+abbrev pub broken_at : LexRule → ℕ → BrokenRule
+broken_at r p = record { rule = r; place = p }
+
+abbrev pub with_token : ℕ → Token → Scan → Scan
+with_token place t scan = record scan { tokens = t ∷ scan.tokens; places = place ∷ scan.places }
+
+abbrev pub with_fault : ℕ → LexRule → Scan → Scan
+with_fault place r scan = record scan { faults = broken_at r place ∷ scan.faults }
+
+-- what stands at a place, before what comes after it
+unfoldable pub with_content : State → ℕ → Content → Scan → Scan
+with_content s place content.Gap scan = scan
+with_content s place (content.Token t) scan = with_token place t scan
+with_content s place (content.Directive d) scan = if is_allowed s d then scan else with_fault place rule.Directive scan
+with_content s place (content.Broken r) scan = with_fault place r scan
+
+unfoldable pub after_content : State → ℕ → Content → State
+after_content s place content.Gap = s
+after_content s place (content.Token t) = s
+after_content s place (content.Directive d) = after_directive s place d
+after_content s place (content.Broken r) = s
+
+-- A conditional that is left open has the place of its opening directive.
+unfoldable pub left_open : List Conditional → List BrokenRule
+left_open cs = map (λ c. broken_at rule.Directive c.place) cs
+
+-- A text from a place on, whose first bytes may still belong to the piece before it.
+unfoldable pub scan_from : State → ℕ → ℕ → List ℕ → Scan
+scan_from s place inside [] = record { tokens = []; places = []; faults = left_open s.conditionals; last = s }
+scan_from s place (suc inside) (b ∷ bs) = scan_from s (place + 1) inside bs
+scan_from s place zero (b ∷ bs) = let p = piece_at (is_taken s.conditionals) (b ∷ bs) in with_content s place p.content (scan_from (after_content s place p.content) (place + 1) (p.size - 1) bs)
+
+unfoldable pub scan_of : List ℕ → Scan
+scan_of text = scan_from start 0 0 text
+
+-- the rules that a text breaks
+unfoldable pub faults_of : List ℕ → List BrokenRule
+faults_of text = (scan_of text).faults
+
+-- of two broken rules the one at the lesser place; at one place the first
+abbrev pub earlier : Option BrokenRule → Option BrokenRule → Option BrokenRule
+earlier None g = g
+earlier (Some f) None = Some f
+earlier (Some f) (Some g) = if nat_le f.place g.place then Some f else Some g
+
+-- the first broken rule by place
+unfoldable pub earliest : List BrokenRule → Option BrokenRule
+earliest [] = None
+earliest (f ∷ fs) = earlier (Some f) (earliest fs)
+
+-- what is told of a text that breaks no rule
+pub record Lexed : Type 0 where
+  pub tokens : List Token
+  -- the byte place of each token, and behind them the end of the text
+  pub places : List ℕ
+  -- the unit of time at the end of the text, in femtoseconds
+  pub unit : ℕ
+  -- the least precision, in femtoseconds; 1 ns where no directive sets one
+  pub step : ℕ
+
+unfoldable pub lexed : List ℕ → Lexed
+lexed text = record { tokens = (scan_of text).tokens; places = (scan_of text).places ++ length text ∷ []; unit = (scan_of text).last.unit; step = unwrap_or (scan_of text).last.step nanosecond }
