@@ -1,0 +1,61 @@
+-- What is read of a text is what its pieces have.
+use Rattle.std.proofs.Common.{◌≡◌, ℕ, List, [], ◌∷◌, length, drop, None, Some, Result, Ok, Err, refl, sym, subst, ap, ◌∙◌, arith, append-nil}
+use Rattle.py_syntax.specs.Line.{Line}
+use Rattle.py_syntax.specs.Pieces.{piece_at}
+use Rattle.py_syntax.specs.Places.{Place, first_place, place_after, context_of, IsMadeOf}
+use Rattle.py_syntax.specs.Logical.{lines_of, first_broken, broken_on}
+use Rattle.py_syntax.specs.declared.piece.Piece.{Piece}
+use Rattle.py_syntax.specs.declared.piece.LineRule.{LineRule}
+use Rattle.py_syntax.specs.declared.piece.LineRule.TheVariants as rule
+use Rattle.py_syntax.specs.declared.piece.Broken.{Broken}
+use Rattle.py_lex.specs.declared.fault.LineFault.{LineFault}
+use Rattle.py_lex.specs.Scan.{State, lines_in, broken_in, HasRead}
+use Rattle.py_lex.specs.Answer.{Answers, IsAnswered, fault_of, fault_by}
+use Rattle.py_lex.proofs.Laws.{read_lines, read_broken}
+
+pub made_once : (a : Place) (text : List ℕ) (ps qs : List Piece) → IsMadeOf a text ps → IsMadeOf a text qs → ps ≡ qs
+made_once a text [] [] m n = refl
+made_once a text [] (q ∷ qs) m n = absurd (omega (arith, ap length m, n.0))
+made_once a text (p ∷ ps) [] m n = absurd (omega (arith, ap length n, m.0))
+made_once a text (p ∷ ps) (q ∷ qs) m n =
+    let e : q ≡ p = sym n.1 ∙ m.1 in
+    let k : IsMadeOf (place_after a p) (drop (piece_at (context_of a) text).1 text) qs = subst (λ (x : Piece). IsMadeOf (place_after a x) (drop (piece_at (context_of a) text).1 text) qs) e n.2 in
+    let ih : ps ≡ qs = made_once (place_after a p) (drop (piece_at (context_of a) text).1 text) ps qs m.2 k in
+    cc
+
+made_of_read : (text : List ℕ) (s : State) → (h : HasRead text [] s) → IsMadeOf first_place text h.pieces
+made_of_read text s h = subst (λ (ps : List Piece). IsMadeOf first_place text ps) (append-nil h.pieces) (h.made [] refl)
+
+lines_of_read : (text : List ℕ) (s : State) → (h : HasRead text [] s) → lines_in s ≡ lines_of h.pieces
+lines_of_read text s h = ap lines_in h.state ∙ read_lines h.pieces
+
+broken_of_read : (text : List ℕ) (s : State) → (h : HasRead text [] s) → broken_in s ≡ first_broken h.pieces
+broken_of_read text s h = ap broken_in h.state ∙ read_broken h.pieces
+
+fault_answers : (ps : List Piece) (n : ℕ) (r : LineRule) → first_broken ps ≡ Some (broken_on n r) → Answers ps (Err (fault_by r n))
+fault_answers ps n rule.Tab e = e
+fault_answers ps n rule.Dedent e = e
+fault_answers ps n rule.UnclosedText e = e
+fault_answers ps n rule.BadByte e = e
+
+-- any text's answer is that of all its pieces, where it is that of some
+pub for_all : (text : List ℕ) (r : Result (List Line) LineFault) (ps : List Piece) → IsMadeOf first_place text ps → Answers ps r
+    → (qs : List Piece) → IsMadeOf first_place text qs → Answers qs r
+for_all text r ps m a qs n = subst (λ (xs : List Piece). Answers xs r) (made_once first_place text ps qs m n) a
+
+pub lines_answer : (text : List ℕ) (s : State) (ls : List Line) → HasRead text [] s → ls ≡ lines_in s → None ≡ broken_in s
+    → (ps : List Piece) × IsMadeOf first_place text ps × Answers ps (Ok ls)
+lines_answer text s ls h e b = (h.pieces, made_of_read text s h, (sym (broken_of_read text s h) ∙ sym b, e ∙ lines_of_read text s h))
+
+pub fault_answer : (text : List ℕ) (s : State) (b : Broken) → HasRead text [] s → Some b ≡ broken_in s
+    → (ps : List Piece) × IsMadeOf first_place text ps × Answers ps (Err (fault_of b))
+fault_answer text s b h e = (h.pieces, made_of_read text s h, fault_answers h.pieces b.line b.rule (sym (broken_of_read text s h) ∙ sym e))
+
+pub is_answered : (text : List ℕ) (b : Broken) → ((ps : List Piece) × IsMadeOf first_place text ps × Answers ps (Err (fault_of b))) → IsAnswered text (Err (fault_of b))
+is_answered text b h = go b.rule b.line h
+  where
+    go : (r : LineRule) (n : ℕ) → ((ps : List Piece) × IsMadeOf first_place text ps × Answers ps (Err (fault_by r n))) → IsAnswered text (Err (fault_by r n))
+    go rule.Tab n h = h
+    go rule.Dedent n h = h
+    go rule.UnclosedText n h = h
+    go rule.BadByte n h = h

@@ -1,0 +1,4 @@
+pub mod Limit
+pub mod Fits
+pub mod Scan
+pub mod Answer

@@ -1,0 +1,20 @@
+//! The logical lines of a Python text.
+#![tactic(auto)]
+
+mod bytes;
+mod fault;
+mod front;
+mod gather;
+mod marks;
+mod numbers;
+mod place;
+mod reader;
+mod rules;
+mod scan;
+#[cfg(test)]
+mod tests;
+mod texts;
+mod words;
+
+pub use fault::LineFault;
+pub use reader::{logical_lines, one_reading};

@@ -1,0 +1,35 @@
+//! The logical lines of a text.
+
+ghost use Rattle.std.specs.Prelude.{◌≡◌, ℕ, ◌≤◌, length, List};
+ghost use Rattle.py_syntax.specs.Places.{Place, first_place, IsMadeOf};
+ghost use Rattle.py_syntax.specs.declared.piece.Piece.{Piece};
+ghost use Rattle.py_lex.specs.Answer.{Answers, IsAnswered};
+
+use crate::fault::{LineFault, fault_of};
+use crate::scan::scan;
+use py_syntax::Lines;
+use std::alloc::Global;
+
+/// The logical lines of a text (the language reference, 2.1), in the literal profile that `docs/PYTHON.md` describes.
+///
+/// A text that breaks a rule of lines has none: the fault names the first line that breaks one, and of its rules the one that
+/// comes first in `LineFault`.
+pub fn logical_lines(alloc: Global, text: &[u8]) -> Result<Lines, LineFault>
+    requires { length text.now ≤ 1048576 }
+    // Whatever pieces the text is made of: it has the lines that they make, or the fault that they have.
+    ensures exact { (pieces : List Piece) → IsMadeOf first_place text.now pieces → Answers pieces result }
+    // It is made of some.
+    ensures made { IsAnswered text.now result }
+{
+    let scanner = scan(alloc, text)?;
+    let (lines, broken) = scanner.finish(alloc)?;
+    match broken {
+        None => Ok(lines),
+        Some(broken) => Err(fault_of(broken)),
+    }
+}
+
+/// No text is made of two lists of pieces, wherever it begins.
+pub fn one_reading()
+    ensures { (place : Place) (text : List ℕ) (left right : List Piece) → IsMadeOf place text left → IsMadeOf place text right → left ≡ right }
+{}

@@ -1,0 +1,5 @@
+use Rattle.py_syntax.proofs.Stands.{spelled}
+use Rattle.py_syntax.proofs.laws.pieces_spell_the_text.Goals as goal
+
+pub returns : goal.returns
+returns c = spelled

@@ -1,0 +1,32 @@
+-- Kinds of bytes.
+use Rattle.std.specs.Prelude.{ℕ, Bool, ◌&&◌, ◌||◌, nat_le, ◌==◌}
+
+abbrev pub is_digit : ℕ → Bool
+is_digit b = nat_le 48 b && nat_le b 57
+
+-- a letter or `_`, as a name begins
+abbrev pub is_letter : ℕ → Bool
+is_letter b = (nat_le 97 b && nat_le b 122) || (nat_le 65 b && nat_le b 90) || (b == 95)
+
+-- what a name goes on with
+abbrev pub is_word_byte : ℕ → Bool
+is_word_byte b = is_letter b || is_digit b
+
+-- what a number goes on with: a point too, so that `5.x` is one word, and no number
+abbrev pub is_number_byte : ℕ → Bool
+is_number_byte b = is_word_byte b || (b == 46)
+
+-- `"` and `'`
+abbrev pub is_quote : ℕ → Bool
+is_quote b = (b == 34) || (b == 39)
+
+-- `{` and `}`
+abbrev pub is_brace : ℕ → Bool
+is_brace b = (b == 123) || (b == 125)
+
+abbrev pub is_printable : ℕ → Bool
+is_printable b = nat_le 32 b && nat_le b 126
+
+-- what may stand behind a backslash in a text: a backslash or a quote
+abbrev pub is_escapable : ℕ → Bool
+is_escapable b = (b == 92) || is_quote b

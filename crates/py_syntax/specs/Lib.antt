@@ -1,0 +1,13 @@
+pub mod Line
+pub mod LineView
+pub mod Bytes
+pub mod Keywords
+pub mod Texts
+pub mod Numbers
+pub mod Marks
+pub mod Pieces
+pub mod Places
+pub mod Logical
+pub mod Items
+pub mod Standing
+pub mod Spelled

@@ -1,0 +1,10 @@
+-- A logical line.
+use Rattle.std.specs.Prelude.{ℕ, Bool, List}
+use Rattle.py_syntax.specs.declared.token.Token.{Token}
+
+-- how many spaces stand before its first token, the physical line on which that stands, whether it is one text alone, and its tokens
+pub record Line : Type 0 where
+  pub indentation : ℕ
+  pub number : ℕ
+  pub is_docstring : Bool
+  pub tokens : List Token
