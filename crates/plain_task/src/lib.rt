@@ -1,0 +1,11 @@
+//! Plain forms of the parts that run tasks: a task as the statements still to do, and a list of waiting tasks.
+#![tactic(auto)]
+
+mod flow;
+mod wait;
+
+pub use flow::{TreeFlow, TreeMaker};
+pub use wait::WaitList;
+
+#[cfg(test)]
+mod tests;

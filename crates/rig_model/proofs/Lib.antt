@@ -1,0 +1,10 @@
+pub mod Rows
+pub mod PollLaws
+pub mod StepLaws
+pub mod TaskLaws
+pub mod RunLaws
+pub mod Stops
+pub mod Whole
+pub mod SoundLaws
+pub mod EventLaws
+pub mod Costs

@@ -1,0 +1,12 @@
+pub mod Sim
+pub mod Task
+pub mod Poll
+pub mod Rig
+pub mod Ring
+pub mod Serve
+pub mod Line
+pub mod Effect
+pub mod Step
+pub mod FitSteps
+pub mod Run
+pub mod Sound

@@ -1,0 +1,70 @@
+-- One step of a configuration, within a test.
+use Rattle.std.specs.Prelude.{ℕ, List, [], ◌∷◌, Option, None, Some, if◌then◌else◌}
+use Rattle.rig_model.specs.Sim.{Event, event}
+use Rattle.rig_model.specs.Task.{Task, next, next_cost}
+use Rattle.rig_model.specs.Rig.{Rig, Setup, Running, After, awaited, view_of}
+use Rattle.rig_model.specs.Serve.{serve}
+use Rattle.rig_model.specs.Effect.{is_numbered, effect_of}
+use Rattle.rig_model.specs.declared.task.TaskNo.{TaskNo}
+use Rattle.rig_model.specs.declared.task.Entry.{Entry}
+use Rattle.rig_model.specs.declared.task.Outcome.TheVariants as outcome
+
+-- what a step leads to, the lines that it writes and what it costs
+pub record Stepped : Type 0 where
+  pub rig : Rig
+  pub lines : List (List ℕ)
+  pub cost : ℕ
+
+abbrev pub costing : ℕ → After → Stepped
+costing cost a = record { rig = a.rig; lines = a.lines; cost = cost }
+
+-- the live task of that number
+abbrev pub task_at : TaskNo → List Task → Option Task
+task_at number [] = None
+task_at number (t ∷ ts) = if is_numbered number t then Some t else task_at number ts
+
+-- with this in the place of the task of its number
+abbrev pub stored : Task → List Task → List Task
+stored task [] = []
+stored task (t ∷ ts) = if is_numbered task.number t then task ∷ ts else t ∷ stored task ts
+
+-- the turn is taken from the task in whose turn we are, and what is left of the task is kept
+abbrev pub kept : Task → Rig → Rig
+kept task c = record c { running = None; tasks = stored task c.tasks }
+
+-- the next step of this task, and its effect; a task that isn't live loses its turn
+abbrev pub stepped : Setup → Running → Option Task → Rig → Stepped
+stepped setup r None c = record { rig = record c { running = None }; lines = []; cost = 0 }
+stepped setup r (Some task) c =
+    let n = next task r.given (view_of c) in
+    costing (next_cost task r.given) (effect_of setup r.task n.turned (kept n.task c))
+
+-- a task does its next step
+abbrev pub task_step : Setup → Running → Rig → Stepped
+task_step setup r c = stepped setup r (task_at r.task c.tasks) c
+
+-- the event is done and what it fired is served, or nothing is left to happen
+abbrev pub after_event : Option Event → Rig → Stepped
+after_event None c = record { rig = record c { outcome = Some outcome.Stalled }; lines = []; cost = 0 }
+after_event (Some e) c = costing 1 (serve e.fired (record c { sim = e.sim }))
+
+-- the simulator does an event
+abbrev pub event_step : Rig → Stepped
+event_step c = after_event (event c.sim (awaited c)) c
+
+abbrev pub taken : Entry → Running
+taken e = record { task = e.task; given = Some e.given }
+
+-- the first that is ready runs
+abbrev pub resumed : Entry → List Entry → Rig → Rig
+resumed e es c = record c { running = Some (taken e); ready = es }
+
+-- a task goes on, or the first that is ready does, or the simulator does an event
+abbrev pub chosen : Setup → Option Running → List Entry → Rig → Stepped
+chosen setup (Some r) ready c = task_step setup r c
+chosen setup None (e ∷ es) c = task_step setup (taken e) (resumed e es c)
+chosen setup None [] c = event_step c
+
+-- The step of a test that runs and has no outcome.
+abbrev pub rig_step : Setup → Rig → Stepped
+rig_step setup c = chosen setup c.running c.ready c

@@ -1,0 +1,28 @@
+//! The definitions of tasks, tests and runs, and the traits of the parts that run them.
+#![tactic(auto)]
+
+mod awaits;
+mod design;
+mod file;
+mod flow;
+mod laws;
+mod ready;
+mod task;
+mod tree;
+
+pub use awaits::Awaits;
+pub use design::{Flat, Key, Region, SigId, Signal};
+pub use file::{Function, Statement, TestCase, TestFile};
+pub use flow::{Flow, FlowMaker, Look};
+pub use laws::{
+    lines_are_a_front, run_exists, run_is_one, run_is_within_budget, step_costs_at_most_one,
+};
+pub use ready::Ready;
+pub use task::{
+    Entry, Fault, FaultKind, Form, Given, Level, Outcome, Staged, TaskNo, Trig, TrigId, Turned,
+    Value,
+};
+pub use tree::{Tree, Waiting};
+
+#[cfg(test)]
+mod tests;

@@ -1,0 +1,133 @@
+// What tasks and the runner tell each other.
+use crate::SigId;
+use port_io::Name;
+
+/// A task (cocotb 1.8, "Coroutines and Tasks"), by its number from 0 in the test, in the order in which tasks are started.
+/// Task 0 is the test's own.
+#[derive(Clone, Copy, Debug, PartialEq, Eq)]
+pub struct TaskNo(pub u32);
+
+/// The kinds of faults, each named as Python or cocotb names it.
+#[derive(Clone, Copy, Debug, PartialEq, Eq)]
+pub enum FaultKind {
+    /// An `assert` whose condition is false (Python language reference, "The assert statement").
+    AssertionError,
+    /// A due time later than 2 ^ 62 steps.
+    OverflowError,
+    /// A limit of the runner that is reached: how many tasks may live at once, or be started in a test.
+    RuntimeError,
+    /// A value that isn't known where a number is needed: some bit of it is `x` or `z`.
+    ValueError,
+}
+
+/// A fault that was raised.
+#[derive(Drop)]
+pub struct Fault {
+    /// Its class.
+    pub kind: FaultKind,
+    /// What the fault says, or nothing.
+    pub text: Name,
+}
+
+/// Which trigger it is: the task that made it, and its number in that task.
+#[derive(Clone, Copy, Debug, PartialEq, Eq)]
+pub struct TrigId {
+    /// The task that made it.
+    pub task: TaskNo,
+    /// How many triggers that task had made before it.
+    pub number: u64,
+}
+
+/// What a trigger waits for.
+#[derive(Clone, Copy, Debug, PartialEq, Eq)]
+pub enum Form {
+    /// So many steps of simulated time, from the await on: cocotb's `Timer`.
+    Time(u64),
+}
+
+/// A trigger (cocotb 1.8, "Triggers").
+#[derive(Clone, Copy, Debug, PartialEq, Eq)]
+pub struct Trig {
+    /// Which one it is.
+    pub id: TrigId,
+    /// What it waits for.
+    pub form: Form,
+}
+
+/// A value of a tests file.
+#[derive(Clone, Copy, Debug, PartialEq, Eq)]
+pub enum Value {
+    /// Python's `None`.
+    Absent,
+    /// A trigger: what an `await` of it gives.
+    Trigger(Trig),
+    /// A task: what the call that starts it gives.
+    Task(TaskNo),
+}
+
+/// What a task is given when it goes on: the answer to what it last wanted.
+#[derive(Drop)]
+pub enum Given {
+    /// Nothing was wanted yet: it is the task's first step.
+    Begin,
+    /// The value of what was wanted.
+    Value(Value),
+    /// What was wanted is refused, and this fault is raised in its place.
+    Fault(Fault),
+}
+
+/// Levels of log lines, named as in Python's `logging`.
+#[derive(Clone, Copy, Debug, PartialEq, Eq)]
+pub enum Level {
+    /// `INFO`, of `log.info`.
+    Info,
+}
+
+/// What a task wants next.
+#[derive(Drop)]
+pub enum Turned {
+    /// To wait for the trigger. It is given the trigger once that has fired.
+    Await(Trig),
+    /// To stage a write of the number. It is given `None`, and the design sees the write at the next read-write phase.
+    Stage { sig: SigId, number: u8 },
+    /// To start a task of the function of that number. It is given the task. With `give_way` the new task runs before
+    /// this one goes on.
+    Start { func: u32, give_way: bool },
+    /// To write a log line. It is given `None`.
+    Log { level: Level, text: Name },
+    /// The task has returned.
+    Done(Value),
+    /// A fault of the task was not caught.
+    Raised(Fault),
+    /// The fuel doesn't suffice for the next statement.
+    Spent,
+}
+
+/// How a test ended.
+#[derive(Drop)]
+pub enum Outcome {
+    /// Its own task returned.
+    Normal,
+    /// A fault that nobody caught.
+    Raised(Fault),
+    /// Nothing was left that could happen.
+    Stalled,
+}
+
+/// A write that is staged: it goes out in the read-write phase (cocotb 1.8, "Triggers", `ReadWrite`).
+#[derive(Clone, Copy, Debug, PartialEq, Eq)]
+pub struct Staged {
+    /// The signal to be written.
+    pub sig: SigId,
+    /// The number that it becomes.
+    pub number: u8,
+}
+
+/// A task that is ready to go on, with what it is given.
+#[derive(Drop)]
+pub struct Entry {
+    /// The task.
+    pub task: TaskNo,
+    /// What it is given when its turn begins.
+    pub given: Given,
+}
