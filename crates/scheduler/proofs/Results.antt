@@ -1,0 +1,6 @@
+-- What holds of the value in an Ok, if another fact does.
+use Rattle.std.proofs.Common.{Result, Ok, Err, IfOk}
+
+pub if_ok : {T E : Type 0} {P Q : T → Type 0} (r : Result T E) → IfOk r P → ((x : T) → P x → Q x) → IfOk r Q
+if_ok (Ok x) p k = k x p
+if_ok (Err e) p k = tt

@@ -1,0 +1,173 @@
+-- Turns, from the steps that they are made of.
+use Rattle.std.proofs.Common.{◌≡◌, ℕ, zero, suc, ◌+◌, Bool, false, List, [], ◌∷◌, ◌++◌, Option, None, Some, Result, Ok, Err, IsErr, refl, ap, sym, subst, ◌∙◌, inl, inr}
+use Rattle.port_io.specs.Ports.{TakesAll}
+use Rattle.port_io.specs.PutsPart.{PutsPart}
+use Rattle.port_io.specs.PutLaws.{takes_then, puts_then}
+use Rattle.port_io.proofs.PartLaws.{part_none, part_then}
+use Rattle.port_io.specs.declared.ports.NoMemory.{NoMemory}
+use Rattle.rig_model.specs.Task.{Task}
+use Rattle.rig_model.specs.Sim.{Sim}
+use Rattle.rig_model.specs.Rig.{Rig, Setup, view_of}
+use Rattle.rig_model.specs.Effect.{effect, goes_on}
+use Rattle.rig_model.specs.Step.{kept, resumed}
+use Rattle.rig_model.specs.FitSteps.{FitSteps, TurnSteps, in_turn, Moves, Short, Begins, NoFit}
+use Rattle.rig_model.proofs.StepLaws.{fit_then, moves_then, moves_short, resumed_steps, resumed_moves, resumed_short}
+use Rattle.rig_model.proofs.TaskLaws.{PollSteps, polled_steps}
+use Rattle.rig_model.proofs.EventLaws.{resting}
+use Rattle.rig_model.specs.declared.task.TaskNo.{TaskNo}
+use Rattle.rig_model.specs.declared.task.Entry.{Entry}
+use Rattle.rig_model.specs.declared.task.Given.{Given}
+use Rattle.rig_model.specs.declared.task.Staged.{Staged}
+use Rattle.rig_model.specs.declared.task.Turned.{Turned}
+use Rattle.rig_model.specs.declared.task.Turned.TheVariants as turned
+use Rattle.rig_model.specs.declared.tree.Waiting.{Waiting}
+use Rattle.scheduler.specs.Tasks.{PollsTask}
+use Rattle.scheduler.specs.Turns.{TurnsTo, PutsFor, Turning, LeadsTo, PutsNext}
+use Rattle.scheduler.specs.declared.turn.Turn.{Turn}
+use Rattle.scheduler.specs.declared.turn.Turn.TheVariants.{Went, Over, WriteFault}
+use Rattle.scheduler.specs.declared.turn.Turn.TheVariants as turn
+use Rattle.scheduler.specs.declared.turn.Next.TheVariants.{GoesOn, Ends}
+
+module _ (from : Rig → Bool) (setup : Setup) where
+  begins_then : (fuel : ℕ) (c : Rig) (xs : List (List ℕ)) (f : ℕ) (d : Rig) (ys : List (List ℕ))
+      → Moves (FitSteps from setup) fuel c xs f d → Begins (FitSteps from setup) f d ys → Begins (FitSteps from setup) fuel c (xs ++ ys)
+  begins_then fuel c xs f d ys p q =
+      record { count = suc p.count + q.count; left = q.left; last = q.last; steps = fit_then from setup (suc p.count) q.count fuel c xs f d ys q.left q.last p.steps q.steps }
+
+  begins_moves : (fuel : ℕ) (c : Rig) (xs : List (List ℕ)) (f : ℕ) (d : Rig) → Moves (FitSteps from setup) fuel c xs f d → Begins (FitSteps from setup) fuel c xs
+  begins_moves fuel c xs f d p = record { count = suc p.count; left = f; last = d; steps = p.steps }
+
+  begins_none : (fuel : ℕ) (c : Rig) → Begins (FitSteps from setup) fuel c []
+  unfolding FitSteps
+  begins_none fuel c = record { count = zero; left = fuel; last = c; steps = (refl, refl, refl) }
+
+  turns_then : (fuel : ℕ) (c : Rig) (xs : List (List ℕ)) (f : ℕ) (d : Rig) (ys : List (List ℕ)) (r : Result Turn NoMemory) (fuel' : ℕ) (e : Rig)
+      → Moves (FitSteps from setup) fuel c xs f d → TurnsTo (FitSteps from setup) setup f d ys r fuel' e → TurnsTo (FitSteps from setup) setup fuel c (xs ++ ys) r fuel' e
+  turns_then fuel c xs f d ys (Ok Went) fuel' e w h = moves_then from setup fuel c xs f d ys fuel' e w h
+  turns_then fuel c xs f d ys (Ok (Over o)) fuel' e w h = moves_then from setup fuel c xs f d ys fuel' (record e { outcome = Some o }) w h
+  turns_then fuel c xs f d ys (Ok turn.Spent) fuel' e w h = moves_short from setup fuel c xs f d ys fuel' e w h
+  turns_then fuel c xs f d ys (Ok WriteFault) fuel' e w h = begins_then fuel c xs f d ys w h
+  turns_then fuel c xs f d ys (Err x) fuel' e w h = begins_then fuel c xs f d ys w h
+
+module _ {O : Type 0} (takes breaks : O → List ℕ → O → Type 0) (told : O → Option (List ℕ)) where
+  puts_for_then : (a : O) (xs : List (List ℕ)) (b : O) (ys : List (List ℕ)) (r : Result Turn NoMemory) (c : O) → TakesAll takes a xs b → PutsFor takes breaks told b ys r c → PutsFor takes breaks told a (xs ++ ys) r c
+  puts_for_then a xs b ys (Ok Went) c p q = takes_then takes breaks a xs b ys c p q
+  puts_for_then a xs b ys (Ok (Over o)) c p q = takes_then takes breaks a xs b ys c p q
+  puts_for_then a xs b ys (Ok turn.Spent) c p q = takes_then takes breaks a xs b ys c p q
+  puts_for_then a xs b ys (Ok WriteFault) c p q = puts_then takes breaks a xs b ys false c p q
+  puts_for_then a xs b ys (Err x) c p q = part_then takes told a xs b ys c p q
+
+  module _ (from : Rig → Bool) (setup : Setup) where
+    -- steps whose lines were taken, and then others
+    pub turning_then : (fuel : ℕ) (c : Rig) (out : O) (lines : List (List ℕ)) (f : ℕ) (d : Rig) (mid : O) (r : Result Turn NoMemory) (fuel' : ℕ) (e : Rig) (out' : O)
+        → Moves (FitSteps from setup) fuel c lines f d → TakesAll takes out lines mid → Turning takes breaks told (FitSteps from setup) setup f d mid r fuel' e out'
+        → Turning takes breaks told (FitSteps from setup) setup fuel c out r fuel' e out'
+    turning_then fuel c out lines f d mid r fuel' e out' w p t = record {
+      lines = lines ++ t.lines;
+      turns = turns_then from setup fuel c lines f d t.lines r fuel' e w t.turns;
+      puts = puts_for_then out lines mid t.lines r out' p t.puts;
+    }
+
+    -- memory was short before a further step
+    pub turning_short_of_memory : (fuel : ℕ) (c : Rig) (out : O) (r : Result Turn NoMemory) (fuel' : ℕ) (e : Rig) → IsErr r → Turning takes breaks told (FitSteps from setup) setup fuel c out r fuel' e out
+    turning_short_of_memory fuel c out (Ok t) fuel' e h = cc
+    turning_short_of_memory fuel c out (Err x) fuel' e h = record { lines = []; turns = begins_none from setup fuel c; puts = part_none takes told out [] }
+
+    -- memory was short while the lines of the last steps were put
+    pub turning_cut : (fuel : ℕ) (c : Rig) (out : O) (lines : List (List ℕ)) (f : ℕ) (d : Rig) (out' : O) (r : Result Turn NoMemory) (fuel' : ℕ) (e : Rig) → IsErr r
+        → Moves (FitSteps from setup) fuel c lines f d → PutsPart takes told out lines out' → Turning takes breaks told (FitSteps from setup) setup fuel c out r fuel' e out'
+    turning_cut fuel c out lines f d out' (Ok t) fuel' e h w p = cc
+    turning_cut fuel c out lines f d out' (Err x) fuel' e h w p = record { lines = lines; turns = begins_moves from setup fuel c lines f d w; puts = p }
+
+    -- the turn is lost
+    pub turning_lost : (fuel : ℕ) (c d : Rig) (out : O) → Moves (FitSteps from setup) fuel c [] fuel d → Turning takes breaks told (FitSteps from setup) setup fuel c out (Ok Went) fuel d out
+    turning_lost fuel c d out w = record { lines = []; turns = w; puts = refl }
+
+    -- the next step doesn't fit
+    pub turning_spent : (fuel : ℕ) (c : Rig) (out : O) (fuel' : ℕ) (e : Rig) → Short (FitSteps from setup) setup fuel c [] fuel' e → Turning takes breaks told (FitSteps from setup) setup fuel c out (Ok turn.Spent) fuel' e out
+    turning_spent fuel c out fuel' e s = record { lines = []; turns = s; puts = refl }
+
+    -- the turn ends with something that the task wanted
+    pub turning_ends : (task : TaskNo) (t : Turned) (fuel : ℕ) (c : Rig) (out : O) (b : Rig) (fuel' : ℕ) (end : Turn) (e : Rig) (out' : O)
+        → Moves (FitSteps from setup) fuel c (effect setup task t b).lines fuel' (effect setup task t b).rig → LeadsTo setup task t b (Ends end) e
+        → PutsNext takes breaks out (effect setup task t b).lines (Ends end) out' → Turning takes breaks told (FitSteps from setup) setup fuel c out (Ok end) fuel' e out'
+    turning_ends task t fuel c out b fuel' Went e out' w l p = record {
+      lines = (effect setup task t b).lines;
+      turns = subst (λ (d : Rig). Moves (FitSteps from setup) fuel c (effect setup task t b).lines fuel' d) l.1 w;
+      puts = p;
+    }
+    turning_ends task t fuel c out b fuel' (Over o) e out' w l p = record {
+      lines = (effect setup task t b).lines;
+      turns = subst (λ (d : Rig). Moves (FitSteps from setup) fuel c (effect setup task t b).lines fuel' d) l w;
+      puts = p;
+    }
+    turning_ends task t fuel c out b fuel' turn.Spent e out' w l p = absurd l
+    turning_ends task t fuel c out b fuel' WriteFault e out' w l p = record {
+      lines = (effect setup task t b).lines;
+      turns = begins_moves from setup fuel c (effect setup task t b).lines fuel' (effect setup task t b).rig w;
+      puts = p;
+    }
+
+    -- the task goes on after something that it wanted
+    pub turning_goes_on : (task : TaskNo) (t : Turned) (fuel : ℕ) (c : Rig) (out : O) (b : Rig) (f : ℕ) (g : Given) (d : Rig) (mid : O) (r : Result Turn NoMemory) (fuel' : ℕ) (e : Rig) (out' : O)
+        → Moves (FitSteps from setup) fuel c (effect setup task t b).lines f (effect setup task t b).rig → LeadsTo setup task t b (GoesOn g) d
+        → PutsNext takes breaks out (effect setup task t b).lines (GoesOn g) mid
+        → Turning takes breaks told (FitSteps from setup) setup f (goes_on task (Some g) d) mid r fuel' e out' → Turning takes breaks told (FitSteps from setup) setup fuel c out r fuel' e out'
+    turning_goes_on task t fuel c out b f g d mid r fuel' e out' w l p h =
+        turning_then fuel c out (effect setup task t b).lines f (goes_on task (Some g) d) mid r fuel' e out'
+        (subst (λ (x : Rig). Moves (FitSteps from setup) fuel c (effect setup task t b).lines f x) l.1 w) p h
+
+  -- a whole turn, from what the first that is ready does
+  module _ (setup : Setup) (c : Rig) (x : Entry) (xs : List Entry) (runs : c.running ≡ None) (first : c.ready ≡ x ∷ xs) (goes : c.outcome ≡ None) where
+    resumed_begins : (fuel : ℕ) (lines : List (List ℕ)) → Begins (FitSteps in_turn setup) fuel (resumed x xs c) lines → Begins (TurnSteps setup) fuel c lines
+    unfolding FitSteps TurnSteps
+    resumed_begins fuel lines b = by_count b.count b.steps
+      where
+        by_count : (n : ℕ) → FitSteps in_turn setup n fuel (resumed x xs c) lines b.left b.last → Begins (TurnSteps setup) fuel c lines
+        by_count zero h = record { count = zero; left = fuel; last = c; steps = (h.0, refl, refl) }
+        by_count (suc n) h = record { count = suc n; left = b.left; last = b.last; steps = resumed_steps setup c x xs runs first goes n fuel lines b.left b.last h }
+
+    resumed_turns : (fuel : ℕ) (lines : List (List ℕ)) (r : Result Turn NoMemory) (fuel' : ℕ) (e : Rig)
+        → TurnsTo (FitSteps in_turn setup) setup fuel (resumed x xs c) lines r fuel' e → TurnsTo (TurnSteps setup) setup fuel c lines r fuel' e
+    resumed_turns fuel lines (Ok Went) fuel' e h = resumed_moves setup c x xs runs first goes fuel lines fuel' e h
+    resumed_turns fuel lines (Ok (Over o)) fuel' e h = resumed_moves setup c x xs runs first goes fuel lines fuel' (record e { outcome = Some o }) h
+    resumed_turns fuel lines (Ok turn.Spent) fuel' e h = resumed_short setup c x xs runs first goes fuel lines fuel' e h
+    resumed_turns fuel lines (Ok WriteFault) fuel' e h = resumed_begins fuel lines h
+    resumed_turns fuel lines (Err n) fuel' e h = resumed_begins fuel lines h
+
+    pub turning_resumed : (fuel : ℕ) (out : O) (r : Result Turn NoMemory) (fuel' : ℕ) (e : Rig) (out' : O)
+        → Turning takes breaks told (FitSteps in_turn setup) setup fuel (resumed x xs c) out r fuel' e out' → Turning takes breaks told (TurnSteps setup) setup fuel c out r fuel' e out'
+    turning_resumed fuel out r fuel' e out' t = record { lines = t.lines; turns = resumed_turns fuel t.lines r fuel' e t.turns; puts = t.puts }
+
+-- what a poll of a live task makes of its turn
+module _ (setup : Setup) (number : TaskNo) (sim : Sim) (tasks : List Task) (started : ℕ) (ready : List Entry) (waiting : List Waiting) (staged : List Staged) where
+  abbrev before : Rig
+  before = resting sim tasks started ready waiting staged
+
+  abbrev after : List Task → ℕ → Rig
+  after tasks' started' = resting sim tasks' started' ready waiting staged
+
+  module _ (fuel : ℕ) (g : Given) (t : Turned) (fuel' : ℕ) (tasks' : List Task) (started' : ℕ) (p : PollsTask (view_of before) fuel tasks number g t fuel' tasks') (same : started' ≡ started) where
+    poll : PollSteps setup number fuel (Some g) before t fuel' p.rest
+    poll = polled_steps setup number before fuel p.task (Some g) t fuel' p.rest p.found p.own refl p.polled
+
+    kept_is : kept p.rest before ≡ after tasks' started'
+    kept_is = ap (λ (ts : List Task). after ts started) (sym p.stored_is) ∙ ap (λ (n : ℕ). after tasks' n) (sym same)
+
+    pub poll_moves : (t ≡ turned.Spent → ⊥) → Moves (FitSteps in_turn setup) fuel (goes_on number (Some g) before) (effect setup number t (after tasks' started')).lines fuel' (effect setup number t (after tasks' started')).rig
+    poll_moves n = elim poll [
+      | inl w ↦ subst (λ (b : Rig). Moves (FitSteps in_turn setup) fuel (goes_on number (Some g) before) (effect setup number t b).lines fuel' (effect setup number t b).rig) kept_is w.1
+      | inr s ↦ absurd (n s.0)
+    ]
+
+    -- what stays is that of the engine after the poll
+    pub poll_short : t ≡ turned.Spent → Short (FitSteps in_turn setup) setup fuel (goes_on number (Some g) before) [] fuel' (after tasks' started')
+    poll_short e = elim poll [
+      | inl w ↦ absurd (w.0 e)
+      | inr s ↦ (let h : NoFit setup fuel' s.1.last before = s.1.no_fit in record {
+        count = s.1.count;
+        last = s.1.last;
+        steps = s.1.steps;
+        no_fit = record { runs = h.runs; short = h.short; rest = record { sim = h.rest.sim; waiting = h.rest.waiting; staged = h.rest.staged; fired = h.rest.fired } };
+      })
+    ]

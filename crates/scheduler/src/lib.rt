@@ -1,0 +1,17 @@
+//! The runner's engine: turns of tasks, events of the simulator, and the tests that they belong to.
+#![tactic(auto)]
+
+mod engine;
+mod line;
+mod live;
+mod poll;
+mod tasks;
+#[cfg(test)]
+mod tests;
+mod turn;
+mod view;
+mod writes;
+
+pub use engine::Engine;
+pub use line::{Tally, budget_text, report_text, test_text, verdict_text};
+pub use turn::Turn;

@@ -1,0 +1,153 @@
+// The texts of the lines of a run, each with its line feed.
+ghost use Rattle.std.specs.Prelude.{◌≡◌, ◌++◌, IfOk, OnOk};
+ghost use Rattle.std.specs.Fmt.{decimal};
+ghost use Rattle.rig_model.specs.Line.{test_line, log_line, verdict_line, report_line, budget_line, kind_name, level_name, reason_of};
+
+use port_io::NoMemory;
+use rig_model::{FaultKind, Level, Outcome};
+use std::alloc::{AllocError, Global};
+
+fn add_number(alloc: Global, line: &mut Vec<u8>, number: u64) -> Result<(), AllocError>
+    ensures { OnOk result (line.new.items ≡ line.old.items ++ decimal number) }
+{
+    let text = number.to_string(alloc)?;
+    line.extend_from_slice(text.as_bytes())?;
+    Ok(())
+}
+
+/// `<time> TEST <name>`: a test begins. The time is in steps. Only want of memory is an error.
+pub fn test_text(alloc: Global, time: u64, name: &[u8]) -> Result<Vec<u8>, NoMemory>
+    ensures { IfOk result (λ line. line.items ≡ test_line time name.now) }
+{
+    let mut line = Vec::new(alloc);
+    add_number(alloc, &mut line, time)?;
+    line.extend_from_slice(b" TEST ")?;
+    line.extend_from_slice(name)?;
+    line.push(b'\n')?;
+    Ok(line)
+}
+
+fn level_text(level: Level) -> &'static [u8]
+    ensures { result.now ≡ level_name level }
+{
+    match level {
+        Level::Info => b"INFO",
+    }
+}
+
+/// `<time> <level> <text>`: a task writes a log line. The time is in steps. Only want of memory is an error.
+pub fn log_text(alloc: Global, time: u64, level: Level, text: &[u8]) -> Result<Vec<u8>, NoMemory>
+    ensures { IfOk result (λ line. line.items ≡ log_line time level text.now) }
+{
+    let mut line = Vec::new(alloc);
+    add_number(alloc, &mut line, time)?;
+    line.extend_from_slice(b" ")?;
+    line.extend_from_slice(level_text(level))?;
+    line.extend_from_slice(b" ")?;
+    line.extend_from_slice(text)?;
+    line.push(b'\n')?;
+    Ok(line)
+}
+
+fn kind_text(kind: FaultKind) -> &'static [u8]
+    ensures { result.now ≡ kind_name kind }
+{
+    match kind {
+        FaultKind::AssertionError => b"AssertionError",
+        FaultKind::OverflowError => b"OverflowError",
+        FaultKind::RuntimeError => b"RuntimeError",
+        FaultKind::ValueError => b"ValueError",
+    }
+}
+
+fn add_reason(line: &mut Vec<u8>, outcome: &Outcome) -> Result<(), AllocError>
+    ensures { OnOk result (line.new.items ≡ line.old.items ++ reason_of outcome.now) }
+{
+    match outcome {
+        Outcome::Normal => {}
+        Outcome::Raised(fault) => {
+            line.extend_from_slice(kind_text(fault.kind))?;
+            let text = fault.text.bytes();
+            if !text.is_empty() {
+                line.extend_from_slice(b": ")?;
+                line.extend_from_slice(text)?;
+            }
+        }
+        Outcome::Stalled => {
+            line.extend_from_slice(b"Stalled")?;
+        }
+    }
+    Ok(())
+}
+
+/// `<time> PASS <name>` or `<time> FAIL <name> (<reason>)`: the verdict on a test. The reason is `Stalled`, or the kind of
+/// the fault, with what it says after a colon where it says anything. The time is in steps. Only want of memory is an error.
+pub fn verdict_text(
+    alloc: Global,
+    time: u64,
+    name: &[u8],
+    outcome: &Outcome,
+) -> Result<Vec<u8>, NoMemory>
+    ensures { IfOk result (λ line. line.items ≡ verdict_line time name.now outcome.now) }
+{
+    let mut line = Vec::new(alloc);
+    add_number(alloc, &mut line, time)?;
+    if let Outcome::Normal = outcome {
+        line.extend_from_slice(b" PASS ")?;
+        line.extend_from_slice(name)?;
+    } else {
+        line.extend_from_slice(b" FAIL ")?;
+        line.extend_from_slice(name)?;
+        line.extend_from_slice(b" (")?;
+        add_reason(&mut line, outcome)?;
+        line.extend_from_slice(b")")?;
+    }
+    line.push(b'\n')?;
+    Ok(line)
+}
+
+/// How many tests there were, and how many of them passed, failed and were skipped.
+#[derive(Clone, Copy, Debug, PartialEq, Eq)]
+pub struct Tally {
+    /// How many there were.
+    pub tests: u64,
+    /// How many ended with their own task's return.
+    pub passed: u64,
+    /// How many ended with a fault, or stalled.
+    pub failed: u64,
+    /// How many were not begun.
+    pub skipped: u64,
+}
+
+/// `** TESTS=<tests> PASS=<passed> FAIL=<failed> SKIP=<skipped> TIME=<time> **`: the closing line of a run. The time is in
+/// steps. Only want of memory is an error.
+pub fn report_text(alloc: Global, tally: Tally, time: u64) -> Result<Vec<u8>, NoMemory>
+    ensures { IfOk result (λ line. line.items ≡ report_line tally.tests tally.passed tally.failed tally.skipped time) }
+{
+    let mut line = Vec::new(alloc);
+    line.extend_from_slice(b"** TESTS=")?;
+    add_number(alloc, &mut line, tally.tests)?;
+    line.extend_from_slice(b" PASS=")?;
+    add_number(alloc, &mut line, tally.passed)?;
+    line.extend_from_slice(b" FAIL=")?;
+    add_number(alloc, &mut line, tally.failed)?;
+    line.extend_from_slice(b" SKIP=")?;
+    add_number(alloc, &mut line, tally.skipped)?;
+    line.extend_from_slice(b" TIME=")?;
+    add_number(alloc, &mut line, time)?;
+    line.extend_from_slice(b" **")?;
+    line.push(b'\n')?;
+    Ok(line)
+}
+
+/// `BUDGET <budget>`: what stands in place of the closing line where the budget, in statements and events, is reached.
+/// Only want of memory is an error.
+pub fn budget_text(alloc: Global, budget: u64) -> Result<Vec<u8>, NoMemory>
+    ensures { IfOk result (λ line. line.items ≡ budget_line budget) }
+{
+    let mut line = Vec::new(alloc);
+    line.extend_from_slice(b"BUDGET ")?;
+    add_number(alloc, &mut line, budget)?;
+    line.push(b'\n')?;
+    Ok(line)
+}

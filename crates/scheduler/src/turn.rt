@@ -1,0 +1,24 @@
+// What a turn comes to.
+use rig_model::{Given, Outcome};
+
+/// What a turn came to.
+#[derive(Drop)]
+pub enum Turn {
+    /// The whole turn was done, and the test goes on.
+    Went,
+    /// The test has ended so.
+    Over(Outcome),
+    /// The fuel doesn't suffice for the next statement or event.
+    Spent,
+    /// The put of the next line of the turn's steps failed.
+    WriteFault,
+}
+
+/// What becomes of a turn after something that its task wanted.
+#[derive(Drop)]
+pub enum Next {
+    /// The task goes on, and is given this.
+    GoesOn(Given),
+    /// The turn ends so.
+    Ends(Turn),
+}
