@@ -1,0 +1,9 @@
+pub mod Status
+pub mod Front
+pub mod DesignForm
+pub mod DesignReading
+pub mod TestsForm
+pub mod TestsReading
+pub mod Runs
+pub mod Reading
+pub mod Answer

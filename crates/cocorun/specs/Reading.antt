@@ -1,0 +1,79 @@
+-- What the words come to, by the reads that are made.
+use Rattle.std.specs.Prelude.{◌≡◌, ◌⊎◌, ℕ, ◌<◌, List, [], ◌∷◌, ◌++◌, length, codes}
+use Rattle.rig_model.specs.Sound.{AreSoundFunctions}
+use Rattle.rig_model.specs.declared.file.TestCase.{TestCase}
+use Rattle.rig_model.specs.declared.file.TestFile.{TestFile}
+use Rattle.cocorun.specs.DesignForm.{IsDesign}
+use Rattle.cocorun.specs.TestsForm.{IsTests}
+use Rattle.cocorun.specs.declared.decision.Decision.{Decision}
+use Rattle.cocorun.specs.declared.decision.Decision.TheVariants.{Refused, Runs}
+use Rattle.cocorun.specs.declared.status.Status.{Status}
+use Rattle.cocorun.specs.declared.status.Status.TheVariants as status
+
+-- a refusal, by its status and its line; or the run of the tests of a file on a design with these ports
+pub data Reading : Type 0 where
+  refused : Status → List ℕ → Reading
+  runs : List ℕ → TestFile → Reading
+
+abbrev pub usage_line : List ℕ
+usage_line = codes "usage: cocorun [--top NAME] [--budget N] [--seed N] [--trace] DESIGN TESTS" ++ 10 ∷ []
+
+-- that file could not be read
+abbrev pub read_line : List ℕ → List ℕ
+read_line name = codes "error: cannot read " ++ name ++ 10 ∷ []
+
+-- that file is of a form that is not built
+abbrev pub refused_line : List ℕ → List ℕ
+refused_line name = codes "error: " ++ name ++ codes ": NotBuilt" ++ 10 ∷ []
+
+-- how many bytes of a file are asked for: one more than a file may have
+abbrev pub most : ℕ
+most = 1048577
+
+module _ {S : Type 0} (gives : S → List ℕ → ℕ → List ℕ → S → Type 0) (misses : S → List ℕ → S → Type 0) where
+  -- the bytes of the file of the tests are read, for a design with these ports
+  abbrev pub TextOfTests : List ℕ → List ℕ → List ℕ → Reading → Type 0
+  TextOfTests tests ports text r =
+      ((r ≡ refused status.TestsRefused (refused_line tests)) × ((file : TestFile) → IsTests ports text file → ⊥))
+      ⊎ ((file : TestFile) × (r ≡ runs ports file) × IsTests ports text file)
+
+  -- the file of the tests is read
+  abbrev pub ReadsTests : List ℕ → List ℕ → S → Reading → S → Type 0
+  ReadsTests tests ports s r s' =
+      ((r ≡ refused status.ReadFault (read_line tests)) × misses s tests s')
+      ⊎ ((text : List ℕ) × gives s tests most text s' × TextOfTests tests ports text r)
+
+  -- the bytes of the design are read
+  abbrev pub TextOfDesign : List ℕ → List ℕ → List ℕ → S → Reading → S → Type 0
+  TextOfDesign design tests text s r s' =
+      ((r ≡ refused status.DesignRefused (refused_line design)) × (s' ≡ s) × ((ports : List ℕ) → IsDesign text ports → ⊥))
+      ⊎ ((ports : List ℕ) × IsDesign text ports × ReadsTests tests ports s r s')
+
+  -- the file of the design is read, and then that of the tests
+  abbrev pub ReadsBoth : List ℕ → List ℕ → S → Reading → S → Type 0
+  ReadsBoth design tests s r s' =
+      ((r ≡ refused status.ReadFault (read_line design)) × misses s design s')
+      ⊎ ((text : List ℕ) × (mid : S) × gives s design most text mid × TextOfDesign design tests text mid r s')
+
+  -- Two words name a design and tests; any others are refused, and nothing is read.
+  abbrev pub Reads : List (List ℕ) → S → Reading → S → Type 0
+  Reads [] s r s' = (r ≡ refused status.Usage usage_line) × (s' ≡ s)
+  Reads (a ∷ []) s r s' = (r ≡ refused status.Usage usage_line) × (s' ≡ s)
+  Reads (design ∷ tests ∷ []) s r s' = ReadsBoth design tests s r s'
+  Reads (a ∷ b ∷ c ∷ words) s r s' = (r ≡ refused status.Usage usage_line) × (s' ≡ s)
+
+-- what a decision stands for
+abbrev pub reading_of : Decision → Reading
+reading_of (Refused own line) = refused own line.items
+reading_of (Runs ports file) = runs ports.items file
+
+-- the one test of a file, and calls that name its functions
+pub record IsOneTest (file : TestFile) : Type 0 where
+  pub case : TestCase
+  pub is_case : file.cases ≡ case ∷ []
+  pub func : case.func < length file.functions
+  pub sound : AreSoundFunctions (length file.functions) file.functions
+
+abbrev pub CanRun : Decision → Type 0
+CanRun (Refused own line) = Unit {0}
+CanRun (Runs ports file) = IsOneTest file

@@ -1,0 +1,190 @@
+// A whole run.
+ghost use Rattle.std.specs.Prelude.{◌≡◌, ◌≢◌, ◌<◌, [], ◌∷◌, length, IfOk, Ok, ℕ};
+ghost use Rattle.rig_model.specs.FitSteps.{FitSteps, anywhere};
+ghost use Rattle.rig_model.specs.Line.{verdict_line, budget_line};
+ghost use Rattle.rig_model.specs.Run.{emptied, opening_sim, report_of, passes};
+ghost use Rattle.rig_model.specs.Sound.{AreSoundFunctions};
+ghost use Rattle.scheduler.specs.Engine.{rig_of, setup_of};
+ghost use Rattle.scheduler.specs.Turns.{Fits, Turning};
+ghost use Rattle.cocorun.specs.Runs.{RunsTo, PutsLine, PutsLines, EndsTo, status_in, verdict_status, ended_status, short_status};
+
+use crate::status::Status;
+use port_io::{NoMemory, Sink, SinkFault};
+use rig_model::{Awaits, FlowMaker, Outcome, TestCase};
+use scheduler::{Engine, Tally, Turn, budget_text, report_text, verdict_text};
+use std::alloc::Global;
+
+// Puts a line, and tells whether it was taken.
+fn put_line<O: Sink>(alloc: Global, out: &mut O, line: &[u8]) -> Result<bool, NoMemory>
+    ensures { PutsLine O.takes O.breaks O.told line.now result out.old out.new }
+{
+    match out.put(alloc, line) {
+        Ok(()) => Ok(true),
+        Err(SinkFault::Failed) => Ok(false),
+        Err(SinkFault::OutOfMemory) => Err(NoMemory),
+    }
+}
+
+fn has_passed(outcome: &Outcome) -> bool
+    ensures { result ≡ passes outcome.now }
+{
+    match outcome {
+        Outcome::Normal => true,
+        Outcome::Raised(_) => false,
+        Outcome::Stalled => false,
+    }
+}
+
+// The report on one test.
+fn report_one(alloc: Global, passed: bool, time: u64) -> Result<Vec<u8>, NoMemory>
+    ensures { IfOk result (λ line. line.items ≡ report_of (passed ∷ []) time) }
+{
+    let tally = if passed {
+        Tally {
+            tests: 1,
+            passed: 1,
+            failed: 0,
+            skipped: 0,
+        }
+    } else {
+        Tally {
+            tests: 1,
+            passed: 0,
+            failed: 1,
+            skipped: 0,
+        }
+    };
+    report_text(alloc, tally, time)
+}
+
+fn verdict_of(passed: bool) -> Status
+    ensures { result ≡ verdict_status passed }
+{
+    if passed {
+        Status::Passed
+    } else {
+        Status::Failed
+    }
+}
+
+// Puts two lines, and tells whether both were taken.
+fn put_two<O: Sink>(
+    alloc: Global,
+    out: &mut O,
+    first: &[u8],
+    second: &[u8],
+) -> Result<bool, NoMemory>
+    ensures { PutsLines O.takes O.breaks O.told (first.now ∷ second.now ∷ []) result out.old out.new }
+{
+    if put_line(alloc, out, first)? {
+        put_line(alloc, out, second)
+    } else {
+        Ok(false)
+    }
+}
+
+// Puts the verdict on a test that ended, and the report.
+fn end_run<O: Sink>(
+    alloc: Global,
+    time: u64,
+    case: &TestCase,
+    outcome: &Outcome,
+    out: &mut O,
+) -> Result<Status, NoMemory>
+    ensures { EndsTo O.takes O.breaks O.told (verdict_line time case.now.name outcome.now ∷ report_of (passes outcome.now ∷ []) time ∷ []) (ended_status outcome.now) (status_in result) out.old out.new }
+{
+    let passed = has_passed(outcome);
+    let verdict = verdict_text(alloc, time, case.name.bytes(), outcome)?;
+    let report = report_one(alloc, passed, time)?;
+    if put_two(alloc, out, verdict.as_slice(), report.as_slice())? {
+        Ok(verdict_of(passed))
+    } else {
+        Ok(Status::WriteFault)
+    }
+}
+
+// Turns, until one does anything but go.
+fn run_turns<O: Sink, M: FlowMaker + Drop, W: Awaits>(
+    alloc: Global,
+    engine: &mut Engine<'_, M, W>,
+    out: &mut O,
+    fuel: &mut u64,
+) -> Result<Turn, NoMemory>
+    requires { Fits (setup_of M.functions engine.old) 0 engine.old.ready.room (rig_of W.waiting engine.old) }
+    ensures turning { Turning O.takes O.breaks O.told (FitSteps anywhere (setup_of M.functions engine.old)) (setup_of M.functions engine.old)
+        fuel.old (rig_of W.waiting engine.old) out.old result fuel.new (rig_of W.waiting engine.new) out.new }
+    ensures stops { result ≢ Ok Turn.Went }
+    ensures setup { setup_of M.functions engine.new ≡ setup_of M.functions engine.old }
+{
+    'turns: loop {
+        let turn = engine.turn(alloc, out, fuel)?;
+        if let Turn::Went = turn {
+            continue;
+        }
+        return Ok(turn);
+    }
+}
+
+// Puts the line that says that the budget was reached.
+fn end_short<O: Sink>(alloc: Global, budget: u64, out: &mut O) -> Result<Status, NoMemory>
+    ensures { EndsTo O.takes O.breaks O.told (budget_line budget ∷ []) short_status (status_in result) out.old out.new }
+{
+    let line = budget_text(alloc, budget)?;
+    if put_line(alloc, out, line.as_slice())? {
+        Ok(Status::Budget)
+    } else {
+        Ok(Status::WriteFault)
+    }
+}
+
+// Runs the test within a budget.
+fn run_test<O: Sink, M: FlowMaker + Drop, W: Awaits>(
+    alloc: Global,
+    case: &TestCase,
+    engine: &mut Engine<'_, M, W>,
+    out: &mut O,
+    budget: u64,
+) -> Result<Status, NoMemory>
+    requires func { case.now.func < length (setup_of M.functions engine.old).functions }
+    requires sound { AreSoundFunctions (length (setup_of M.functions engine.old).functions) (setup_of M.functions engine.old).functions }
+    requires new { rig_of W.waiting engine.old ≡ emptied (opening_sim (setup_of M.functions engine.old)) }
+    ensures { RunsTo O.takes O.breaks O.told (setup_of M.functions engine.old) case.now budget (status_in result) (rig_of W.waiting engine.new) out.old out.new }
+{
+    let begun = engine.begin_test(alloc, case, out)?;
+    if let Turn::WriteFault = begun {
+        return Ok(Status::WriteFault);
+    }
+    let mut fuel = budget;
+    let turn = run_turns(alloc, engine, out, &mut fuel)?;
+    match turn {
+        Turn::Over(outcome) => {
+            let time = engine.now();
+            engine.end_test();
+            end_run(alloc, time, case, &outcome, out)
+        }
+        Turn::Spent => end_short(alloc, budget, out),
+        Turn::WriteFault => Ok(Status::WriteFault),
+        Turn::Went => unreachable!(),
+    }
+}
+
+/// Runs the test within a budget: its lines, its verdict and the closing line are put in order, one put each. `Passed` and `Failed`
+/// come where the run is over, `Budget` where it isn't, with the line `BUDGET <budget>` in place of the closing line; then the engine
+/// stands where the run stops. `WriteFault` comes where the put of the next line fails, and `NoMemory` where memory is short.
+pub fn run_all<O: Sink, M: FlowMaker + Drop, W: Awaits>(
+    alloc: Global,
+    case: &TestCase,
+    engine: &mut Engine<'_, M, W>,
+    out: &mut O,
+    budget: u64,
+) -> Status
+    requires func { case.now.func < length (setup_of M.functions engine.old).functions }
+    requires sound { AreSoundFunctions (length (setup_of M.functions engine.old).functions) (setup_of M.functions engine.old).functions }
+    requires new { rig_of W.waiting engine.old ≡ emptied (opening_sim (setup_of M.functions engine.old)) }
+    ensures { RunsTo O.takes O.breaks O.told (setup_of M.functions engine.old) case.now budget result (rig_of W.waiting engine.new) out.old out.new }
+{
+    match run_test(alloc, case, engine, out, budget) {
+        Ok(status) => status,
+        Err(NoMemory) => Status::NoMemory,
+    }
+}

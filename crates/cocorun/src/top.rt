@@ -1,0 +1,177 @@
+//! The top call.
+ghost use Rattle.std.specs.Prelude.{◌≡◌, ◌⊎◌, ◌∷◌, [], List, ℕ, IfOk, map, string_bytes};
+ghost use Rattle.cocorun.specs.Answer.{Answers, Answered, Quit, RunsFile, RaisedAt};
+ghost use Rattle.cocorun.specs.DesignForm.{ArePorts};
+ghost use Rattle.cocorun.specs.Runs.{status_in};
+ghost use Rattle.cocorun.specs.Reading.{CanRun, IsOneTest, Reading, ReadsBoth, ReadsTests, read_line, reading_of, refused, refused_line, usage_line};
+
+use crate::decision::Decision;
+use crate::design_form::{flat_of_ports, read_design};
+use crate::run::run_all;
+use crate::status::Status;
+use crate::tests_form::read_tests;
+use plain_task::{TreeMaker, WaitList};
+use port_io::{NoMemory, Sink, SinkFault, Store, StoreFault};
+use rig_model::TestFile;
+use scheduler::Engine;
+use std::alloc::Global;
+
+/// How many bytes of a file are asked for: one more than a file may have.
+const MOST: usize = 1_048_577;
+
+/// What a run may cost: one for each statement that begins, and one for each event of the simulator.
+pub const BUDGET: u64 = 10_000_000;
+
+fn usage_text(alloc: Global) -> Result<Vec<u8>, NoMemory>
+    ensures { IfOk result (λ line. line.items ≡ usage_line) }
+{
+    let mut line = Vec::new(alloc);
+    line.extend_from_slice(
+        b"usage: cocorun [--top NAME] [--budget N] [--seed N] [--trace] DESIGN TESTS\n",
+    )?;
+    Ok(line)
+}
+
+fn read_text(alloc: Global, name: &str) -> Result<Vec<u8>, NoMemory>
+    ensures { IfOk result (λ line. line.items ≡ read_line name.now) }
+{
+    let mut line = Vec::new(alloc);
+    line.extend_from_slice(b"error: cannot read ")?;
+    line.extend_from_slice(name.as_bytes())?;
+    line.push(b'\n')?;
+    Ok(line)
+}
+
+fn refused_text(alloc: Global, name: &str) -> Result<Vec<u8>, NoMemory>
+    ensures { IfOk result (λ line. line.items ≡ refused_line name.now) }
+{
+    let mut line = Vec::new(alloc);
+    line.extend_from_slice(b"error: ")?;
+    line.extend_from_slice(name.as_bytes())?;
+    line.extend_from_slice(b": NotBuilt\n")?;
+    Ok(line)
+}
+
+// Reads the tests, for a design with these ports.
+fn decide_tests<S: Store>(
+    alloc: Global,
+    tests: &str,
+    ports: Vec<u8>,
+    store: &mut S,
+) -> Result<Decision, NoMemory>
+    requires { ArePorts ports.items }
+    ensures reads { IfOk result (λ decision. ReadsTests S.gives S.misses tests.now ports.items store.old (reading_of decision) store.new) }
+    ensures can_run { IfOk result (λ decision. CanRun decision) }
+{
+    match store.read_file(alloc, tests, MOST) {
+        Ok(text) => match read_tests(alloc, ports.as_slice(), text.as_slice())? {
+            Some(file) => Ok(Decision::Runs(ports, file)),
+            None => Ok(Decision::Refused(Status::TestsRefused, refused_text(alloc, tests)?)),
+        },
+        Err(StoreFault::Failed) => Ok(Decision::Refused(
+            Status::ReadFault,
+            read_text(alloc, tests)?,
+        )),
+        Err(StoreFault::OutOfMemory) => Err(NoMemory),
+    }
+}
+
+// Reads the design, and then the tests.
+pub fn decide<S: Store>(
+    alloc: Global,
+    design: &str,
+    tests: &str,
+    store: &mut S,
+) -> Result<Decision, NoMemory>
+    ensures reads { IfOk result (λ decision. ReadsBoth S.gives S.misses design.now tests.now store.old (reading_of decision) store.new) }
+    ensures can_run { IfOk result (λ decision. CanRun decision) }
+{
+    match store.read_file(alloc, design, MOST) {
+        Ok(text) => match read_design(alloc, text.as_slice())? {
+            Some(ports) => decide_tests(alloc, tests, ports, store),
+            None => Ok(Decision::Refused(Status::DesignRefused, refused_text(alloc, design)?)),
+        },
+        Err(StoreFault::Failed) => Ok(Decision::Refused(
+            Status::ReadFault,
+            read_text(alloc, design)?,
+        )),
+        Err(StoreFault::OutOfMemory) => Err(NoMemory),
+    }
+}
+
+// Puts the line of a refusal.
+fn refuse<O: Sink>(alloc: Global, own: Status, line: &[u8], out: &mut O) -> Status
+    ensures { Answers O.takes O.breaks O.told BUDGET (refused own line.now) result out.old out.new }
+{
+    match out.put(alloc, line) {
+        Ok(()) => own,
+        Err(SinkFault::Failed) => Status::WriteFault,
+        Err(SinkFault::OutOfMemory) => Status::NoMemory,
+    }
+}
+
+// Runs the test of the file on a design with these ports.
+fn run_file<O: Sink>(
+    alloc: Global,
+    ports: &[u8],
+    file: &TestFile,
+    budget: u64,
+    out: &mut O,
+) -> Result<Status, NoMemory>
+    requires { IsOneTest file.now }
+    ensures { RunsFile O.takes O.breaks O.told budget ports.now file.now (status_in result) out.old out.new }
+{
+    let flat = flat_of_ports(alloc, ports)?;
+    let maker = TreeMaker::new(alloc, file)?;
+    let mut engine = Engine::new(alloc, maker, WaitList::new(alloc), &flat)?;
+    Ok(run_all(alloc, file.cases.get(0), &mut engine, out, budget))
+}
+
+// Does what was decided, within a budget.
+pub fn answer<O: Sink>(alloc: Global, decision: &Decision, budget: u64, out: &mut O) -> Status
+    requires { CanRun decision.now }
+    ensures { Answers O.takes O.breaks O.told budget (reading_of decision.now) result out.old out.new }
+{
+    match decision {
+        Decision::Refused(own, line) => refuse(alloc, *own, line.as_slice(), out),
+        Decision::Runs(ports, file) => match run_file(alloc, ports.as_slice(), file, budget, out) {
+            Ok(status) => status,
+            Err(NoMemory) => Status::NoMemory,
+        },
+    }
+}
+
+/// Runs the tests of a file on a design.
+///
+/// `words` are those of the command without the program's name: exactly two, the name of the design and the name of the tests. The
+/// design is read first. What is put, one put for each line, and the status:
+///
+/// - other words: the usage line, `Usage`, and nothing is read;
+/// - a file that cannot be read: `error: cannot read <file>`, `ReadFault`;
+/// - a text that is of no form that is built: `error: <file>: NotBuilt`, `DesignRefused` or `TestsRefused`;
+/// - else the lines of the run, with `Passed`, `Failed`, or, where the budget is reached, `Budget`.
+///
+/// `WriteFault` comes where a put failed, and nothing is put after it. `NoMemory` comes where memory was short, and then a front of
+/// that answer was put, which may be nothing. The count of faults of the store rose where the status is `ReadFault`, and that of the
+/// sink where it is `WriteFault`.
+pub fn cocorun<S: Store, O: Sink>(
+    alloc: Global,
+    words: &[String],
+    store: &mut S,
+    out: &mut O,
+) -> Status
+    ensures answer { Answered S.gives S.misses O.takes O.breaks O.told BUDGET (map string_bytes words.now) result store.old store.new out.old out.new ⊎ Quit result out.old out.new }
+    ensures read_fault { RaisedAt Status.ReadFault (S.faults store.old) (S.faults store.new) result }
+    ensures write_fault { RaisedAt Status.WriteFault (O.faults out.old) (O.faults out.new) result }
+{
+    if words.len() != 2 {
+        let Ok(line) = usage_text(alloc) else {
+            return Status::NoMemory;
+        };
+        return refuse(alloc, Status::Usage, line.as_slice(), out);
+    }
+    match decide(alloc, words[0].as_str(), words[1].as_str(), store) {
+        Ok(decision) => answer(alloc, &decision, BUDGET, out),
+        Err(NoMemory) => Status::NoMemory,
+    }
+}
