@@ -1,0 +1,41 @@
+-- A design as the simulator sees it.
+use Rattle.std.specs.Prelude.{ℕ, suc, Bool, true, false, List, [], ◌∷◌, replicate, if◌then◌else◌}
+use Rattle.gpi.specs.declared.design.Kind.{Kind}
+use Rattle.gpi.specs.declared.design.Kind.TheVariants.{Assign, Always, Initial}
+use Rattle.gpi.specs.declared.design.Wake.{Wake}
+use Rattle.gpi.specs.declared.design.Process.{Process}
+use Rattle.gpi.specs.declared.design.Signal.{Signal}
+use Rattle.gpi.specs.Activation.{Map, Run, activation}
+
+-- a process: its kind, what it waits for, and what an activation of it leaves; bodies that do the same on every map are equal
+pub record Proc : Type 0 where
+  pub kind : Kind
+  pub wakes : List Wake
+  pub run : Map → Run
+
+abbrev pub proc_of : Process → Proc
+proc_of p = record { kind = p.kind; wakes = p.wakes; run = λ m. activation p.body (record { signals = m; updates = [] }) }
+
+abbrev pub procs_of : List Process → List Proc
+procs_of [] = []
+procs_of (p ∷ ps) = proc_of p ∷ procs_of ps
+
+-- the opening map: each signal has its opening digit everywhere
+abbrev pub start_map : List Signal → Map
+start_map [] = []
+start_map (s ∷ ss) = replicate s.width s.start ∷ start_map ss
+
+-- whether a process of this kind is active from the start
+abbrev pub starts : Kind → Bool
+starts Assign = true
+starts Always = false
+starts Initial = true
+
+-- the processes that are active from the start, by rising number from n
+abbrev pub starters : ℕ → List Proc → List ℕ
+starters n [] = []
+starters n (p ∷ ps) = if starts p.kind then n ∷ starters (suc n) ps else starters (suc n) ps
+
+abbrev pub widths : List Signal → List ℕ
+widths [] = []
+widths (s ∷ ss) = s.width ∷ widths ss

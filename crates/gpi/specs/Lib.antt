@@ -1,0 +1,13 @@
+pub mod Operators
+pub mod Selects
+pub mod Terms
+pub mod Made
+pub mod Targets
+pub mod Cases
+pub mod Activation
+pub mod Design
+pub mod Soundness
+pub mod Keys
+pub mod State
+pub mod Events
+pub mod Content

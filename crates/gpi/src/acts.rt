@@ -1,0 +1,219 @@
+// Statements.
+ghost use Rattle.std.specs.Prelude.{◌≡◌, ℕ, ◌<◌, ◌≤◌, ◌++◌, ◌∷◌, [], length, IfOk, OnOk, OnErr, Some, slice_get};
+ghost use Rattle.gpi.specs.Terms.{widths_of, read};
+ghost use Rattle.gpi.specs.Cases.{digits_agree, all_agree, first_match};
+ghost use Rattle.gpi.specs.Activation.{acts_of, MakesBlock, MakesIf, MakesCase, IsActCopy, AreActCopies};
+ghost use Rattle.gpi.specs.Cases.{AreLabelCopies};
+
+use crate::targets::Target;
+use crate::terms::Term;
+pub use activation::{apply, placed};
+use four_value::{Bits, Digit};
+use port_io::{NoMemory, Sequence};
+use std::alloc::Global;
+
+mod activation;
+
+/// A statement (clause 9) whose names are signals. A loop stands as the block of its turns.
+#[cycle(acts)]
+#[derive(Drop)]
+pub enum Act {
+    /// A statement without effect.
+    Empty,
+    /// Statements one after the other.
+    Block(Acts),
+    /// The first where the condition is true, else the second.
+    If(Term, Box<Act>, Box<Act>),
+    /// The item of the first label that agrees with the value, by its number in the list, else the last statement. The
+    /// value and the labels have the greatest width of them all.
+    Case(CaseKind, Term, Sequence<Label>, Acts, Box<Act>),
+    /// A blocking assignment (clause 9.2.1) of a value of the target's width.
+    Blocking(Target, Term),
+    /// A nonblocking assignment (clause 9.2.2) of a value of the target's width.
+    Nonblocking(Target, Term),
+}
+
+/// Statements in order, which contracts see as their list, `acts_of`.
+#[cycle(acts)]
+#[derive(Drop)]
+pub struct Acts {
+    list: Vec<Act>,
+}
+
+/// Which digits agree with any digit (clause 9.5.1).
+#[derive(Clone, Copy, Debug, PartialEq, Eq)]
+pub enum CaseKind {
+    /// `case`: none.
+    Exact,
+    /// `casez`: z.
+    AnyZ,
+    /// `casex`: x and z.
+    AnyXz,
+}
+
+/// A label of a case statement, and the number of its item.
+#[derive(Drop)]
+pub struct Label {
+    pub value: Term,
+    pub item: u32,
+}
+
+impl Acts {
+    /// No statement. It takes no memory.
+    pub fn new(alloc: Global) -> Acts
+        ensures { acts_of result ≡ [] }
+    {
+        Acts {
+            list: Vec::new(alloc),
+        }
+    }
+
+    /// Adds a statement at the end.
+    pub fn push(&mut self, act: Act) -> Result<(), NoMemory>
+        ensures ok { OnOk result (acts_of self.new ≡ acts_of self.old ++ act ∷ []) }
+        ensures err { OnErr result (acts_of self.new ≡ acts_of self.old) }
+    {
+        self.list.push(act)?;
+        Ok(())
+    }
+
+    pub fn len(&self) -> usize
+        ensures { result ≡ length (acts_of self.now) }
+    {
+        self.list.len()
+    }
+
+    pub fn get(&self, at: usize) -> &Act
+        requires { at < length (acts_of self.now) }
+        ensures { slice_get (acts_of self.now) at ≡ Some result.now }
+    {
+        &self.list[at]
+    }
+}
+
+impl Act {
+    /// Statements one after the other.
+    pub fn block(list: Acts) -> Act
+        ensures { MakesBlock list result }
+    {
+        Act::Block(list)
+    }
+
+    /// `if`
+    pub fn choice(alloc: Global, condition: Term, a: Act, b: Act) -> Result<Act, NoMemory>
+        ensures { IfOk result (MakesIf condition a b) }
+    {
+        Ok(Act::If(condition, Box::new(alloc, a)?, Box::new(alloc, b)?))
+    }
+
+    /// A case statement over these items.
+    pub fn case(
+        alloc: Global,
+        kind: CaseKind,
+        value: Term,
+        labels: Sequence<Label>,
+        items: Acts,
+        other: Act,
+    ) -> Result<Act, NoMemory>
+        ensures { IfOk result (MakesCase kind value labels items other) }
+    {
+        let other = Box::new(alloc, other)?;
+        Ok(Act::Case(kind, value, labels, items, other))
+    }
+
+    /// A copy, which means the same.
+    pub fn copy(&self, alloc: Global) -> Result<Act, NoMemory>
+        ensures { IfOk result (IsActCopy self.now) }
+    {
+        copy_act(alloc, self)
+    }
+}
+
+#[cycle(copying)]
+fn copy_act(alloc: Global, act: &Act) -> Result<Act, NoMemory>
+    ensures { IfOk result (IsActCopy act.now) }
+{
+    match act {
+        Act::Empty => Ok(Act::Empty),
+        Act::Block(list) => Ok(Act::block(copy_acts(alloc, list)?)),
+        Act::If(t, a, b) => {
+            Act::choice(
+                alloc,
+                t.copy(alloc)?,
+                copy_act(alloc, a)?,
+                copy_act(alloc, b)?,
+            )
+        }
+        Act::Case(kind, value, labels, items, other) => {
+            let value = value.copy(alloc)?;
+            let labels = copy_labels(alloc, labels)?;
+            let items = copy_acts(alloc, items)?;
+            let other = copy_act(alloc, other)?;
+            let act = Act::case(alloc, *kind, value, labels, items, other)?;
+            Ok(act)
+        }
+        Act::Blocking(target, value) => {
+            let target = target.copy(alloc)?;
+            Ok(Act::Blocking(target, value.copy(alloc)?))
+        }
+        Act::Nonblocking(target, value) => {
+            let target = target.copy(alloc)?;
+            Ok(Act::Nonblocking(target, value.copy(alloc)?))
+        }
+    }
+}
+
+#[cycle(copying)]
+fn copy_acts(alloc: Global, acts: &Acts) -> Result<Acts, NoMemory>
+    ensures { IfOk result (λ copies. AreActCopies (acts_of acts.now) (acts_of copies)) }
+{
+    let mut copies = Acts::new(alloc);
+    for act in &acts.list {
+        copies.push(copy_act(alloc, act)?)?;
+    }
+    Ok(copies)
+}
+
+#[tactic(auto, using(crate::proofs::Copies::label_copies))]
+fn copy_labels(alloc: Global, labels: &Sequence<Label>) -> Result<Sequence<Label>, NoMemory>
+    ensures { IfOk result (AreLabelCopies labels.now) }
+{
+    let mut copies = Sequence::new(alloc);
+    for at in 0..labels.len() {
+        let label = labels.get(at);
+        copies.push(Label {
+            value: label.value.copy(alloc)?,
+            item: label.item,
+        })?;
+    }
+    Ok(copies)
+}
+
+impl CaseKind {
+    // Whether two digits agree.
+    fn agrees(self, a: Digit, b: Digit) -> bool
+        ensures { result ≡ digits_agree self a b }
+    {
+        match (self, a, b) {
+            (CaseKind::AnyZ | CaseKind::AnyXz, Digit::Z, _) => true,
+            (CaseKind::AnyZ | CaseKind::AnyXz, _, Digit::Z) => true,
+            (CaseKind::AnyXz, Digit::X, _) => true,
+            (CaseKind::AnyXz, _, Digit::X) => true,
+            _ => a == b,
+        }
+    }
+
+    /// Whether two vectors of one width agree.
+    #[tactic(auto, using(crate::proofs::Lists::agree_drop))]
+    pub fn all_agree(self, a: Bits, b: Bits) -> bool
+        requires { length a ≡ length b }
+        ensures { result ≡ all_agree self a b }
+    {
+        for i in 0..a.width() {
+            if !self.agrees(a.digit(i), b.digit(i)) {
+                return false;
+            }
+        }
+        true
+    }
+}
