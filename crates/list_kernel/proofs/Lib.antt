@@ -1,0 +1,11 @@
+pub mod Same
+pub mod Lists
+pub mod Wakes
+pub mod Keys
+pub mod Loaded
+pub mod Fits
+pub mod Procs
+pub mod Chain
+pub mod Placed
+pub mod Opening
+pub mod Told

@@ -1,0 +1,87 @@
+-- One process of the list.
+use Rattle.std.proofs.Common.{◌≡◌, ℕ, zero, suc, ◌+◌, ◌<◌, ◌≤◌, Bool, true, false, List, [], ◌∷◌, ◌++◌, length, get_or, refl, sym, ap, subst, arith, slice_get, Some, None, Option, Result, Ok, Err, OnOk, drop, ◌∙◌, if◌then◌else◌}
+use Rattle.gpi.specs.declared.design.Process.{Process}
+use Rattle.gpi.specs.Activation.{IsSound, Map, Run, activation}
+use Rattle.gpi.specs.Soundness.{AreProcesses}
+use Rattle.gpi.specs.Design.{Proc, proc_of, procs_of}
+use Rattle.list_kernel.specs.Lists.{barred, own_of}
+use Rattle.gpi.specs.declared.design.Kind.{Kind}
+use Rattle.gpi.specs.declared.design.Kind.TheVariants.{Assign, Always, Initial}
+use Rattle.list_kernel.specs.Kernel.{AreOf, ran, with_run, ended}
+use Rattle.four_value.specs.Vector.{same_digits}
+use Rattle.gpi.specs.declared.types.Report.{Report}
+use Rattle.gpi.specs.declared.types.Region.TheVariants as region
+use Rattle.gpi.specs.declared.types.Update.{Update}
+use Rattle.gpi.specs.State.{State, changes, woken, bars_itself}
+use Rattle.gpi.specs.Events.{activate}
+
+pub sound_at : (ps : List Process) (p : ℕ) (x : Process) (ws : List ℕ) → p < length ps → x ≡ get_or ps p x → AreProcesses ps ws → IsSound x.body ws
+sound_at [] p x ws h e s = absurd (omega arith)
+sound_at (y ∷ ps) zero x ws h e s = subst (λ (z : Process). IsSound z.body ws) (sym e) s.0
+sound_at (y ∷ ps) (suc p) x ws h e s = sound_at ps p x ws (omega arith) e s.2
+
+pub proc_at : (ps : List Process) (p : ℕ) (x : Process) → p < length ps → x ≡ get_or ps p x → slice_get (procs_of ps) p ≡ Some (proc_of x)
+proc_at [] p x h e = absurd (omega arith)
+proc_at (y ∷ ps) zero x h e = ap (λ (z : Process). Some (proc_of z)) (sym e)
+proc_at (y ∷ ps) (suc p) x h e = proc_at ps p x (omega arith) e
+
+changes_step : (t : Bool) (r : Report) (rs : List Report) (k : ℕ) → r.sig.0 < k → AreOf rs k → AreOf (if t then rs else r ∷ rs) k
+changes_step true r rs k h l = l
+changes_step false r rs k h l = (h, l)
+
+pub changes_of : (n : ℕ) (a b : Map) (k : ℕ) → n + length a ≤ k → AreOf (changes n a b) k
+changes_of n [] b k h = tt
+changes_of n (x ∷ a) [] k h = tt
+changes_of n (x ∷ a) (y ∷ b) k h =
+    changes_step (same_digits x y) (record { sig = record { 0 = n }; before = x; after = y }) (changes (suc n) a b) k (omega arith) (changes_of (suc n) a b k (omega arith))
+
+own_barred : (k : Kind) (p : ℕ) (active : List ℕ) → barred (own_of k p) active ≡ (if bars_itself k then p ∷ active else active)
+own_barred Assign p active = refl
+own_barred Always p active = refl
+own_barred Initial p active = refl
+
+-- the state after the end of an activation, by its parts
+pub ended_is : (ps : List Process) (s : State) (before : Map) (p : ℕ) (x : Process) (own : Option ℕ) (active : List ℕ) (reports : List Report)
+    → p < length ps → x ≡ get_or ps p x
+    → reports ≡ changes 0 before s.signals
+    → own ≡ own_of x.kind p
+    → active ≡ s.active ++ woken 0 (procs_of ps) reports (barred own s.active)
+    → record { signals = s.signals; active = active; reports = reports; due = s.due; later = s.later; time = s.time; region = region.Active }
+    ≡ ended (procs_of ps) s before p (slice_get (procs_of ps) p)
+ended_is ps s before p x own active reports h e er eo ea =
+    rw (proc_at ps p x h e, ea, eo, own_barred x.kind p s.active, er) refl
+
+-- the state after the body of a process has run, by its parts
+pub ran_is : (ps : List Process) (s : State) (p : ℕ) (x : Process) (signals : Map) (later : List Update)
+    → p < length ps → x ≡ get_or ps p x
+    → signals ≡ (activation x.body (record { signals = s.signals; updates = [] })).signals
+    → later ≡ s.later ++ (activation x.body (record { signals = s.signals; updates = [] })).updates
+    → record { signals = signals; active = s.active; reports = s.reports; due = s.due; later = later; time = s.time; region = s.region }
+    ≡ with_run s (ran (slice_get (procs_of ps) p) s.signals)
+ran_is ps s p x signals later h e es el = rw (proc_at ps p x h e, el, es) refl
+
+-- the two together are an activation
+pub activated : (ps : List Proc) (s : State) (p : ℕ) (o : Option Proc) (rest : List ℕ) → (o ≡ None → ⊥)
+    → ended ps (record (with_run s (ran o s.signals)) { active = rest }) s.signals p o ≡ activate ps (record s { active = rest }) p o
+activated ps s p None rest h = absurd (h refl)
+activated ps s p (Some proc) rest h = refl
+
+-- there is a process of each number
+pub some_at : (ps : List Process) (p : ℕ) → p < length ps → slice_get (procs_of ps) p ≡ None → ⊥
+some_at [] p h e = omega arith
+some_at (y ∷ ps) zero h e = cc
+some_at (y ∷ ps) (suc p) h e = some_at ps p (omega arith) e
+
+pub ran_state : (ps qs : List Proc) (s t u : State) (before : Map) (p : ℕ) (rest : List ℕ) → (slice_get ps p ≡ None → ⊥) → qs ≡ ps
+    → t ≡ with_run s (ran (slice_get ps p) s.signals) → before ≡ s.signals → u ≡ ended qs (record t { active = rest }) before p (slice_get qs p)
+    → u ≡ activate ps (record s { active = rest }) p (slice_get ps p)
+ran_state ps qs s t u before p rest n q f b e =
+    e ∙ rw (q, f, b) (activated ps s p (slice_get ps p) rest n)
+
+pub head_tail : (xs ys : List ℕ) (p : ℕ) → 0 < length xs → p ≡ get_or xs 0 p → ys ≡ drop 1 xs → xs ≡ p ∷ ys
+head_tail [] ys p h e f = absurd (omega arith)
+head_tail (x ∷ xs) ys p h e f = let a : x ≡ p = sym e in let b : xs ≡ ys = sym f in cc
+
+pub on_both : {A E P Q R : Type 0} (r : Result A E) → OnOk r P → OnOk r Q → (P → Q → R) → OnOk r R
+on_both (Ok v) h k f = f h k
+on_both (Err e) h k f = h

@@ -1,0 +1,588 @@
+// The plain simulator.
+ghost use Rattle.std.specs.Prelude.{◌≡◌, ℕ, ◌<◌, ◌≤◌, ◌+◌, ◌++◌, ◌∷◌, [], true, false, length, OnOk, OnErr, IfOk, IsTrue, MatchOption, vec_capacity, None, List, slice_get};
+ghost use Rattle.gpi.specs.Design.{procs_of, proc_of, start_map, starters};
+ghost use Rattle.gpi.specs.Soundness.{IsSoundFlat, AreProcesses, are_wakes, are_wide};
+ghost use Rattle.gpi.specs.Activation.{IsSound, with_part};
+ghost use Rattle.gpi.specs.Terms.{widths_of};
+ghost use Rattle.gpi.specs.Keys.{has, fired_of, holds};
+ghost use Rattle.gpi.specs.Events.{event, put, value_at, report_case, due_case, active_case, later_case, settle_case, end_case, tells, edge_keys};
+ghost use Rattle.gpi.specs.Content.{Content, opening, no_design, Does, IsRunning};
+ghost use Rattle.list_kernel.specs.Lists.{own_of, is_empty};
+ghost use Rattle.list_kernel.specs.Kernel.{content_of, IsLoaded, TellsIt, Answered, ran, with_run, ended, from_time, from_end, from_settle, from_later, from_active, from_due, from_reports};
+
+use crate::book::{Book, Watch, in_order};
+use crate::run::activate;
+use crate::wake::{are_same, tell_changes, wake};
+use four_value::Bits;
+use gpi::{
+    Advance, Counts, Fired, Flat, Gpi, Key, Kind, Moved, Process, Region, Report, SigId, Signal,
+    Told, Update, Wake, placed,
+};
+use port_io::{NoMemory, Sequence};
+use std::alloc::Global;
+use std::mem::swap;
+
+#[derive(Drop)]
+pub struct ListKernel {
+    processes: Vec<Process>,
+    signals: Vec<Bits>,
+    before: Vec<Bits>,
+    active: Vec<u32>,
+    reports: Vec<Report>,
+    due: Vec<Update>,
+    later: Vec<Update>,
+    time: u64,
+    region: Region,
+    book: Book,
+}
+
+impl ListKernel {
+    // Writes a signal.
+    #[tactic(auto, using(gpi::proofs::Widths::widths, crate::proofs::Loaded::loaded))]
+    fn put(&mut self, sig: SigId, bits: Bits) -> Moved
+        requires loaded { IsLoaded self.old }
+        requires sig { sig.0 < length self.old.signals.items }
+        requires width { length bits ≡ length (value_at (content_of self.old).state sig) }
+        ensures loaded { IsLoaded self.new }
+        ensures widths { widths_of self.new.signals.items ≡ widths_of self.old.signals.items }
+        ensures is { let c = content_of self.old in TellsIt c (put c.procs c.state c.keys sig bits) result (content_of self.new) }
+    {
+        let before = self.signals[sig.0 as usize];
+        if are_same(before, bits) {
+            return Moved {
+                change: None,
+                fired: nothing(),
+            };
+        }
+        self.signals[sig.0 as usize] = bits;
+        let reports = [Report {
+            sig,
+            before,
+            after: bits,
+        }];
+        wake(&self.processes, &reports, &mut self.active, None);
+        let fired = self.book.change(&reports[0]);
+        Moved {
+            change: Some(Told { sig, bits }),
+            fired,
+        }
+    }
+
+    // A report is told.
+    fn tell(&mut self, report: &Report) -> Moved
+        requires loaded { IsLoaded self.old }
+        requires sig { report.now.sig.0 < length self.old.signals.items }
+        ensures loaded { IsLoaded self.new }
+        ensures widths { widths_of self.new.signals.items ≡ widths_of self.old.signals.items }
+        ensures is { let c = content_of self.old in
+            TellsIt c (record { state = record c.state { region = Region.Active }; told = tells report.now; fired = edge_keys report.now c.keys }) result (content_of self.new) }
+    {
+        self.region = Region::Active;
+        let fired = self.book.change(report);
+        Moved {
+            change: Some(Told {
+                sig: report.sig,
+                bits: report.after,
+            }),
+            fired,
+        }
+    }
+
+    // An update is applied.
+    fn apply(&mut self, update: &Update) -> Moved
+        requires loaded { IsLoaded self.old }
+        requires sig { update.now.sig.0 < length self.old.signals.items }
+        requires inside { update.now.low + length update.now.bits ≤ length (value_at (content_of self.old).state update.now.sig) }
+        ensures loaded { IsLoaded self.new }
+        ensures widths { widths_of self.new.signals.items ≡ widths_of self.old.signals.items }
+        ensures is { let c = content_of self.old in
+            TellsIt c (put c.procs (record c.state { region = Region.Active }) c.keys update.now.sig
+            (with_part (value_at c.state update.now.sig) update.now.low update.now.bits)) result (content_of self.new) }
+    {
+        self.region = Region::Active;
+        let bits = placed(self.signals[update.sig.0 as usize], update.low, update.bits);
+        self.put(update.sig, bits)
+    }
+
+    // 1: a report is told.
+    fn report_first(&mut self) -> Option<Moved>
+        requires { IsLoaded self.old }
+        ensures loaded { IsLoaded self.new }
+        ensures widths { widths_of self.new.signals.items ≡ widths_of self.old.signals.items }
+        ensures is { Answered (content_of self.old) (report_case (content_of self.old).state (content_of self.old).keys (content_of self.old).state.reports) result (content_of self.new) }
+        ensures none { result ≡ None → self.new.reports.items ≡ [] }
+    {
+        match take_first(&mut self.reports) {
+            Some(report) => Some(self.tell(&report)),
+            None => None,
+        }
+    }
+
+    // 2: a due update is applied.
+    fn due_first(&mut self) -> Option<Moved>
+        requires { IsLoaded self.old }
+        ensures loaded { IsLoaded self.new }
+        ensures widths { widths_of self.new.signals.items ≡ widths_of self.old.signals.items }
+        ensures is { let c = content_of self.old in Answered c (due_case c.procs c.state c.keys c.state.due) result (content_of self.new) }
+        ensures none { result ≡ None → self.new.due.items ≡ [] }
+        ensures quiet { self.old.reports.items ≡ [] → self.new.reports.items ≡ [] }
+    {
+        match take_first(&mut self.due) {
+            Some(update) => Some(self.apply(&update)),
+            None => None,
+        }
+    }
+
+    // 4: later updates become due.
+    fn later_first(&mut self) -> Option<Moved>
+        requires loaded { IsLoaded self.old }
+        requires none { self.old.due.items ≡ [] }
+        ensures loaded { IsLoaded self.new }
+        ensures widths { widths_of self.new.signals.items ≡ widths_of self.old.signals.items }
+        ensures is { let c = content_of self.old in Answered c (later_case c.procs c.state c.keys) result (content_of self.new) }
+    {
+        match take_first(&mut self.later) {
+            Some(update) => {
+                swap(&mut self.due, &mut self.later);
+                Some(self.apply(&update))
+            }
+            None => None,
+        }
+    }
+
+    // 3: a process is run.
+    fn run_first(&mut self) -> Result<Option<Moved>, NoMemory>
+        requires loaded { IsLoaded self.old }
+        requires quiet { self.old.reports.items ≡ [] }
+        ensures loaded { IsLoaded self.new }
+        ensures widths { widths_of self.new.signals.items ≡ widths_of self.old.signals.items }
+        ensures is { let c = content_of self.old in IfOk result (λ answer. Answered c (active_case c.procs c.state c.state.active) answer (content_of self.new)) }
+        ensures kept { OnErr result (content_of self.new ≡ content_of self.old) }
+        ensures due { self.new.due.items ≡ self.old.due.items }
+        ensures cause { OnErr result (0 < length self.old.active.items) }
+    {
+        if self.active.is_empty() {
+            return Ok(None);
+        }
+        let p = self.active[0];
+        match self.run_body(p) {
+            Ok(()) => {
+                self.active.remove(0);
+                self.end_activation(p);
+                Ok(Some(Moved {
+                    change: None,
+                    fired: nothing(),
+                }))
+            }
+            Err(e) => Err(e),
+        }
+    }
+
+    // Runs the body of a process, with the map as it was kept in `before`.
+    fn run_body(&mut self, p: u32) -> Result<(), NoMemory>
+        requires loaded { IsLoaded self.old }
+        requires below { p < length self.old.processes.items }
+        ensures loaded { IsLoaded self.new }
+        ensures widths { widths_of self.new.signals.items ≡ widths_of self.old.signals.items }
+        ensures before { self.new.before.items ≡ self.old.signals.items }
+        ensures procs { self.new.processes.items ≡ self.old.processes.items }
+        ensures book { self.new.book ≡ self.old.book }
+        ensures is { let c = content_of self.old in
+            OnOk result ((content_of self.new).state ≡ with_run c.state (ran (slice_get c.procs p) c.state.signals)) }
+        ensures kept { OnErr result (content_of self.new ≡ content_of self.old) }
+    {
+        let process = &self.processes[p as usize];
+        activate(
+            &process.body,
+            &mut self.signals,
+            &mut self.before,
+            &mut self.later,
+        )
+    }
+
+    // Tells the changes of an activation of a process that is no longer in the active list, and wakes what waits for them.
+    fn end_activation(&mut self, p: u32)
+        requires loaded { IsLoaded self.old }
+        requires quiet { self.old.reports.items ≡ [] }
+        requires below { p < length self.old.processes.items }
+        requires free { holds p self.old.active.items ≡ false }
+        ensures loaded { IsLoaded self.new }
+        ensures procs { self.new.processes.items ≡ self.old.processes.items }
+        ensures book { self.new.book ≡ self.old.book }
+        ensures is { let c = content_of self.old in (content_of self.new).state ≡ ended c.procs c.state self.old.before.items p (slice_get c.procs p) }
+    {
+        tell_changes(&self.before, &self.signals, &mut self.reports);
+        let process = &self.processes[p as usize];
+        wake(
+            &self.processes,
+            &self.reports,
+            &mut self.active,
+            own(process, p),
+        );
+        self.region = Region::Active;
+    }
+
+    // The cases of an event, from 6 on.
+    fn from_end(&mut self) -> Option<Moved>
+        requires { IsLoaded self.old }
+        ensures loaded { IsLoaded self.new }
+        ensures widths { widths_of self.new.signals.items ≡ widths_of self.old.signals.items }
+        ensures is { Answered (content_of self.old) (from_end (content_of self.old)) result (content_of self.new) }
+    {
+        match self.end() {
+            Some(moved) => Some(moved),
+            None => self.move_time(),
+        }
+    }
+
+    // From 5 on.
+    fn from_settle(&mut self) -> Option<Moved>
+        requires { IsLoaded self.old }
+        ensures loaded { IsLoaded self.new }
+        ensures widths { widths_of self.new.signals.items ≡ widths_of self.old.signals.items }
+        ensures is { Answered (content_of self.old) (from_settle (content_of self.old)) result (content_of self.new) }
+    {
+        match self.settle() {
+            Some(moved) => Some(moved),
+            None => self.from_end(),
+        }
+    }
+
+    // From 4 on.
+    fn from_later(&mut self) -> Option<Moved>
+        requires loaded { IsLoaded self.old }
+        requires none { self.old.due.items ≡ [] }
+        ensures loaded { IsLoaded self.new }
+        ensures widths { widths_of self.new.signals.items ≡ widths_of self.old.signals.items }
+        ensures is { Answered (content_of self.old) (from_later (content_of self.old)) result (content_of self.new) }
+    {
+        match self.later_first() {
+            Some(moved) => Some(moved),
+            None => self.from_settle(),
+        }
+    }
+
+    // From 3 on.
+    fn from_active(&mut self) -> Result<Option<Moved>, NoMemory>
+        requires loaded { IsLoaded self.old }
+        requires quiet { self.old.reports.items ≡ [] }
+        requires none { self.old.due.items ≡ [] }
+        ensures loaded { IsLoaded self.new }
+        ensures widths { widths_of self.new.signals.items ≡ widths_of self.old.signals.items }
+        ensures is { IfOk result (λ answer. Answered (content_of self.old) (from_active (content_of self.old)) answer (content_of self.new)) }
+        ensures kept { OnErr result (content_of self.new ≡ content_of self.old) }
+        ensures cause { OnErr result (IsRunning (content_of self.old).state) }
+    {
+        match self.run_first() {
+            Ok(Some(moved)) => Ok(Some(moved)),
+            Ok(None) => Ok(self.from_later()),
+            Err(e) => Err(e),
+        }
+    }
+
+    // From 2 on.
+    fn from_due(&mut self) -> Result<Option<Moved>, NoMemory>
+        requires loaded { IsLoaded self.old }
+        requires quiet { self.old.reports.items ≡ [] }
+        ensures loaded { IsLoaded self.new }
+        ensures widths { widths_of self.new.signals.items ≡ widths_of self.old.signals.items }
+        ensures is { IfOk result (λ answer. Answered (content_of self.old) (from_due (content_of self.old)) answer (content_of self.new)) }
+        ensures kept { OnErr result (content_of self.new ≡ content_of self.old) }
+        ensures cause { OnErr result (IsRunning (content_of self.old).state) }
+    {
+        match self.due_first() {
+            Some(moved) => Ok(Some(moved)),
+            None => self.from_active(),
+        }
+    }
+
+    // All cases.
+    fn one_event(&mut self) -> Result<Option<Moved>, NoMemory>
+        requires { IsLoaded self.old }
+        ensures loaded { IsLoaded self.new }
+        ensures widths { widths_of self.new.signals.items ≡ widths_of self.old.signals.items }
+        ensures is { IfOk result (λ answer. Answered (content_of self.old) (from_reports (content_of self.old)) answer (content_of self.new)) }
+        ensures kept { OnErr result (content_of self.new ≡ content_of self.old) }
+        ensures cause { OnErr result (IsRunning (content_of self.old).state) }
+    {
+        match self.report_first() {
+            Some(moved) => Ok(Some(moved)),
+            None => self.from_due(),
+        }
+    }
+
+    // 7: time moves on.
+    fn move_time(&mut self) -> Option<Moved>
+        requires { IsLoaded self.old }
+        ensures loaded { IsLoaded self.new }
+        ensures widths { widths_of self.new.signals.items ≡ widths_of self.old.signals.items }
+        ensures is { Answered (content_of self.old) (from_time (content_of self.old)) result (content_of self.new) }
+    {
+        let t = self.book.least()?;
+        let step = self.book.take(Key::NextStep);
+        self.book.fire(Key::At(t));
+        self.time = t;
+        self.region = Region::Begin;
+        Some(Moved {
+            change: None,
+            fired: in_order(step, Some(Key::At(t))),
+        })
+    }
+
+    // 6: ReadOnly fires.
+    fn end(&mut self) -> Option<Moved>
+        requires { IsLoaded self.old }
+        ensures loaded { IsLoaded self.new }
+        ensures widths { widths_of self.new.signals.items ≡ widths_of self.old.signals.items }
+        ensures is { Answered (content_of self.old) (end_case (content_of self.old).state (content_of self.old).keys) result (content_of self.new) }
+    {
+        if self.region == Region::End || !self.book.has(Key::ReadOnly) {
+            return None;
+        }
+        self.book.fire(Key::ReadOnly);
+        self.region = Region::End;
+        Some(Moved {
+            change: None,
+            fired: in_order(Some(Key::ReadOnly), None),
+        })
+    }
+
+    // 5: ReadWrite fires.
+    fn settle(&mut self) -> Option<Moved>
+        requires { IsLoaded self.old }
+        ensures loaded { IsLoaded self.new }
+        ensures widths { widths_of self.new.signals.items ≡ widths_of self.old.signals.items }
+        ensures is { Answered (content_of self.old) (settle_case (content_of self.old).state (content_of self.old).keys) result (content_of self.new) }
+    {
+        if self.region == Region::End || !self.book.has(Key::ReadWrite) {
+            return None;
+        }
+        self.book.fire(Key::ReadWrite);
+        self.region = Region::Settle;
+        Some(Moved {
+            change: None,
+            fired: in_order(Some(Key::ReadWrite), None),
+        })
+    }
+}
+
+impl Gpi for ListKernel {
+    ghost use Rattle.list_kernel.specs.Kernel.{content_of, IsLoaded};
+
+    ghost content = { content_of };
+
+    ghost is_loaded = { IsLoaded };
+
+    fn load(&mut self, alloc: Global, flat: &Flat) -> Result<(), NoMemory> {
+        match opened(alloc, flat) {
+            Ok(kernel) => {
+                *self = kernel;
+                Ok(())
+            }
+            Err(e) => {
+                *self = ListKernel::new(alloc);
+                Err(e)
+            }
+        }
+    }
+
+    fn now(&self) -> u64 {
+        self.time
+    }
+
+    fn region(&self) -> Region {
+        self.region
+    }
+
+    fn counts(&self) -> Counts {
+        self.book.counts
+    }
+
+    fn read(&self, sig: SigId) -> Bits {
+        self.signals[sig.0 as usize]
+    }
+
+    fn deposit(&mut self, sig: SigId, bits: Bits) -> Fired {
+        self.put(sig, bits).fired
+    }
+
+    #[tactic(auto, using(crate::proofs::Placed::asked_placed))]
+    fn register(&mut self, key: Key) -> Result<(), NoMemory> {
+        match self.book.add(key) {
+            Ok(()) => Ok(()),
+            Err(e) => Err(e),
+        }
+    }
+
+    #[tactic(auto, using(crate::proofs::Placed::has_placed))]
+    fn remove(&mut self, key: Key) {
+        self.book.remove(key);
+    }
+
+    #[tactic(auto, using(crate::proofs::Placed::idle_is))]
+    fn idle(&self) -> bool {
+        let open = self.region != Region::End;
+        empty(&self.reports)
+            && empty(&self.due)
+            && empty(&self.active)
+            && empty(&self.later)
+            && !(self.book.has(Key::ReadWrite) && open)
+            && !(self.book.has(Key::ReadOnly) && open)
+            && empty(&self.book.times)
+    }
+
+    fn advance(&mut self) -> Result<Advance, NoMemory> {
+        match self.one_event() {
+            Ok(Some(moved)) => Ok(Advance::Moved(moved)),
+            Ok(None) => Ok(Advance::Idle),
+            Err(e) => Err(e),
+        }
+    }
+}
+
+fn empty<T>(list: &Vec<T>) -> bool
+    ensures { result ≡ is_empty list.now.items }
+{
+    list.is_empty()
+}
+
+impl ListKernel {
+    pub fn new(alloc: Global) -> ListKernel
+        ensures { content_of result ≡ no_design }
+    {
+        ListKernel {
+            processes: Vec::new(alloc),
+            signals: Vec::new(alloc),
+            before: Vec::new(alloc),
+            active: Vec::new(alloc),
+            reports: Vec::new(alloc),
+            due: Vec::new(alloc),
+            later: Vec::new(alloc),
+            time: 0,
+            region: Region::Begin,
+            book: Book::new(alloc),
+        }
+    }
+}
+
+// A kernel in the opening state of the design.
+fn opened(alloc: Global, flat: &Flat) -> Result<ListKernel, NoMemory>
+    requires { IsSoundFlat flat.now }
+    ensures { IfOk result (λ kernel. (content_of kernel ≡ opening flat.now) × IsLoaded kernel) }
+{
+    let processes = copy_processes(alloc, &flat.processes)?;
+    let signals = start_signals(alloc, &flat.signals)?;
+    let before = Vec::from_slice(alloc, &signals)?;
+    let active = start_active(alloc, &processes)?;
+    let reports = Vec::with_capacity(alloc, signals.len())?;
+    let book = Book::with_signals(alloc, signals.len())?;
+    Ok(ListKernel {
+        processes,
+        signals,
+        before,
+        active,
+        reports,
+        due: Vec::new(alloc),
+        later: Vec::new(alloc),
+        time: 0,
+        region: Region::Begin,
+        book,
+    })
+}
+
+fn copy_processes(alloc: Global, processes: &Sequence<Process>) -> Result<Vec<Process>, NoMemory>
+    ensures procs { IfOk result (λ copies. procs_of copies.items ≡ procs_of processes.now) }
+    ensures count { IfOk result (λ copies. length copies.items ≡ length processes.now) }
+    ensures sound { IfOk result (λ copies. (ws : List ℕ) → AreProcesses processes.now ws → AreProcesses copies.items ws) }
+{
+    let mut copies = Vec::new(alloc);
+    for at in 0..processes.len() {
+        let copy = copy_process(alloc, processes.get(at))?;
+        copies.push(copy)?;
+    }
+    Ok(copies)
+}
+
+fn copy_process(alloc: Global, process: &Process) -> Result<Process, NoMemory>
+    ensures { IfOk result (λ copy. (proc_of copy ≡ proc_of process.now) × (copy.wakes ≡ process.now.wakes) × ((ws : List ℕ) → IsSound process.now.body ws → IsSound copy.body ws)) }
+{
+    let wakes = copy_wakes(alloc, &process.wakes)?;
+    let body = process.body.copy(alloc)?;
+    Ok(Process {
+        kind: process.kind,
+        wakes,
+        body,
+    })
+}
+
+#[tactic(auto, using(crate::proofs::Opening::wakes))]
+fn copy_wakes(alloc: Global, wakes: &Sequence<Wake>) -> Result<Sequence<Wake>, NoMemory>
+    ensures { IfOk result (λ copies. copies ≡ wakes.now) }
+{
+    let mut copies = Sequence::new(alloc);
+    for at in 0..wakes.len() {
+        copies.push(*wakes.get(at))?;
+    }
+    Ok(copies)
+}
+
+#[tactic(auto, using(crate::proofs::Opening::wide))]
+fn start_signals(alloc: Global, signals: &Sequence<Signal>) -> Result<Vec<Bits>, NoMemory>
+    requires { IsTrue (are_wide signals.now) }
+    ensures { IfOk result (λ map. map.items ≡ start_map signals.now) }
+{
+    let mut map = Vec::new(alloc);
+    for at in 0..signals.len() {
+        let signal = signals.get(at);
+        map.push(Bits::all(signal.width, signal.start))?;
+    }
+    Ok(map)
+}
+
+fn start_active(alloc: Global, processes: &[Process]) -> Result<Vec<u32>, NoMemory>
+    requires { length processes.now ≤ 65536 }
+    ensures { IfOk result (λ active. (active.items ≡ starters 0 (procs_of processes.now)) × (length processes.now ≤ vec_capacity active)) }
+{
+    let mut active = Vec::with_capacity(alloc, processes.len())?;
+    let mut at = 0;
+    while at < processes.len() {
+        match processes[at].kind {
+            Kind::Always => {}
+            _ => active.push(at as u32)?,
+        }
+        at += 1;
+    }
+    Ok(active)
+}
+
+// An `always` isn't woken by its own activation.
+fn own(process: &Process, p: u32) -> Option<u32>
+    ensures { result ≡ own_of process.now.kind p }
+{
+    match process.kind {
+        Kind::Always => Some(p),
+        _ => None,
+    }
+}
+
+// Takes the first element.
+fn take_first<T>(list: &mut Vec<T>) -> Option<T>
+    ensures is { MatchOption result
+        ((list.old.items ≡ []) × (list.new.items ≡ []))
+        (λ x. list.old.items ≡ x ∷ list.new.items) }
+    ensures room { vec_capacity list.old ≤ vec_capacity list.new }
+{
+    if list.is_empty() {
+        return None;
+    }
+    Some(list.remove(0))
+}
+
+fn nothing() -> Fired
+    ensures { result ≡ fired_of [] }
+{
+    Fired {
+        first: None,
+        second: None,
+    }
+}

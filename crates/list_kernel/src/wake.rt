@@ -1,0 +1,163 @@
+// Changes, and the processes that they wake.
+ghost use Rattle.std.specs.Prelude.{◌≡◌, ◌≤◌, ◌<◌, ◌+◌, ◌++◌, ◌^◌, length, [], ◌∷◌, vec_capacity, vec_len, ℕ, false, not, ◌&&◌};
+ghost use Rattle.four_value.specs.Vector.{same_digits, digit_at};
+ghost use Rattle.gpi.specs.Design.{procs_of};
+ghost use Rattle.gpi.specs.Keys.{holds};
+ghost use Rattle.gpi.specs.State.{meets, meets_any, waits, edge_fits, changes, woken};
+ghost use Rattle.list_kernel.specs.Lists.{barred, AreBelow, AreDistinct};
+
+use four_value::{Bits, Digit, Edge, edge};
+use gpi::{Process, Report, SigId, Wake, WakeEdge};
+use port_io::Sequence;
+
+// Whether both are the same vector.
+pub fn are_same(a: Bits, b: Bits) -> bool
+    ensures { result ≡ same_digits a b }
+{
+    a.is_same(b)
+}
+
+pub fn holds(list: &[u32], n: u32) -> bool
+    ensures { result ≡ holds n list.now }
+{
+    let mut found = false;
+    let mut at = list.len();
+    'back: while at > 0 {
+        at -= 1;
+        found = n == list[at] || found;
+    }
+    found
+}
+
+fn fits(wanted: WakeEdge, got: Edge) -> bool
+    ensures { result ≡ edge_fits wanted got }
+{
+    match (wanted, got) {
+        (WakeEdge::Any, _) => true,
+        (WakeEdge::Pos, Edge::Pos) => true,
+        (WakeEdge::Pos, _) => false,
+        (WakeEdge::Neg, Edge::Neg) => true,
+        (WakeEdge::Neg, _) => false,
+    }
+}
+
+pub fn low_digit(bits: Bits) -> Digit
+    ensures { result ≡ digit_at bits 0 }
+{
+    let _width = bits.width();
+    bits.digit(0)
+}
+
+fn meets(wake: &Wake, report: &Report) -> bool
+    ensures { result ≡ meets wake.now report.now }
+{
+    wake.sig.0 == report.sig.0
+        && fits(
+            wake.edge,
+            edge(low_digit(report.before), low_digit(report.after)),
+        )
+}
+
+fn meets_any(wake: &Wake, reports: &[Report]) -> bool
+    ensures { result ≡ meets_any wake.now reports.now }
+{
+    let mut found = false;
+    let mut at = reports.len();
+    'back: while at > 0 {
+        at -= 1;
+        found = meets(wake, &reports[at]) || found;
+    }
+    found
+}
+
+fn waits(wakes: &Sequence<Wake>, reports: &[Report]) -> bool
+    ensures { result ≡ waits wakes.now reports.now }
+{
+    let mut found = false;
+    let mut at = wakes.len();
+    'back: while at > 0 {
+        at -= 1;
+        found = meets_any(wakes.get(at), reports) || found;
+    }
+    found
+}
+
+// The changes between two maps.
+pub fn tell_changes(before: &[Bits], signals: &[Bits], reports: &mut Vec<Report>)
+    requires same { length before.now ≡ length signals.now }
+    requires few { length before.now ≤ 65536 }
+    requires none { reports.old.items ≡ [] }
+    requires room { length before.now ≤ vec_capacity reports.old }
+    ensures is { reports.new.items ≡ changes 0 before.now signals.now }
+    ensures room { vec_capacity reports.old ≤ vec_capacity reports.new }
+{
+    let mut n = 0;
+    while n < before.len() {
+        let earlier = before[n];
+        let after = signals[n];
+        if !are_same(earlier, after) {
+            reports
+                .push(Report {
+                    sig: SigId(n as u32),
+                    before: earlier,
+                    after,
+                })
+                .unwrap();
+        }
+        n += 1;
+    }
+}
+
+// Puts a process at the end of the active list; there are `count` processes.
+#[tactic(auto, using(crate::proofs::Lists::pushes))]
+fn add_active(active: &mut Vec<u32>, n: u32, count: usize)
+    requires inside { n < count }
+    requires new { holds n active.old.items ≡ false }
+    requires below { AreBelow count active.old.items }
+    requires distinct { AreDistinct active.old.items }
+    requires room { count ≤ vec_capacity active.old }
+    ensures is { active.new.items ≡ active.old.items ++ n ∷ [] }
+    ensures below { AreBelow count active.new.items }
+    ensures distinct { AreDistinct active.new.items }
+    ensures room { vec_capacity active.old ≤ vec_capacity active.new }
+{
+    active.push(n).unwrap();
+}
+
+// Whether the changes wake this process.
+fn is_woken(process: &Process, n: u32, reports: &[Report], own: Option<u32>, active: &[u32]) -> bool
+    ensures { result ≡ (not (holds n (barred own active.now)) && waits process.now.wakes reports.now) }
+{
+    !is_barred(own, active, n) && waits(&process.wakes, reports)
+}
+
+// Puts the processes that the changes wake at the end of the active list.
+#[tactic(auto, using(crate::proofs::Lists::steps))]
+pub fn wake(processes: &[Process], reports: &[Report], active: &mut Vec<u32>, own: Option<u32>)
+    requires few { length processes.now ≤ 65536 }
+    requires below { AreBelow (length processes.now) active.old.items }
+    requires distinct { AreDistinct active.old.items }
+    requires room { length processes.now ≤ vec_capacity active.old }
+    ensures is { active.new.items ≡ active.old.items ++ woken 0 (procs_of processes.now) reports.now (barred own active.old.items) }
+    ensures below { AreBelow (length processes.now) active.new.items }
+    ensures distinct { AreDistinct active.new.items }
+    ensures room { vec_capacity active.old ≤ vec_capacity active.new }
+{
+    let len = active.len();
+    let mut n = 0;
+    while n < processes.len() {
+        if is_woken(&processes[n], n as u32, reports, own, &active[..len]) {
+            add_active(active, n as u32, processes.len());
+        }
+        n += 1;
+    }
+}
+
+fn is_barred(own: Option<u32>, active: &[u32], n: u32) -> bool
+    ensures { result ≡ holds n (barred own active.now) }
+{
+    match own {
+        Some(p) => n == p || holds(active, n),
+        None => holds(active, n),
+    }
+}
