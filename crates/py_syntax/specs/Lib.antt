@@ -11,3 +11,6 @@ pub mod Logical
 pub mod Items
 pub mod Standing
 pub mod Spelled
+pub mod ExpressionTrees
+pub mod ExpressionTables
+pub mod ExpressionSpells

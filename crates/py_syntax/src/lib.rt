@@ -1,6 +1,8 @@
 //! The tokens and the logical lines of a Python text, and the rules by which a text has them.
 #![tactic(auto)]
 
+mod constant;
+mod expression;
 mod keyword;
 mod laws;
 mod line;
@@ -8,6 +10,8 @@ mod operator;
 mod piece;
 mod token;
 
+pub use constant::Const;
+pub use expression::{BinOp, BoolOp, Expression, FormatPart, Function, Method, Operation, UnOp};
 pub use keyword::Keyword;
 pub use laws::pieces_spell_the_text;
 pub use line::{Lines, LogicalLine};

@@ -1,0 +1,11 @@
+pub mod RowLaws
+pub mod Stacks
+pub mod Steps
+pub mod Nodes
+pub mod Tables
+pub mod Starts
+pub mod Leads
+pub mod Again
+pub mod TokenFacts
+pub mod Sound
+pub mod ReaderLaws

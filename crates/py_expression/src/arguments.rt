@@ -1,0 +1,55 @@
+//! The arguments of a call, while they are read.
+
+ghost use Rattle.std.specs.Prelude.{◌≡◌, ◌≤◌, IfOk};
+ghost use Rattle.py_syntax.specs.ExpressionTrees.{Tree, Call, view};
+ghost use Rattle.py_expression.specs.Kept.{measured, arguments_in};
+ghost use Rattle.py_expression.specs.Rows.{trees_of};
+ghost use Rattle.py_expression.specs.Shown;
+
+use crate::measured::Measured;
+use port_io::NoMemory;
+use py_syntax::{Expression, Function};
+use std::alloc::Global;
+
+/// Arguments, and the greatest height among them.
+#[derive(Drop)]
+pub struct Arguments {
+    pub trees: Vec<Expression>,
+    /// 0 where there is no argument.
+    pub height: usize,
+}
+
+impl Arguments {
+    pub fn new(alloc: Global) -> Self
+        ensures { arguments_in result ≡ Shown.no_trees }
+    {
+        Arguments {
+            trees: Vec::new(alloc),
+            height: 0,
+        }
+    }
+
+    /// How many there are.
+    pub fn len(&self) -> usize
+        ensures { result ≡ (arguments_in self.now).count }
+    {
+        self.trees.len()
+    }
+
+    /// These and one more.
+    #[tactic(auto, using(crate::proofs::RowLaws::trees_of_more), unfolding(crate::specs::Shown::with_tree))]
+    pub fn with(mut self, argument: Measured) -> Result<Arguments, NoMemory>
+        ensures { IfOk result (λ all. arguments_in all ≡ Shown.with_tree (arguments_in self) (measured argument)) }
+    {
+        self.height = self.height.max(argument.height);
+        self.trees.push(argument.tree)?;
+        Ok(self)
+    }
+
+    /// The call of a function with these.
+    pub fn into_call(self, function: Function) -> Expression
+        ensures { view result ≡ Call function (trees_of self.trees.items) }
+    {
+        Expression::Call(function, self.trees)
+    }
+}

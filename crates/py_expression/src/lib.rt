@@ -1,0 +1,22 @@
+//! Reads the expressions of a Python text.
+#![tactic(auto)]
+
+mod arguments;
+mod begin;
+mod close;
+mod fault;
+mod follow;
+mod frame;
+mod laws;
+mod measured;
+mod parts;
+mod reader;
+mod tokens;
+
+pub use fault::ReadError;
+pub use laws::one_expression;
+pub use measured::{KEPT, Measured};
+pub use reader::{expression, primary};
+
+#[cfg(test)]
+mod tests;
