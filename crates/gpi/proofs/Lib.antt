@@ -5,3 +5,5 @@ pub mod Made
 pub mod Copies
 pub mod Steps
 pub mod SameKeys
+pub mod Sound
+mod WorkedSteps

@@ -7,8 +7,14 @@ use Rattle.gpi.specs.declared.design.Spot.{Spot}
 use Rattle.gpi.specs.declared.design.Spot.TheVariants.{Inner, Sig, Words}
 use Rattle.gpi.specs.declared.design.Node.{Node}
 use Rattle.gpi.specs.declared.design.Flat.{Flat}
+use Rattle.gpi.specs.Terms.{IsWidth}
 use Rattle.gpi.specs.Activation.{IsSound}
 use Rattle.gpi.specs.Design.{widths}
+
+-- an expression, a target or an object was found to be sound, and of this width; or it was found that it isn't
+abbrev pub IsWidthFound : Option ℕ → Type 0 → ℕ → Type 0
+IsWidthFound (Some w) Sound n = Sound × (w ≡ n) × IsWidth w
+IsWidthFound None Sound n = Sound → ⊥
 
 -- each width is 1 to 128
 abbrev pub are_wide : List Signal → Bool
@@ -29,7 +35,7 @@ AreProcesses (p ∷ ps) ws = IsSound p.body ws × IsTrue (are_wakes p.wakes (len
 abbrev pub is_spot : ℕ → ℕ → Spot → Bool
 is_spot nodes signals (Inner k) = nat_lt k nodes
 is_spot nodes signals (Sig s) = nat_lt s.0 signals
-is_spot nodes signals (Words first low count) = nat_le (first.0 + count) signals
+is_spot nodes signals (Words first low count) = nat_lt first.0 signals && nat_le (first.0 + count) signals
 
 abbrev pub are_spots : ℕ → ℕ → List (List ℕ × Spot) → Bool
 are_spots nodes signals [] = true
@@ -73,10 +79,13 @@ abbrev pub climbs : ℕ → List Node → ℕ → Bool
 climbs zero ns v = v == 0
 climbs (suc steps) ns v = (v == 0) || at_parent (parent_from v 0 ns) (climbs steps ns)
 
+-- a node has its place in the tree: it is a child once, but for node 0, and one comes from it to node 0
+abbrev pub IsPlaced : List Node → ℕ → Type 0
+IsPlaced ns v = (times_child v ns ≡ (if v == 0 then 0 else 1)) × IsTrue (climbs (length ns) ns v)
+
 pub record IsTree (ns : List Node) : Type 0 where
   pub root : 0 < length ns
-  pub once : (v : ℕ) → v < length ns → times_child v ns ≡ (if v == 0 then 0 else 1)
-  pub below : (v : ℕ) → v < length ns → IsTrue (climbs (length ns) ns v)
+  pub each : (v : ℕ) → v < length ns → IsPlaced ns v
 
 -- no list is too long, each number lies in its list, each width is 1 to 128 and fits its node, the nodes form one tree, and
 -- the step is at least 1

@@ -67,6 +67,7 @@ IsWidth w = (1 ≤ w) × (w ≤ 128)
 
 -- the words lie in the design, and each has this width; ws are the widths of the signals
 pub record AreWords (words : Words) (w : ℕ) (ws : List ℕ) : Type 0 where
+  pub first : words.first.0 < length ws
   pub inside : words.first.0 + words.count ≤ length ws
   pub width : IsWidth w
   pub each : (s : ℕ) → words.first.0 ≤ s → s < words.first.0 + words.count → slice_index ws s ≡ w

@@ -10,8 +10,10 @@ mod design;
 mod interface;
 mod operators;
 mod selects;
+mod soundness;
 mod targets;
 mod terms;
+mod tree;
 mod types;
 
 pub use acts::{Act, Acts, CaseKind, Label, apply, placed};

@@ -1,5 +1,5 @@
 -- The opening state.
-use Rattle.std.proofs.Common.{◌≡◌, ℕ, zero, suc, ◌+◌, ◌<◌, ◌≤◌, Bool, true, false, if◌then◌else◌, List, [], ◌∷◌, ◌++◌, length, refl, ap, arith, append_assoc, add-one, drop, take, replicate, slice_get, Some, Option, sym, subst, IsTrue, ◌&&◌, ◌∙◌, nat_le}
+use Rattle.std.proofs.Common.{◌≡◌, ℕ, zero, suc, ◌+◌, ◌<◌, ◌≤◌, Bool, true, false, if◌then◌else◌, List, [], ◌∷◌, ◌++◌, length, refl, ap, arith, append_assoc, add-one, drop, take, replicate, slice_get, Some, sym, subst, IsTrue, ◌&&◌, nat_le}
 use Rattle.std.proofs.lemmas.Bool.Decides.{nat_tests}
 use Rattle.std.proofs.lemmas.List.{length-replicate}
 use Rattle.four_value.specs.declared.Digit.{Digit}

@@ -1,7 +1,7 @@
 -- One process of the list.
 use Rattle.std.proofs.Common.{◌≡◌, ℕ, zero, suc, ◌+◌, ◌<◌, ◌≤◌, Bool, true, false, List, [], ◌∷◌, ◌++◌, length, get_or, refl, sym, ap, subst, arith, slice_get, Some, None, Option, Result, Ok, Err, OnOk, drop, ◌∙◌, if◌then◌else◌}
 use Rattle.gpi.specs.declared.design.Process.{Process}
-use Rattle.gpi.specs.Activation.{IsSound, Map, Run, activation}
+use Rattle.gpi.specs.Activation.{IsSound, Map, activation}
 use Rattle.gpi.specs.Soundness.{AreProcesses}
 use Rattle.gpi.specs.Design.{Proc, proc_of, procs_of}
 use Rattle.list_kernel.specs.Lists.{barred, own_of}

@@ -1,12 +1,10 @@
 -- What an event tells is of the design; and an activation as the answer of a simulator.
 use Rattle.std.proofs.Common.{◌≡◌, ℕ, ◌<◌, ◌&&◌, Bool, true, false, not, if◌then◌else◌, List, [], ◌∷◌, length, Option, Some, None, refl, sym, ◌∙◌, ap, subst, arith, slice_get}
-use Rattle.gpi.specs.declared.types.Key.{Key}
 use Rattle.gpi.specs.declared.types.Key.TheVariants as key
 use Rattle.gpi.specs.declared.types.Moved.{Moved}
 use Rattle.gpi.specs.declared.types.Told.{Told}
 use Rattle.gpi.specs.declared.types.Report.{Report}
 use Rattle.gpi.specs.declared.types.Update.{Update}
-use Rattle.four_value.specs.declared.Digit.{Digit}
 use Rattle.four_value.specs.Vector.{same_digits}
 use Rattle.gpi.specs.Terms.{widths_of}
 use Rattle.gpi.specs.Targets.{AreFitting}
@@ -14,7 +12,7 @@ use Rattle.gpi.specs.Activation.{with_part}
 use Rattle.gpi.specs.Design.{Proc}
 use Rattle.gpi.specs.Keys.{Keys, has, fired_of, least}
 use Rattle.gpi.specs.State.{State, is_end}
-use Rattle.gpi.specs.Events.{Event, or_else, activate, put, value_at, report_case, due_case, active_case, later_case, settle_case, end_case, time_case}
+use Rattle.gpi.specs.Events.{Event, or_else, activate, value_at, report_case, due_case, active_case, later_case, settle_case, end_case, time_case}
 use Rattle.gpi.specs.Content.{Content, IsChangeOf}
 use Rattle.gpi.proofs.Widths.{length_widths}
 use Rattle.list_kernel.specs.Kernel.{Answered, AreOf, from_time, from_end, from_settle, from_later, from_active, from_due, from_reports}

@@ -4,6 +4,8 @@
 mod book;
 mod kernel;
 mod run;
+#[cfg(test)]
+mod tests;
 mod wake;
 
 pub use kernel::ListKernel;

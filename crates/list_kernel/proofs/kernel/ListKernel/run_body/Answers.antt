@@ -1,4 +1,4 @@
-use Rattle.std.proofs.Common.{◌≡◌, ℕ, ◌≤◌, List, length, ap, sym, ◌∙◌, subst, arith, vec_capacity}
+use Rattle.std.proofs.Common.{◌≡◌, ℕ, List, length, ap, sym, ◌∙◌, subst, arith}
 use Rattle.gpi.specs.Terms.{widths_of}
 use Rattle.gpi.specs.Soundness.{AreProcesses}
 use Rattle.gpi.specs.Targets.{AreFitting}

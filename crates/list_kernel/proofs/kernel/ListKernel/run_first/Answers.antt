@@ -1,7 +1,5 @@
-use Rattle.std.proofs.Common.{◌≡◌, ◌∷◌, ◌<◌, ℕ, List, length, get_or, drop, Some, None, ap, sym, ◌∙◌, subst, arith, slice_get}
-use Rattle.gpi.specs.declared.types.Moved.{Moved}
+use Rattle.std.proofs.Common.{◌≡◌, ◌∷◌, ◌<◌, ℕ, List, length, get_or, Some, None, ap, sym, ◌∙◌, subst, arith}
 use Rattle.gpi.specs.declared.types.Fired.{Fired}
-use Rattle.gpi.specs.declared.design.Process.{Process}
 use Rattle.gpi.specs.Design.{procs_of}
 use Rattle.gpi.specs.State.{State}
 use Rattle.gpi.specs.Events.{active_case}
