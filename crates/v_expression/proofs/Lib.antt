@@ -1,0 +1,13 @@
+pub mod Rows
+pub mod Room
+pub mod Loops
+pub mod Basics
+pub mod Claims
+pub mod Sound
+pub mod Kept
+pub mod Again
+pub mod Forward
+pub mod Far
+pub mod Shorter
+pub mod Laws
+pub mod Starts
