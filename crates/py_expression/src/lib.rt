@@ -17,6 +17,7 @@ pub use fault::ReadError;
 pub use laws::one_expression;
 pub use measured::{KEPT, Measured};
 pub use reader::{expression, primary};
+pub use tokens::constant;
 
 #[cfg(test)]
 mod tests;

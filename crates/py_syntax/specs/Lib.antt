@@ -14,3 +14,14 @@ pub mod Spelled
 pub mod ExpressionTrees
 pub mod ExpressionTables
 pub mod ExpressionSpells
+pub mod StatementTables
+pub mod StatementTrees
+pub mod ConstantForms
+pub mod CallForms
+pub mod StatementForms
+pub mod Phrases
+pub mod ModuleTrees
+pub mod ModuleForms
+pub mod Outline
+pub mod BlockTrees
+pub mod Modules

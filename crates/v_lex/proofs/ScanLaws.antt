@@ -153,6 +153,24 @@ paired s p zero (b ∷ bs) =
     let q = piece_at (is_taken s.conditionals) (b ∷ bs) in
     paired_content s p q.content (scan_from (after_content s p q.content) (p + 1) (q.size - 1) bs) (paired (after_content s p q.content) (p + 1) (q.size - 1) bs)
 
+-- ---- each token has a byte
+
+few_content : (s : State) (p n : ℕ) (c : Content) (scan : Scan) → length scan.tokens ≤ n → length (with_content s p c scan).tokens ≤ suc n
+unfolding with_content
+few_content s p n content.Gap scan h = omega arith
+few_content s p n (content.Token t) scan h = omega arith
+few_content s p n (content.Directive d) scan h = elim (is_allowed s d) as (λ t. length (cond t scan (with_fault p rule.Directive scan)).tokens ≤ suc n) [ true ↦ omega arith | false ↦ omega arith ]
+few_content s p n (content.Broken r) scan h = omega arith
+
+pub few_tokens : (s : State) (p k : ℕ) (text : List ℕ) → length (scan_from s p k text).tokens ≤ length text
+unfolding scan_from
+few_tokens s p zero [] = omega arith
+few_tokens s p (suc k) [] = omega arith
+few_tokens s p (suc k) (b ∷ bs) = let h = few_tokens s (p + 1) k bs in omega arith
+few_tokens s p zero (b ∷ bs) =
+    let q = piece_at (is_taken s.conditionals) (b ∷ bs) in
+    few_content s p (length bs) q.content (scan_from (after_content s p q.content) (p + 1) (q.size - 1) bs) (few_tokens (after_content s p q.content) (p + 1) (q.size - 1) bs)
+
 -- ---- the answer
 
 pub is_first : (f : Sum) (s : State) (text : List ℕ) → found_with f (end_of s) ≡ found_with nothing (scan_of text) → earlier f.first (earliest (left_open s.conditionals)) ≡ earliest (faults_of text)
@@ -165,6 +183,13 @@ has_places f s text h =
     let t : f.tokens ≡ (scan_of text).tokens = sym (append-nil f.tokens) ∙ ap (λ (x : Sum). x.tokens) h in
     let p : f.places ≡ (scan_of text).places = sym (append-nil f.places) ∙ ap (λ (x : Sum). x.places) h in
     ap length t ∙ paired start 0 0 text ∙ sym (ap length p)
+
+pub has_few : (f : Sum) (s : State) (text : List ℕ) → found_with f (end_of s) ≡ found_with nothing (scan_of text) → length f.tokens ≤ length text
+unfolding found_with scan_from scan_of
+has_few f s text h =
+    let t : f.tokens ≡ (scan_of text).tokens = sym (append-nil f.tokens) ∙ ap (λ (x : Sum). x.tokens) h in
+    let l : length f.tokens ≡ length (scan_of text).tokens = ap length t in
+    omega (arith, l, few_tokens start 0 0 text)
 
 pub is_lexed : (f : Sum) (s : State) (text : List ℕ) → found_with f (end_of s) ≡ found_with nothing (scan_of text) → s ≡ (scan_of text).last → record { tokens = f.tokens; places = f.places ++ length text ∷ []; unit = s.unit; step = unwrap_or s.step nanosecond } ≡ lexed text
 unfolding found_with scan_from lexed

@@ -6,7 +6,7 @@ use std::marker::Model;
 use v_syntax::Token;
 
 /// The tokens of a text with their byte places, and what its directives set: the unit of time at its end, and the
-/// least precision.
+/// least precision. A text has at most 1,048,576 bytes, and so at most as many tokens.
 #[derive(Drop)]
 pub struct Tokens {
     tokens: Vec<Token>,
@@ -16,20 +16,21 @@ pub struct Tokens {
 }
 
 impl Model for Tokens {
-    ghost use Rattle.std.specs.Prelude.{◌≡◌, ◌+◌, length};
+    ghost use Rattle.std.specs.Prelude.{◌≡◌, ◌≤◌, ◌+◌, length};
     ghost use Rattle.v_syntax.specs.Lexing.{Lexed};
 
     ghost Value = { Lexed };
 
     ghost view = { λ t. record { tokens = t.tokens.items; places = t.places.items; unit = t.unit; step = t.step } };
 
-    ghost invariant = { λ t. length t.places.items ≡ length t.tokens.items + 1 };
+    ghost invariant = { λ t. (length t.places.items ≡ length t.tokens.items + 1) × (length t.tokens.items ≤ 1048576) };
 }
 
 impl Tokens {
     /// The tokens, their places and behind them the end of the text, the unit, and the least precision.
     pub(crate) fn new(tokens: Vec<Token>, places: Vec<u32>, unit: u64, step: u64) -> Tokens
-        requires { length places.items ≡ length tokens.items + 1 }
+        requires paired { length places.items ≡ length tokens.items + 1 }
+        requires few { length tokens.items ≤ 1048576 }
         ensures { result ≡ record { tokens = tokens.items; places = places.items; unit = unit; step = step } }
     {
         Tokens {
@@ -44,6 +45,7 @@ impl Tokens {
     pub fn len(&self) -> usize
         ensures is { result ≡ length self.now.tokens }
         ensures places { length self.now.places ≡ result + 1 }
+        ensures few { result ≤ 1048576 }
     {
         self.tokens.len()
     }
@@ -73,7 +75,8 @@ impl Tokens {
 
     /// All tokens in order.
     pub fn as_slice(&self) -> &[Token]
-        ensures { result.now ≡ self.now.tokens }
+        ensures all { result.now ≡ self.now.tokens }
+        ensures few { length self.now.tokens ≤ 1048576 }
     {
         &self.tokens
     }

@@ -3,7 +3,7 @@ use Rattle.std.proofs.lemmas.List.{length_push}
 use Rattle.v_syntax.specs.Lexing.{earlier, earliest, left_open, faults_of}
 use Rattle.v_lex.specs.Found.{of_found}
 use Rattle.v_lex.specs.States.{state_of}
-use Rattle.v_lex.proofs.ScanLaws.{is_first, has_places, is_lexed, fault_is, earliest_none}
+use Rattle.v_lex.proofs.ScanLaws.{is_first, has_places, has_few, is_lexed, fault_is, earliest_none}
 use Rattle.v_lex.proofs.scanner.lex.Goals as goal
 
 pub returns-in-Some-clause-refused : goal.returns-in-Some-clause-refused
@@ -14,8 +14,13 @@ returns-in-Some-clause-refused c =
     let e : earliest (faults_of c.args.text.now) ≡ Some c.in-Some.broken = sym (is_first f s c.args.text.now c.in_ok-found.ensures.found) ∙ ap (earlier f.first) (sym o) ∙ sym c.earlier.ensures ∙ c.in-Some.is in
     rw c.from.ensures (fault_is c.in-Some.broken (earliest (faults_of c.args.text.now)) e)
 
-pub new-requires : goal.new-requires
-new-requires c =
+pub new-requires-clause-few : goal.new-requires-clause-few
+new-requires-clause-few c =
+    let h = has_few (of_found c.in_ok-found.found) (state_of c.in_ok-found.state) c.args.text.now c.in_ok-found.ensures.found in
+    omega (arith, h)
+
+pub new-requires-clause-paired : goal.new-requires-clause-paired
+new-requires-clause-paired c =
     let h = has_places (of_found c.in_ok-found.found) (state_of c.in_ok-found.state) c.args.text.now c.in_ok-found.ensures.found in
     let k = length_push c.in_ok-found.found.places.items (length c.args.text.now) in
     rw c.in_ok-push.ensures.items (omega arith)

@@ -1,0 +1,12 @@
+pub mod Rows
+pub mod KeyLaws
+pub mod CountLaws
+pub mod WakeLaws
+pub mod KernelLaws
+pub mod FireLaws
+pub mod StepLaws
+pub mod TaskLaws
+pub mod RunLaws
+pub mod Stops
+pub mod Whole
+pub mod Costs

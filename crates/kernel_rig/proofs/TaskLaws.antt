@@ -1,0 +1,122 @@
+-- The steps of a task that is polled, as steps of the whole.
+use Rattle.std.proofs.Common.{◌≡◌, ℕ, zero, suc, ◌-◌, ◌⊎◌, List, [], Option, None, Some, refl, ap, sym, subst, ◌∙◌, inl, inr, arith}
+use Rattle.rig_model.specs.Task.{Task, Next, next, next_cost}
+use Rattle.rig_model.specs.Poll.{Wants, RunsOut, GoesBy, Polls, Polled}
+use Rattle.rig_model.specs.Rig.{Running}
+use Rattle.rig_model.specs.Step.{task_at}
+use Rattle.rig_model.proofs.TaskLaws.{task_at-stored, stored-stored}
+use Rattle.kernel_rig.specs.Rig.{Rig, Setup, view_of}
+use Rattle.kernel_rig.specs.Effect.{goes_on, effect, effect_of}
+use Rattle.kernel_rig.specs.Step.{Stepped, costing, kept, rig_step}
+use Rattle.kernel_rig.specs.FitSteps.{FitSteps, in_turn, Moves, Short, NoFit, SameRest}
+use Rattle.rig_model.proofs.PollLaws.{next_number, polled_number, next_spent}
+use Rattle.kernel_rig.proofs.StepLaws.{moves_then, moves_short, moves_one}
+use Rattle.rig_model.specs.declared.task.TaskNo.{TaskNo}
+use Rattle.rig_model.specs.declared.task.Given.{Given}
+use Rattle.rig_model.specs.declared.task.Turned.{Turned}
+use Rattle.rig_model.specs.declared.task.Turned.TheVariants.{Spent}
+
+-- A poll is steps up to the effect of what the task wants, or up to where the next step doesn't fit.
+abbrev pub PollSteps : Setup → TaskNo → ℕ → Option Given → Rig → Turned → ℕ → Task → Type 0
+PollSteps setup number fuel g b t fuel' task' =
+    ((t ≡ Spent → ⊥) × Moves (FitSteps in_turn setup) fuel (goes_on number g b) (effect setup number t (kept task' b)).lines fuel' (effect setup number t (kept task' b)).rig)
+    ⊎ ((t ≡ Spent) × Short (FitSteps in_turn setup) setup fuel (goes_on number g b) [] fuel' b)
+
+module _ (setup : Setup) (number : TaskNo) where
+  -- the step of the task in whose turn we are
+  task_step_is : (g : Option Given) (b : Rig) (task : Task) → task_at number b.tasks ≡ Some task
+      → rig_step setup (goes_on number g b) ≡ costing (next_cost task g) (effect_of setup number (next task g (view_of b)).turned (kept (next task g (view_of b)).task b))
+  task_step_is g b task h = rw h refl
+
+  wants_moves : (b : Rig) (fuel : ℕ) (task : Task) (g : Option Given) (t : Turned) (fuel' : ℕ) (task' : Task)
+      → task_at number b.tasks ≡ Some task → b.outcome ≡ None → Wants (view_of b) fuel task g t fuel' task'
+      → Moves (FitSteps in_turn setup) fuel (goes_on number g b) (effect setup number t (kept task' b)).lines fuel' (effect setup number t (kept task' b)).rig
+  wants_moves b fuel task g t fuel' task' h o w =
+      let is : rig_step setup (goes_on number g b) ≡ costing (next_cost task g) (effect setup number t (kept task' b))
+      = task_step_is g b task h ∙ ap (λ (x : Next). costing (next_cost task g) (effect_of setup number x.turned (kept x.task b))) w.next_is in
+      subst (λ (f : ℕ). Moves (FitSteps in_turn setup) fuel (goes_on number g b) (effect setup number t (kept task' b)).lines f (effect setup number t (kept task' b)).rig) (sym w.fuel_is)
+      (moves_one in_turn setup fuel (goes_on number g b) (costing (next_cost task g) (effect setup number t (kept task' b))) refl o is w.fits)
+
+  goes_by_moves : (b : Rig) (fuel : ℕ) (task : Task) (g : Option Given)
+      → task_at number b.tasks ≡ Some task → b.outcome ≡ None → GoesBy (view_of b) fuel task g
+      → Moves (FitSteps in_turn setup) fuel (goes_on number g b) [] (fuel - next_cost task g) (goes_on number None (kept (next task g (view_of b)).task b))
+  goes_by_moves b fuel task g h o p =
+      let mid : Task = (next task g (view_of b)).task in
+      let is : rig_step setup (goes_on number g b) ≡ record { rig = goes_on number None (kept mid b); lines = []; cost = next_cost task g }
+      = task_step_is g b task h ∙ ap (λ (x : Option Turned). costing (next_cost task g) (effect_of setup number x (kept mid b))) p.nothing in
+      moves_one in_turn setup fuel (goes_on number g b) (record { rig = goes_on number None (kept mid b); lines = []; cost = next_cost task g }) refl o is p.fits
+
+  runs_short : (b : Rig) (fuel : ℕ) (task : Task) (g : Option Given) (t : Turned) (fuel' : ℕ) (task' : Task)
+      → task_at number b.tasks ≡ Some task → b.outcome ≡ None → RunsOut fuel task g t fuel' task' → Short (FitSteps in_turn setup) setup fuel (goes_on number g b) [] fuel' b
+  unfolding FitSteps
+  runs_short b fuel task g t fuel' task' h o r =
+      let is : (rig_step setup (goes_on number g b)).cost ≡ next_cost task g = ap (λ (s : Stepped). s.cost) (task_step_is g b task h) in
+      record {
+        count = zero;
+        last = goes_on number g b;
+        steps = (refl, r.fuel_is, refl);
+        no_fit = record { runs = o; short = rw (is, r.fuel_is) r.short; rest = record { sim = refl; waiting = refl; staged = refl; fired = refl; counts = refl } };
+      }
+
+  short_from : (fuel : ℕ) (c : Rig) (f : ℕ) (d : Rig) (fuel' : ℕ) (e e' : Rig)
+      → Moves (FitSteps in_turn setup) fuel c [] f d → Short (FitSteps in_turn setup) setup f d [] fuel' e' → SameRest e' e → Short (FitSteps in_turn setup) setup fuel c [] fuel' e
+  short_from fuel c f d fuel' e e' w s r =
+      let t : Short (FitSteps in_turn setup) setup fuel c [] fuel' e' = moves_short in_turn setup fuel c [] f d [] fuel' e' w s in
+      let n : NoFit setup fuel' t.last e' = t.no_fit in
+      record {
+        count = t.count;
+        last = t.last;
+        steps = t.steps;
+        no_fit = record {
+          runs = n.runs;
+          short = n.short;
+          rest = record { sim = n.rest.sim ∙ r.sim; waiting = n.rest.waiting ∙ r.waiting; staged = n.rest.staged ∙ r.staged; fired = n.rest.fired ∙ r.fired; counts = n.rest.counts ∙ r.counts };
+        };
+      }
+
+  poll_steps : (n : ℕ) (b : Rig) (fuel : ℕ) (task : Task) (g : Option Given) (t : Turned) (fuel' : ℕ) (task' : Task)
+      → task_at number b.tasks ≡ Some task → task.number ≡ number → b.outcome ≡ None → Polls (view_of b) n fuel task g t fuel' task'
+      → PollSteps setup number fuel g b t fuel' task'
+  unfolding Polls
+  poll_steps zero b fuel task g t fuel' task' h e o p = elim p [
+    | inl w ↦ inl (
+      (λ s. next_spent task g (view_of b) (ap (λ (x : Next). x.turned) w.next_is ∙ ap Some s)),
+      wants_moves b fuel task g t fuel' task' h o w,
+    )
+    | inr r ↦ inr (r.spent, runs_short b fuel task g t fuel' task' h o r)
+  ]
+  poll_steps (suc n) b fuel task g t fuel' task' h e o p =
+      let mid : Task = (next task g (view_of b)).task in
+      let mid_is : mid.number ≡ number = next_number task g (view_of b) ∙ e in
+      let first : Moves (FitSteps in_turn setup) fuel (goes_on number g b) [] (fuel - next_cost task g) (goes_on number None (kept mid b)) = goes_by_moves b fuel task g h o p.0 in
+      let more : PollSteps setup number (fuel - next_cost task g) None (kept mid b) t fuel' task'
+      = poll_steps n (kept mid b) (fuel - next_cost task g) mid None t fuel' task' (task_at-stored number b.tasks task mid h mid_is) mid_is o p.1 in
+      let last_is : task'.number ≡ mid.number = polled_number (view_of b) (fuel - next_cost task g) mid None t fuel' task' (record { count = n; polls = p.1 }) in
+      let same : kept task' (kept mid b) ≡ kept task' b = ap (λ (ts : List Task). record b { running = None; tasks = ts }) (stored-stored b.tasks mid task' (sym last_is)) in
+      elim more [
+        | inl w ↦ inl (
+          w.0,
+          moves_then in_turn setup fuel (goes_on number g b) [] (fuel - next_cost task g) (goes_on number None (kept mid b)) (effect setup number t (kept task' b)).lines fuel' (effect setup number t (kept task' b)).rig first
+              (subst (λ (c : Rig). Moves (FitSteps in_turn setup) (fuel - next_cost task g) (goes_on number None (kept mid b)) (effect setup number t c).lines fuel' (effect setup number t c).rig) same w.1),
+        )
+        | inr s ↦ inr (
+          s.0,
+          short_from fuel (goes_on number g b) (fuel - next_cost task g) (goes_on number None (kept mid b)) fuel' b (kept mid b) first s.1
+              (record { sim = refl; waiting = refl; staged = refl; fired = refl; counts = refl }),
+        )
+      ]
+
+  pub polled_steps : (b : Rig) (fuel : ℕ) (task : Task) (g : Option Given) (t : Turned) (fuel' : ℕ) (task' : Task)
+      → task_at number b.tasks ≡ Some task → task.number ≡ number → b.outcome ≡ None → Polled (view_of b) fuel task g t fuel' task'
+      → PollSteps setup number fuel g b t fuel' task'
+  polled_steps b fuel task g t fuel' task' h e o p = poll_steps p.count b fuel task g t fuel' task' h e o p.polls
+
+  -- a task that isn't live loses its turn
+  pub lost_moves : (b : Rig) (fuel : ℕ) (g : Option Given) → b.outcome ≡ None → b.running ≡ None → task_at number b.tasks ≡ None
+      → Moves (FitSteps in_turn setup) fuel (goes_on number g b) [] fuel b
+  lost_moves b fuel g o r h =
+      let e : rig_step setup (goes_on number g b) ≡ record { rig = b; lines = []; cost = 0 }
+      = rw h (ap (λ (x : Option Running). record { rig = record b { running = x }; lines = []; cost = 0 }) (sym r)) in
+      let z : fuel - 0 ≡ fuel = omega arith in
+      subst (λ (f : ℕ). Moves (FitSteps in_turn setup) fuel (goes_on number g b) [] f b) z
+      (moves_one in_turn setup fuel (goes_on number g b) (record { rig = b; lines = []; cost = 0 }) refl o e (omega arith))

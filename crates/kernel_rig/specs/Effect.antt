@@ -1,0 +1,82 @@
+-- What each thing that a task wants does, and what the task is given next.
+use Rattle.std.specs.Prelude.{ℕ, ◌+◌, ◌==◌, ◌||◌, nat_le, Bool, true, false, [], ◌∷◌, ◌++◌, length, Option, None, Some}
+use Rattle.gpi.specs.declared.types.Key.TheVariants.{At}
+use Rattle.rig_model.specs.Line.{log_line}
+use Rattle.rig_model.specs.Task.{fresh, plain_fault}
+use Rattle.rig_model.specs.Effect.{live_limit, start_limit, refusal, restaged, function_at, dropped, returned}
+use Rattle.rig_model.specs.declared.file.Function.{Function}
+use Rattle.rig_model.specs.declared.task.TaskNo.{TaskNo}
+use Rattle.rig_model.specs.declared.task.Given.{Given}
+use Rattle.rig_model.specs.declared.task.Given.TheVariants as given
+use Rattle.rig_model.specs.declared.task.Value.TheVariants as value
+use Rattle.rig_model.specs.declared.task.Fault.{Fault}
+use Rattle.rig_model.specs.declared.task.FaultKind.TheVariants.{RuntimeError}
+use Rattle.rig_model.specs.declared.task.Trig.{Trig}
+use Rattle.rig_model.specs.declared.task.Form.{Form}
+use Rattle.rig_model.specs.declared.task.Form.TheVariants.{Time}
+use Rattle.rig_model.specs.declared.task.Turned.{Turned}
+use Rattle.rig_model.specs.declared.task.Turned.TheVariants.{Await, Stage, Start, Log, Done, Raised, Spent}
+use Rattle.rig_model.specs.declared.task.Outcome.TheVariants as outcome
+use Rattle.kernel_rig.specs.Rig.{Rig, Setup, After, quiet}
+use Rattle.kernel_rig.specs.Counts.{counted}
+use Rattle.kernel_rig.specs.declared.tree.Tree.{Tree}
+use Rattle.kernel_rig.specs.declared.tree.Tree.TheVariants.{Leaf}
+
+-- this task goes on, and is given this
+abbrev pub goes_on : TaskNo → Option Given → Rig → Rig
+goes_on task given c = record c { running = Some (record { task = task; given = given }) }
+
+abbrev pub gives : TaskNo → Given → Rig → After
+gives task given c = quiet (goes_on task (Some given) c)
+
+-- a tree that begins at this time
+abbrev pub begun : Form → Trig → ℕ → Tree
+begun (Time steps) trig time = Leaf (At (time + steps)) trig
+
+-- a task waits, as the last in the list of waiting tasks
+abbrev pub with_waiting : TaskNo → Tree → Rig → Rig
+with_waiting task tree c = record c { waiting = c.waiting ++ record { task = task; tree = tree } ∷ [] }
+
+-- a task that wants to wait does, unless that is refused: one effect
+abbrev pub awaits : TaskNo → Trig → Option Fault → Rig → After
+awaits task trig (Some fault) c = gives task (given.Fault fault) c
+awaits task trig None c = quiet (counted [] c (with_waiting task (begun trig.form trig c.sim.time) c))
+
+-- no further task may be started
+abbrev pub is_full : Rig → Bool
+is_full c = nat_le live_limit (length c.tasks) || nat_le start_limit c.started
+
+-- a new task of that function stands at the back of the ready list
+abbrev pub with_new_task : Function → Rig → Rig
+with_new_task function c =
+    let number : TaskNo = record { 0 = c.started } in
+    record c {
+      tasks = c.tasks ++ fresh number function ∷ [];
+      started = c.started + 1;
+      ready = c.ready ++ record { task = number; given = given.Begin } ∷ [];
+    }
+
+-- what a task that started the task of that number does: it goes on, or gives way and stands behind the new one
+abbrev pub starter : TaskNo → TaskNo → Bool → Rig → Rig
+starter task number true c = record c { ready = c.ready ++ record { task = task; given = given.Value (value.Task number) } ∷ [] }
+starter task number false c = goes_on task (Some (given.Value (value.Task number))) c
+
+-- a start, or the fault of a limit that is reached
+abbrev pub starts : Bool → TaskNo → Function → Bool → Rig → After
+starts true task function give_way c = gives task (given.Fault (plain_fault RuntimeError)) c
+starts false task function give_way c = quiet (starter task (record { 0 = c.started }) give_way (with_new_task function c))
+
+-- What each thing that a task wants does, once the turn is taken from the task. A write that is staged is one effect.
+abbrev pub effect : Setup → TaskNo → Turned → Rig → After
+effect setup task (Await trig) c = awaits task trig (refusal trig.form c.sim.time) c
+effect setup task (Stage sig number) c = gives task (given.Value value.Absent) (counted [] c (record c { staged = restaged sig number c.staged }))
+effect setup task (Start func give_way) c = starts (is_full c) task (function_at setup.functions func) give_way c
+effect setup task (Log level text) c = record { rig = goes_on task (Some (given.Value value.Absent)) c; lines = log_line c.sim.time level text ∷ [] }
+effect setup task (Done value) c = quiet (record c { tasks = dropped task c.tasks; outcome = returned (task.0 == 0) c.outcome })
+effect setup task (Raised fault) c = quiet (record c { tasks = dropped task c.tasks; outcome = Some (outcome.Raised fault) })
+effect setup task Spent c = quiet c
+
+-- a step that wants nothing has no effect, and the task goes on
+abbrev pub effect_of : Setup → TaskNo → Option Turned → Rig → After
+effect_of setup task None c = quiet (goes_on task None c)
+effect_of setup task (Some turned) c = effect setup task turned c

@@ -1,0 +1,11 @@
+pub mod Lines
+pub mod Rig
+pub mod Counts
+pub mod Keys
+pub mod Kernel
+pub mod Fires
+pub mod Serve
+pub mod Effect
+pub mod Step
+pub mod FitSteps
+pub mod Run

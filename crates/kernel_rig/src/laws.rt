@@ -1,0 +1,66 @@
+// What holds of all runs.
+ghost use Rattle.std.specs.Prelude.{◌≡◌, ◌≤◌, ◌++◌, ℕ, List, [], true, false};
+ghost use Rattle.gpi.specs.Content.{Content, Does};
+ghost use Rattle.gpi.specs.Events.{Event, event};
+ghost use Rattle.gpi.specs.Keys.{among};
+ghost use Rattle.gpi.specs.declared.types.Key.{Key};
+ghost use Rattle.kernel_rig.specs.Kernel.{StandsAhead, StandsFor};
+ghost use Rattle.kernel_rig.specs.Rig.{Rig, Setup, event_of, staged_key};
+ghost use Rattle.kernel_rig.specs.Serve.{served, after_put};
+ghost use Rattle.kernel_rig.specs.Run.{Run, IsRun, IsStart, step_cost, written};
+ghost use Rattle.rig_model.specs.declared.file.TestCase.{TestCase};
+
+/// A run stops under every budget: it is over, or its next step doesn't fit what is left of the budget.
+pub fn run_exists()
+    ensures { (setup : Setup) (case : TestCase) (budget : ℕ) → (run : Run) × IsRun setup case budget run }
+{}
+
+/// Two runs of one test under one budget are the same, in all that they reach, write and cost.
+pub fn run_is_one()
+    ensures { (setup : Setup) (case : TestCase) (budget : ℕ) (one other : Run)
+        → IsRun setup case budget one → IsRun setup case budget other → one ≡ other }
+{}
+
+/// Lines that a run has written at some time are the first of the lines that the whole run writes.
+pub fn lines_are_a_front()
+    ensures { (setup : Setup) (case : TestCase) (budget : ℕ) (run : Run) (lines : List (List ℕ))
+        → IsRun setup case budget run → IsStart setup case budget lines
+        → (more : List (List ℕ)) × (written setup budget run ≡ lines ++ more) }
+{}
+
+/// A step costs 1 or nothing.
+pub fn step_costs_at_most_one()
+    ensures { (setup : Setup) (run : Run) → step_cost setup run ≤ 1 }
+{}
+
+/// What a run costs is within its budget.
+pub fn run_is_within_budget()
+    ensures { (setup : Setup) (case : TestCase) (budget : ℕ) (run : Run) → IsRun setup case budget run → run.cost ≤ budget }
+{}
+
+/// Where a simulator stands for a configuration, its next event is that of the configuration.
+pub fn event_is_the_next()
+    ensures { (setup : Setup) (content : Content) (c : Rig) → StandsFor setup content c
+        → event content.procs content.state content.keys ≡ event_of setup c }
+{}
+
+/// Where it has done that event, it stands for the configuration in which the fired keys are still to be served.
+pub fn event_is_done()
+    ensures { (setup : Setup) (before after : Content) (c : Rig) (e : Event) → c.fired ≡ [] → StandsFor setup before c → Does before e after
+        → StandsAhead e.fired setup after (record c { sim = e.state; fired = c.fired ++ e.fired }) }
+{}
+
+/// Where it has done a deposit while fired keys are still to be served, it stands for what the deposit and its wakes leave.
+/// The keys of a change are none that the runner holds.
+pub fn deposit_is_done()
+    ensures { (setup : Setup) (before after : Content) (c : Rig) (e : Event) (fired : List Key) → c.fired ≡ fired
+        → ((k : Key) → among k (staged_key c.staged) ≡ true → among k e.fired ≡ false)
+        → StandsAhead fired setup before c → Does before e after → StandsAhead fired setup after (after_put setup e c).rig }
+{}
+
+/// Serving the fired keys asks nothing of it: it stands for what is left then. The runner holds none of them any more.
+pub fn serving_is_done()
+    ensures { (setup : Setup) (content : Content) (c : Rig) (fired : List Key) → c.fired ≡ fired
+        → ((k : Key) → among k (staged_key c.staged) ≡ true → among k fired ≡ false)
+        → StandsAhead fired setup content c → StandsFor setup content (served fired [] c).rig }
+{}

@@ -1,0 +1,12 @@
+pub mod Runs
+pub mod Lists
+pub mod Chosen
+pub mod Lengths
+pub mod ValueLaws
+pub mod ArgumentLaws
+pub mod ValueListLaws
+pub mod WordLaws
+pub mod StartedLaws
+pub mod AwaitedLaws
+pub mod RightLaws
+pub mod HeightLaws

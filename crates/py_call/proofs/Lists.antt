@@ -1,0 +1,10 @@
+-- Lists of arguments and of their values.
+use Rattle.std.proofs.Common.{◌≡◌, List, [], ◌∷◌, map, refl, ap}
+use Rattle.py_syntax.specs.ExpressionTrees.{view}
+use Rattle.py_syntax.specs.StatementTrees.{view_argument}
+use Rattle.py_syntax.specs.declared.call.Argument.{Argument}
+use Rattle.py_call.specs.Reading.{values}
+
+pub values_seen : (xs : List Argument) → map view (map (λ (x : Argument). x.value) xs) ≡ values (map view_argument xs)
+values_seen [] = refl
+values_seen (x ∷ xs) = ap (λ es. view x.value ∷ es) (values_seen xs)

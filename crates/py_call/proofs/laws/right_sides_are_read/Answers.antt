@@ -1,0 +1,15 @@
+use Rattle.py_call.proofs.RightLaws.{right_sound, right_again}
+use Rattle.py_call.proofs.HeightLaws.{right_fits}
+use Rattle.py_call.proofs.laws.right_sides_are_read.Goals as goal
+
+pub returns-clause-sound : goal.returns-clause-sound
+returns-clause-sound c = right_sound
+
+pub returns-clause-again : goal.returns-clause-again
+returns-clause-again c = right_again
+
+pub returns-clause-whole : goal.returns-clause-whole
+returns-clause-whole c = λ x h. (right_fits x).whole h
+
+pub returns-clause-over : goal.returns-clause-over
+returns-clause-over c = λ x h. (right_fits x).over h

@@ -1,0 +1,5 @@
+pub mod Kept
+pub mod Chosen
+pub mod Words
+pub mod Reading
+pub mod Views

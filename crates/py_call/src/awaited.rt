@@ -1,0 +1,184 @@
+//! What stands behind `await`.
+
+ghost use Rattle.std.specs.Prelude.{◌≡◌, codes, Some, None, MatchOption};
+ghost use Rattle.py_syntax.specs.ExpressionTrees.{view};
+ghost use Rattle.py_syntax.specs.StatementTrees.{optional, view_started, view_timed, view_awaited};
+ghost use Rattle.py_expression.specs.Gives.{Gives};
+ghost use Rattle.py_call.specs.Reading;
+ghost use Rattle.py_call.specs.Views.{tall, ahead, times_in};
+
+use crate::call::started;
+use crate::tokens::{
+    after_call, after_comma, after_last, after_member, after_name, close_of_line, end_of_line,
+};
+use crate::values::{value, whole_primary};
+use py_expression::ReadError;
+use py_syntax::{Awaited, Expression, StartedCall, Timed, Token};
+use std::alloc::Global;
+
+/// A time and perhaps its unit.
+type Times = (Expression, Option<Expression>);
+
+/// A started call, and then `)` at the end of the line, before which a comma may stand.
+#[tactic(auto, unfolding(crate::specs::Reading::closed_start_of))]
+pub fn closed_start(alloc: Global, tokens: &[Token]) -> Result<(StartedCall, usize), ReadError>
+    ensures { Gives (tall view_started) result (Reading.closed_start_of tokens.now) }
+{
+    let (call, rest) = started(alloc, tokens)?;
+    close_of_line(rest)?;
+    Ok(call)
+}
+
+/// `cocotb.start(call)`
+#[tactic(auto, unfolding(crate::specs::Reading::awaited_start_of))]
+fn awaited_start(alloc: Global, tokens: &[Token]) -> Result<(Awaited, usize), ReadError>
+    ensures { Gives (tall view_awaited) result (Reading.awaited_start_of tokens.now) }
+{
+    let Some(rest) = after_member(b"cocotb", b"start", tokens) else {
+        return Err(ReadError::Wrong);
+    };
+    let (call, height) = closed_start(alloc, rest)?;
+    Ok((Awaited::Start(call), height))
+}
+
+/// An expression before a comma.
+#[tactic(auto, unfolding(crate::specs::Reading::timed_value_of, crate::specs::Reading::before_comma))]
+fn timed_value(alloc: Global, tokens: &[Token]) -> Result<((Timed, usize), &[Token]), ReadError>
+    ensures { Gives (ahead view_timed) result (Reading.timed_value_of tokens.now) }
+{
+    let ((value, height), rest) = value(alloc, tokens)?;
+    match after_comma(rest) {
+        Some(rest) => Ok(((Timed::Value(value), height), rest)),
+        None => Err(ReadError::Wrong),
+    }
+}
+
+/// A started call before a comma.
+#[tactic(auto, unfolding(crate::specs::Reading::timed_call_of, crate::specs::Reading::before_comma))]
+fn timed_call(alloc: Global, tokens: &[Token]) -> Result<((Timed, usize), &[Token]), ReadError>
+    ensures { Gives (ahead view_timed) result (Reading.timed_call_of tokens.now) }
+{
+    let ((call, height), rest) = started(alloc, tokens)?;
+    match after_comma(rest) {
+        Some(rest) => Ok(((Timed::Call(call), height), rest)),
+        None => Err(ReadError::Wrong),
+    }
+}
+
+/// What `with_timeout` waits for, and the tokens after its comma.
+#[tactic(auto, unfolding(crate::specs::Reading::timed_of))]
+fn timed(alloc: Global, tokens: &[Token]) -> Result<((Timed, usize), &[Token]), ReadError>
+    ensures { Gives (ahead view_timed) result (Reading.timed_of tokens.now) }
+{
+    match timed_value(alloc, tokens) {
+        Err(ReadError::Wrong) => timed_call(alloc, tokens),
+        answer => answer,
+    }
+}
+
+/// The tokens after a comma behind which an argument stands.
+#[tactic(auto, unfolding(crate::specs::Reading::after_argument_comma))]
+fn after_argument_comma(tokens: &[Token]) -> Option<&[Token]>
+    ensures { MatchOption result (Reading.after_argument_comma tokens.now ≡ None) (λ x. Reading.after_argument_comma tokens.now ≡ Some x.now) }
+{
+    match after_last(tokens) {
+        Some(_) => None,
+        None => after_comma(tokens),
+    }
+}
+
+/// The unit, by its place or by its name, if there is one, and `)` at the end of the line.
+#[tactic(auto, unfolding(crate::specs::Reading::unit_of))]
+fn unit(alloc: Global, tokens: &[Token]) -> Result<(Option<Expression>, usize), ReadError>
+    ensures { Gives (tall (optional view)) result (Reading.unit_of tokens.now) }
+{
+    match after_argument_comma(tokens) {
+        Some(rest) => {
+            let ((unit, height), rest) = value(alloc, after_name(b"timeout_unit", rest))?;
+            close_of_line(rest)?;
+            Ok((Some(unit), height))
+        }
+        None => {
+            close_of_line(tokens)?;
+            Ok((None, 0))
+        }
+    }
+}
+
+/// A time and perhaps its unit, up to the end of the line.
+#[tactic(auto, unfolding(crate::specs::Reading::times_of))]
+fn times(alloc: Global, tokens: &[Token]) -> Result<(Times, usize), ReadError>
+    ensures { Gives (tall times_in) result (Reading.times_of tokens.now) }
+{
+    let ((time, height), rest) = value(alloc, tokens)?;
+    let (unit, unit_height) = unit(alloc, rest)?;
+    Ok(((time, unit), height.max(unit_height)))
+}
+
+/// `with_timeout(value, timeout_time, timeout_unit)`
+#[tactic(auto, unfolding(crate::specs::Reading::with_timeout_of))]
+fn with_timeout(alloc: Global, tokens: &[Token]) -> Result<(Awaited, usize), ReadError>
+    ensures { Gives (tall view_awaited) result (Reading.with_timeout_of tokens.now) }
+{
+    let Some(rest) = after_call(b"with_timeout", tokens) else {
+        return Err(ReadError::Wrong);
+    };
+    let ((timed, height), rest) = timed(alloc, rest)?;
+    let ((time, unit), times_height) = times(alloc, rest)?;
+    Ok((
+        Awaited::WithTimeout(timed, time, unit),
+        height.max(times_height),
+    ))
+}
+
+/// A started call up to the end of the line.
+#[tactic(auto, unfolding(crate::specs::Reading::awaited_call_of))]
+fn awaited_call(alloc: Global, tokens: &[Token]) -> Result<(Awaited, usize), ReadError>
+    ensures { Gives (tall view_awaited) result (Reading.awaited_call_of tokens.now) }
+{
+    let ((call, height), rest) = started(alloc, tokens)?;
+    end_of_line(rest)?;
+    Ok((Awaited::Call(call), height))
+}
+
+/// A primary up to the end of the line.
+#[tactic(auto, unfolding(crate::specs::Reading::awaited_value_of))]
+fn awaited_value(alloc: Global, tokens: &[Token]) -> Result<(Awaited, usize), ReadError>
+    ensures { Gives (tall view_awaited) result (Reading.awaited_value_of tokens.now) }
+{
+    let (value, height) = whole_primary(alloc, tokens)?;
+    Ok((Awaited::Value(value), height))
+}
+
+/// `with_timeout` or a started call.
+#[tactic(auto, unfolding(crate::specs::Reading::timeout_or_call_of))]
+fn timeout_or_call(alloc: Global, tokens: &[Token]) -> Result<(Awaited, usize), ReadError>
+    ensures { Gives (tall view_awaited) result (Reading.timeout_or_call_of tokens.now) }
+{
+    match with_timeout(alloc, tokens) {
+        Err(ReadError::Wrong) => awaited_call(alloc, tokens),
+        answer => answer,
+    }
+}
+
+/// A call up to the end of the line that is no expression.
+#[tactic(auto, unfolding(crate::specs::Reading::calls_of))]
+fn calls(alloc: Global, tokens: &[Token]) -> Result<(Awaited, usize), ReadError>
+    ensures { Gives (tall view_awaited) result (Reading.calls_of tokens.now) }
+{
+    match awaited_start(alloc, tokens) {
+        Err(ReadError::Wrong) => timeout_or_call(alloc, tokens),
+        answer => answer,
+    }
+}
+
+/// What these tokens, which stand behind `await`, stand for, with its height.
+#[tactic(auto, unfolding(crate::specs::Reading::awaited_of))]
+pub fn await_operand(alloc: Global, tokens: &[Token]) -> Result<(Awaited, usize), ReadError>
+    ensures { Gives (tall view_awaited) result (Reading.awaited_of tokens.now) }
+{
+    match awaited_value(alloc, tokens) {
+        Err(ReadError::Wrong) => calls(alloc, tokens),
+        answer => answer,
+    }
+}

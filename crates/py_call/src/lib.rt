@@ -1,0 +1,23 @@
+//! Reads the calls that are started, what is awaited, and the right sides of assignments.
+#![tactic(auto)]
+
+mod arguments;
+mod awaited;
+mod call;
+mod laws;
+mod right;
+mod tokens;
+mod values;
+
+pub use arguments::{Arguments, argument_list};
+pub use awaited::{await_operand, closed_start};
+pub use call::started;
+pub use laws::{await_operands_are_read, right_sides_are_read, started_calls_are_read};
+pub use right::{after_await, right_side, value_list};
+pub use tokens::{
+    after_call, after_comma, after_last, after_member, after_open, close_of_line, end_of_line,
+};
+pub use values::{value, whole_value, within};
+
+#[cfg(test)]
+mod tests;

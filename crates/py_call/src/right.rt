@@ -1,0 +1,175 @@
+//! Right sides.
+
+ghost use Rattle.std.specs.Prelude.{◌≡◌, codes, map, Some, None, IfOk, MatchOption};
+ghost use Rattle.py_syntax.specs.declared.call.Argument as argument;
+ghost use Rattle.py_syntax.specs.ExpressionTrees.{view};
+ghost use Rattle.py_syntax.specs.StatementTrees.{view_right, view_argument};
+ghost use Rattle.py_expression.specs.Gives.{Gives};
+ghost use Rattle.py_call.specs.Reading;
+ghost use Rattle.py_call.specs.Words;
+ghost use Rattle.py_call.specs.Views.{tall, values_ahead};
+
+use crate::arguments::argument_list;
+use crate::awaited::{await_operand, closed_start};
+use crate::tokens::{after_call, after_close, after_last, after_member, after_text, end_of_line};
+use crate::values::whole_value;
+use port_io::NoMemory;
+use py_expression::ReadError;
+use py_syntax::{Argument, Expression, Keyword, RightSide, Token};
+use std::alloc::Global;
+
+/// Whether all are given by their places.
+#[tactic(auto, unfolding(crate::specs::Reading::are_placed))]
+fn are_placed(list: &[Argument]) -> bool
+    ensures { result ≡ Reading.are_placed (map view_argument list.now) }
+{
+    for argument in list {
+        if argument.name.is_some() {
+            return false;
+        }
+    }
+    true
+}
+
+/// The values of arguments.
+fn values(alloc: Global, list: Vec<Argument>) -> Result<Vec<Expression>, NoMemory>
+    ensures { IfOk result (λ all. all.items ≡ map (λ (x : argument.Argument). x.value) list.items) }
+{
+    Ok(
+        list.into_iter()
+            .map(|argument| argument.value)
+            .collect(alloc)?,
+    )
+}
+
+/// The expressions behind an opening bracket with their greatest height, and the tokens after the closing one, before which a comma
+/// may stand.
+#[tactic(auto, using(crate::proofs::Lists::values_seen), unfolding(crate::specs::Reading::values_of))]
+pub fn value_list(
+    alloc: Global,
+    tokens: &[Token],
+) -> Result<((Vec<Expression>, usize), &[Token]), ReadError>
+    ensures { Gives values_ahead result (Reading.values_of tokens.now) }
+{
+    let (arguments, rest) = argument_list(alloc, tokens)?;
+    if !are_placed(&arguments.list) {
+        return Err(ReadError::Wrong);
+    }
+    let height = arguments.height;
+    Ok(((values(alloc, arguments.list)?, height), rest))
+}
+
+/// The two elements of a list.
+fn two(mut list: Vec<Expression>) -> Option<(Expression, Expression)>
+    ensures { MatchOption result (Reading.two_of (map view list.items) ≡ None) (λ x. Reading.two_of (map view list.items) ≡ Some (view x.0, view x.1)) }
+{
+    let second = list.pop()?;
+    let first = list.pop()?;
+    if list.is_empty() {
+        Some((first, second))
+    } else {
+        None
+    }
+}
+
+/// `random.randint(low, high)`, behind the bracket.
+#[tactic(auto, unfolding(crate::specs::Reading::random_int_of))]
+fn random_int(alloc: Global, tokens: &[Token]) -> Result<(RightSide, usize), ReadError>
+    ensures { Gives (tall view_right) result (Reading.random_int_of tokens.now) }
+{
+    let ((list, height), rest) = value_list(alloc, tokens)?;
+    match two(list) {
+        Some((low, high)) => {
+            end_of_line(rest)?;
+            Ok((RightSide::RandomInt(low, high), height))
+        }
+        None => Err(ReadError::Wrong),
+    }
+}
+
+/// The tokens after the bracket that closes `Event(` or `Lock(`.
+#[tactic(auto, unfolding(crate::specs::Reading::after_new))]
+fn after_new(tokens: &[Token]) -> Option<&[Token]>
+    ensures { MatchOption result (Reading.after_new tokens.now ≡ None) (λ x. Reading.after_new tokens.now ≡ Some x.now) }
+{
+    match after_text(tokens) {
+        Some(rest) => after_last(rest),
+        None => after_close(tokens),
+    }
+}
+
+/// `Event()` or `Lock()`, behind the bracket.
+#[tactic(auto, unfolding(crate::specs::Reading::new_of))]
+fn new(side: RightSide, tokens: &[Token]) -> Result<(RightSide, usize), ReadError>
+    ensures { Gives (tall view_right) result (Reading.new_of (view_right side) tokens.now) }
+{
+    match after_new(tokens) {
+        Some(rest) => {
+            end_of_line(rest)?;
+            Ok((side, 0))
+        }
+        None => Err(ReadError::Wrong),
+    }
+}
+
+/// `cocotb.start_soon(call)`, behind the bracket.
+#[tactic(auto, unfolding(crate::specs::Reading::start_soon_of))]
+fn start_soon(alloc: Global, tokens: &[Token]) -> Result<(RightSide, usize), ReadError>
+    ensures { Gives (tall view_right) result (Reading.start_soon_of tokens.now) }
+{
+    let (call, height) = closed_start(alloc, tokens)?;
+    Ok((RightSide::StartSoon(call), height))
+}
+
+/// An expression.
+#[tactic(auto, unfolding(crate::specs::Reading::right_value_of))]
+fn right_value(alloc: Global, tokens: &[Token]) -> Result<(RightSide, usize), ReadError>
+    ensures { Gives (tall view_right) result (Reading.right_value_of tokens.now) }
+{
+    let (value, height) = whole_value(alloc, tokens)?;
+    Ok((RightSide::Value(value), height))
+}
+
+/// A right side that begins with no `await`.
+#[tactic(auto, unfolding(crate::specs::Reading::call_or_value_of))]
+fn call_or_value(alloc: Global, tokens: &[Token]) -> Result<(RightSide, usize), ReadError>
+    ensures { Gives (tall view_right) result (Reading.call_or_value_of tokens.now) }
+{
+    if let Some(rest) = after_member(b"cocotb", b"start_soon", tokens) {
+        return start_soon(alloc, rest);
+    }
+    if let Some(rest) = after_member(b"random", b"randint", tokens) {
+        return random_int(alloc, rest);
+    }
+    if let Some(rest) = after_call(b"Event", tokens) {
+        return new(RightSide::Event, rest);
+    }
+    if let Some(rest) = after_call(b"Lock", tokens) {
+        return new(RightSide::Lock, rest);
+    }
+    right_value(alloc, tokens)
+}
+
+/// The tokens behind `await`.
+pub fn after_await(tokens: &[Token]) -> Option<&[Token]>
+    ensures { MatchOption result (Words.after_await tokens.now ≡ None) (λ x. Words.after_await tokens.now ≡ Some x.now) }
+{
+    match tokens.split_first() {
+        Some((Token::Keyword(Keyword::Await), rest)) => Some(rest),
+        _ => None,
+    }
+}
+
+/// The right side that these tokens are, with its height.
+#[tactic(auto, unfolding(crate::specs::Reading::right_of))]
+pub fn right_side(alloc: Global, tokens: &[Token]) -> Result<(RightSide, usize), ReadError>
+    ensures { Gives (tall view_right) result (Reading.right_of tokens.now) }
+{
+    match after_await(tokens) {
+        Some(rest) => {
+            let (awaited, height) = await_operand(alloc, rest)?;
+            Ok((RightSide::Await(awaited), height))
+        }
+        None => call_or_value(alloc, tokens),
+    }
+}

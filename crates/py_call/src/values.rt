@@ -1,0 +1,59 @@
+//! Expressions within the limit on their height.
+
+ghost use Rattle.std.specs.Prelude.{◌≡◌, ◌≤◌};
+ghost use Rattle.py_syntax.specs.ExpressionTrees.{view};
+ghost use Rattle.py_expression.specs.Gives.{Gives};
+ghost use Rattle.py_call.specs.Kept;
+ghost use Rattle.py_call.specs.Reading;
+ghost use Rattle.py_call.specs.Views.{tall, ahead};
+
+use crate::tokens::end_of_line;
+use py_expression::{ReadError, expression, primary};
+use py_syntax::{Const, Expression, Token};
+use std::alloc::Global;
+
+/// The greatest height of an expression.
+pub const LIMIT: usize = 64;
+
+/// A tree of this height, from which so many attributes were taken that don't count, and its height without them. Where that is over
+/// the limit, another tree, and a height over the limit.
+#[tactic(auto, unfolding(crate::specs::Kept::lowered))]
+pub fn within(tree: Expression, height: usize, attributes: usize) -> (Expression, usize)
+    requires { attributes ≤ 2 }
+    ensures { tall view result ≡ Kept.lowered attributes (view tree) height }
+{
+    if height <= LIMIT + attributes {
+        (tree, height.saturating_sub(attributes))
+    } else {
+        (Expression::Constant(Const::Absent), LIMIT + 1)
+    }
+}
+
+/// The expression at the front with its height, and the tokens after it.
+#[tactic(auto, unfolding(crate::specs::Reading::value_of))]
+pub fn value(alloc: Global, tokens: &[Token]) -> Result<((Expression, usize), &[Token]), ReadError>
+    ensures { Gives (ahead view) result (Reading.value_of tokens.now) }
+{
+    let (found, rest) = expression(alloc, tokens)?;
+    Ok((within(found.tree, found.height, 0), rest))
+}
+
+/// The expression that these tokens are, with its height.
+#[tactic(auto, unfolding(crate::specs::Reading::whole_value_of))]
+pub fn whole_value(alloc: Global, tokens: &[Token]) -> Result<(Expression, usize), ReadError>
+    ensures { Gives (tall view) result (Reading.whole_value_of tokens.now) }
+{
+    let (found, rest) = value(alloc, tokens)?;
+    end_of_line(rest)?;
+    Ok(found)
+}
+
+/// The primary that these tokens are, with its height.
+#[tactic(auto, unfolding(crate::specs::Reading::whole_primary_of))]
+pub fn whole_primary(alloc: Global, tokens: &[Token]) -> Result<(Expression, usize), ReadError>
+    ensures { Gives (tall view) result (Reading.whole_primary_of tokens.now) }
+{
+    let (found, rest) = primary(alloc, tokens)?;
+    end_of_line(rest)?;
+    Ok(within(found.tree, found.height, 0))
+}

@@ -1,0 +1,16 @@
+//! Reads the lines of a module that stand outside of its functions.
+#![tactic(auto)]
+
+mod affix;
+mod factory;
+mod function;
+mod import;
+mod kind;
+mod laws;
+mod line;
+
+pub use laws::one_module_line;
+pub use line::module_line;
+
+#[cfg(test)]
+mod tests;

@@ -1,0 +1,4 @@
+pub mod Blocks
+pub mod BlocksView
+pub mod Reading
+pub mod Found

@@ -1,0 +1,66 @@
+-- Tokens that a form writes out.
+use Rattle.std.specs.Prelude.{ℕ, Bool, false, List, [], ◌∷◌, Option, Some, None, if◌then◌else◌}
+use Rattle.std.specs.Str.{bytes_eq}
+use denote.Enum.Bare.{sameb}
+use Rattle.py_syntax.specs.declared.keyword.Keyword.{Keyword}
+use Rattle.py_syntax.specs.declared.operator.Operator.{Operator}
+use Rattle.py_syntax.specs.declared.operator.Operator.TheVariants as operator
+use Rattle.py_syntax.specs.declared.operator.Bracket.{Bracket}
+use Rattle.py_syntax.specs.declared.token.Token.{Token}
+use Rattle.py_syntax.specs.declared.token.Token.TheVariants as token
+use Rattle.py_syntax.specs.contracts.keyword.Keyword as keyword_type
+use Rattle.py_syntax.specs.contracts.operator.Operator as operator_type
+use Rattle.py_syntax.specs.contracts.operator.Bracket as bracket_type
+use Rattle.py_phrase.specs.declared.mark.Mark.{Mark}
+use Rattle.py_phrase.specs.declared.mark.Mark.TheVariants as mark
+
+abbrev pub token_of : Mark → Token
+token_of (mark.Keyword k) = token.Keyword k
+token_of (mark.Operator o) = token.Operator o
+token_of (mark.Open b) = token.Open b
+token_of (mark.Close b) = token.Close b
+
+abbrev pub is_keyword : Keyword → Token → Bool
+is_keyword k (token.Keyword j) = sameb keyword_type.the_type j k
+is_keyword k _ = false
+
+abbrev pub is_operator : Operator → Token → Bool
+is_operator o (token.Operator p) = sameb operator_type.the_type p o
+is_operator o _ = false
+
+abbrev pub is_open : Bracket → Token → Bool
+is_open b (token.Open c) = sameb bracket_type.the_type c b
+is_open b _ = false
+
+abbrev pub is_close : Bracket → Token → Bool
+is_close b (token.Close c) = sameb bracket_type.the_type c b
+is_close b _ = false
+
+abbrev pub is_mark : Mark → Token → Bool
+is_mark (mark.Keyword k) t = is_keyword k t
+is_mark (mark.Operator o) t = is_operator o t
+is_mark (mark.Open b) t = is_open b t
+is_mark (mark.Close b) t = is_close b t
+
+abbrev pub is_word : List ℕ → Token → Bool
+is_word word (token.Name n) = bytes_eq n word
+is_word word _ = false
+
+abbrev pub after_if : List Token → Bool → Option (List Token)
+after_if ts b = if b then Some ts else None
+
+-- the tokens after this mark
+unfoldable pub after : Mark → List Token → Option (List Token)
+after m [] = None
+after m (t ∷ ts) = after_if ts (is_mark m t)
+
+-- the tokens after this name
+unfoldable pub after_word : List ℕ → List Token → Option (List Token)
+after_word word [] = None
+after_word word (t ∷ ts) = after_if ts (is_word word t)
+
+abbrev pub comma : Mark
+comma = mark.Operator operator.Comma
+
+abbrev pub assign : Mark
+assign = mark.Operator operator.Assign

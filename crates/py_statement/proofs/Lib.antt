@@ -1,0 +1,9 @@
+pub mod Places
+pub mod TreeLaws
+pub mod TableLaws
+pub mod ListLaws
+pub mod StatementLaws
+pub mod PlainLaws
+pub mod HeaderLaws
+pub mod HeightLaws
+pub mod LineLaws

@@ -1,0 +1,4 @@
+pub mod Kept
+pub mod Words
+pub mod Reading
+pub mod Lines

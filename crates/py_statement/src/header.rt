@@ -1,0 +1,195 @@
+//! The headers of blocks.
+
+ghost use Rattle.std.specs.Prelude.{◌≡◌, List, [], ◌∷◌, ◌++◌, map, codes, Some, None, IfOk};
+ghost use Rattle.py_syntax.specs.ExpressionTrees.{view};
+ghost use Rattle.py_syntax.specs.StatementTrees.{view_caught, view_span, view_header};
+ghost use Rattle.py_expression.specs.Gives.{Gives};
+ghost use Rattle.py_call.specs.Views.{tall};
+ghost use Rattle.py_statement.specs.Reading;
+
+use crate::tree::{kind, range};
+use crate::words::{
+    after_as, after_in, after_open_square, after_with, colon_of_line, kind_at, name_at,
+};
+use port_io::{Name, NoMemory};
+use py_call::{after_call, after_open, value, value_list};
+use py_expression::ReadError;
+use py_phrase::constants;
+use py_syntax::{Caught, Expression, FaultKind, Header, Span, Token};
+use std::alloc::Global;
+
+/// An expression and `:` at the end of the line.
+#[tactic(auto, unfolding(crate::specs::Reading::test_of))]
+pub fn test(alloc: Global, tokens: &[Token]) -> Result<(Expression, usize), ReadError>
+    ensures { Gives (tall view) result (Reading.test_of tokens.now) }
+{
+    let (found, rest) = value(alloc, tokens)?;
+    colon_of_line(rest)?;
+    Ok(found)
+}
+
+/// `range(..):`, behind the `(`.
+#[tactic(auto, unfolding(crate::specs::Reading::range_span_of))]
+fn range_span(alloc: Global, tokens: &[Token]) -> Result<(Span, usize), ReadError>
+    ensures { Gives (tall view_span) result (Reading.range_span_of tokens.now) }
+{
+    let ((list, height), rest) = value_list(alloc, tokens)?;
+    match range(list) {
+        Some(span) => {
+            colon_of_line(rest)?;
+            Ok((span, height))
+        }
+        None => Err(ReadError::Wrong),
+    }
+}
+
+/// `[constant, ..]:`, behind the `[`.
+#[tactic(auto, unfolding(crate::specs::Reading::constants_span_of))]
+fn constants_span(alloc: Global, tokens: &[Token]) -> Result<(Span, usize), ReadError>
+    ensures { Gives (tall view_span) result (Reading.constants_span_of tokens.now) }
+{
+    let (list, rest) = constants(alloc, tokens)?;
+    colon_of_line(rest)?;
+    Ok((Span::Constants(list), 0))
+}
+
+/// Behind `for name in`.
+#[tactic(auto, unfolding(crate::specs::Reading::span_of))]
+fn span(alloc: Global, tokens: &[Token]) -> Result<(Span, usize), ReadError>
+    ensures { Gives (tall view_span) result (Reading.span_of tokens.now) }
+{
+    if let Some(rest) = after_call(b"range", tokens) {
+        return range_span(alloc, rest);
+    }
+    match after_open_square(tokens) {
+        Some(rest) => constants_span(alloc, rest),
+        None => Err(ReadError::Wrong),
+    }
+}
+
+/// Behind `for`.
+#[tactic(auto, unfolding(crate::specs::Reading::for_of))]
+pub fn for_header(alloc: Global, tokens: &[Token]) -> Result<(Header, usize), ReadError>
+    ensures { Gives (tall view_header) result (Reading.for_of tokens.now) }
+{
+    let Some((name, rest)) = name_at(tokens) else {
+        return Err(ReadError::Wrong);
+    };
+    let Some(rest) = after_in(rest) else {
+        return Err(ReadError::Wrong);
+    };
+    let name = Name::of(alloc, name.bytes())?;
+    let (span, height) = span(alloc, rest)?;
+    Ok((Header::For(name, span), height))
+}
+
+/// These kinds and one more.
+fn with_kind(mut all: Vec<FaultKind>, kind: FaultKind) -> Result<Vec<FaultKind>, NoMemory>
+    ensures { IfOk result (λ x. x.items ≡ all.items ++ (kind ∷ [])) }
+{
+    all.push(kind)?;
+    Ok(all)
+}
+
+/// The kinds of faults that these trees name.
+#[tactic(auto, unfolding(crate::specs::Reading::kinds_behind))]
+fn kinds(alloc: Global, list: &[Expression]) -> Result<Vec<FaultKind>, ReadError>
+    ensures { Gives (λ x. x.items) result (Reading.kinds_behind [] (map view list.now)) }
+{
+    let mut all = Vec::new(alloc);
+    for tree in list {
+        match kind(tree) {
+            Some(kind) => all = with_kind(all, kind)?,
+            None => return Err(ReadError::Wrong),
+        }
+    }
+    Ok(all)
+}
+
+/// `(kind, ..):`, behind the `(`.
+#[tactic(auto, unfolding(crate::specs::Reading::caught_kinds_of))]
+fn caught_kinds(alloc: Global, tokens: &[Token]) -> Result<Caught, ReadError>
+    ensures { Gives view_caught result (Reading.caught_kinds_of tokens.now) }
+{
+    let ((list, _), rest) = value_list(alloc, tokens)?;
+    let kinds = kinds(alloc, &list)?;
+    if kinds.is_empty() {
+        return Err(ReadError::Wrong);
+    }
+    colon_of_line(rest)?;
+    Ok(Caught::Kinds(kinds))
+}
+
+/// `name:`, behind `kind as`.
+#[tactic(auto, unfolding(crate::specs::Reading::as_name_of))]
+fn as_name(alloc: Global, kind: FaultKind, tokens: &[Token]) -> Result<Caught, ReadError>
+    ensures { Gives view_caught result (Reading.as_name_of kind tokens.now) }
+{
+    let Some((name, rest)) = name_at(tokens) else {
+        return Err(ReadError::Wrong);
+    };
+    colon_of_line(rest)?;
+    Ok(Caught::As(kind, Name::of(alloc, name.bytes())?))
+}
+
+/// Behind `except` and one kind.
+#[tactic(auto, unfolding(crate::specs::Reading::caught_kind_of))]
+fn caught_kind(alloc: Global, kind: FaultKind, tokens: &[Token]) -> Result<Caught, ReadError>
+    ensures { Gives view_caught result (Reading.caught_kind_of (kind, tokens.now)) }
+{
+    match after_as(tokens) {
+        Some(rest) => as_name(alloc, kind, rest),
+        None => {
+            colon_of_line(tokens)?;
+            Ok(Caught::Kind(kind))
+        }
+    }
+}
+
+/// What an `except` catches, behind the word.
+#[tactic(auto, unfolding(crate::specs::Reading::caught_of))]
+fn caught(alloc: Global, tokens: &[Token]) -> Result<Caught, ReadError>
+    ensures { Gives view_caught result (Reading.caught_of tokens.now) }
+{
+    if let Some(rest) = after_open(tokens) {
+        return caught_kinds(alloc, rest);
+    }
+    match kind_at(tokens) {
+        Some((kind, rest)) => caught_kind(alloc, kind, rest),
+        None => {
+            colon_of_line(tokens)?;
+            Ok(Caught::All)
+        }
+    }
+}
+
+/// Behind `except`.
+#[tactic(auto, unfolding(crate::specs::Reading::except_of))]
+pub fn except_header(alloc: Global, tokens: &[Token]) -> Result<(Header, usize), ReadError>
+    ensures { Gives (tall view_header) result (Reading.except_of tokens.now) }
+{
+    Ok((Header::Except(caught(alloc, tokens)?), 0))
+}
+
+/// A header of a word alone, behind the word.
+#[tactic(auto, unfolding(crate::specs::Reading::header_only))]
+pub fn header_only(header: Header, tokens: &[Token]) -> Result<(Header, usize), ReadError>
+    ensures { Gives (tall view_header) result (Reading.header_only (view_header header) tokens.now) }
+{
+    colon_of_line(tokens)?;
+    Ok((header, 0))
+}
+
+/// Behind `async`.
+#[tactic(auto, unfolding(crate::specs::Reading::with_of))]
+pub fn with_header(alloc: Global, tokens: &[Token]) -> Result<(Header, usize), ReadError>
+    ensures { Gives (tall view_header) result (Reading.with_of tokens.now) }
+{
+    match after_with(tokens) {
+        Some(rest) => {
+            let (lock, height) = test(alloc, rest)?;
+            Ok((Header::With(lock), height))
+        }
+        None => Err(ReadError::Wrong),
+    }
+}

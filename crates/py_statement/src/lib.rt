@@ -1,0 +1,19 @@
+//! Reads the lines of a function's body: statements and the headers of blocks.
+#![tactic(auto)]
+
+mod fault;
+mod header;
+mod laws;
+mod line;
+mod method;
+mod plain;
+mod statement;
+mod tree;
+mod words;
+
+pub use fault::LineError;
+pub use laws::{lines_have_their_forms, one_form};
+pub use line::statement_line;
+
+#[cfg(test)]
+mod tests;

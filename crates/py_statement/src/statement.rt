@@ -1,0 +1,121 @@
+//! Statements that begin with a reserved word.
+
+ghost use Rattle.std.specs.Prelude.{◌≡◌, Some, None};
+ghost use Rattle.py_syntax.specs.ExpressionTrees.{view};
+ghost use Rattle.py_syntax.specs.StatementTrees.{optional, view_statement};
+ghost use Rattle.py_expression.specs.Gives.{Gives};
+ghost use Rattle.py_call.specs.Views.{tall};
+ghost use Rattle.py_statement.specs.Reading;
+
+use crate::tree::one;
+use crate::words::kind_at;
+use py_call::{
+    after_comma, after_open, await_operand, end_of_line, right_side, value, value_list, whole_value,
+};
+use py_expression::ReadError;
+use py_syntax::{Expression, Statement, Token};
+use std::alloc::Global;
+
+/// A statement of a word alone, behind the word.
+#[tactic(auto, unfolding(crate::specs::Reading::only))]
+pub fn only(statement: Statement, tokens: &[Token]) -> Result<(Statement, usize), ReadError>
+    ensures { Gives (tall view_statement) result (Reading.only (view_statement statement) tokens.now) }
+{
+    end_of_line(tokens)?;
+    Ok((statement, 0))
+}
+
+/// Behind `return`.
+#[tactic(auto, unfolding(crate::specs::Reading::return_of))]
+pub fn returning(alloc: Global, tokens: &[Token]) -> Result<(Statement, usize), ReadError>
+    ensures { Gives (tall view_statement) result (Reading.return_of tokens.now) }
+{
+    if tokens.is_empty() {
+        return Ok((Statement::Return(None), 0));
+    }
+    let (side, height) = right_side(alloc, tokens)?;
+    Ok((Statement::Return(Some(side)), height))
+}
+
+/// One expression and `)` at the end of the line, behind a `(`.
+#[tactic(auto, unfolding(crate::specs::Reading::one_value_of))]
+pub fn one_value(alloc: Global, tokens: &[Token]) -> Result<(Expression, usize), ReadError>
+    ensures { Gives (tall view) result (Reading.one_value_of tokens.now) }
+{
+    let ((list, height), rest) = value_list(alloc, tokens)?;
+    match one(list) {
+        Some(value) => {
+            end_of_line(rest)?;
+            Ok((value, height))
+        }
+        None => Err(ReadError::Wrong),
+    }
+}
+
+/// A fault's value in brackets, if there is one.
+#[tactic(auto, unfolding(crate::specs::Reading::raised_of))]
+fn raised(alloc: Global, tokens: &[Token]) -> Result<(Option<Expression>, usize), ReadError>
+    ensures { Gives (tall (optional view)) result (Reading.raised_of tokens.now) }
+{
+    match after_open(tokens) {
+        Some(rest) => {
+            let (value, height) = one_value(alloc, rest)?;
+            Ok((Some(value), height))
+        }
+        None => {
+            end_of_line(tokens)?;
+            Ok((None, 0))
+        }
+    }
+}
+
+/// Behind `raise`.
+#[tactic(auto, unfolding(crate::specs::Reading::raise_of))]
+pub fn raising(alloc: Global, tokens: &[Token]) -> Result<(Statement, usize), ReadError>
+    ensures { Gives (tall view_statement) result (Reading.raise_of tokens.now) }
+{
+    let Some((kind, rest)) = kind_at(tokens) else {
+        return Err(ReadError::Wrong);
+    };
+    let (value, height) = raised(alloc, rest)?;
+    Ok((Statement::Raise(kind, value), height))
+}
+
+/// The value behind an assertion's condition, if there is one.
+#[tactic(auto, unfolding(crate::specs::Reading::message_of))]
+fn message(alloc: Global, tokens: &[Token]) -> Result<(Option<Expression>, usize), ReadError>
+    ensures { Gives (tall (optional view)) result (Reading.message_of tokens.now) }
+{
+    match after_comma(tokens) {
+        Some(rest) => {
+            let (value, height) = whole_value(alloc, rest)?;
+            Ok((Some(value), height))
+        }
+        None => {
+            end_of_line(tokens)?;
+            Ok((None, 0))
+        }
+    }
+}
+
+/// Behind `assert`.
+#[tactic(auto, unfolding(crate::specs::Reading::assert_of))]
+pub fn asserting(alloc: Global, tokens: &[Token]) -> Result<(Statement, usize), ReadError>
+    ensures { Gives (tall view_statement) result (Reading.assert_of tokens.now) }
+{
+    let ((condition, height), rest) = value(alloc, tokens)?;
+    let (message, message_height) = message(alloc, rest)?;
+    Ok((
+        Statement::Assert(condition, message),
+        height.max(message_height),
+    ))
+}
+
+/// Behind `await`.
+#[tactic(auto, unfolding(crate::specs::Reading::await_of))]
+pub fn awaiting(alloc: Global, tokens: &[Token]) -> Result<(Statement, usize), ReadError>
+    ensures { Gives (tall view_statement) result (Reading.await_of tokens.now) }
+{
+    let (awaited, height) = await_operand(alloc, tokens)?;
+    Ok((Statement::Await(awaited), height))
+}

@@ -1,0 +1,129 @@
+//! Trees and lists of trees, taken apart.
+
+ghost use Rattle.std.specs.Prelude.{◌≡◌, false, List, map, Some, None, MatchOption};
+ghost use Rattle.py_syntax.specs.ExpressionTrees.{view};
+ghost use Rattle.py_syntax.specs.StatementTrees.{view_span};
+ghost use Rattle.py_syntax.specs.StatementForms;
+ghost use Rattle.py_statement.specs.Reading;
+
+use port_io::Name;
+use py_syntax::{Const, Expression, FaultKind, Span};
+
+/// An attribute's object and name.
+#[tactic(auto, unfolding(crate::specs::Reading::split_of))]
+pub fn split(tree: Expression) -> Option<(Expression, Name)>
+    ensures { MatchOption result (Reading.split_of (view tree) ≡ None) (λ x. Reading.split_of (view tree) ≡ Some (view x.0, x.1)) }
+{
+    match tree {
+        Expression::Attribute(base, name) => Some((Box::into_inner(base), name)),
+        _ => None,
+    }
+}
+
+/// Whether a tree is this name.
+pub fn is_word(word: &[u8], tree: &Expression) -> bool
+    ensures { result ≡ Reading.is_word word.now (view tree.now) }
+{
+    match tree {
+        Expression::Name(name) => name.bytes() == word,
+        _ => false,
+    }
+}
+
+/// The kind of fault that a tree names.
+#[tactic(auto, unfolding(crate::specs::Reading::kind_of))]
+pub fn kind(tree: &Expression) -> Option<FaultKind>
+    ensures { result ≡ Reading.kind_of (view tree.now) }
+{
+    match tree {
+        Expression::Name(name) => FaultKind::of(name.bytes()),
+        _ => None,
+    }
+}
+
+/// The only element of a list.
+pub fn one(mut list: Vec<Expression>) -> Option<Expression>
+    ensures { MatchOption result (Reading.one_of (map view list.items) ≡ None) (λ x. Reading.one_of (map view list.items) ≡ Some (view x)) }
+{
+    let only = list.pop()?;
+    if list.is_empty() { Some(only) } else { None }
+}
+
+/// The first element of a list, and the others.
+pub fn first(mut list: Vec<Expression>) -> Option<(Expression, Vec<Expression>)>
+    ensures { MatchOption result (Reading.first_of (map view list.items) ≡ None) (λ x. Reading.first_of (map view list.items) ≡ Some (view x.0, map view x.1.items)) }
+{
+    if list.is_empty() {
+        return None;
+    }
+    let first = list.remove(0);
+    Some((first, list))
+}
+
+/// The range of one to three bounds.
+pub fn range(mut list: Vec<Expression>) -> Option<Span>
+    ensures { MatchOption result (Reading.range_of (map view list.items) ≡ None) (λ x. Reading.range_of (map view list.items) ≡ Some (view_span x)) }
+{
+    let last = list.pop()?;
+    let Some(second) = list.pop() else {
+        return Some(Span::Stop(last));
+    };
+    let Some(first) = list.pop() else {
+        return Some(Span::StartStop(second, last));
+    };
+    if list.is_empty() {
+        Some(Span::StartStopStep(first, second, last))
+    } else {
+        None
+    }
+}
+
+/// How many `%s` a text holds, if it holds no other `%`.
+#[tactic(auto, unfolding(crate::specs::Reading::places_behind))]
+fn count_places(text: &[u8]) -> Option<usize>
+    ensures { result ≡ Reading.places_behind false 0 text.now }
+{
+    let mut count = 0;
+    let mut is_open = false;
+    for byte in text {
+        if is_open {
+            if *byte != b's' {
+                return None;
+            }
+            count += 1;
+            is_open = false;
+        } else if *byte == b'%' {
+            is_open = true;
+        }
+    }
+    if is_open { None } else { Some(count) }
+}
+
+/// Whether a text holds `%s` so many times, and no other `%`.
+#[tactic(auto, using(crate::proofs::Places::places_same))]
+fn text_has_places(text: &[u8], count: usize) -> bool
+    ensures { result ≡ StatementForms.is_count count (StatementForms.places text.now) }
+{
+    match count_places(text) {
+        Some(found) => found == count,
+        None => false,
+    }
+}
+
+/// Whether the tree is a text with so many places.
+fn has_places(tree: &Expression, count: usize) -> bool
+    ensures { result ≡ StatementForms.has_places (view tree.now) count }
+{
+    match tree {
+        Expression::Constant(Const::Text(text)) => text_has_places(text.bytes(), count),
+        _ => false,
+    }
+}
+
+/// Whether these values may be logged: one alone, or a text with a place for each of the others.
+#[tactic(auto, unfolding(py_syntax::specs::StatementForms::can_log))]
+pub fn can_log(first: &Expression, others: &[Expression]) -> bool
+    ensures { result ≡ StatementForms.can_log (view first.now) (map view others.now) }
+{
+    others.is_empty() || has_places(first, others.len())
+}

@@ -1,0 +1,5 @@
+pub mod ModuleLaws
+pub mod Lowest
+pub mod SourceLaws
+pub mod Source
+pub mod ParseLaws

@@ -1,0 +1,27 @@
+use Rattle.std.proofs.Common.{length, arith, sym, ◌∙◌}
+use Rattle.std.proofs.lemmas.Result.{err_from_is_err_and}
+use Rattle.v_syntax.specs.declared.word.Keyword.TheVariants as word
+use Rattle.v_syntax.specs.SourceTrees.{view_module}
+use Rattle.v_parse.specs.Reading.{module_of, modules_of}
+use Rattle.v_phrase.specs.Readers.{starts_word}
+use Rattle.v_phrase.proofs.Loops.{items_stop, items_empty, items_more, items_fail}
+use Rattle.v_parse.proofs.modules.modules.Goals as goal
+use Rattle.v_parse.proofs.modules.modules.Goals.{else-loop-test, then-loop-test+then-not-starts_word}
+
+pub returns-in_err-another : goal.returns-in_err-another
+returns-in_err-another c =
+    let q = err_from_is_err_and c.from_residual.result c.from_residual.ensures.1 in
+    rw (q.1, q.2) (items_fail view_module (starts_word word.Module) (module_of c.args.total c.args.room) c.loop.all.items (length c.args.tokens.now) c.loop.counter c.loop.rest.now
+    _ _ c.loop-test.true (sym c.starts_word.ensures ∙ c.if-not-starts_word.false) c.loop.invariant c.in_err-another.ensures)
+
+pub loop-preserved : goal.loop-preserved
+loop-preserved c =
+    items_more view_module (starts_word word.Module) (module_of c.args.total c.args.room) c.loop.all.items (length c.args.tokens.now) c.loop.counter c.loop.rest.now
+    _ c.in_ok-another.another _ c.loop-test.true (sym c.starts_word.ensures ∙ c.if-not-starts_word.false) c.in_ok-push.ensures.items c.in_ok-another.ensures ∙ c.loop.invariant
+
+pub returns : goal.returns
+returns c =
+    elim c.loop-test.branch [
+      | else-loop-test w ↦ sym c.loop.invariant ∙ items_empty view_module (starts_word word.Module) (module_of c.args.total c.args.room) c.loop.all.items (length c.args.tokens.now) c.loop.counter c.loop.rest.now (omega arith)
+      | then-loop-test+then-not-starts_word w ↦ sym c.loop.invariant ∙ items_stop view_module (starts_word word.Module) (module_of c.args.total c.args.room) c.loop.all.items (length c.args.tokens.now) c.loop.counter c.loop.rest.now (sym w.starts_word.ensures ∙ w.if-not-starts_word.true)
+    ]

@@ -1,0 +1,65 @@
+-- The readers of modules and whole texts: each is put together as its rule is. `end` is the number of the text's tokens,
+-- and expressions, targets and statements have heights of at most room + 1.
+use Rattle.std.specs.Prelude.{ℕ, List, ◌∷◌, Option, Result, length}
+use Rattle.v_syntax.specs.declared.token.Token.{Token}
+use Rattle.v_syntax.specs.declared.mark.Mark.TheVariants as mark
+use Rattle.v_syntax.specs.declared.word.Keyword.TheVariants as word
+use Rattle.v_syntax.specs.SourceTrees.{RangeTree, PortHeadTree, HeaderParameterTree, HeaderParameterOf, HeaderPortTree, HeaderPortOf, HeaderPortsTree, NamedPorts, DeclaredPorts, ItemTree, ModuleTree}
+use Rattle.v_syntax.specs.Sources.{headed, with_head, module_tree}
+use Rattle.v_expression.specs.Stops.{Stop}
+use Rattle.v_phrase.specs.Readers.{Reader, nothing, both, ◌⊛◌, ◌◃◌, ◌▹◌, maybe, many, either, starts_mark, starts_word, sign, word_of, to_the_end}
+use Rattle.v_statement.specs.Reading.{identifier_of}
+use Rattle.v_item.specs.Firsts.{starts_item, starts_direction}
+use Rattle.v_item.specs.Reading.{maybe_range_of, value_of, port_head_of, identifiers_of, item_of}
+use Rattle.v_parse.specs.Firsts.{starts_ports}
+
+-- ---- parameters
+
+unfoldable pub parameter_head_of : ℕ → ℕ → Reader (Option RangeTree)
+parameter_head_of end room = word_of word.Parameter ▹ maybe_range_of end room
+
+unfoldable pub first_parameter_of : ℕ → ℕ → Reader HeaderParameterTree
+first_parameter_of end room = nothing HeaderParameterOf ⊛ (nothing headed ⊛ parameter_head_of end room) ⊛ identifier_of end ⊛ value_of end room
+
+unfoldable pub next_parameter_of : ℕ → ℕ → Reader HeaderParameterTree
+next_parameter_of end room = nothing HeaderParameterOf ⊛ maybe (starts_word word.Parameter) (parameter_head_of end room) ⊛ identifier_of end ⊛ value_of end room
+
+unfoldable pub parameter_list_of : ℕ → ℕ → Reader (List HeaderParameterTree)
+parameter_list_of end room = both ◌∷◌ (first_parameter_of end room) (many (starts_mark mark.Comma) (sign mark.Comma ▹ next_parameter_of end room))
+
+unfoldable pub header_parameters_of : ℕ → ℕ → Reader (List HeaderParameterTree)
+header_parameters_of end room = sign mark.Hash ▹ sign mark.OpenParenthesis ▹ parameter_list_of end room ◃ sign mark.CloseParenthesis
+
+-- ---- ports
+
+unfoldable pub first_port_of : ℕ → ℕ → Reader HeaderPortTree
+first_port_of end room = nothing HeaderPortOf ⊛ (nothing with_head ⊛ port_head_of end room) ⊛ identifier_of end
+
+unfoldable pub next_port_of : ℕ → ℕ → Reader HeaderPortTree
+next_port_of end room = nothing HeaderPortOf ⊛ maybe starts_direction (port_head_of end room) ⊛ identifier_of end
+
+unfoldable pub declared_ports_of : ℕ → ℕ → Reader (List HeaderPortTree)
+declared_ports_of end room = both ◌∷◌ (first_port_of end room) (many (starts_mark mark.Comma) (sign mark.Comma ▹ next_port_of end room))
+
+unfoldable pub ports_of : ℕ → ℕ → Reader HeaderPortsTree
+ports_of end room = either starts_direction (nothing DeclaredPorts ⊛ declared_ports_of end room) (nothing NamedPorts ⊛ identifiers_of end)
+
+unfoldable pub port_list_of : ℕ → ℕ → Reader (Option HeaderPortsTree)
+port_list_of end room = sign mark.OpenParenthesis ▹ maybe starts_ports (ports_of end room) ◃ sign mark.CloseParenthesis
+
+-- ---- modules
+
+unfoldable pub items_of : ℕ → ℕ → Reader (List ItemTree)
+items_of end room = many starts_item (item_of end room)
+
+unfoldable pub module_of : ℕ → ℕ → Reader ModuleTree
+module_of end room =
+    nothing module_tree ◃ word_of word.Module ⊛ identifier_of end ⊛ maybe (starts_mark mark.Hash) (header_parameters_of end room)
+    ⊛ maybe (starts_mark mark.OpenParenthesis) (port_list_of end room) ◃ sign mark.Semicolon ⊛ items_of end room ◃ word_of word.EndModule
+
+unfoldable pub modules_of : ℕ → ℕ → Reader (List ModuleTree)
+modules_of end room = many (starts_word word.Module) (module_of end room)
+
+-- the modules of a whole text
+unfoldable pub source_of : ℕ → List Token → Result (List ModuleTree) Stop
+source_of room text = to_the_end (modules_of (length text) room) text

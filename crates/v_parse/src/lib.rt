@@ -1,0 +1,17 @@
+//! Reading Verilog texts.
+#![tactic(auto)]
+
+mod fault;
+mod headers;
+mod modules;
+mod parser;
+
+pub use fault::ParseFault;
+pub use parser::{one_source, parse};
+
+#[cfg(test)]
+mod height_rows;
+#[cfg(test)]
+mod tests;
+#[cfg(test)]
+mod text_rows;

@@ -1,0 +1,108 @@
+//! Modules.
+
+ghost use Rattle.std.specs.Prelude.{◌≡◌, ◌<◌, map, option_map};
+ghost use Rattle.v_syntax.specs.SourceTrees.{view_header_parameter, view_ports, view_item, view_module};
+ghost use Rattle.v_syntax.specs.Sources.{module_tree};
+ghost use Rattle.v_expression.specs.Stops.{Gives};
+ghost use Rattle.v_parse.specs.Reading.{items_of, module_of, modules_of};
+
+use crate::headers::{maybe_parameters, maybe_ports};
+use std::alloc::Global;
+use v_expression::ReadError;
+use v_item::{item, starts_item};
+use v_statement::{after_mark, after_word, identifier, starts_word};
+use v_syntax::{HeaderParameter, HeaderPorts, Identifier, Item, Keyword, Mark, Module, Token};
+
+#[tactic(auto, unfolding(crate::specs::Reading::items_of))]
+fn items(
+    alloc: Global,
+    total: usize,
+    room: usize,
+    tokens: &[Token],
+) -> Result<(Vec<Item>, &[Token]), ReadError>
+    requires { room < 1000 }
+    ensures { Gives (λ x. (map view_item x.0.items, x.1.now)) result (items_of total room tokens.now) }
+{
+    let mut all = Vec::new(alloc);
+    let mut rest = tokens;
+    for _ in 0..tokens.len() {
+        if !starts_item(rest) {
+            break;
+        }
+        let (another, others) = item(alloc, total, room, rest)?;
+        all.push(another)?;
+        rest = others;
+    }
+    Ok((all, rest))
+}
+
+/// A module of its parts, of which the parameters and the ports may be missing.
+fn module_with(
+    alloc: Global,
+    name: Identifier,
+    parameters: Option<Vec<HeaderParameter>>,
+    ports: Option<Option<HeaderPorts>>,
+    items: Vec<Item>,
+) -> Module
+    ensures { view_module result ≡ module_tree name (option_map (λ v. map view_header_parameter v.items) parameters) (option_map (option_map view_ports) ports) (map view_item items.items) }
+{
+    let parameters = match parameters {
+        Some(all) => all,
+        None => Vec::new(alloc),
+    };
+    let ports = match ports {
+        Some(Some(ports)) => ports,
+        _ => HeaderPorts::Named(Vec::new(alloc)),
+    };
+    Module {
+        name,
+        parameters,
+        ports,
+        items,
+    }
+}
+
+/// `module name [# ( parameters )] [( [ports] )] ; {item} endmodule` (IEEE 1364-2005, clause 12.1 and annex A.1.2)
+#[tactic(auto, unfolding(crate::specs::Reading::module_of))]
+fn module(
+    alloc: Global,
+    total: usize,
+    room: usize,
+    tokens: &[Token],
+) -> Result<(Module, &[Token]), ReadError>
+    requires { room < 1000 }
+    ensures { Gives (λ x. (view_module x.0, x.1.now)) result (module_of total room tokens.now) }
+{
+    let rest = after_word(Keyword::Module, tokens)?;
+    let (name, rest) = identifier(alloc, total, rest)?;
+    let (parameters, rest) = maybe_parameters(alloc, total, room, rest)?;
+    let (ports, rest) = maybe_ports(alloc, total, room, rest)?;
+    let rest = after_mark(Mark::Semicolon, rest)?;
+    let (items, rest) = items(alloc, total, room, rest)?;
+    let rest = after_word(Keyword::EndModule, rest)?;
+    Ok((module_with(alloc, name, parameters, ports, items), rest))
+}
+
+/// All modules that stand here.
+#[tactic(auto, unfolding(crate::specs::Reading::modules_of))]
+pub fn modules(
+    alloc: Global,
+    total: usize,
+    room: usize,
+    tokens: &[Token],
+) -> Result<(Vec<Module>, &[Token]), ReadError>
+    requires { room < 1000 }
+    ensures { Gives (λ x. (map view_module x.0.items, x.1.now)) result (modules_of total room tokens.now) }
+{
+    let mut all = Vec::new(alloc);
+    let mut rest = tokens;
+    for _ in 0..tokens.len() {
+        if !starts_word(Keyword::Module, rest) {
+            break;
+        }
+        let (another, others) = module(alloc, total, room, rest)?;
+        all.push(another)?;
+        rest = others;
+    }
+    Ok((all, rest))
+}

@@ -1,0 +1,68 @@
+//! Whole texts.
+
+ghost use Rattle.std.specs.Prelude.{◌≡◌, ◌-◌, ◌<◌, ◌^◌, ℕ, List, length, IfOk, IfErr};
+ghost use Rattle.v_syntax.specs.declared.token.Token.{Token};
+ghost use Rattle.v_syntax.specs.SourceTrees.{ModuleTree, view};
+ghost use Rattle.v_syntax.specs.Refusal.{IsSource, height_limit};
+ghost use Rattle.v_expression.specs.Stops.{Gives};
+ghost use Rattle.v_parse.specs.Reading.{source_of};
+ghost use Rattle.v_parse.specs.Answers.{IsFault, IsRead, Tells};
+
+use crate::ParseFault;
+use crate::modules::modules;
+use std::alloc::Global;
+use v_expression::{ReadError, next, syntax_error};
+use v_lex::Tokens;
+use v_syntax::{Source, Token};
+
+/// The levels below a tree of the greatest height.
+const ROOM: usize = 63;
+
+/// Modules that nothing stands behind.
+#[tactic(auto, unfolding(crate::specs::Reading::source_of))]
+fn source(alloc: Global, text: &[Token]) -> Result<Source, ReadError>
+    ensures { Gives view result (source_of 63 text.now) }
+{
+    let (modules, rest) = modules(alloc, text.len(), ROOM, text)?;
+    match next(rest) {
+        Some(_) => Err(syntax_error(rest)),
+        None => Ok(Source { modules }),
+    }
+}
+
+/// The number of the token with which the last `left` tokens of a text begin.
+fn number_of(text: &[Token], left: usize) -> u32
+    requires { length text.now < 2 ^ 32 }
+    ensures { result ≡ length text.now - left }
+{
+    text.len().saturating_sub(left) as u32
+}
+
+fn read(alloc: Global, text: &[Token]) -> Result<Source, ParseFault>
+    requires { length text.now < 2 ^ 32 }
+    ensures { Tells view text.now result (source_of 63 text.now) }
+{
+    match source(alloc, text) {
+        Ok(source) => Ok(source),
+        Err(ReadError::Syntax(left)) => Err(ParseFault::Syntax(number_of(text, left))),
+        Err(ReadError::TooDeep(left)) => Err(ParseFault::TooDeep(number_of(text, left))),
+        Err(ReadError::OutOfMemory) => Err(ParseFault::OutOfMemory),
+    }
+}
+
+/// Reads a whole text (IEEE 1364-2005, annex A.1.2), whose expressions, targets and statements have heights of at most 64.
+pub fn parse(alloc: Global, tokens: &Tokens) -> Result<Source, ParseFault>
+    // What is read spells all tokens, within the height.
+    ensures found { IfOk result (λ s. IsSource height_limit tokens.now.tokens (view s)) }
+    // Modules that spell all tokens within the height are read, unless memory runs out.
+    ensures only { (ms : List ModuleTree) → IsSource height_limit tokens.now.tokens ms → IsRead (λ s. view s ≡ ms) result }
+    // A fault is at the first token that no partial tree within the height spells.
+    ensures refused { IfErr result (λ f. IsFault tokens.now.tokens f) }
+{
+    read(alloc, tokens.as_slice())
+}
+
+/// A text has at most one tree, whatever its height.
+pub fn one_source()
+    ensures { (n m : ℕ) (text : List Token) (a b : List ModuleTree) → IsSource n text a → IsSource m text b → a ≡ b }
+{}

@@ -1,0 +1,2 @@
+//! Readers of the phrases of the Verilog grammar.
+#![tactic(auto)]

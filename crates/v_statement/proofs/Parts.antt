@@ -1,0 +1,106 @@
+-- The laws of what statements are made of.
+use Rattle.std.proofs.Common.{◌≡◌, ℕ, Bool, true, false, ◌||◌, [], ◌∷◌, refl, arith, inl}
+use Rattle.v_syntax.specs.declared.token.Token.TheVariants as token
+use Rattle.v_syntax.specs.declared.mark.Mark.TheVariants as mark
+use Rattle.v_syntax.specs.StatementTrees.{Value, Text, VariableTree, Variable, Delay}
+use Rattle.v_syntax.specs.TokenMeanings.{assignment_kind}
+use Rattle.v_expression.specs.Starts.{mark_begins_expression}
+use Rattle.v_syntax.specs.Statements.{listed, named_at, assignment_tree, task_tree, identifier, label, delay, assignment, argument, arguments, task_enable, variable_assignment, expression}
+use Rattle.v_expression.specs.Starts.{starts_expression}
+use Rattle.v_expression.specs.Reading.{expression_of, target_of}
+use Rattle.v_phrase.specs.Readers.{Reader, down, starts_mark}
+use Rattle.v_phrase.specs.Readers as read
+use Rattle.v_phrase.specs.Kinds.{Kinds, any_kind, a_mark, a_name, a_text, a_task, either_of, Tells}
+use Rattle.v_phrase.proofs.KindLaws.{tells_mark}
+use Rattle.v_phrase.proofs.Laws.{Laws, Ready}
+use Rattle.v_phrase.proofs.Tokens.{nothing_laws, place_in_laws, mark_laws}
+use Rattle.v_phrase.proofs.Meanings.{name_laws, number_laws, text_laws, task_laws, assignment_kind_laws}
+use Rattle.v_phrase.proofs.Both.{apply_laws, keep_laws, skip_laws}
+use Rattle.v_phrase.proofs.Ready.{ready_behind}
+use Rattle.v_phrase.proofs.Maybe.{maybe_laws}
+use Rattle.v_phrase.proofs.Lists.{ends_list, listed_laws}
+use Rattle.v_phrase.proofs.Either.{either_first}
+use Rattle.v_phrase.proofs.Change.{narrow}
+use Rattle.v_phrase.proofs.Levels.{down_laws}
+use Rattle.v_phrase.proofs.Expressions.{of_expression, ends_expression, of_target, tells_expression, expression_phrase_laws, expression_ready, target_phrase_laws}
+use Rattle.v_statement.specs.Firsts.{starts_argument}
+use Rattle.v_statement.specs.Reading.{identifier_of, label_of, delay_of, assignment_of, value_below, argument_of, argument_list_of, arguments_of, task_of_room}
+
+pub identifier_laws : (end n : ℕ) → Laws n (λ m. identifier end) a_name false any_kind (λ m. identifier_of end)
+unfolding identifier_of
+identifier_laws end n = apply_laws n (apply_laws n (nothing_laws named_at n) (place_in_laws end n) refl) (name_laws n) refl
+
+pub label_laws : (n : ℕ) → Laws n (λ m. label) (a_mark mark.Colon) false any_kind (λ m. label_of)
+unfolding label_of
+label_laws n = skip_laws n (mark_laws mark.Colon n) (name_laws n) refl
+
+pub delay_laws : (end n : ℕ) → Laws n (λ m. delay end) (a_mark mark.Hash) false any_kind (λ m. delay_of end)
+unfolding delay_of
+delay_laws end n =
+    keep_laws n (apply_laws n (apply_laws n (keep_laws n (nothing_laws Delay n) (mark_laws mark.Hash n) refl) (place_in_laws end n) refl) (number_laws n) refl) (mark_laws mark.Semicolon n) refl
+
+-- ---- assignments
+
+-- where levels are counted
+abbrev pub variable_by : ℕ → ℕ → Reader VariableTree
+variable_by end m = read.both (λ f x. f x) (read.both (λ x y. x) (read.both (λ f x. f x) (read.nothing Variable) (identifier_of end)) (read.sign mark.Assign)) (down m (expression_of end))
+
+pub or_false : (b : Bool) → b ≡ (b || false)
+or_false true = refl
+or_false false = refl
+
+module _ (end n : ℕ) where
+  assigned_laws : Laws n (λ m. assignment end m) of_target false any_kind (λ m ts. read.both (λ x y. x) (read.both (λ f x. f x) (read.both (λ f x. f x) (read.both (λ f x. f x) (read.nothing assignment_tree) (down m (target_of end))) (read.token_of assignment_kind)) (down m (expression_of end))) (read.sign mark.Semicolon) ts)
+  assigned_laws =
+      keep_laws n (apply_laws n (apply_laws n (apply_laws n (nothing_laws assignment_tree n) (target_phrase_laws end n) refl) (assignment_kind_laws n) refl) (expression_phrase_laws end n) refl) (mark_laws mark.Semicolon n) refl
+
+  pub assignment_laws : Laws n (λ m. assignment end m) of_target false any_kind (λ m. assignment_of end m)
+  unfolding assignment_of
+  assignment_laws = down_laws n (λ m. assignment end m) of_target any_kind _ (λ m. assignment_of end m) (λ here. refl) (λ room here. refl) (λ k. omega (arith, k.0.1)) (λ m. ((((tt, omega arith), tt), omega arith), tt)) assigned_laws.spells (λ k. assigned_laws)
+
+  -- ---- system tasks
+
+  value_laws : Laws n (λ m. expression end m) of_expression false ends_expression (λ m. value_below end m)
+  unfolding value_below
+  value_laws = expression_phrase_laws end n
+
+  value_ready : Ready n (λ m. expression end m) of_expression (λ m. value_below end m)
+  unfolding value_below
+  value_ready = expression_ready end n
+
+  abbrev of_argument : Kinds
+  of_argument = either_of of_expression a_text
+
+  argument_laws : Laws n (λ m. argument end m) of_argument false ends_expression (λ m. argument_of end m)
+  unfolding argument_of
+  argument_laws = either_first n (apply_laws n (nothing_laws Value n) value_laws refl) (narrow (apply_laws n (nothing_laws Text n) (text_laws n) refl) ends_expression refl)
+      starts_expression tells_expression refl (ready_behind (λ f x. f x) Value value_ready) (λ k. (tt, tt))
+
+  tells_argument : Tells starts_argument of_argument
+  tells_argument [] = refl
+  tells_argument (token.Mark m ∷ ts) = or_false (mark_begins_expression m)
+  tells_argument (token.Name n ∷ ts) = refl
+  tells_argument (token.Keyword w ∷ ts) = refl
+  tells_argument (token.Reserved w ∷ ts) = refl
+  tells_argument (token.SystemTask t ∷ ts) = refl
+  tells_argument (token.Number ds ∷ ts) = refl
+  tells_argument (token.Text t ∷ ts) = refl
+
+  argument_list_laws : Laws n (λ m. listed (argument end m)) of_argument false (ends_list (a_mark mark.Comma) ends_expression) (λ m. argument_list_of end m)
+  unfolding argument_list_of
+  argument_list_laws = listed_laws n argument_laws (true, (tt, tt)) refl
+
+  arguments_laws : Laws n (λ m. arguments end m) (a_mark mark.OpenParenthesis) false any_kind (λ m. arguments_of end m)
+  unfolding arguments_of
+  arguments_laws =
+      keep_laws n (skip_laws n (mark_laws mark.OpenParenthesis n) (maybe_laws n starts_argument tells_argument argument_list_laws (record { ready = inl ((true, (tt, tt)), tt) })) refl) (mark_laws mark.CloseParenthesis n) refl
+
+  pub task_enable_laws : Laws n (λ m. task_enable end m) a_task false any_kind (λ m. task_of_room end m)
+  unfolding task_of_room
+  task_enable_laws =
+      keep_laws n (apply_laws n (apply_laws n (nothing_laws task_tree n) (task_laws n) refl) (maybe_laws n (starts_mark mark.OpenParenthesis) (tells_mark mark.OpenParenthesis) arguments_laws (record { ready = inl (((tt, tt), tt)) })) refl) (mark_laws mark.Semicolon n) refl
+
+  -- ---- the header of a `for`
+
+  pub variable_laws : Laws n (λ m. variable_assignment end m) a_name false ends_expression (λ m. variable_by end m)
+  variable_laws = apply_laws n (keep_laws n (apply_laws n (nothing_laws Variable n) (identifier_laws end n) refl) (mark_laws mark.Assign n) refl) (expression_phrase_laws end n) refl
