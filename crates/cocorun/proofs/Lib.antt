@@ -10,7 +10,9 @@ pub mod Renamed
 pub mod Files
 pub mod Within
 pub mod Runnable
+pub mod Flats
 pub mod LineLaws
+pub mod Stands
 pub mod RunTurns
 pub mod TestRuns
 pub mod Words

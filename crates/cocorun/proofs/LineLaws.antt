@@ -1,11 +1,10 @@
 -- Lines that are put.
-use Rattle.std.proofs.Common.{◌≡◌, ℕ, Bool, true, false, List, [], ◌∷◌, ◌++◌, Option, Result, Ok, Err, IsErr, refl, subst, ◌∙◌, ap, sym, inl, inr}
+use Rattle.std.proofs.Common.{◌≡◌, ℕ, Bool, true, false, List, [], ◌∷◌, ◌++◌, Option, Result, Ok, Err, IsErr, refl, subst, inr}
 use Rattle.port_io.specs.Ports.{TakesAll, Puts, AppendsPart}
-use Rattle.port_io.specs.PutsPart.{PutsPart}
 use Rattle.port_io.specs.PutLaws.{takes_one, takes_then, puts_then}
 use Rattle.port_io.proofs.PartLaws.{part_none, part_one, part_then}
 use Rattle.port_io.specs.declared.ports.NoMemory.{NoMemory}
-use Rattle.cocorun.specs.Runs.{PutsLine, PutsLines, EndsTo, map_ok, status_in}
+use Rattle.cocorun.specs.Runs.{PutsLine, PutsLines, EndsTo, status_in}
 use Rattle.cocorun.specs.declared.status.Status.{Status}
 
 module _ {O : Type 0} (takes breaks : O → List ℕ → O → Type 0) (told : O → Option (List ℕ)) where

@@ -1,27 +1,27 @@
 -- From turns to a run.
-use Rattle.std.proofs.Common.{◌≡◌, ◌≢◌, ℕ, zero, suc, ◌+◌, ◌<◌, ◌≤◌, Bool, true, false, List, [], ◌∷◌, ◌++◌, Option, None, Some, Result, Ok, Err, IsErr, refl, ap, sym, subst, ◌∙◌, arith, rules, append_assoc, append-nil}
+use Rattle.std.proofs.Common.{◌≡◌, ℕ, suc, ◌+◌, Bool, true, false, List, [], ◌∷◌, ◌++◌, Option, Some, Result, Ok, Err, refl, ap, sym, subst, ◌∙◌, arith, append-nil}
 use Rattle.std.specs.Prelude.{◌&&◌}
-use Rattle.port_io.specs.Ports.{TakesAll, Puts}
+use Rattle.port_io.specs.Ports.{TakesAll}
 use Rattle.port_io.specs.PutsPart.{PutsPart}
 use Rattle.port_io.specs.PutLaws.{takes_one, takes_then, puts_then}
 use Rattle.port_io.proofs.PartLaws.{part_then}
 use Rattle.port_io.specs.declared.ports.NoMemory.{NoMemory}
+use Rattle.gpi.specs.Content.{Content, no_counts}
+use Rattle.rig_model.specs.Kernel.{StandsFor}
 use Rattle.rig_model.specs.Rig.{Rig, Setup}
-use Rattle.rig_model.specs.Step.{rig_step}
-use Rattle.rig_model.specs.FitSteps.{FitSteps, anywhere, Moves, Short, Begins, SameRest, NoFit}
+use Rattle.rig_model.specs.FitSteps.{FitSteps, anywhere, Moves, Short, Begins}
 use Rattle.rig_model.specs.Line.{test_line, budget_line, verdict_line}
-use Rattle.rig_model.specs.Run.{Run, IsRun, IsStart, written, passes, opening, opening_sim, emptied, test_begun, test_ended, report_of}
-use Rattle.rig_model.proofs.RunLaws.{in_test, Reached, reached_begun, reached_steps, reached_end, reached_short, reached_start, start_none}
+use Rattle.rig_model.specs.Run.{Run, IsRun, IsStart, written, passes, opening, opening_sim, emptied, ended, test_begun, test_ended, report_of}
+use Rattle.rig_model.proofs.RunLaws.{in_test, Reached, reached_begun, reached_steps, reached_end, reached_short, reached_start}
 use Rattle.rig_model.specs.declared.file.TestCase.{TestCase}
 use Rattle.rig_model.specs.declared.task.Outcome.{Outcome}
-use Rattle.scheduler.specs.Turns.{TurnsTo, PutsFor, Turning, BeginsTo}
-use Rattle.scheduler.specs.declared.turn.Turn.{Turn}
+use Rattle.scheduler.specs.Turns.{Turning}
 use Rattle.scheduler.specs.declared.turn.Turn.TheVariants as turn
-use Rattle.cocorun.specs.Runs.{Whole, Broken, Unfinished, RunsTo, PutsLines, EndsTo, status_of, status_in, verdict_status, stopped_status, ended_status, short_status, map_ok}
+use Rattle.cocorun.specs.Runs.{Whole, Broken, Unfinished, RunsTo, PutsLines, EndsTo, status_in, verdict_status, stopped_status, ended_status, short_status, map_ok}
+use Rattle.cocorun.proofs.Stands.{stands_rest}
 use Rattle.cocorun.specs.declared.status.Status.{Status}
-use Rattle.cocorun.specs.declared.status.Status.TheVariants as status
 
-module _ {O : Type 0} (takes breaks : O → List ℕ → O → Type 0) (told : O → Option (List ℕ)) (setup : Setup) (case : TestCase) (budget : ℕ) (c0 : Rig) (out : O) (new : c0 ≡ emptied (opening_sim setup)) where
+module _ {O : Type 0} (takes breaks : O → List ℕ → O → Type 0) (told : O → Option (List ℕ)) (setup : Setup) (case : TestCase) (budget : ℕ) (c0 : Rig) (out : O) (new : c0 ≡ emptied (opening_sim setup) no_counts) where
   abbrev first : List (List ℕ)
   first = test_line 0 case.name ∷ []
 
@@ -43,8 +43,8 @@ module _ {O : Type 0} (takes breaks : O → List ℕ → O → Type 0) (told : O
   }
 
   -- memory was short while it was put
-  pub begin_cut : (e : Rig) (out' : O) → PutsPart takes told out (test_line c0.sim.time case.name ∷ []) out' → Unfinished takes told setup case budget out out'
-  begin_cut e out' p = record { lines = first; starts = first_starts; puts = subst (λ (l : List ℕ). PutsPart takes told out (l ∷ []) out') line_is p }
+  pub begin_cut : (out' : O) → PutsPart takes told out (test_line c0.sim.time case.name ∷ []) out' → Unfinished takes told setup case budget out out'
+  begin_cut out' p = record { lines = first; starts = first_starts; puts = subst (λ (l : List ℕ). PutsPart takes told out (l ∷ []) out') line_is p }
 
   -- the test has begun
   module _ (c1 : Rig) (out1 : O) (begun : c1 ≡ test_begun setup case c0) (taken : takes out (test_line c0.sim.time case.name) out1) where
@@ -108,28 +108,31 @@ module _ {O : Type 0} (takes breaks : O → List ℕ → O → Type 0) (told : O
         reached = ap (written setup budget) (sym short_is.reached) ∙ short_written ∙ sym (append-nil ((first ++ t.lines) ++ budget_line budget ∷ []));
       }
 
-      short_ends : (put : Result Bool NoMemory) (out' : O) → PutsLines takes breaks told (budget_line budget ∷ []) put mid out' → RunsTo takes breaks told setup case budget (status_in (map_ok short_status put)) e out out'
+      short_ends : (content : Content) (put : Result Bool NoMemory) (out' : O) → StandsFor setup content e → PutsLines takes breaks told (budget_line budget ∷ []) put mid out'
+          → RunsTo takes breaks told setup case budget (status_in (map_ok short_status put)) e content out out'
       unfolding short_run
-      short_ends (Ok true) out' p = record {
+      short_ends content (Ok true) out' s p = record {
         run = short_run;
         is_run = short_is;
         status_is = refl;
         puts = subst (λ (ls : List (List ℕ)). TakesAll takes out ls out') (sym short_written) (takes_then takes breaks out (first ++ t.lines) mid (budget_line budget ∷ []) out' short_taken p);
         rest = short.no_fit.rest;
+        stands = stands_rest setup content short.last e short.no_fit.rest s;
       }
-      short_ends (Ok false) out' p = record {
+      short_ends content (Ok false) out' s p = record {
         lines = (first ++ t.lines) ++ budget_line budget ∷ [];
         starts = short_starts;
         puts = puts_then takes breaks out (first ++ t.lines) mid (budget_line budget ∷ []) false out' short_taken p;
       }
-      short_ends (Err x) out' p = record {
+      short_ends content (Err x) out' s p = record {
         lines = (first ++ t.lines) ++ budget_line budget ∷ [];
         starts = short_starts;
         puts = part_then takes told out (first ++ t.lines) mid (budget_line budget ∷ []) out' short_taken p;
       }
 
-      pub run_short : (s : Status) (out' : O) → EndsTo takes breaks told (budget_line budget ∷ []) short_status s mid out' → RunsTo takes breaks told setup case budget s e out out'
-      run_short s out' h = subst (λ (x : Status). RunsTo takes breaks told setup case budget x e out out') (sym h.status_is) (short_ends h.put out' h.puts)
+      pub run_short : (content : Content) (s : Status) (out' : O) → StandsFor setup content e → EndsTo takes breaks told (budget_line budget ∷ []) short_status s mid out'
+          → RunsTo takes breaks told setup case budget s e content out out'
+      run_short content s out' k h = subst (λ (x : Status). RunsTo takes breaks told setup case budget x e content out out') (sym h.status_is) (short_ends content h.put out' k h.puts)
 
     -- the test has its outcome
     module _ (fuel' : ℕ) (e : Rig) (mid : O) (o : Outcome) (t : Turning takes breaks told (FitSteps anywhere setup) setup budget c1 out1 (Ok (turn.Over o)) fuel' e mid) where
@@ -161,26 +164,29 @@ module _ {O : Type 0} (takes breaks : O → List ℕ → O → Type 0) (told : O
       one_verdict true = refl
       one_verdict false = refl
 
-      over_whole : (e' : Rig) (out' : O) → e' ≡ emptied e.sim → TakesAll takes mid two out' → Whole takes setup case budget (verdict_status (passes o)) e' out out'
-      over_whole e' out' r p = record {
+      over_whole : (content : Content) (e' : Rig) (out' : O) → e' ≡ ended e → StandsFor setup content e' → TakesAll takes mid two out'
+          → Whole takes setup case budget (verdict_status (passes o)) e' content out out'
+      over_whole content e' out' r k p = record {
         run = final;
         is_run = over_is;
         status_is = one_verdict (passes o);
         puts = takes_then takes breaks out (first ++ t.lines) mid two out' over_taken p;
-        rest = rw r (record { sim = refl; waiting = refl; staged = refl; fired = refl });
+        rest = rw r (record { sim = refl; waiting = refl; staged = refl; fired = refl; counts = refl });
+        stands = subst (StandsFor setup content) r k;
       }
 
-      by_verdict : (b : Bool) (e' : Rig) (out' : O) → Whole takes setup case budget (verdict_status b) e' out out' → RunsTo takes breaks told setup case budget (verdict_status b) e' out out'
-      by_verdict true e' out' w = w
-      by_verdict false e' out' w = w
+      by_verdict : (content : Content) (b : Bool) (e' : Rig) (out' : O) → Whole takes setup case budget (verdict_status b) e' content out out' → RunsTo takes breaks told setup case budget (verdict_status b) e' content out out'
+      by_verdict content true e' out' w = w
+      by_verdict content false e' out' w = w
 
-      over_ends : (put : Result Bool NoMemory) (e' : Rig) (out' : O) → e' ≡ emptied e.sim → PutsLines takes breaks told two put mid out' → RunsTo takes breaks told setup case budget (status_in (map_ok (ended_status o) put)) e' out out'
-      over_ends (Ok true) e' out' r p = by_verdict (passes o) e' out' (over_whole e' out' r p)
-      over_ends (Ok false) e' out' r p = record { lines = (first ++ t.lines) ++ two; starts = over_starts; puts = puts_then takes breaks out (first ++ t.lines) mid two false out' over_taken p }
-      over_ends (Err x) e' out' r p = record { lines = (first ++ t.lines) ++ two; starts = over_starts; puts = part_then takes told out (first ++ t.lines) mid two out' over_taken p }
+      over_ends : (content : Content) (put : Result Bool NoMemory) (e' : Rig) (out' : O) → e' ≡ ended e → StandsFor setup content e' → PutsLines takes breaks told two put mid out'
+          → RunsTo takes breaks told setup case budget (status_in (map_ok (ended_status o) put)) e' content out out'
+      over_ends content (Ok true) e' out' r k p = by_verdict content (passes o) e' out' (over_whole content e' out' r k p)
+      over_ends content (Ok false) e' out' r k p = record { lines = (first ++ t.lines) ++ two; starts = over_starts; puts = puts_then takes breaks out (first ++ t.lines) mid two false out' over_taken p }
+      over_ends content (Err x) e' out' r k p = record { lines = (first ++ t.lines) ++ two; starts = over_starts; puts = part_then takes told out (first ++ t.lines) mid two out' over_taken p }
 
-      pub run_over : (time : ℕ) (s : Status) (e' : Rig) (out' : O) → time ≡ e.sim.time → e' ≡ emptied e.sim
-          → EndsTo takes breaks told (verdict_line time case.name o ∷ report_of (passes o ∷ []) time ∷ []) (ended_status o) s mid out' → RunsTo takes breaks told setup case budget s e' out out'
-      run_over time s e' out' n r h =
-          subst (λ (x : Status). RunsTo takes breaks told setup case budget x e' out out') (sym h.status_is)
-          (over_ends h.put e' out' r (subst (λ (m : ℕ). PutsLines takes breaks told (verdict_line m case.name o ∷ report_of (passes o ∷ []) m ∷ []) h.put mid out') n h.puts))
+      pub run_over : (content : Content) (time : ℕ) (s : Status) (e' : Rig) (out' : O) → time ≡ e.sim.time → e' ≡ ended e → StandsFor setup content e'
+          → EndsTo takes breaks told (verdict_line time case.name o ∷ report_of (passes o ∷ []) time ∷ []) (ended_status o) s mid out' → RunsTo takes breaks told setup case budget s e' content out out'
+      run_over content time s e' out' n r k h =
+          subst (λ (x : Status). RunsTo takes breaks told setup case budget x e' content out out') (sym h.status_is)
+          (over_ends content h.put e' out' r k (subst (λ (m : ℕ). PutsLines takes breaks told (verdict_line m case.name o ∷ report_of (passes o ∷ []) m ∷ []) h.put mid out') n h.puts))

@@ -1,6 +1,7 @@
 -- How a test begins, turns and ends, known from the answers.
-use Rattle.std.proofs.Common.{◌≡◌, ◌≢◌, ℕ, List, [], Option, Result, Ok, Err, IsErr, refl, sym, subst}
+use Rattle.std.proofs.Common.{◌≡◌, ◌≢◌, ℕ, List, [], length, Option, Result, Ok, Err, IsErr, refl, subst}
 use Rattle.port_io.specs.declared.ports.NoMemory.{NoMemory}
+use Rattle.gpi.specs.Content.{Content, no_counts}
 use Rattle.rig_model.specs.Rig.{Rig, Setup}
 use Rattle.rig_model.specs.FitSteps.{FitSteps, anywhere}
 use Rattle.rig_model.specs.Line.{test_line}
@@ -19,9 +20,9 @@ use Rattle.cocorun.specs.declared.status.Status.{Status}
 
 module _ {O : Type 0} (takes breaks : O → List ℕ → O → Type 0) (told : O → Option (List ℕ)) where
   -- memory was short, and the status says so
-  pub runs_err : (setup : Setup) (case : TestCase) (budget : ℕ) (r : Result Status NoMemory) (e : Rig) (out out' : O) → IsErr r → Unfinished takes told setup case budget out out' → RunsTo takes breaks told setup case budget (status_in r) e out out'
-  runs_err setup case budget (Ok s) e out out' h u = cc
-  runs_err setup case budget (Err x) e out out' h u = u
+  pub runs_err : (setup : Setup) (case : TestCase) (budget : ℕ) (r : Result Status NoMemory) (e : Rig) (content : Content) (out out' : O) → IsErr r → Unfinished takes told setup case budget out out' → RunsTo takes breaks told setup case budget (status_in r) e content out out'
+  runs_err setup case budget (Ok s) e content out out' h u = cc
+  runs_err setup case budget (Err x) e content out out' h u = u
 
   -- a test that began
   pub begun_went : (setup : Setup) (case : TestCase) (c : Rig) (t : Turn) (e : Rig) (out out' : O) → t ≢ WriteFault → BeginsTo takes breaks told setup case c (Ok t) e out out'
@@ -47,11 +48,14 @@ module _ {O : Type 0} (takes breaks : O → List ℕ → O → Type 0) (told : O
   turning_short setup' setup fuel c out x fuel' e out' s p = subst (λ (y : Setup). Turning takes breaks told (FitSteps anywhere y) y fuel c out (Err x) fuel' e out') s p
 
   -- nothing was put for want of memory
-  pub file_none : (budget : ℕ) (ports : List ℕ) (file : TestFile) (r : Result Status NoMemory) (out : O) → IsOneTest file → IsErr r → RunsFile takes breaks told budget ports file (status_in r) out out
-  file_none budget ports file r out one h = record {
-    case = one.case;
-    is_case = one.is_case;
-    last = emptied (opening_sim (setup_with ports file));
-    runs = runs_err (setup_with ports file) one.case budget r (emptied (opening_sim (setup_with ports file))) out out h
-        (record { lines = []; starts = start_none (setup_with ports file) budget one.case; puts = part_none takes told out [] });
-  }
+  pub file_none : (budget : ℕ) (ports : List ℕ) (file : TestFile) (r : Result Status NoMemory) (content : Content) (out : O) → IsOneTest (length ports) file → IsErr r
+      → RunsFile takes breaks told budget ports file (status_in r) content out out
+  file_none budget ports file r content out one h =
+      let setup : Setup = setup_with ports file in
+      let last : Rig = emptied (opening_sim setup) no_counts in
+      record {
+        case = one.case;
+        is_case = one.is_case;
+        last = last;
+        runs = runs_err setup one.case budget r last content out out h (record { lines = []; starts = start_none setup budget one.case; puts = part_none takes told out [] });
+      }

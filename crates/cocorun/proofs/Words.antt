@@ -1,10 +1,8 @@
 -- Two words, or another number of them; and what is known of a reading.
-use Rattle.std.proofs.Common.{◌≡◌, ◌≢◌, ◌⊎◌, ℕ, ◌≤◌, List, [], ◌∷◌, length, map, get_or, refl, arith, rules, ap, sym, subst, ◌∙◌, inl, inr}
+use Rattle.std.proofs.Common.{◌≡◌, ◌≢◌, ℕ, ◌≤◌, List, [], ◌∷◌, length, map, get_or, refl, arith, ap, sym, subst, ◌∙◌, inl, inr}
 use Rattle.port_io.specs.Ports.{IsRaised}
 use Rattle.port_io.specs.CountLaws.{then_raised}
 use Rattle.rig_model.specs.declared.file.TestFile.{TestFile}
-use Rattle.cocorun.specs.DesignForm.{IsDesign}
-use Rattle.cocorun.specs.TestsForm.{IsTests}
 use Rattle.cocorun.specs.Reading.{Reading, refused, runs, Reads, ReadsBoth, ReadsTests, TextOfDesign, TextOfTests, usage_line, read_line, refused_line, most}
 use Rattle.cocorun.specs.declared.status.Status.{Status}
 use Rattle.cocorun.specs.declared.status.Status.TheVariants as status

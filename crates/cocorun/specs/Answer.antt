@@ -1,34 +1,34 @@
 -- What is put for a reading, and what is known of it from without.
-use Rattle.std.specs.Prelude.{◌≡◌, ◌⊎◌, ℕ, List, [], ◌∷◌, ◌++◌, length, Option}
+use Rattle.std.specs.Prelude.{◌≡◌, ◌⊎◌, ℕ, false, List, [], ◌∷◌, Option}
 use Rattle.std.specs.Io.KnownBytes.{Appends}
 use Rattle.port_io.specs.Ports.{AppendsPart, IsRaised}
-use Rattle.port_io.specs.PutsPart.{PutsPart}
 use Rattle.port_io.specs.ToldLaws.{joined}
+use Rattle.gpi.specs.Content.{Content}
 use Rattle.rig_model.specs.Rig.{Rig, Setup}
 use Rattle.rig_model.specs.Run.{Run, IsRun, written}
 use Rattle.rig_model.specs.declared.file.TestCase.{TestCase}
 use Rattle.rig_model.specs.declared.file.TestFile.{TestFile}
+use Rattle.cocorun.specs.DesignForm.{flat_of}
 use Rattle.cocorun.specs.Reading.{Reading, refused, runs, Reads}
-use Rattle.cocorun.specs.Runs.{RunsTo, status_of}
+use Rattle.cocorun.specs.Runs.{RunsTo, PutsRefusal, status_of}
 use Rattle.cocorun.specs.declared.status.Status.{Status}
 use Rattle.cocorun.specs.declared.status.Status.TheVariants as status
 
--- the functions of the file, and a signal for each port
+-- the functions of the file, and the design of these ports; told changes aren't written
 abbrev pub setup_with : List ℕ → TestFile → Setup
-setup_with ports file = record { functions = file.functions; signals = length ports }
+setup_with ports file = record { functions = file.functions; flat = flat_of ports; trace = false }
 
--- The test of a file is run.
-pub record RunsFile {O : Type 0} (takes breaks : O → List ℕ → O → Type 0) (told : O → Option (List ℕ)) (budget : ℕ) (ports : List ℕ) (file : TestFile) (s : Status) (out out' : O) : Type 0 where
+-- The test of a file is run, which leaves the simulator with this content.
+pub record RunsFile {O : Type 0} (takes breaks : O → List ℕ → O → Type 0) (told : O → Option (List ℕ)) (budget : ℕ) (ports : List ℕ) (file : TestFile) (s : Status) (content : Content) (out out' : O) : Type 0 where
   pub case : TestCase
   pub is_case : file.cases ≡ case ∷ []
   pub last : Rig
-  pub runs : RunsTo takes breaks told (setup_with ports file) case budget s last out out'
+  pub runs : RunsTo takes breaks told (setup_with ports file) case budget s last content out out'
 
--- The line of a refusal is put: it is taken, or it breaks, or memory is short. Or else the test is run.
-abbrev pub Answers : {O : Type 0} → (O → List ℕ → O → Type 0) → (O → List ℕ → O → Type 0) → (O → Option (List ℕ)) → ℕ → Reading → Status → O → O → Type 0
-Answers takes breaks told budget (refused own line) s out out' =
-    ((s ≡ own) × takes out line out') ⊎ (((s ≡ status.WriteFault) × breaks out line out') ⊎ ((s ≡ status.NoMemory) × PutsPart takes told out (line ∷ []) out'))
-Answers takes breaks told budget (runs ports file) s out out' = RunsFile takes breaks told budget ports file s out out'
+-- The line of a refusal is put, or else the test is run.
+abbrev pub Answers : {O : Type 0} → (O → List ℕ → O → Type 0) → (O → List ℕ → O → Type 0) → (O → Option (List ℕ)) → ℕ → Reading → Status → Content → O → O → Type 0
+Answers takes breaks told budget (refused own line) s content out out' = PutsRefusal takes breaks told own line s out out'
+Answers takes breaks told budget (runs ports file) s content out out' = RunsFile takes breaks told budget ports file s content out out'
 
 -- The lines and the status of a reading, where nothing fails: the one line of a refusal, or those of the run.
 abbrev pub IsAnswer : ℕ → Reading → List (List ℕ) → Status → Type 0
@@ -43,12 +43,13 @@ TellsLines before after lines own s =
     ((s ≡ own) × Appends before after (joined lines))
     ⊎ (((s ≡ status.WriteFault) ⊎ (s ≡ status.NoMemory)) × AppendsPart before after (joined lines))
 
--- An answer by the four relations of the store and the sink, and by the bytes where the sink tells them.
+-- An answer by the four relations of the store and the sink, by what the simulator holds after a run, and by the bytes where the
+-- sink tells them.
 pub record Answered {S O : Type 0} (gives : S → List ℕ → ℕ → List ℕ → S → Type 0) (misses : S → List ℕ → S → Type 0)
-    (takes breaks : O → List ℕ → O → Type 0) (told : O → Option (List ℕ)) (budget : ℕ) (words : List (List ℕ)) (s : Status) (store store' : S) (out out' : O) : Type 0 where
+    (takes breaks : O → List ℕ → O → Type 0) (told : O → Option (List ℕ)) (budget : ℕ) (words : List (List ℕ)) (s : Status) (store store' : S) (content : Content) (out out' : O) : Type 0 where
   pub reading : Reading
   pub reads : Reads gives misses words store reading store'
-  pub answers : Answers takes breaks told budget reading s out out'
+  pub answers : Answers takes breaks told budget reading s content out out'
   pub lines : List (List ℕ)
   pub own : Status
   pub is_answer : IsAnswer budget reading lines own

@@ -1,8 +1,11 @@
 -- What text a design is, and what it spells: its ports by letter.
-use Rattle.std.specs.Prelude.{◌≡◌, ◌≢◌, ℕ, ◌≤◌, List, [], ◌∷◌, ◌++◌, length, map, All, codes}
+use Rattle.std.specs.Prelude.{◌≡◌, ◌≢◌, ℕ, suc, ◌≤◌, List, [], ◌∷◌, ◌++◌, length, map, All, codes}
 use Rattle.std.specs.List.{AllPairs}
-use Rattle.rig_model.specs.declared.design.Flat.{Flat}
-use Rattle.rig_model.specs.declared.design.Signal.{Signal}
+use Rattle.four_value.specs.declared.Digit.TheVariants.{Z}
+use Rattle.gpi.specs.declared.design.Flat.{Flat}
+use Rattle.gpi.specs.declared.design.Signal.{Signal}
+use Rattle.gpi.specs.declared.design.Spot.{Spot}
+use Rattle.gpi.specs.declared.design.Spot.TheVariants.{Sig}
 
 -- no file is longer
 abbrev pub most_bytes : ℕ
@@ -43,9 +46,28 @@ pub record IsDesign (text ports : List ℕ) : Type 0 where
   pub spelling : text ≡ design_text ports
   pub size : length text ≤ most_bytes
 
--- each port is a signal directly in the module `top`
+-- each port is a net of eight bits directly in the module `top`: each of its digits begins as z
 abbrev pub signal_of : ℕ → Signal
-signal_of port = record { path = codes "top." ++ port ∷ [] }
+signal_of port = record { path = codes "top." ++ port ∷ []; width = 8; start = Z }
 
+-- a name of the module, and the signal of that number
+abbrev pub child_of : ℕ → ℕ → List ℕ × Spot
+child_of number port = (port ∷ [], Sig (record { 0 = number }))
+
+-- the names of these ports, whose signals are numbered from this one on
+abbrev pub children_of : ℕ → List ℕ → List (List ℕ × Spot)
+children_of number [] = []
+children_of number (port ∷ ports) = child_of number port ∷ children_of (suc number) ports
+
+-- the step of a design whose text has no timescale: 1 ns
+abbrev pub step_fs : ℕ
+step_fs = 1000000
+
+-- the ports are all that there is: the module is one node, and no process runs
 abbrev pub flat_of : List ℕ → Flat
-flat_of ports = record { signals = map signal_of ports }
+flat_of ports = record {
+  signals = map signal_of ports;
+  nodes = record { path = codes "top"; children = children_of 0 ports } ∷ [];
+  processes = [];
+  step_fs = step_fs;
+}

@@ -3,7 +3,7 @@ use Rattle.std.specs.Prelude.{◌≡◌, ◌⊎◌, ℕ, ◌<◌, List, [], ◌�
 use Rattle.rig_model.specs.Sound.{AreSoundFunctions}
 use Rattle.rig_model.specs.declared.file.TestCase.{TestCase}
 use Rattle.rig_model.specs.declared.file.TestFile.{TestFile}
-use Rattle.cocorun.specs.DesignForm.{IsDesign}
+use Rattle.cocorun.specs.DesignForm.{ArePorts, IsDesign}
 use Rattle.cocorun.specs.TestsForm.{IsTests}
 use Rattle.cocorun.specs.declared.decision.Decision.{Decision}
 use Rattle.cocorun.specs.declared.decision.Decision.TheVariants.{Refused, Runs}
@@ -67,13 +67,26 @@ abbrev pub reading_of : Decision → Reading
 reading_of (Refused own line) = refused own line.items
 reading_of (Runs ports file) = runs ports.items file
 
--- the one test of a file, and calls that name its functions
-pub record IsOneTest (file : TestFile) : Type 0 where
+-- the one test of a file, and statements that name its functions and so many signals
+pub record IsOneTest (signals : ℕ) (file : TestFile) : Type 0 where
   pub case : TestCase
   pub is_case : file.cases ≡ case ∷ []
   pub func : case.func < length file.functions
-  pub sound : AreSoundFunctions (length file.functions) file.functions
+  pub sound : AreSoundFunctions (record { functions = length file.functions; signals = signals }) file.functions
 
+-- the status of a refusal: of the words, of a text, or for a file that could not be read
+abbrev pub IsRefusalStatus : Status → Type 0
+IsRefusalStatus status.Passed = ⊥
+IsRefusalStatus status.Failed = ⊥
+IsRefusalStatus status.Usage = Unit {0}
+IsRefusalStatus status.DesignRefused = Unit {0}
+IsRefusalStatus status.TestsRefused = Unit {0}
+IsRefusalStatus status.ReadFault = Unit {0}
+IsRefusalStatus status.WriteFault = ⊥
+IsRefusalStatus status.NoMemory = ⊥
+IsRefusalStatus status.Budget = ⊥
+
+-- a refusal has the status of one, and what is to run can be run
 abbrev pub CanRun : Decision → Type 0
-CanRun (Refused own line) = Unit {0}
-CanRun (Runs ports file) = IsOneTest file
+CanRun (Refused own line) = IsRefusalStatus own
+CanRun (Runs ports file) = ArePorts ports.items × IsOneTest (length ports.items) file

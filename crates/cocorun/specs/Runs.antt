@@ -1,9 +1,11 @@
--- What the status of a run says of its lines and of where it stopped.
-use Rattle.std.specs.Prelude.{◌≡◌, ℕ, Bool, true, false, List, [], ◌∷◌, ◌++◌, Option, Result, Ok, Err}
+-- What the status of a run says of its lines, of where it stopped and of the simulator.
+use Rattle.std.specs.Prelude.{◌≡◌, ◌⊎◌, ℕ, Bool, true, false, List, [], ◌∷◌, Option, Result, Ok, Err}
 use Rattle.std.specs.List.{list_all}
 use Rattle.port_io.specs.Ports.{TakesAll, Puts, AppendsPart}
 use Rattle.port_io.specs.PutsPart.{PutsPart}
 use Rattle.port_io.specs.declared.ports.NoMemory.{NoMemory}
+use Rattle.gpi.specs.Content.{Content}
+use Rattle.rig_model.specs.Kernel.{StandsFor}
 use Rattle.rig_model.specs.Rig.{Rig, Setup}
 use Rattle.rig_model.specs.FitSteps.{SameRest}
 use Rattle.rig_model.specs.Run.{Run, IsRun, IsStart, is_over, written, passes}
@@ -24,13 +26,15 @@ stopped_status false passed = status.Budget
 abbrev pub status_of : Run → Status
 status_of c = stopped_status (is_over c.place) (list_all (λ b. b) c.verdicts)
 
--- All lines of the run are taken, and the engine stands where the run stops.
-pub record Whole {O : Type 0} (takes : O → List ℕ → O → Type 0) (setup : Setup) (case : TestCase) (budget : ℕ) (s : Status) (e : Rig) (out out' : O) : Type 0 where
+-- All lines of the run are taken. The engine stands where the run stops, and what the simulator holds stands for that place:
+-- its state, its registered keys and its counts.
+pub record Whole {O : Type 0} (takes : O → List ℕ → O → Type 0) (setup : Setup) (case : TestCase) (budget : ℕ) (s : Status) (e : Rig) (content : Content) (out out' : O) : Type 0 where
   pub run : Run
   pub is_run : IsRun setup case budget run
   pub status_is : s ≡ status_of run
   pub puts : TakesAll takes out (written setup budget run) out'
   pub rest : SameRest run.rig e
+  pub stands : StandsFor setup content run.rig
 
 -- The first lines of the run are taken, and the put of the next one breaks.
 pub record Broken {O : Type 0} (takes breaks : O → List ℕ → O → Type 0) (setup : Setup) (case : TestCase) (budget : ℕ) (out out' : O) : Type 0 where
@@ -44,16 +48,34 @@ pub record Unfinished {O : Type 0} (takes : O → List ℕ → O → Type 0) (to
   pub starts : IsStart setup case budget lines
   pub puts : PutsPart takes told out lines out'
 
-abbrev pub RunsTo : {O : Type 0} → (O → List ℕ → O → Type 0) → (O → List ℕ → O → Type 0) → (O → Option (List ℕ)) → Setup → TestCase → ℕ → Status → Rig → O → O → Type 0
-RunsTo takes breaks told setup case budget status.Passed e out out' = Whole takes setup case budget status.Passed e out out'
-RunsTo takes breaks told setup case budget status.Failed e out out' = Whole takes setup case budget status.Failed e out out'
-RunsTo takes breaks told setup case budget status.Budget e out out' = Whole takes setup case budget status.Budget e out out'
-RunsTo takes breaks told setup case budget status.WriteFault e out out' = Broken takes breaks setup case budget out out'
-RunsTo takes breaks told setup case budget status.NoMemory e out out' = Unfinished takes told setup case budget out out'
-RunsTo takes breaks told setup case budget status.Usage e out out' = ⊥
-RunsTo takes breaks told setup case budget status.DesignRefused e out out' = ⊥
-RunsTo takes breaks told setup case budget status.TestsRefused e out out' = ⊥
-RunsTo takes breaks told setup case budget status.ReadFault e out out' = ⊥
+abbrev pub RunsTo : {O : Type 0} → (O → List ℕ → O → Type 0) → (O → List ℕ → O → Type 0) → (O → Option (List ℕ)) → Setup → TestCase → ℕ → Status → Rig → Content → O → O → Type 0
+RunsTo takes breaks told setup case budget status.Passed e content out out' = Whole takes setup case budget status.Passed e content out out'
+RunsTo takes breaks told setup case budget status.Failed e content out out' = Whole takes setup case budget status.Failed e content out out'
+RunsTo takes breaks told setup case budget status.Budget e content out out' = Whole takes setup case budget status.Budget e content out out'
+RunsTo takes breaks told setup case budget status.WriteFault e content out out' = Broken takes breaks setup case budget out out'
+RunsTo takes breaks told setup case budget status.NoMemory e content out out' = Unfinished takes told setup case budget out out'
+RunsTo takes breaks told setup case budget status.Usage e content out out' = ⊥
+RunsTo takes breaks told setup case budget status.DesignRefused e content out out' = ⊥
+RunsTo takes breaks told setup case budget status.TestsRefused e content out out' = ⊥
+RunsTo takes breaks told setup case budget status.ReadFault e content out out' = ⊥
+
+-- The line of a refusal is put: it is taken, or it breaks, or memory is short.
+abbrev pub PutsRefusal : {O : Type 0} → (O → List ℕ → O → Type 0) → (O → List ℕ → O → Type 0) → (O → Option (List ℕ)) → Status → List ℕ → Status → O → O → Type 0
+PutsRefusal takes breaks told own line s out out' =
+    ((s ≡ own) × takes out line out') ⊎ (((s ≡ status.WriteFault) × breaks out line out') ⊎ ((s ≡ status.NoMemory) × PutsPart takes told out (line ∷ []) out'))
+
+-- The simulator that was handed in, after a status: a run leaves it with the design, and a refusal as it was. After a failed
+-- put and want of memory nothing is said of it.
+abbrev pub LeavesKernel : {K : Type 0} → (K → Type 0) → Status → K → K → Type 0
+LeavesKernel is_loaded status.Passed before after = is_loaded after
+LeavesKernel is_loaded status.Failed before after = is_loaded after
+LeavesKernel is_loaded status.Budget before after = is_loaded after
+LeavesKernel is_loaded status.Usage before after = after ≡ before
+LeavesKernel is_loaded status.DesignRefused before after = after ≡ before
+LeavesKernel is_loaded status.TestsRefused before after = after ≡ before
+LeavesKernel is_loaded status.ReadFault before after = after ≡ before
+LeavesKernel is_loaded status.WriteFault before after = Unit {0}
+LeavesKernel is_loaded status.NoMemory before after = Unit {0}
 
 -- a status, or want of memory
 abbrev pub status_in : Result Status NoMemory → Status

@@ -1,12 +1,14 @@
 //! Designs of the form that is built: one module `top` with input ports of eight bits.
-ghost use Rattle.std.specs.Prelude.{◌≡◌, ℕ, List, IfOk, MatchOption};
+ghost use Rattle.std.specs.Prelude.{◌≡◌, ◌≤◌, ℕ, List, map, length, IfOk, MatchOption};
+ghost use Rattle.gpi.specs.Soundness.{IsSoundFlat};
 ghost use Rattle.cocorun.specs.Front.{Gives};
-ghost use Rattle.cocorun.specs.DesignForm.{IsDesign, signal_of, flat_of};
+ghost use Rattle.cocorun.specs.DesignForm.{ArePorts, IsDesign, signal_of, child_of, children_of, flat_of, most_ports};
 ghost use Rattle.cocorun.specs.DesignReading.{port_at, ports_at, design_of};
 
 use crate::front::{FormError, is_among, letter, rest_after, skip};
+use four_value::Digit;
+use gpi::{Flat, Node, SigId, Signal, Spot};
 use port_io::{Name, NoMemory, Sequence};
-use rig_model::{Flat, Signal};
 use std::alloc::Global;
 
 /// No design and no tests file of the form has more bytes.
@@ -14,6 +16,12 @@ pub const MOST_BYTES: usize = 1_048_576;
 
 /// One for each letter.
 const MOST_PORTS: usize = 26;
+
+/// The digits of a port.
+const WIDTH: u8 = 8;
+
+/// The step of a design whose text has no timescale, in femtoseconds: 1 ns.
+const STEP_FS: u64 = 1_000_000;
 
 /// Reads a port that is none of these, and adds it to them.
 #[tactic(auto, unfolding(crate::specs::DesignReading::port_at))]
@@ -84,19 +92,72 @@ fn signal(alloc: Global, port: u8) -> Result<Signal, NoMemory>
     path.push(port)?;
     Ok(Signal {
         path: Name::of(alloc, &path)?,
+        width: WIDTH,
+        start: Digit::Z,
     })
 }
 
-/// The signals of a design with these ports: each is a signal directly in the module `top`.
-pub fn flat_of_ports(alloc: Global, ports: &[u8]) -> Result<Flat, NoMemory>
-    ensures { IfOk result (λ flat. flat ≡ flat_of ports.now) }
+// A net for each port.
+fn signals_of(alloc: Global, ports: &[u8]) -> Result<Sequence<Signal>, NoMemory>
+    ensures { IfOk result (λ signals. signals ≡ map signal_of ports.now) }
 {
     let mut signals = Sequence::new(alloc);
     for port in ports {
         signals.push(signal(alloc, *port)?)?;
     }
-    Ok(Flat { signals })
+    Ok(signals)
 }
+
+fn child(alloc: Global, number: u32, port: u8) -> Result<(Name, Spot), NoMemory>
+    ensures { IfOk result (λ child. child ≡ child_of number port) }
+{
+    let name = Name::of(alloc, &[port])?;
+    Ok((name, Spot::Sig(SigId(number))))
+}
+
+// The name of each port, and its signal.
+fn children(alloc: Global, ports: &[u8]) -> Result<Sequence<(Name, Spot)>, NoMemory>
+    requires { length ports.now ≤ most_ports }
+    ensures { IfOk result (λ children. children ≡ children_of 0 ports.now) }
+{
+    let mut children = Sequence::new(alloc);
+    for at in 0..ports.len() {
+        children.push(child(alloc, at as u32, ports[at])?)?;
+    }
+    Ok(children)
+}
+
+// The module `top`, as the one node of its design.
+fn nodes(alloc: Global, ports: &[u8]) -> Result<Sequence<Node>, NoMemory>
+    requires { length ports.now ≤ most_ports }
+    ensures { IfOk result (λ nodes. nodes ≡ (flat_of ports.now).nodes) }
+{
+    let children = children(alloc, ports)?;
+    let path = Name::of(alloc, b"top")?;
+    let mut nodes = Sequence::new(alloc);
+    nodes.push(Node { path, children })?;
+    Ok(nodes)
+}
+
+/// The design with these ports: each is a net of eight bits directly in the module `top`, numbered from 0 in their order, and
+/// each of its digits begins as z (IEEE 1364-2005, 4.2.1). No process runs. A step is 1 ns.
+pub fn flat_of_ports(alloc: Global, ports: &[u8]) -> Result<Flat, NoMemory>
+    requires { ArePorts ports.now }
+    ensures is { IfOk result (λ flat. flat ≡ flat_of ports.now) }
+    ensures sound { IfOk result (λ flat. IsSoundFlat flat) }
+{
+    Ok(Flat {
+        signals: signals_of(alloc, ports)?,
+        nodes: nodes(alloc, ports)?,
+        processes: Sequence::new(alloc),
+        step_fs: STEP_FS,
+    })
+}
+
+/// The design of any ports can be simulated.
+pub fn design_is_sound()
+    ensures { (ports : List ℕ) → ArePorts ports → IsSoundFlat (flat_of ports) }
+{}
 
 #[cfg(test)]
 mod tests;

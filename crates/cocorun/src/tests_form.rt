@@ -3,6 +3,7 @@
 //! A port's signal has the port's place in the design's header as its number, from 0. A function has its place among the
 //! functions, and the test's own is the last. A function may be called above its own lines.
 ghost use Rattle.std.specs.Prelude.{◌≡◌, ◌<◌, ◌^◌, ℕ, List, length, IfOk, MatchOption};
+ghost use Rattle.rig_model.specs.Sound.{IsSoundFile};
 ghost use Rattle.rig_model.specs.declared.file.TestFile.{TestFile};
 ghost use Rattle.cocorun.specs.Front.{Gives};
 ghost use Rattle.cocorun.specs.DesignForm.{ArePorts};
@@ -11,8 +12,9 @@ ghost use Rattle.cocorun.specs.TestsReading.{byte_at, assigned_at, write_at, ass
 
 use crate::design_form::MOST_BYTES;
 use crate::front::{FormError, is_among, letter, number, place, rest_after, skip};
+use gpi::SigId;
 use port_io::{Name, NoMemory, Sequence};
-use rig_model::{Function, SigId, Statement, TestCase, TestFile};
+use rig_model::{Function, Statement, TestCase, TestFile};
 use std::alloc::Global;
 
 /// The longest text of a log line, in bytes.
@@ -336,6 +338,11 @@ pub fn one_tests_file()
 /// Every statement of a file that is read names a port's signal or a function of the file, and so does the test.
 pub fn file_is_within()
     ensures { (ports text : List ℕ) (file : TestFile) → IsTests ports text file → FileIsWithin (length ports) file }
+{}
+
+/// So the file is sound for a design with a signal for each port.
+pub fn file_is_sound()
+    ensures { (ports text : List ℕ) (file : TestFile) → IsTests ports text file → IsSoundFile (length ports) file }
 {}
 
 #[cfg(test)]

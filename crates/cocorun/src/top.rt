@@ -1,20 +1,22 @@
 //! The top call.
-ghost use Rattle.std.specs.Prelude.{◌≡◌, ◌⊎◌, ◌∷◌, [], List, ℕ, IfOk, map, string_bytes};
+ghost use Rattle.std.specs.Prelude.{◌≡◌, ◌⊎◌, ◌∷◌, [], List, ℕ, length, IfOk, OnOk, map, string_bytes};
 ghost use Rattle.cocorun.specs.Answer.{Answers, Answered, Quit, RunsFile, RaisedAt};
 ghost use Rattle.cocorun.specs.DesignForm.{ArePorts};
-ghost use Rattle.cocorun.specs.Runs.{status_in};
-ghost use Rattle.cocorun.specs.Reading.{CanRun, IsOneTest, Reading, ReadsBoth, ReadsTests, read_line, reading_of, refused, refused_line, usage_line};
+ghost use Rattle.cocorun.specs.Runs.{LeavesKernel, PutsRefusal, status_in};
+ghost use Rattle.cocorun.specs.Reading.{CanRun, IsOneTest, ReadsBoth, ReadsTests, read_line, reading_of, refused_line, usage_line};
 
 use crate::decision::Decision;
 use crate::design_form::{flat_of_ports, read_design};
 use crate::run::run_all;
 use crate::status::Status;
 use crate::tests_form::read_tests;
+use gpi::Gpi;
 use plain_task::{TreeMaker, WaitList};
 use port_io::{NoMemory, Sink, SinkFault, Store, StoreFault};
-use rig_model::TestFile;
+use rig_model::{Steps, TestFile};
 use scheduler::Engine;
 use std::alloc::Global;
+use std::sync::ledger::Ledger;
 
 /// How many bytes of a file are asked for: one more than a file may have.
 const MOST: usize = 1_048_577;
@@ -101,7 +103,7 @@ pub fn decide<S: Store>(
 
 // Puts the line of a refusal.
 fn refuse<O: Sink>(alloc: Global, own: Status, line: &[u8], out: &mut O) -> Status
-    ensures { Answers O.takes O.breaks O.told BUDGET (refused own line.now) result out.old out.new }
+    ensures { PutsRefusal O.takes O.breaks O.told own line.now result out.old out.new }
 {
     match out.put(alloc, line) {
         Ok(()) => own,
@@ -111,33 +113,49 @@ fn refuse<O: Sink>(alloc: Global, own: Status, line: &[u8], out: &mut O) -> Stat
 }
 
 // Runs the test of the file on a design with these ports.
-fn run_file<O: Sink>(
+fn run_file<O: Sink, K: Gpi, L: Ledger>(
     alloc: Global,
     ports: &[u8],
     file: &TestFile,
     budget: u64,
+    kernel: &mut K,
     out: &mut O,
+    steps: &mut Steps<L>,
 ) -> Result<Status, NoMemory>
-    requires { IsOneTest file.now }
-    ensures { RunsFile O.takes O.breaks O.told budget ports.now file.now (status_in result) out.old out.new }
+    requires ports { ArePorts ports.now }
+    requires file { IsOneTest (length ports.now) file.now }
+    ensures runs { RunsFile O.takes O.breaks O.told budget ports.now file.now (status_in result) (K.content kernel.new) out.old out.new }
+    ensures loaded { OnOk result (K.is_loaded kernel.new) }
 {
     let flat = flat_of_ports(alloc, ports)?;
+    kernel.load(alloc, &flat)?;
     let maker = TreeMaker::new(alloc, file)?;
-    let mut engine = Engine::new(alloc, maker, WaitList::new(alloc), &flat)?;
-    Ok(run_all(alloc, file.cases.get(0), &mut engine, out, budget))
+    let mut engine = Engine::new(alloc, maker, WaitList::new(alloc), &flat, false)?;
+    let case = file.cases.get(0);
+    Ok(run_all(alloc, case, &mut engine, kernel, out, budget, steps))
 }
 
 // Does what was decided, within a budget.
-pub fn answer<O: Sink>(alloc: Global, decision: &Decision, budget: u64, out: &mut O) -> Status
+pub fn answer<O: Sink, K: Gpi, L: Ledger>(
+    alloc: Global,
+    decision: &Decision,
+    budget: u64,
+    kernel: &mut K,
+    out: &mut O,
+    steps: &mut Steps<L>,
+) -> Status
     requires { CanRun decision.now }
-    ensures { Answers O.takes O.breaks O.told budget (reading_of decision.now) result out.old out.new }
+    ensures answers { Answers O.takes O.breaks O.told budget (reading_of decision.now) result (K.content kernel.new) out.old out.new }
+    ensures kernel { LeavesKernel K.is_loaded result kernel.old kernel.new }
 {
     match decision {
         Decision::Refused(own, line) => refuse(alloc, *own, line.as_slice(), out),
-        Decision::Runs(ports, file) => match run_file(alloc, ports.as_slice(), file, budget, out) {
-            Ok(status) => status,
-            Err(NoMemory) => Status::NoMemory,
-        },
+        Decision::Runs(ports, file) => {
+            match run_file(alloc, ports.as_slice(), file, budget, kernel, out, steps) {
+                Ok(status) => status,
+                Err(NoMemory) => Status::NoMemory,
+            }
+        }
     }
 }
 
@@ -154,13 +172,22 @@ pub fn answer<O: Sink>(alloc: Global, decision: &Decision, budget: u64, out: &mu
 /// `WriteFault` comes where a put failed, and nothing is put after it. `NoMemory` comes where memory was short, and then a front of
 /// that answer was put, which may be nothing. The count of faults of the store rose where the status is `ReadFault`, and that of the
 /// sink where it is `WriteFault`.
-pub fn cocorun<S: Store, O: Sink>(
+///
+/// The run is simulated by `kernel`, whatever it held before: the design is loaded into it once both texts are accepted. After
+/// `Passed`, `Failed` and `Budget` it stands for the run's last configuration: it holds that configuration's state, its awaited keys are
+/// the registered ones, and its counts are those of the run. At `Budget` nothing is dropped. After `Usage`, `DesignRefused`,
+/// `TestsRefused` and `ReadFault` it is as it was handed in. After `WriteFault` and `NoMemory` nothing is said of it. `steps` counts the
+/// steps of work of the parts.
+pub fn cocorun<S: Store, O: Sink, K: Gpi, L: Ledger>(
     alloc: Global,
     words: &[String],
     store: &mut S,
     out: &mut O,
+    kernel: &mut K,
+    steps: &mut Steps<L>,
 ) -> Status
-    ensures answer { Answered S.gives S.misses O.takes O.breaks O.told BUDGET (map string_bytes words.now) result store.old store.new out.old out.new ⊎ Quit result out.old out.new }
+    ensures answer { Answered S.gives S.misses O.takes O.breaks O.told BUDGET (map string_bytes words.now) result store.old store.new (K.content kernel.new) out.old out.new ⊎ Quit result out.old out.new }
+    ensures kernel { LeavesKernel K.is_loaded result kernel.old kernel.new }
     ensures read_fault { RaisedAt Status.ReadFault (S.faults store.old) (S.faults store.new) result }
     ensures write_fault { RaisedAt Status.WriteFault (O.faults out.old) (O.faults out.new) result }
 {
@@ -171,7 +198,7 @@ pub fn cocorun<S: Store, O: Sink>(
         return refuse(alloc, Status::Usage, line.as_slice(), out);
     }
     match decide(alloc, words[0].as_str(), words[1].as_str(), store) {
-        Ok(decision) => answer(alloc, &decision, BUDGET, out),
+        Ok(decision) => answer(alloc, &decision, BUDGET, kernel, out, steps),
         Err(NoMemory) => Status::NoMemory,
     }
 }

@@ -1,7 +1,8 @@
 -- What a plain task means, and what a step of it does.
-use Rattle.std.specs.Prelude.{◌≡◌, ℕ, ◌-◌, ◌⊎◌, Bool, true, false, List, [], ◌∷◌, drop, Option, None, Some}
+use Rattle.std.specs.Prelude.{◌≡◌, ℕ, ◌-◌, ◌⊎◌, Bool, true, false, List, [], ◌∷◌, length, drop, Option, None, Some}
 use Rattle.rig_model.specs.Task.{Task, Frame, View, all_to_do, next, next_cost}
 use Rattle.rig_model.specs.Poll.{Wants, RunsOut, GoesBy}
+use Rattle.rig_model.specs.Sound.{Bounds, IsSoundStatement}
 use Rattle.rig_model.specs.declared.file.Statement.{Statement}
 use Rattle.rig_model.specs.declared.task.Given.{Given}
 use Rattle.rig_model.specs.declared.task.Turned.{Turned}
@@ -18,6 +19,12 @@ flow_meaning flow = record {
   triggers = flow.triggers;
   frames = frames_left flow.ended (drop flow.at flow.body.now);
 }
+
+-- The view knows the signal that the statement names.
+pub record KnowsStatement (view : View) (statement : Statement) : Type 0 where
+  pub bounds : Bounds
+  pub signals : bounds.signals ≡ length view.signals
+  pub sound : IsSoundStatement bounds statement
 
 -- a step wanted nothing, or it wanted this or didn't fit
 abbrev pub StepsTo : View → ℕ → Task → Option Given → Option Turned → ℕ → Task → Type 0

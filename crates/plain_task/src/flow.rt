@@ -1,11 +1,13 @@
 // A task as its function's statements and a place among them.
 ghost use Rattle.std.specs.Prelude.{◌≡◌, ◌≤◌, ◌<◌, ◌∷◌, [], ◌+◌, ◌-◌, ◌^◌, length, IfOk, IfSome, MatchOption, drop};
+ghost use Rattle.rig_model.specs.Sound.{Knows};
 ghost use Rattle.rig_model.specs.Task.{do_statement};
 
+use gpi::SigId;
 use port_io::{Name, NoMemory, Sequence};
 use rig_model::{
-    Fault, FaultKind, Flow, FlowMaker, Form, Function, Given, Level, Look, SigId, Statement,
-    TaskNo, TestFile, Trig, TrigId, Turned, Value,
+    Fault, FaultKind, Flow, FlowMaker, Form, Function, Given, Level, Look, Statement, TaskNo,
+    TestFile, Trig, TrigId, Turned, Value,
 };
 use std::alloc::Global;
 
@@ -33,7 +35,7 @@ fn plain_fault(kind: FaultKind) -> Fault
 }
 
 impl<'a> TreeFlow<'a> {
-    ghost use Rattle.plain_task.specs.Flow.{flow_meaning, StepsTo};
+    ghost use Rattle.plain_task.specs.Flow.{flow_meaning, KnowsStatement, StepsTo};
 
     // The next statement, if one is left.
     fn first(&self) -> Option<&'a Statement>
@@ -50,12 +52,14 @@ impl<'a> TreeFlow<'a> {
 
     // The value of the signal is compared with the number.
     fn check<V: Look>(&mut self, sig: SigId, number: u8, view: &V) -> Option<Turned>
+        requires ready { V.is_ready view.now }
+        requires known { KnowsStatement (V.view view.now) (Statement.Assert sig number) }
         ensures { do_statement (Statement.Assert sig number) (flow_meaning self.old) (V.view view.now)
             ≡ record { task = flow_meaning self.new; turned = result } }
     {
-        let kind = match view.read(sig) {
+        let kind = match view.read(sig).to_number() {
             Some(value) => {
-                if value == number {
+                if value == number as u128 {
                     return None;
                 }
                 FaultKind::AssertionError
@@ -73,6 +77,8 @@ impl<'a> TreeFlow<'a> {
         statement: &Statement,
         view: &V,
     ) -> Result<Option<Turned>, NoMemory>
+        requires ready { V.is_ready view.now }
+        requires known { KnowsStatement (V.view view.now) statement.now }
         requires few { self.old.triggers < self.old.at }
         ensures number { self.new.number ≡ self.old.number }
         ensures wanted { IfOk result (λ turned. do_statement statement.now (flow_meaning self.old) (V.view view.now)
@@ -118,6 +124,8 @@ impl<'a> TreeFlow<'a> {
         view: &V,
         fuel: &mut u64,
     ) -> Result<Option<Turned>, NoMemory>
+        requires ready { V.is_ready view.now }
+        requires known { Knows (V.view view.now) (flow_meaning self.old) }
         ensures number { self.new.number ≡ self.old.number }
         ensures steps { IfOk result (λ turned. StepsTo (V.view view.now) fuel.old (flow_meaning self.old) given turned fuel.new (flow_meaning self.new)) }
     {

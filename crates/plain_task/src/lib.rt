@@ -2,6 +2,8 @@
 #![tactic(auto)]
 
 mod flow;
+mod named;
+mod registered;
 mod wait;
 
 pub use flow::{TreeFlow, TreeMaker};

@@ -1,4 +1,9 @@
 pub mod Rows
+pub mod KeyLaws
+pub mod CountLaws
+pub mod WakeLaws
+pub mod KernelLaws
+pub mod FireLaws
 pub mod PollLaws
 pub mod StepLaws
 pub mod TaskLaws
@@ -6,5 +11,4 @@ pub mod RunLaws
 pub mod Stops
 pub mod Whole
 pub mod SoundLaws
-pub mod EventLaws
 pub mod Costs

@@ -1,8 +1,8 @@
 -- What holds of the steps of a task, and of a poll.
 use Rattle.std.proofs.Common.{◌≡◌, ℕ, zero, suc, ◌-◌, ◌<◌, ◌≤◌, ◌⊎◌, ◌==◌, Bool, true, false, List, [], ◌∷◌, Option, None, Some, refl, subst, sym, inl, inr, arith, ap, ◌∙◌}
-use Rattle.rig_model.specs.Task.{Task, Frame, Todo, run, View, Next, next, next_cost, do_first, do_todo, checked, compared, do_statement, todo_cost, first_cost}
+use Rattle.rig_model.specs.Task.{Task, Frame, Todo, run, View, seen, Next, next, next_cost, do_first, do_todo, checked, compared, do_statement, todo_cost, first_cost}
 use Rattle.rig_model.specs.Poll.{asks, Wants, RunsOut, GoesBy, Polls, Polled}
-use Rattle.rig_model.specs.Sim.{signal_at}
+use Rattle.four_value.specs.Vector.{number}
 use Rattle.rig_model.specs.declared.task.Given.{Given}
 use Rattle.rig_model.specs.declared.task.Given.TheVariants as given
 use Rattle.rig_model.specs.declared.task.Turned.{Turned}
@@ -69,7 +69,7 @@ checked_number (Some value) number task = compared_number (value == number) task
 statement_number : (s : Statement) (task : Task) (view : View) → (do_statement s task view).task.number ≡ task.number
 statement_number (statement.Write sig number) task view = refl
 statement_number (statement.Timer steps) task view = refl
-statement_number (statement.Assert sig number) task view = checked_number (signal_at view.signals sig) number task
+statement_number (statement.Assert sig expected) task view = checked_number (number (seen view sig)) expected task
 statement_number (statement.StartSoon func) task view = refl
 statement_number (statement.Start func) task view = refl
 statement_number (statement.Info text) task view = refl
@@ -146,7 +146,7 @@ checked_spent (Some value) number task h = compared_spent (value == number) task
 statement_spent : (s : Statement) (task : Task) (view : View) → (do_statement s task view).turned ≡ Some turned.Spent → ⊥
 statement_spent (statement.Write sig number) task view h = cc
 statement_spent (statement.Timer steps) task view h = cc
-statement_spent (statement.Assert sig number) task view h = checked_spent (signal_at view.signals sig) number task h
+statement_spent (statement.Assert sig expected) task view h = checked_spent (number (seen view sig)) expected task h
 statement_spent (statement.StartSoon func) task view h = cc
 statement_spent (statement.Start func) task view h = cc
 statement_spent (statement.Info text) task view h = cc

@@ -5,7 +5,7 @@ use Rattle.rig_model.specs.Rig.{Rig, Setup}
 use Rattle.rig_model.specs.Step.{Stepped, rig_step}
 use Rattle.rig_model.specs.FitSteps.{FitSteps, anywhere}
 use Rattle.rig_model.specs.Line.{budget_line, test_line}
-use Rattle.rig_model.specs.Run.{Run, runs, is_over, step, step_in, cost_in, goes, steps, opening, written, IsRun, IsStart, test_ended, test_begun}
+use Rattle.rig_model.specs.Run.{runs, is_over, Run, step, step_in, cost_in, goes, steps, opening, written, IsRun, IsStart, test_ended, test_begun}
 use Rattle.rig_model.specs.declared.file.TestCase.{TestCase}
 use Rattle.rig_model.specs.declared.task.Outcome.{Outcome}
 

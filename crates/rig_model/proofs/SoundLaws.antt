@@ -1,11 +1,11 @@
--- Steps keep calls sound.
-use Rattle.std.proofs.Common.{◌≡◌, ℕ, zero, suc, ◌-◌, ◌==◌, Bool, true, false, List, [], ◌∷◌, ◌++◌, Option, None, Some, refl, sym, subst, inl, inr}
-use Rattle.rig_model.specs.Sim.{signal_at}
-use Rattle.rig_model.specs.Task.{Task, Frame, Todo, run, View, Next, next, next_cost, do_first, do_todo, do_statement, checked, compared, all_to_do, fresh}
+-- Steps keep statements sound.
+use Rattle.std.proofs.Common.{◌≡◌, ℕ, zero, suc, ◌-◌, ◌==◌, Bool, true, false, List, [], ◌∷◌, ◌++◌, length, Option, None, Some, refl, sym, subst, inl, inr}
+use Rattle.four_value.specs.Vector.{number}
+use Rattle.rig_model.specs.Task.{Task, Frame, Todo, run, View, seen, Next, next, next_cost, do_first, do_todo, do_statement, checked, compared, all_to_do, fresh}
 use Rattle.rig_model.specs.Poll.{Polls, Polled}
 use Rattle.rig_model.specs.Effect.{function_at, is_numbered, dropped}
 use Rattle.rig_model.specs.Step.{task_at, stored}
-use Rattle.rig_model.specs.Sound.{IsSoundStatement, AreSoundStatements, AreSoundFunctions, AreSoundTodos, AreSoundFrames, IsSoundTask, AreSoundTasks, IsSoundTurned, IsSoundWish}
+use Rattle.rig_model.specs.Sound.{Bounds, IsSoundStatement, AreSoundStatements, AreSoundFunctions, AreSoundTodos, AreSoundFrames, IsSoundTask, AreSoundTasks, IsSoundTurned, IsSoundWish, Knows}
 use Rattle.rig_model.specs.declared.file.Statement.{Statement}
 use Rattle.rig_model.specs.declared.file.Statement.TheVariants as statement
 use Rattle.rig_model.specs.declared.file.Function.{Function}
@@ -15,95 +15,109 @@ use Rattle.rig_model.specs.declared.task.Given.TheVariants as given
 use Rattle.rig_model.specs.declared.task.Turned.{Turned}
 use Rattle.rig_model.specs.declared.task.Turned.TheVariants.{Spent}
 
-module _ (count : ℕ) where
+module _ (bounds : Bounds) where
   abbrev IsSoundNext : Next → Type 0
-  IsSoundNext n = IsSoundTask count n.task × IsSoundWish count n.turned
+  IsSoundNext n = IsSoundTask bounds n.task × IsSoundWish bounds n.turned
 
-  compared_sound : (b : Bool) (task : Task) → IsSoundTask count task → IsSoundNext (compared b task)
+  compared_sound : (b : Bool) (task : Task) → IsSoundTask bounds task → IsSoundNext (compared b task)
   compared_sound true task h = (h, tt)
   compared_sound false task h = (tt, tt)
 
-  checked_sound : (value : Option ℕ) (number : ℕ) (task : Task) → IsSoundTask count task → IsSoundNext (checked value number task)
-  checked_sound None number task h = (tt, tt)
-  checked_sound (Some value) number task h = compared_sound (value == number) task h
+  checked_sound : (value : Option ℕ) (expected : ℕ) (task : Task) → IsSoundTask bounds task → IsSoundNext (checked value expected task)
+  checked_sound None expected task h = (tt, tt)
+  checked_sound (Some value) expected task h = compared_sound (value == expected) task h
 
-  statement_sound : (s : Statement) (task : Task) (view : View) → IsSoundStatement count s → IsSoundTask count task → IsSoundNext (do_statement s task view)
-  statement_sound (statement.Write sig number) task view s h = (h, tt)
-  statement_sound (statement.Timer steps) task view s h = (h, tt)
-  statement_sound (statement.Assert sig number) task view s h = checked_sound (signal_at view.signals sig) number task h
+  statement_sound : (s : Statement) (task : Task) (view : View) → IsSoundStatement bounds s → IsSoundTask bounds task → IsSoundNext (do_statement s task view)
+  statement_sound (statement.Write sig value) task view s h = (h, s)
+  statement_sound (statement.Timer steps) task view s h = (h, s)
+  statement_sound (statement.Assert sig expected) task view s h = checked_sound (number (seen view sig)) expected task h
   statement_sound (statement.StartSoon func) task view s h = (h, s)
   statement_sound (statement.Start func) task view s h = (h, s)
   statement_sound (statement.Info text) task view s h = (h, tt)
 
-  todo_sound : (todo : List Todo) (frames : List Frame) (task : Task) (view : View) → AreSoundTodos count todo → AreSoundFrames count frames → IsSoundNext (do_todo todo frames task view)
+  todo_sound : (todo : List Todo) (frames : List Frame) (task : Task) (view : View) → AreSoundTodos bounds todo → AreSoundFrames bounds frames → IsSoundNext (do_todo todo frames task view)
   todo_sound [] frames task view t f = (f, tt)
   todo_sound (run s ∷ rest) frames task view t f = statement_sound s (record task { frames = record { todo = rest } ∷ frames }) view t.0 (t.1, f)
 
-  first_sound : (frames : List Frame) (task : Task) (view : View) → AreSoundFrames count frames → IsSoundTask count task → IsSoundNext (do_first frames task view)
+  first_sound : (frames : List Frame) (task : Task) (view : View) → AreSoundFrames bounds frames → IsSoundTask bounds task → IsSoundNext (do_first frames task view)
   first_sound [] task view f h = (h, tt)
   first_sound (frame ∷ frames) task view f h = todo_sound frame.todo frames task view f.0 f.1
 
-  next_sound : (task : Task) (g : Option Given) (view : View) → IsSoundTask count task → IsSoundNext (next task g view)
+  next_sound : (task : Task) (g : Option Given) (view : View) → IsSoundTask bounds task → IsSoundNext (next task g view)
   next_sound task None view h = first_sound task.frames task view h h
   next_sound task (Some given.Begin) view h = first_sound task.frames task view h h
   next_sound task (Some (given.Value value)) view h = first_sound task.frames task view h h
   next_sound task (Some (given.Fault fault)) view h = (tt, tt)
 
-  spent_sound : (t : Turned) → t ≡ Spent → IsSoundTurned count t
-  spent_sound t e = subst (λ (x : Turned). IsSoundTurned count x) (sym e) tt
+  spent_sound : (t : Turned) → t ≡ Spent → IsSoundTurned bounds t
+  spent_sound t e = subst (λ (x : Turned). IsSoundTurned bounds x) (sym e) tt
 
   polls_sound : (view : View) (n fuel : ℕ) (task : Task) (g : Option Given) (t : Turned) (fuel' : ℕ) (task' : Task)
-      → Polls view n fuel task g t fuel' task' → IsSoundTask count task → IsSoundTask count task' × IsSoundTurned count t
+      → Polls view n fuel task g t fuel' task' → IsSoundTask bounds task → IsSoundTask bounds task' × IsSoundTurned bounds t
   unfolding Polls
   polls_sound view zero fuel task g t fuel' task' p h = elim p [
     | inl w ↦ (let s : IsSoundNext (record { task = task'; turned = Some t }) = subst (λ (n : Next). IsSoundNext n) w.next_is (next_sound task g view h) in s)
-    | inr r ↦ (subst (λ (x : Task). IsSoundTask count x) (sym r.task_is) h, spent_sound t r.spent)
+    | inr r ↦ (subst (λ (x : Task). IsSoundTask bounds x) (sym r.task_is) h, spent_sound t r.spent)
   ]
   polls_sound view (suc n) fuel task g t fuel' task' p h =
       polls_sound view n (fuel - next_cost task g) (next task g view).task None t fuel' task' p.1 (next_sound task g view h).0
 
   -- a poll of a sound task leaves it sound, and wants nothing else
   pub polled_sound : (view : View) (fuel : ℕ) (task : Task) (g : Option Given) (t : Turned) (fuel' : ℕ) (task' : Task)
-      → Polled view fuel task g t fuel' task' → IsSoundTask count task → IsSoundTask count task' × IsSoundTurned count t
+      → Polled view fuel task g t fuel' task' → IsSoundTask bounds task → IsSoundTask bounds task' × IsSoundTurned bounds t
   polled_sound view fuel task g t fuel' task' p h = polls_sound view p.count fuel task g t fuel' task' p.polls h
 
-  all_to_do_sound : (ss : List Statement) → AreSoundStatements count ss → AreSoundTodos count (all_to_do ss)
+  all_to_do_sound : (ss : List Statement) → AreSoundStatements bounds ss → AreSoundTodos bounds (all_to_do ss)
   all_to_do_sound [] h = tt
   all_to_do_sound (s ∷ ss) h = (h.0, all_to_do_sound ss h.1)
 
-  function_sound : (fs : List Function) (func : ℕ) → AreSoundFunctions count fs → AreSoundStatements count (function_at fs func).body
+  function_sound : (fs : List Function) (func : ℕ) → AreSoundFunctions bounds fs → AreSoundStatements bounds (function_at fs func).body
   function_sound [] func h = tt
   function_sound (f ∷ fs) zero h = h.0
   function_sound (f ∷ fs) (suc func) h = function_sound fs func h.1
 
   -- a task that begins is sound
-  pub fresh_sound : (number : TaskNo) (fs : List Function) (func : ℕ) → AreSoundFunctions count fs → IsSoundTask count (fresh number (function_at fs func))
+  pub fresh_sound : (number : TaskNo) (fs : List Function) (func : ℕ) → AreSoundFunctions bounds fs → IsSoundTask bounds (fresh number (function_at fs func))
   fresh_sound number fs func h = (all_to_do_sound (function_at fs func).body (function_sound fs func h), tt)
 
-  pub append_sound : (ts : List Task) (t : Task) → AreSoundTasks count ts → IsSoundTask count t → AreSoundTasks count (ts ++ t ∷ [])
+  pub append_sound : (ts : List Task) (t : Task) → AreSoundTasks bounds ts → IsSoundTask bounds t → AreSoundTasks bounds (ts ++ t ∷ [])
   append_sound [] t h k = (k, tt)
   append_sound (u ∷ us) t h k = (h.0, append_sound us t h.1 k)
 
-  pub task_at_sound : (number : TaskNo) (ts : List Task) (t : Task) → task_at number ts ≡ Some t → AreSoundTasks count ts → IsSoundTask count t
+  pub task_at_sound : (number : TaskNo) (ts : List Task) (t : Task) → task_at number ts ≡ Some t → AreSoundTasks bounds ts → IsSoundTask bounds t
   task_at_sound number [] t e h = cc
   task_at_sound number (u ∷ us) t e h = decided (is_numbered number u) refl (λ k. task_at_sound number us t k h.1)
     where
-      decided : (b : Bool) → is_numbered number u ≡ b → (task_at number us ≡ Some t → IsSoundTask count t) → IsSoundTask count t
-      decided true q more = let same : u ≡ t = (let k : Some u ≡ Some t = rw q at e in cc) in subst (λ (x : Task). IsSoundTask count x) same h.0
+      decided : (b : Bool) → is_numbered number u ≡ b → (task_at number us ≡ Some t → IsSoundTask bounds t) → IsSoundTask bounds t
+      decided true q more = let same : u ≡ t = (let k : Some u ≡ Some t = rw q at e in cc) in subst (λ (x : Task). IsSoundTask bounds x) same h.0
       decided false q more = more (rw q at e)
 
-  pub stored_sound : (t : Task) (ts : List Task) → IsSoundTask count t → AreSoundTasks count ts → AreSoundTasks count (stored t ts)
+  pub stored_sound : (t : Task) (ts : List Task) → IsSoundTask bounds t → AreSoundTasks bounds ts → AreSoundTasks bounds (stored t ts)
   stored_sound t [] k h = tt
   stored_sound t (u ∷ us) k h = decided (is_numbered t.number u) refl (stored_sound t us k h.1)
     where
-      decided : (b : Bool) → is_numbered t.number u ≡ b → AreSoundTasks count (stored t us) → AreSoundTasks count (stored t (u ∷ us))
+      decided : (b : Bool) → is_numbered t.number u ≡ b → AreSoundTasks bounds (stored t us) → AreSoundTasks bounds (stored t (u ∷ us))
       decided true q more = rw q (k, h.1)
       decided false q more = rw q (h.0, more)
 
-  pub dropped_sound : (number : TaskNo) (ts : List Task) → AreSoundTasks count ts → AreSoundTasks count (dropped number ts)
+  pub dropped_sound : (number : TaskNo) (ts : List Task) → AreSoundTasks bounds ts → AreSoundTasks bounds (dropped number ts)
   dropped_sound number [] h = tt
   dropped_sound number (u ∷ us) h = decided (is_numbered number u) refl (dropped_sound number us h.1)
     where
-      decided : (b : Bool) → is_numbered number u ≡ b → AreSoundTasks count (dropped number us) → AreSoundTasks count (dropped number (u ∷ us))
+      decided : (b : Bool) → is_numbered number u ≡ b → AreSoundTasks bounds (dropped number us) → AreSoundTasks bounds (dropped number (u ∷ us))
       decided true q more = rw q h.1
       decided false q more = rw q (h.0, more)
+
+-- a view of so many signals knows what a sound task names
+pub knows_sound : (bounds : Bounds) (view : View) (task : Task) → bounds.signals ≡ length view.signals → IsSoundTask bounds task → Knows view task
+knows_sound bounds view task e h = record { bounds = bounds; signals = e; sound = h }
+
+-- a step leaves a task that the view knows
+pub next_knows : (view : View) (task : Task) (g : Option Given) → Knows view task → Knows view (next task g view).task
+next_knows view task g k = record { bounds = k.bounds; signals = k.signals; sound = (next_sound k.bounds task g view k.sound).0 }
+
+-- so does a poll
+pub polled_knows : (view : View) (fuel : ℕ) (task : Task) (g : Option Given) (t : Turned) (fuel' : ℕ) (task' : Task)
+    → Polled view fuel task g t fuel' task' → Knows view task → Knows view task'
+polled_knows view fuel task g t fuel' task' p k =
+    record { bounds = k.bounds; signals = k.signals; sound = (polled_sound k.bounds view fuel task g t fuel' task' p k.sound).0 }

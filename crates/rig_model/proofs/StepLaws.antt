@@ -70,7 +70,7 @@ turn_none setup fuel c s o e h = record {
   count = zero;
   last = c;
   steps = (refl, refl, refl);
-  no_fit = record { runs = o; short = rw e h; rest = record { sim = refl; waiting = refl; staged = refl; fired = refl } };
+  no_fit = record { runs = o; short = rw e h; rest = record { sim = refl; waiting = refl; staged = refl; fired = refl; counts = refl } };
 }
 
 module _ (setup : Setup) (c : Rig) (e : Entry) (es : List Entry) (runs : c.running ≡ None) (first : c.ready ≡ e ∷ es) (goes : c.outcome ≡ None) where
@@ -104,6 +104,7 @@ module _ (setup : Setup) (c : Rig) (e : Entry) (es : List Entry) (runs : c.runni
                 waiting = ap (λ (x : Rig). x.waiting) (sym h.2) ∙ f.rest.waiting;
                 staged = ap (λ (x : Rig). x.staged) (sym h.2) ∙ f.rest.staged;
                 fired = ap (λ (x : Rig). x.fired) (sym h.2) ∙ f.rest.fired;
+                counts = ap (λ (x : Rig). x.counts) (sym h.2) ∙ f.rest.counts;
               };
             };
           }

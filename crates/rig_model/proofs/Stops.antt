@@ -1,12 +1,12 @@
 -- A run of every budget stops.
 use Rattle.std.proofs.Common.{◌≡◌, ℕ, zero, suc, ◌+◌, ◌-◌, ◌≤◌, ◌<◌, ◌⊎◌, Bool, true, false, List, [], ◌∷◌, length, Option, None, Some, refl, ap, sym, subst, ◌∙◌, arith, rules, inl, inr}
 use Rattle.std.specs.Prelude.{nat_le, not, ◌&&◌, ◌==◌}
-use Rattle.rig_model.specs.Sim.{Event, event}
+use Rattle.gpi.specs.Events.{Event}
 use Rattle.rig_model.specs.Task.{Task, next, next_cost}
-use Rattle.rig_model.specs.Rig.{Rig, Running, Setup, awaited, view_of}
-use Rattle.rig_model.specs.Effect.{effect, effect_of, returned}
-use Rattle.rig_model.specs.Step.{Stepped, rig_step, chosen, stepped, kept, after_event, task_at, taken, resumed}
-use Rattle.rig_model.specs.Run.{Run, Place, runs, is_over, within, step, step_at, step_in, step_cost, cost_at, cost_in, goes, steps, opening, IsRun, test_ended}
+use Rattle.rig_model.specs.Rig.{Running, Rig, Setup, event_of, view_of}
+use Rattle.rig_model.specs.Effect.{returned, effect, effect_of}
+use Rattle.rig_model.specs.Step.{task_at, taken, Stepped, rig_step, chosen, stepped, kept, after_event, resumed}
+use Rattle.rig_model.specs.Run.{Place, runs, is_over, Run, within, step, step_at, step_in, step_cost, cost_at, cost_in, goes, steps, opening, IsRun, test_ended}
 use Rattle.rig_model.specs.Poll.{asks}
 use Rattle.rig_model.proofs.PollLaws.{Costs, next_costs}
 use Rattle.rig_model.proofs.RunLaws.{steps_one, steps_none}
@@ -37,9 +37,9 @@ outcome_weight_le (Some o) = omega arith
 abbrev Falls : Rig → Stepped → Type 0
 Falls c s = (0 < s.cost) ⊎ (rig_weight s.rig < rig_weight c)
 
-event_falls : (e : Option Event) (c : Rig) → c.outcome ≡ None → Falls c (after_event e c)
-event_falls None c o = inr (let h : outcome_weight c.outcome ≡ 1 = ap outcome_weight o in omega arith)
-event_falls (Some e) c o = inl (omega arith)
+event_falls : (setup : Setup) (e : Option Event) (c : Rig) → c.outcome ≡ None → Falls c (after_event setup e c)
+event_falls setup None c o = inr (let h : outcome_weight c.outcome ≡ 1 = ap outcome_weight o in omega arith)
+event_falls setup (Some e) c o = inl (omega arith)
 
 -- what a task wants that asks for nothing takes its turn and adds none
 effect_falls : (setup : Setup) (number : TaskNo) (t : Turned) (c : Rig) → c.running ≡ None → asks t ≡ false → rig_weight (effect setup number t c).rig ≤ length c.ready + 1
@@ -87,7 +87,7 @@ rig_falls setup None (x ∷ xs) c e s o =
     let m : running_weight c.running ≡ 0 = ap running_weight e in
     let l : length c.ready ≡ length (x ∷ xs) = ap length s in
     elim (stepped_falls setup (taken x) (task_at x.task c.tasks) (resumed x xs c) o) [ inl p ↦ inl p | inr q ↦ inr (omega arith) ]
-rig_falls setup None [] c e s o = event_falls (event c.sim (awaited c)) c o
+rig_falls setup None [] c e s o = event_falls setup (event_of setup c) c o
 
 Stops : Setup → ℕ → Run → Type 0
 Stops setup budget c = (n : ℕ) × (goes setup budget (steps setup budget n c) ≡ false)

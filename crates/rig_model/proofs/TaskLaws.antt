@@ -81,7 +81,7 @@ module _ (setup : Setup) (number : TaskNo) where
         count = zero;
         last = goes_on number g b;
         steps = (refl, r.fuel_is, refl);
-        no_fit = record { runs = o; short = rw (is, r.fuel_is) r.short; rest = record { sim = refl; waiting = refl; staged = refl; fired = refl } };
+        no_fit = record { runs = o; short = rw (is, r.fuel_is) r.short; rest = record { sim = refl; waiting = refl; staged = refl; fired = refl; counts = refl } };
       }
 
   short_from : (fuel : ℕ) (c : Rig) (f : ℕ) (d : Rig) (fuel' : ℕ) (e e' : Rig)
@@ -96,7 +96,7 @@ module _ (setup : Setup) (number : TaskNo) where
         no_fit = record {
           runs = n.runs;
           short = n.short;
-          rest = record { sim = n.rest.sim ∙ r.sim; waiting = n.rest.waiting ∙ r.waiting; staged = n.rest.staged ∙ r.staged; fired = n.rest.fired ∙ r.fired };
+          rest = record { sim = n.rest.sim ∙ r.sim; waiting = n.rest.waiting ∙ r.waiting; staged = n.rest.staged ∙ r.staged; fired = n.rest.fired ∙ r.fired; counts = n.rest.counts ∙ r.counts };
         };
       }
 
@@ -128,7 +128,7 @@ module _ (setup : Setup) (number : TaskNo) where
         | inr s ↦ inr (
           s.0,
           short_from fuel (goes_on number g b) (fuel - next_cost task g) (goes_on number None (kept mid b)) fuel' b (kept mid b) first s.1
-              (record { sim = refl; waiting = refl; staged = refl; fired = refl }),
+              (record { sim = refl; waiting = refl; staged = refl; fired = refl; counts = refl }),
         )
       ]
 

@@ -3,7 +3,7 @@ use Rattle.std.proofs.Common.{◌≡◌, ℕ, zero, suc, Bool, true, false, List
 use Rattle.rig_model.specs.Rig.{Setup}
 use Rattle.rig_model.specs.Step.{rig_step}
 use Rattle.rig_model.specs.Line.{test_line, budget_line}
-use Rattle.rig_model.specs.Run.{Run, Place, begins, runs, over, is_over, step, step_at, step_in, goes, steps, opening, written, IsRun, IsStart}
+use Rattle.rig_model.specs.Run.{Place, begins, runs, over, is_over, Run, step, step_at, step_in, goes, steps, opening, written, IsRun, IsStart}
 use Rattle.rig_model.proofs.RunLaws.{steps_none}
 use Rattle.rig_model.specs.declared.file.TestCase.{TestCase}
 use Rattle.rig_model.specs.declared.task.Outcome.{Outcome}

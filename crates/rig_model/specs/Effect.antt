@@ -1,10 +1,8 @@
 -- What each thing that a task wants does, and what the task is given next.
 use Rattle.std.specs.Prelude.{ℕ, ◌+◌, ◌^◌, ◌==◌, ◌||◌, nat_lt, nat_le, Bool, true, false, not, List, [], ◌∷◌, ◌++◌, length, filter, Option, None, Some, if◌then◌else◌, slice_index_or}
+use Rattle.gpi.specs.declared.types.Key.TheVariants.{At}
 use Rattle.rig_model.specs.Line.{log_line}
 use Rattle.rig_model.specs.Task.{Task, fresh, plain_fault}
-use Rattle.rig_model.specs.Rig.{Rig, Setup, After, quiet}
-use Rattle.rig_model.specs.declared.design.SigId.{SigId}
-use Rattle.rig_model.specs.declared.design.Key.TheVariants.{At}
 use Rattle.rig_model.specs.declared.file.Function.{Function}
 use Rattle.rig_model.specs.declared.task.TaskNo.{TaskNo}
 use Rattle.rig_model.specs.declared.task.Given.{Given}
@@ -13,13 +11,16 @@ use Rattle.rig_model.specs.declared.task.Value.TheVariants as value
 use Rattle.rig_model.specs.declared.task.Fault.{Fault}
 use Rattle.rig_model.specs.declared.task.FaultKind.TheVariants.{OverflowError, RuntimeError}
 use Rattle.rig_model.specs.declared.task.Trig.{Trig}
+use Rattle.rig_model.specs.declared.task.Staged.{Staged}
 use Rattle.rig_model.specs.declared.task.Form.{Form}
 use Rattle.rig_model.specs.declared.task.Form.TheVariants.{Time}
-use Rattle.rig_model.specs.declared.task.Staged.{Staged}
 use Rattle.rig_model.specs.declared.task.Turned.{Turned}
 use Rattle.rig_model.specs.declared.task.Turned.TheVariants.{Await, Stage, Start, Log, Done, Raised, Spent}
 use Rattle.rig_model.specs.declared.task.Outcome.{Outcome}
 use Rattle.rig_model.specs.declared.task.Outcome.TheVariants as outcome
+use Rattle.gpi.specs.declared.types.SigId.{SigId}
+use Rattle.rig_model.specs.Rig.{Rig, Setup, After, quiet}
+use Rattle.rig_model.specs.Counts.{counted}
 use Rattle.rig_model.specs.declared.tree.Tree.{Tree}
 use Rattle.rig_model.specs.declared.tree.Tree.TheVariants.{Leaf}
 
@@ -50,10 +51,14 @@ refusal (Time steps) time = if nat_lt last_time (time + steps) then Some (plain_
 abbrev pub begun : Form → Trig → ℕ → Tree
 begun (Time steps) trig time = Leaf (At (time + steps)) trig
 
--- a task that wants to wait does, as the last in the list of waiting tasks, unless that is refused
+-- a task waits, as the last in the list of waiting tasks
+abbrev pub with_waiting : TaskNo → Tree → Rig → Rig
+with_waiting task tree c = record c { waiting = c.waiting ++ record { task = task; tree = tree } ∷ [] }
+
+-- a task that wants to wait does, unless that is refused: one effect
 abbrev pub awaits : TaskNo → Trig → Option Fault → Rig → After
 awaits task trig (Some fault) c = gives task (given.Fault fault) c
-awaits task trig None c = quiet (record c { waiting = c.waiting ++ record { task = task; tree = begun trig.form trig c.sim.time } ∷ [] })
+awaits task trig None c = quiet (counted [] c (with_waiting task (begun trig.form trig c.sim.time) c))
 
 -- a write that is staged is the last one; an older one of its signal is taken out
 abbrev pub restaged : SigId → ℕ → List Staged → List Staged
@@ -100,10 +105,10 @@ abbrev pub returned : Bool → Option Outcome → Option Outcome
 returned true o = Some outcome.Normal
 returned false o = o
 
--- What each thing that a task wants does, once the turn is taken from the task.
+-- What each thing that a task wants does, once the turn is taken from the task. A write that is staged is one effect.
 abbrev pub effect : Setup → TaskNo → Turned → Rig → After
 effect setup task (Await trig) c = awaits task trig (refusal trig.form c.sim.time) c
-effect setup task (Stage sig number) c = gives task (given.Value value.Absent) (record c { staged = restaged sig number c.staged })
+effect setup task (Stage sig number) c = gives task (given.Value value.Absent) (counted [] c (record c { staged = restaged sig number c.staged }))
 effect setup task (Start func give_way) c = starts (is_full c) task (function_at setup.functions func) give_way c
 effect setup task (Log level text) c = record { rig = goes_on task (Some (given.Value value.Absent)) c; lines = log_line c.sim.time level text ∷ [] }
 effect setup task (Done value) c = quiet (record c { tasks = dropped task c.tasks; outcome = returned (task.0 == 0) c.outcome })

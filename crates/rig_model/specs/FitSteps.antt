@@ -31,6 +31,7 @@ pub record SameRest (d e : Rig) : Type 0 where
   pub waiting : d.waiting ≡ e.waiting
   pub staged : d.staged ≡ e.staged
   pub fired : d.fired ≡ e.fired
+  pub counts : d.counts ≡ e.counts
 
 -- The next step doesn't fit the fuel, and what stays is e's.
 pub record NoFit (setup : Setup) (fuel : ℕ) (last e : Rig) : Type 0 where

@@ -1,10 +1,13 @@
-pub mod Sim
 pub mod Task
 pub mod Poll
+pub mod Line
 pub mod Rig
 pub mod Ring
+pub mod Counts
+pub mod Keys
+pub mod Kernel
+pub mod Fires
 pub mod Serve
-pub mod Line
 pub mod Effect
 pub mod Step
 pub mod FitSteps

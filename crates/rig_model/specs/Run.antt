@@ -1,14 +1,17 @@
 -- A run: steps, up to a budget.
-use Rattle.std.specs.Prelude.{◌≡◌, ℕ, zero, suc, ◌+◌, nat_le, Bool, true, false, not, ◌&&◌, List, [], ◌∷◌, ◌++◌, count_by, length, Option, None, Some, if◌then◌else◌, replicate}
-use Rattle.rig_model.specs.Sim.{Sim}
-use Rattle.rig_model.specs.Rig.{Rig, Setup}
-use Rattle.rig_model.specs.Effect.{with_new_task, function_at}
-use Rattle.rig_model.specs.Step.{Stepped, rig_step}
+use Rattle.std.specs.Prelude.{◌≡◌, ℕ, zero, suc, ◌+◌, nat_le, Bool, true, false, not, ◌&&◌, List, [], ◌∷◌, ◌++◌, count_by, length, Option, None, Some, if◌then◌else◌}
+use Rattle.gpi.specs.State.{State}
+use Rattle.gpi.specs.Content.{no_counts}
+use Rattle.gpi.specs.Content as content
+use Rattle.gpi.specs.declared.types.Counts.{Counts}
 use Rattle.rig_model.specs.Line.{test_line, verdict_line, report_line, budget_line}
-use Rattle.rig_model.specs.declared.design.Region.TheVariants as region
 use Rattle.rig_model.specs.declared.file.TestCase.{TestCase}
 use Rattle.rig_model.specs.declared.task.Outcome.{Outcome}
 use Rattle.rig_model.specs.declared.task.Outcome.TheVariants.{Normal, Raised, Stalled}
+use Rattle.rig_model.specs.Rig.{Rig, Setup}
+use Rattle.rig_model.specs.Counts.{counted}
+use Rattle.rig_model.specs.Effect.{with_new_task, function_at}
+use Rattle.rig_model.specs.Step.{Stepped, rig_step}
 
 -- where the run stands: the test is to begin, it runs, or all is over
 pub data Place : Type 0 where
@@ -27,16 +30,20 @@ pub record Run : Type 0 where
   -- what the steps so far cost
   pub cost : ℕ
 
--- nothing of a test is left: the simulator alone stays
-abbrev pub emptied : Sim → Rig
-emptied sim = record { sim = sim; tasks = []; started = 0; running = None; ready = []; waiting = []; staged = []; fired = []; outcome = None }
+-- nothing of a test is left: the simulator alone stays, and the counts
+abbrev pub emptied : State → Counts → Rig
+emptied sim counts = record { sim = sim; tasks = []; started = 0; running = None; ready = []; waiting = []; staged = []; fired = []; counts = counts; outcome = None }
 
--- no signal is known, at time 0
-abbrev pub opening_sim : Setup → Sim
-opening_sim setup = record { signals = replicate setup.signals None; time = 0; region = region.Begin }
+-- all of a test is dropped: one effect
+abbrev pub ended : Rig → Rig
+ended c = counted [] c (emptied c.sim c.counts)
+
+-- the opening state of the design
+abbrev pub opening_sim : Setup → State
+opening_sim setup = (content.opening setup.flat).state
 
 abbrev pub opening : Setup → TestCase → Run
-opening setup case = record { rig = emptied (opening_sim setup); place = begins case; lines = []; verdicts = []; cost = 0 }
+opening setup case = record { rig = emptied (opening_sim setup) no_counts; place = begins case; lines = []; verdicts = []; cost = 0 }
 
 -- a test begins: its own task, number 0, is ready
 abbrev pub test_begun : Setup → TestCase → Rig → Rig
@@ -55,7 +62,7 @@ abbrev pub test_ended : TestCase → Outcome → Run → Run
 test_ended case outcome c =
     let verdicts = c.verdicts ++ passes outcome ∷ [] in
     record c {
-      rig = emptied c.rig.sim;
+      rig = ended c.rig;
       place = over;
       lines = c.lines ++ verdict_line c.rig.sim.time case.name outcome ∷ report_of verdicts c.rig.sim.time ∷ [];
       verdicts = verdicts;

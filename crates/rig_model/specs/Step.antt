@@ -1,13 +1,13 @@
 -- One step of a configuration, within a test.
-use Rattle.std.specs.Prelude.{ℕ, List, [], ◌∷◌, Option, None, Some, if◌then◌else◌}
-use Rattle.rig_model.specs.Sim.{Event, event}
+use Rattle.std.specs.Prelude.{ℕ, List, [], ◌∷◌, ◌++◌, Option, None, Some, if◌then◌else◌}
+use Rattle.gpi.specs.Events.{Event}
 use Rattle.rig_model.specs.Task.{Task, next, next_cost}
-use Rattle.rig_model.specs.Rig.{Rig, Setup, Running, After, awaited, view_of}
+use Rattle.rig_model.specs.declared.task.Entry.{Entry}
+use Rattle.rig_model.specs.declared.task.Outcome.TheVariants as outcome
+use Rattle.rig_model.specs.Rig.{Rig, Setup, Running, After, event_of, view_of, told_lines}
 use Rattle.rig_model.specs.Serve.{serve}
 use Rattle.rig_model.specs.Effect.{is_numbered, effect_of}
 use Rattle.rig_model.specs.declared.task.TaskNo.{TaskNo}
-use Rattle.rig_model.specs.declared.task.Entry.{Entry}
-use Rattle.rig_model.specs.declared.task.Outcome.TheVariants as outcome
 
 -- what a step leads to, the lines that it writes and what it costs
 pub record Stepped : Type 0 where
@@ -43,14 +43,20 @@ stepped setup r (Some task) c =
 abbrev pub task_step : Setup → Running → Rig → Stepped
 task_step setup r c = stepped setup r (task_at r.task c.tasks) c
 
--- the event is done and what it fired is served, or nothing is left to happen
-abbrev pub after_event : Option Event → Rig → Stepped
-after_event None c = record { rig = record c { outcome = Some outcome.Stalled }; lines = []; cost = 0 }
-after_event (Some e) c = costing 1 (serve e.fired (record c { sim = e.sim }))
+-- an event: its change is told, and what it fired is served
+abbrev pub evented : Setup → Event → Rig → Stepped
+evented setup e c =
+    let a = serve setup e.fired (record c { sim = e.state }) in
+    record { rig = a.rig; lines = told_lines setup c.sim.time e.told ++ a.lines; cost = 1 }
+
+-- an event is done, or nothing is left to happen
+abbrev pub after_event : Setup → Option Event → Rig → Stepped
+after_event setup None c = record { rig = record c { outcome = Some outcome.Stalled }; lines = []; cost = 0 }
+after_event setup (Some e) c = evented setup e c
 
 -- the simulator does an event
-abbrev pub event_step : Rig → Stepped
-event_step c = after_event (event c.sim (awaited c)) c
+abbrev pub event_step : Setup → Rig → Stepped
+event_step setup c = after_event setup (event_of setup c) c
 
 abbrev pub taken : Entry → Running
 taken e = record { task = e.task; given = Some e.given }
@@ -63,7 +69,7 @@ resumed e es c = record c { running = Some (taken e); ready = es }
 abbrev pub chosen : Setup → Option Running → List Entry → Rig → Stepped
 chosen setup (Some r) ready c = task_step setup r c
 chosen setup None (e ∷ es) c = task_step setup (taken e) (resumed e es c)
-chosen setup None [] c = event_step c
+chosen setup None [] c = event_step setup c
 
 -- The step of a test that runs and has no outcome.
 abbrev pub rig_step : Setup → Rig → Stepped

@@ -1,6 +1,8 @@
 -- A task: its frames with what is still to do, and its next step.
-use Rattle.std.specs.Prelude.{ℕ, ◌+◌, ◌==◌, Bool, true, false, List, [], ◌∷◌, Option, None, Some}
-use Rattle.rig_model.specs.Sim.{signal_at}
+use Rattle.std.specs.Prelude.{ℕ, ◌+◌, ◌==◌, Bool, true, false, List, [], ◌∷◌, Option, None, Some, slice_index_or}
+use Rattle.four_value.specs.declared.Digit.{Digit}
+use Rattle.four_value.specs.Vector.{number}
+use Rattle.gpi.specs.declared.types.SigId.{SigId}
 use Rattle.rig_model.specs.declared.task.TaskNo.{TaskNo}
 use Rattle.rig_model.specs.declared.task.Fault.{Fault}
 use Rattle.rig_model.specs.declared.task.FaultKind.{FaultKind}
@@ -30,9 +32,13 @@ pub record Task : Type 0 where
   pub triggers : ℕ
   pub frames : List Frame
 
--- what a task sees of the runner: so far the map of signals
+-- what a task sees of the runner: so far the value of each signal
 pub record View : Type 0 where
-  pub signals : List (Option ℕ)
+  pub signals : List (List Digit)
+
+-- the value of a signal that a task sees
+abbrev pub seen : View → SigId → List Digit
+seen view sig = slice_index_or view.signals sig.0 []
 
 -- the rest of the task, and what it wants, if that step wants anything
 pub record Next : Type 0 where
@@ -57,10 +63,10 @@ abbrev pub compared : Bool → Task → Next
 compared true task = goes_by task
 compared false task = raise task (plain_fault AssertionError)
 
--- a value compared with the number that is expected
+-- a number compared with the one that is expected; None is a value with an x or a z digit
 abbrev pub checked : Option ℕ → ℕ → Task → Next
-checked None number task = raise task (plain_fault ValueError)
-checked (Some value) number task = compared (value == number) task
+checked None expected task = raise task (plain_fault ValueError)
+checked (Some value) expected task = compared (value == expected) task
 
 -- a statement of a task that has it taken off already
 abbrev pub do_statement : Statement → Task → View → Next
@@ -68,7 +74,7 @@ do_statement (statement.Write sig number) task view = wants task (turned.Stage s
 do_statement (statement.Timer steps) task view =
     wants (record task { triggers = task.triggers + 1 })
     (turned.Await (record { id = record { task = task.number; number = task.triggers }; form = Time steps }))
-do_statement (statement.Assert sig number) task view = checked (signal_at view.signals sig) number task
+do_statement (statement.Assert sig expected) task view = checked (number (seen view sig)) expected task
 do_statement (statement.StartSoon func) task view = wants task (turned.Start func false)
 do_statement (statement.Start func) task view = wants task (turned.Start func true)
 do_statement (statement.Info text) task view = wants task (turned.Log level.Info text)

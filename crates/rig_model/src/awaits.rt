@@ -1,41 +1,109 @@
 // The part that keeps the waiting tasks, by what it keeps.
-ghost use Rattle.std.specs.Prelude.{◌≡◌, ◌≤◌, ◌+◌, ◌++◌, ◌∷◌, [], List, length, OnOk, OnErr};
-ghost use Rattle.rig_model.specs.Rig.{keys_of};
-ghost use Rattle.rig_model.specs.Sim.{least_time, has_key};
-ghost use Rattle.rig_model.specs.Serve.{key, woken, still_waiting};
+ghost use Rattle.std.specs.Prelude.{◌≡◌, ◌≤◌, ◌+◌, ◌++◌, ◌∷◌, [], List, length, OnOk, OnErr, true, false};
+ghost use Rattle.gpi.specs.Keys.{among};
+ghost use Rattle.gpi.specs.Content.{IsAsked};
+ghost use Rattle.gpi.specs.declared.types.Key.{Key};
+ghost use Rattle.rig_model.specs.Keys.{AreKeys, AreAsked, Rekeyed, AreCounted, Reprimed, keys_in, without, without_all};
+ghost use Rattle.rig_model.specs.Rig.{leaves, named};
+ghost use Rattle.rig_model.specs.Serve.{all_woken, all_waiting};
 ghost use Rattle.rig_model.specs.declared.tree.Waiting.{Waiting};
 
-use crate::{Key, Ready, TaskNo, Tree};
+use crate::{Ready, Steps, TaskNo, Tree};
+use gpi::{Fired, Gpi, Key};
 use port_io::NoMemory;
-use std::alloc::Global;
+use std::sync::ledger::Ledger;
 
-/// Keeps the tasks that wait for triggers (cocotb 1.8, "Triggers"). Only `begin` takes memory, and its one error is the want of it.
+/// Keeps the tasks that wait for triggers (cocotb 1.8, "Triggers"), and the keys that the runner itself holds. The keys of
+/// their trees and the held ones are registered at the simulator, each once. Only `begin` and `hold` take memory, and their
+/// one error is the want of it. Of the simulator the calls change the registered keys and the counts alone: the count of
+/// registrations rises by one for each key that is registered after the call and wasn't before it, and the count of
+/// removals by one for each that was and isn't. Each call is handed a counter of its steps of work.
 pub trait Awaits: Drop {
     /// The waiting tasks with their trees, in the order in which they began to wait.
     ghost waiting: { Self → List Waiting };
 
-    /// The task waits, as the last. After `NoMemory` it doesn't.
-    fn begin(&mut self, alloc: Global, task: TaskNo, tree: Tree) -> Result<(), NoMemory>
+    /// The keys that the runner itself holds, in the order in which it began to hold them.
+    ghost held: { Self → List Key };
+
+    /// The task waits, as the last. After `NoMemory` it doesn't, and the same keys are registered as before; the counts may
+    /// have risen then.
+    fn begin<K: Gpi, L: Ledger>(
+        &mut self,
+        kernel: &mut K,
+        task: TaskNo,
+        tree: Tree,
+        steps: &mut Steps<L>,
+    ) -> Result<(), NoMemory>
+        requires loaded { K.is_loaded kernel.old }
+        requires keys { AreKeys (K.content kernel.old).keys (named (waiting self.old) (held self.old)) }
+        requires asked { AreAsked (length (K.content kernel.old).state.signals) (K.content kernel.old).state (leaves tree) }
         ensures ok { OnOk result (waiting self.new ≡ waiting self.old ++ record { task = task; tree = tree } ∷ []) }
-        ensures err { OnErr result (waiting self.new ≡ waiting self.old) };
+        ensures err { OnErr result (waiting self.new ≡ waiting self.old) }
+        ensures held { held self.new ≡ held self.old }
+        ensures loaded { K.is_loaded kernel.new }
+        ensures keys { Rekeyed (K.content kernel.old) (K.content kernel.new) (named (waiting self.new) (held self.new)) }
+        ensures counts { OnOk result (AreCounted (K.content kernel.old) (K.content kernel.new)
+            (named (waiting self.old) (held self.old)) (named (waiting self.new) (held self.new))) };
 
-    /// Serves a key that fired: each task whose tree is done by it goes into the ring, in the order in which they
-    /// began to wait. There must be room for every waiting task.
-    fn fire(&mut self, fired: Key, ready: &mut Ready)
-        requires { length ready.old.entries + length (waiting self.old) ≤ ready.old.room }
-        ensures waiting { waiting self.new ≡ still_waiting (key fired) (waiting self.old) }
-        ensures ready { ready.new.entries ≡ ready.old.entries ++ woken (key fired) (waiting self.old) }
-        ensures room { ready.new.room ≡ ready.old.room };
+    /// Serves the keys that fired, in order: each task whose tree is done by one goes into the ring, in the order in which
+    /// they began to wait, and the runner holds none of these keys any more. There must be room for every waiting task. The
+    /// simulator has taken the keys out of the registered ones where they fired; one that a tree waits for again is
+    /// registered after the last of them is served.
+    fn fire<K: Gpi, L: Ledger>(
+        &mut self,
+        kernel: &mut K,
+        fired: Fired,
+        ready: &mut Ready,
+        steps: &mut Steps<L>,
+    )
+        requires loaded { K.is_loaded kernel.old }
+        requires room { length ready.old.entries + length (waiting self.old) ≤ ready.old.room }
+        ensures waiting { waiting self.new ≡ all_waiting (keys_in fired) (waiting self.old) }
+        ensures held { held self.new ≡ without_all (keys_in fired) (held self.old) }
+        ensures ready { ready.new.entries ≡ ready.old.entries ++ all_woken (keys_in fired) (waiting self.old) }
+        ensures room { ready.new.room ≡ ready.old.room }
+        ensures loaded { K.is_loaded kernel.new }
+        ensures keys { Reprimed (K.content kernel.old) (K.content kernel.new) (keys_in fired) (named (waiting self.new) (held self.new)) };
 
-    /// Whether a task waits for the key.
-    fn has(&self, wanted: Key) -> bool
-        ensures { result ≡ has_key wanted (keys_of (waiting self.now)) };
+    /// The runner itself holds the key, which it doesn't yet. After `NoMemory` it doesn't, and the same keys are registered
+    /// as before; the counts may have risen then.
+    fn hold<K: Gpi, L: Ledger>(
+        &mut self,
+        kernel: &mut K,
+        key: Key,
+        steps: &mut Steps<L>,
+    ) -> Result<(), NoMemory>
+        requires loaded { K.is_loaded kernel.old }
+        requires keys { AreKeys (K.content kernel.old).keys (named (waiting self.old) (held self.old)) }
+        requires asked { IsAsked (length (K.content kernel.old).state.signals) (K.content kernel.old).state key }
+        requires new { among key (held self.old) ≡ false }
+        ensures ok { OnOk result (held self.new ≡ held self.old ++ key ∷ []) }
+        ensures err { OnErr result (held self.new ≡ held self.old) }
+        ensures waiting { waiting self.new ≡ waiting self.old }
+        ensures loaded { K.is_loaded kernel.new }
+        ensures keys { Rekeyed (K.content kernel.old) (K.content kernel.new) (named (waiting self.new) (held self.new)) }
+        ensures counts { OnOk result (AreCounted (K.content kernel.old) (K.content kernel.new)
+            (named (waiting self.old) (held self.old)) (named (waiting self.new) (held self.new))) };
 
-    /// The least time that a task waits for, in steps, or `None` where no task waits for a time.
-    fn least_time(&self) -> Option<u64>
-        ensures { result ≡ least_time (keys_of (waiting self.now)) };
+    /// The runner itself holds the key no more, which it does before.
+    fn release<K: Gpi, L: Ledger>(&mut self, kernel: &mut K, key: Key, steps: &mut Steps<L>)
+        requires loaded { K.is_loaded kernel.old }
+        requires keys { AreKeys (K.content kernel.old).keys (named (waiting self.old) (held self.old)) }
+        requires there { among key (held self.old) ≡ true }
+        ensures held { held self.new ≡ without key (held self.old) }
+        ensures waiting { waiting self.new ≡ waiting self.old }
+        ensures loaded { K.is_loaded kernel.new }
+        ensures keys { Rekeyed (K.content kernel.old) (K.content kernel.new) (named (waiting self.new) (held self.new)) }
+        ensures counts { AreCounted (K.content kernel.old) (K.content kernel.new)
+            (named (waiting self.old) (held self.old)) (named (waiting self.new) (held self.new)) };
 
-    /// No task waits any more.
-    fn clear(&mut self)
-        ensures { waiting self.new ≡ [] };
+    /// No task waits any more, and the runner holds no key: none is registered.
+    fn clear<K: Gpi, L: Ledger>(&mut self, kernel: &mut K, steps: &mut Steps<L>)
+        requires loaded { K.is_loaded kernel.old }
+        requires keys { AreKeys (K.content kernel.old).keys (named (waiting self.old) (held self.old)) }
+        ensures waiting { waiting self.new ≡ [] }
+        ensures held { held self.new ≡ [] }
+        ensures loaded { K.is_loaded kernel.new }
+        ensures keys { Rekeyed (K.content kernel.old) (K.content kernel.new) [] }
+        ensures counts { AreCounted (K.content kernel.old) (K.content kernel.new) (named (waiting self.old) (held self.old)) [] };
 }

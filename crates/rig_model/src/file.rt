@@ -1,5 +1,5 @@
 // What a tests file says.
-use crate::SigId;
+use gpi::SigId;
 use port_io::{Name, Sequence};
 
 /// A statement of a function.

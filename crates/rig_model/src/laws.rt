@@ -1,7 +1,14 @@
 // What holds of all runs.
-ghost use Rattle.std.specs.Prelude.{◌≡◌, ◌≤◌, ◌++◌, ℕ, List};
-ghost use Rattle.rig_model.specs.Rig.{Setup};
-ghost use Rattle.rig_model.specs.Run.{Run, IsRun, IsStart, step_cost, written};
+ghost use Rattle.std.specs.Prelude.{◌≡◌, ◌≤◌, ◌++◌, ℕ, List, [], true, false};
+ghost use Rattle.gpi.specs.Content.{Content, Does};
+ghost use Rattle.gpi.specs.Content as content;
+ghost use Rattle.gpi.specs.Events.{Event, event};
+ghost use Rattle.gpi.specs.Keys.{among};
+ghost use Rattle.gpi.specs.declared.types.Key.{Key};
+ghost use Rattle.rig_model.specs.Kernel.{StandsAhead, StandsFor};
+ghost use Rattle.rig_model.specs.Rig.{Rig, Setup, event_of, staged_key};
+ghost use Rattle.rig_model.specs.Serve.{served, after_put};
+ghost use Rattle.rig_model.specs.Run.{Run, opening, IsRun, IsStart, step_cost, written};
 ghost use Rattle.rig_model.specs.declared.file.TestCase.{TestCase};
 
 /// A run stops under every budget: it is over, or its next step doesn't fit what is left of the budget.
@@ -30,4 +37,36 @@ pub fn step_costs_at_most_one()
 /// What a run costs is within its budget.
 pub fn run_is_within_budget()
     ensures { (setup : Setup) (case : TestCase) (budget : ℕ) (run : Run) → IsRun setup case budget run → run.cost ≤ budget }
+{}
+
+/// A simulator that was just handed the design stands for the configuration in which a run begins.
+pub fn loading_is_done()
+    ensures { (setup : Setup) (case : TestCase) → StandsFor setup (content.opening setup.flat) (opening setup case).rig }
+{}
+
+/// Where a simulator stands for a configuration, its next event is that of the configuration.
+pub fn event_is_the_next()
+    ensures { (setup : Setup) (content : Content) (c : Rig) → StandsFor setup content c
+        → event content.procs content.state content.keys ≡ event_of setup c }
+{}
+
+/// Where it has done that event, it stands for the configuration in which the fired keys are still to be served.
+pub fn event_is_done()
+    ensures { (setup : Setup) (before after : Content) (c : Rig) (e : Event) → c.fired ≡ [] → StandsFor setup before c → Does before e after
+        → StandsAhead e.fired setup after (record c { sim = e.state; fired = c.fired ++ e.fired }) }
+{}
+
+/// Where it has done a deposit while fired keys are still to be served, it stands for what the deposit and its wakes leave.
+/// The keys of a change are none that the runner holds.
+pub fn deposit_is_done()
+    ensures { (setup : Setup) (before after : Content) (c : Rig) (e : Event) (fired : List Key) → c.fired ≡ fired
+        → ((k : Key) → among k (staged_key c.staged) ≡ true → among k e.fired ≡ false)
+        → StandsAhead fired setup before c → Does before e after → StandsAhead fired setup after (after_put setup e c).rig }
+{}
+
+/// Serving the fired keys asks nothing of it: it stands for what is left then. The runner holds none of them any more.
+pub fn serving_is_done()
+    ensures { (setup : Setup) (content : Content) (c : Rig) (fired : List Key) → c.fired ≡ fired
+        → ((k : Key) → among k (staged_key c.staged) ≡ true → among k fired ≡ false)
+        → StandsAhead fired setup content c → StandsFor setup content (served fired [] c).rig }
 {}

@@ -2,22 +2,23 @@
 #![tactic(auto)]
 
 mod awaits;
-mod design;
 mod file;
 mod flow;
 mod laws;
 mod ready;
+mod steps;
 mod task;
 mod tree;
 
 pub use awaits::Awaits;
-pub use design::{Flat, Key, Region, SigId, Signal};
 pub use file::{Function, Statement, TestCase, TestFile};
 pub use flow::{Flow, FlowMaker, Look};
 pub use laws::{
-    lines_are_a_front, run_exists, run_is_one, run_is_within_budget, step_costs_at_most_one,
+    deposit_is_done, event_is_done, event_is_the_next, lines_are_a_front, loading_is_done,
+    run_exists, run_is_one, run_is_within_budget, serving_is_done, step_costs_at_most_one,
 };
 pub use ready::Ready;
+pub use steps::Steps;
 pub use task::{
     Entry, Fault, FaultKind, Form, Given, Level, Outcome, Staged, TaskNo, Trig, TrigId, Turned,
     Value,

@@ -1,5 +1,5 @@
 // What tasks and the runner tell each other.
-use crate::SigId;
+use gpi::SigId;
 use port_io::Name;
 
 /// A task (cocotb 1.8, "Coroutines and Tasks"), by its number from 0 in the test, in the order in which tasks are started.

@@ -1,5 +1,6 @@
 // What a task waits for.
-use crate::{Key, TaskNo, Trig};
+use crate::{TaskNo, Trig};
+use gpi::Key;
 
 /// What a task waits for, as a tree of triggers.
 #[derive(Clone, Copy, Debug, PartialEq, Eq)]

@@ -1,53 +1,86 @@
 -- An event, as a turn.
-use Rattle.std.proofs.Common.{◌≡◌, ℕ, ◌-◌, ◌<◌, true, false, List, [], ◌++◌, Option, None, Some, refl, ap, subst, arith, ◌∙◌, length}
-use Rattle.rig_model.specs.Task.{Task}
-use Rattle.rig_model.specs.Sim.{Sim, least_time}
-use Rattle.rig_model.specs.Rig.{Setup, keys_of}
-use Rattle.rig_model.specs.Serve.{key, woken, still_waiting}
-use Rattle.rig_model.specs.FitSteps.{TurnSteps, Moves, Short}
+use Rattle.std.specs.Prelude.{is_none}
+use Rattle.std.proofs.Common.{◌≡◌, ℕ, zero, suc, ◌-◌, ◌<◌, true, false, List, [], Option, None, Some, Result, Ok, Err, IsErr, refl, ap, sym, subst, arith, ◌∙◌}
+use Rattle.gpi.specs.Content.{Content}
+use Rattle.gpi.specs.Events.{Event, event, idle}
+use Rattle.port_io.proofs.PartLaws.{part_none}
+use Rattle.port_io.specs.declared.ports.NoMemory.{NoMemory}
+use Rattle.port_io.specs.declared.ports.SinkFault.{SinkFault}
+use Rattle.port_io.specs.declared.ports.SinkFault.TheVariants.{Failed, OutOfMemory}
+use Rattle.rig_model.specs.FitSteps.{TurnSteps, Moves, Begins}
+use Rattle.rig_model.specs.Kernel.{StandsFor}
+use Rattle.rig_model.specs.Rig.{Rig, Setup, event_of}
+use Rattle.rig_model.specs.Step.{rig_step, chosen, after_event, evented}
+use Rattle.rig_model.proofs.KernelLaws.{event_stands}
 use Rattle.rig_model.proofs.StepLaws.{turn_one, turn_none}
-use Rattle.rig_model.proofs.EventLaws.{resting, settles, settled, timed, written_out, settle_step, time_step, stalled_step, length-written_out}
-use Rattle.rig_model.specs.declared.design.Key.TheVariants.{At, ReadWrite}
-use Rattle.rig_model.specs.declared.design.Region.TheVariants as region
-use Rattle.rig_model.specs.declared.file.Function.{Function}
 use Rattle.rig_model.specs.declared.task.Entry.{Entry}
-use Rattle.rig_model.specs.declared.task.Staged.{Staged}
 use Rattle.rig_model.specs.declared.task.Outcome.TheVariants as outcome
-use Rattle.rig_model.specs.declared.tree.Waiting.{Waiting}
+use Rattle.scheduler.specs.Parts.{Parts}
+use Rattle.scheduler.specs.Serves.{IsEvented}
+use Rattle.scheduler.specs.Turns.{Turning}
+use Rattle.scheduler.specs.declared.turn.Turn.{Turn}
+use Rattle.scheduler.specs.declared.turn.Turn.TheVariants.{Went, Over, Spent, WriteFault}
+use Rattle.scheduler.proofs.StandLaws.{rig_between}
 
-module _ (setup : Setup) (fuel : ℕ) (sim : Sim) (tasks : List Task) (started : ℕ) (ready : List Entry) (waiting : List Waiting) (staged : List Staged) (none : ready ≡ []) where
-  pub settle_moves : (signals' : List (Option ℕ)) (ready' : List Entry) (waiting' : List Waiting) (staged' : List Staged) → settles sim waiting staged ≡ true → 0 < fuel
-      → signals' ≡ written_out staged sim.signals → ready' ≡ ready ++ woken (key ReadWrite) waiting → waiting' ≡ still_waiting (key ReadWrite) waiting → staged' ≡ []
-      → Moves (TurnSteps setup) fuel (resting sim tasks started ready waiting staged) [] (fuel - 1) (resting (record sim { signals = signals'; region = region.Settle }) tasks started ready' waiting' staged')
-  settle_moves signals' ready' waiting' staged' h f e1 e2 e3 e4 =
-      rw (e1, e2, e3, e4, none)
-      (turn_one setup fuel (resting sim tasks started [] waiting staged) (record { rig = settled setup sim tasks started waiting staged; lines = []; cost = 1 }) refl (settle_step setup sim tasks started waiting staged h) (omega arith))
+no_event : (o : Option Event) → is_none o ≡ true → o ≡ None
+no_event None h = refl
+no_event (Some e) h = cc
 
-  pub settle_short : settles sim waiting staged ≡ true → fuel ≡ 0 → Short (TurnSteps setup) setup fuel (resting sim tasks started ready waiting staged) [] fuel (resting sim tasks started ready waiting staged)
-  settle_short h f =
-      rw none (turn_none setup fuel (resting sim tasks started [] waiting staged) (record { rig = settled setup sim tasks started waiting staged; lines = []; cost = 1 }) refl (settle_step setup sim tasks started waiting staged h) (omega arith))
+some_event : (o : Option Event) → is_none o ≡ false → (e : Event) × (o ≡ Some e)
+some_event None h = cc
+some_event (Some e) h = (e, refl)
 
-  pub time_moves : (time : ℕ) (ready' : List Entry) (waiting' : List Waiting) → settles sim waiting staged ≡ false → Some time ≡ least_time (keys_of waiting) → 0 < fuel
-      → ready' ≡ ready ++ woken (key (At time)) waiting → waiting' ≡ still_waiting (key (At time)) waiting
-      → Moves (TurnSteps setup) fuel (resting sim tasks started ready waiting staged) [] (fuel - 1) (resting (record sim { time = time; region = region.Begin }) tasks started ready' waiting' staged)
-  time_moves time ready' waiting' h t f e2 e3 =
-      rw (e2, e3, none)
-      (turn_one setup fuel (resting sim tasks started [] waiting staged) (record { rig = timed setup sim tasks started waiting staged time; lines = []; cost = 1 }) refl (time_step setup sim tasks started waiting staged time h t) (omega arith))
+module _ {O : Type 0} (takes breaks : O → List ℕ → O → Type 0) (told : O → Option (List ℕ)) (setup : Setup) (p : Parts) (k : Content) (none : p.ready ≡ []) where
+  abbrev c : Rig
+  c = rig_between p k
 
-  pub time_short : (time : ℕ) → settles sim waiting staged ≡ false → Some time ≡ least_time (keys_of waiting) → fuel ≡ 0
-      → Short (TurnSteps setup) setup fuel (resting sim tasks started ready waiting staged) [] fuel (resting sim tasks started ready waiting staged)
-  time_short time h t f =
-      rw none (turn_none setup fuel (resting sim tasks started [] waiting staged) (record { rig = timed setup sim tasks started waiting staged time; lines = []; cost = 1 }) refl (time_step setup sim tasks started waiting staged time h t) (omega arith))
+  -- the step is that of the simulator
+  step_is : (o : Option Event) → event_of setup c ≡ o → rig_step setup c ≡ after_event setup o c
+  step_is o e = ap (λ (r : List Entry). chosen setup None r c) none ∙ ap (λ (x : Option Event). after_event setup x c) e
 
-  pub stalled_moves : settles sim waiting staged ≡ false → None ≡ least_time (keys_of waiting)
-      → Moves (TurnSteps setup) fuel (resting sim tasks started ready waiting staged) [] fuel (record (resting sim tasks started ready waiting staged) { outcome = Some outcome.Stalled })
-  stalled_moves h t =
-      let z : fuel - 0 ≡ fuel = omega arith in
-      rw none (subst (λ (f : ℕ). Moves (TurnSteps setup) fuel (resting sim tasks started [] waiting staged) [] f (record (resting sim tasks started [] waiting staged) { outcome = Some outcome.Stalled })) z
-      (turn_one setup fuel (resting sim tasks started [] waiting staged) (record { rig = record (resting sim tasks started [] waiting staged) { outcome = Some outcome.Stalled }; lines = []; cost = 0 }) refl
-      (stalled_step setup sim tasks started waiting staged h t) (omega arith)))
+  one_moves : (fuel : ℕ) (e : Event) → event_of setup c ≡ Some e → 0 < fuel → Moves (TurnSteps setup) fuel c (evented setup e c).lines (fuel - 1) (evented setup e c).rig
+  one_moves fuel e h f = turn_one setup fuel c (evented setup e c) refl (step_is (Some e) h) (omega arith)
 
--- the design keeps its signals
-pub setup_after : (functions : List Function) (signals signals' : List (Option ℕ)) (staged : List Staged) → signals' ≡ written_out staged signals
-    → (let a : Setup = record { functions = functions; signals = length signals' } in let b : Setup = record { functions = functions; signals = length signals } in a ≡ b)
-setup_after functions signals signals' staged e = let P : ℕ → Setup = λ n. record { functions = functions; signals = n } in ap P (ap length e ∙ length-written_out staged signals)
+  begins_of : (fuel : ℕ) (lines : List (List ℕ)) (f : ℕ) (d : Rig) → Moves (TurnSteps setup) fuel c lines f d → Begins (TurnSteps setup) fuel c lines
+  begins_of fuel lines f d m = record { count = suc m.count; left = f; last = d; steps = m.steps }
+
+  module _ (s : StandsFor setup k c) where
+    -- nothing is left that could happen
+    pub stalled_turning : (fuel : ℕ) (out : O) → idle k.procs k.state k.keys ≡ true
+        → Turning takes breaks told (TurnSteps setup) setup fuel c out (Ok (Over outcome.Stalled)) fuel c out
+    stalled_turning fuel out h =
+        let is : event_of setup c ≡ None = sym (event_stands [] setup k c s) ∙ no_event (event k.procs k.state k.keys) h in
+        let z : fuel - 0 ≡ fuel = omega arith in
+        record {
+          lines = [];
+          turns = subst (λ (f : ℕ). Moves (TurnSteps setup) fuel c [] f (record c { outcome = Some outcome.Stalled })) z
+              (turn_one setup fuel c (record { rig = record c { outcome = Some outcome.Stalled }; lines = []; cost = 0 }) refl (step_is None is) (omega arith));
+          puts = refl;
+        }
+
+    -- no fuel is left for the event
+    pub spent_turning : (fuel : ℕ) (out : O) → idle k.procs k.state k.keys ≡ false → fuel ≡ 0 → Turning takes breaks told (TurnSteps setup) setup fuel c out (Ok Spent) fuel c out
+    spent_turning fuel out h f =
+        let some : (e : Event) × (event k.procs k.state k.keys ≡ Some e) = some_event (event k.procs k.state k.keys) h in
+        let is : event_of setup c ≡ Some some.0 = sym (event_stands [] setup k c s) ∙ some.1 in
+        record { lines = []; turns = turn_none setup fuel c (evented setup some.0 c) refl (step_is (Some some.0) is) (omega arith); puts = refl }
+
+  -- memory was short before the event
+  pub short_turning : (fuel : ℕ) (out : O) (r : Result Turn NoMemory) (fuel' : ℕ) (e : Rig) (out' : O) → IsErr r → out' ≡ out → Turning takes breaks told (TurnSteps setup) setup fuel c out r fuel' e out'
+  unfolding TurnSteps
+  short_turning fuel out (Ok t) fuel' e out' h same = cc
+  short_turning fuel out (Err x) fuel' e out' h same = rw same (record { lines = []; turns = record { count = zero; left = fuel; last = c; steps = (refl, refl, refl) }; puts = part_none takes told out [] })
+
+  module _ (fuel : ℕ) (some : 0 < fuel) (out : O) (d : Rig) (out' : O) where
+    went_moves : (fault : Option SinkFault) (e : IsEvented takes breaks told setup c d out out' fault) → Moves (TurnSteps setup) fuel c (evented setup e.event c).lines (fuel - 1) d
+    went_moves fault e = subst (λ (x : Rig). Moves (TurnSteps setup) fuel c (evented setup e.event c).lines (fuel - 1) x) e.rig_is (one_moves fuel e.event e.is some)
+
+    -- the event was done, and its lines were taken, or one broke, or memory was short
+    pub went_turning : IsEvented takes breaks told setup c d out out' None → Turning takes breaks told (TurnSteps setup) setup fuel c out (Ok Went) (fuel - 1) d out'
+    went_turning e = record { lines = (evented setup e.event c).lines; turns = went_moves None e; puts = e.puts }
+
+    pub broken_turning : IsEvented takes breaks told setup c d out out' (Some Failed) → Turning takes breaks told (TurnSteps setup) setup fuel c out (Ok WriteFault) (fuel - 1) d out'
+    broken_turning e = record { lines = (evented setup e.event c).lines; turns = begins_of fuel (evented setup e.event c).lines (fuel - 1) d (went_moves (Some Failed) e); puts = e.puts }
+
+    pub cut_turning : (x : NoMemory) → IsEvented takes breaks told setup c d out out' (Some OutOfMemory) → Turning takes breaks told (TurnSteps setup) setup fuel c out (Err x) (fuel - 1) d out'
+    cut_turning x e = record { lines = (evented setup e.event c).lines; turns = begins_of fuel (evented setup e.event c).lines (fuel - 1) d (went_moves (Some OutOfMemory) e); puts = e.puts }

@@ -1,26 +1,27 @@
--- What holds between turns is kept.
-use Rattle.std.proofs.Common.{◌≡◌, ℕ, ◌+◌, ◌≤◌, ◌<◌, Bool, true, false, List, [], ◌∷◌, ◌++◌, length, Some, IsSome, refl, ap, arith, rules, ◌∙◌, length-append}
-use Rattle.std.specs.Prelude.{nat_le, ◌||◌}
+-- What holds of the engine's own parts is kept.
+use Rattle.std.proofs.Common.{◌≡◌, ℕ, ◌+◌, ◌≤◌, ◌<◌, Bool, true, false, List, [], ◌∷◌, ◌++◌, length, Some, IsSome, refl, ap, sym, subst, arith, rules, ◌∙◌, length-append, get_or, zero, suc}
+use Rattle.std.specs.Prelude.{nat_le, ◌||◌, not, filter, ◌==◌}
+use Rattle.gpi.specs.declared.types.Key.{Key}
+use Rattle.gpi.specs.declared.types.SigId.{SigId}
 use Rattle.rig_model.specs.Task.{Task, View, fresh}
-use Rattle.rig_model.specs.Sim.{Sim}
 use Rattle.rig_model.specs.Rig.{Rig, Setup}
-use Rattle.rig_model.specs.Effect.{is_numbered, dropped, function_at, with_new_task, is_full, live_limit, start_limit}
+use Rattle.rig_model.specs.Effect.{is_numbered, dropped, function_at, live_limit, start_limit, restaged}
 use Rattle.rig_model.specs.Step.{task_at, stored}
-use Rattle.rig_model.specs.Sound.{IsSoundTurned, IsSoundTask, AreSoundFunctions}
-use Rattle.rig_model.specs.Run.{emptied}
-use Rattle.rig_model.specs.Serve.{Cause, woken, still_waiting}
+use Rattle.rig_model.specs.Sound.{Bounds, IsSoundTurned, IsSoundTask, AreSoundTasks, AreSoundFunctions}
+use Rattle.rig_model.specs.Serve.{all_woken, all_waiting}
 use Rattle.rig_model.proofs.SoundLaws.{fresh_sound, append_sound, dropped_sound, stored_sound, task_at_sound, polled_sound}
-use Rattle.rig_model.proofs.EventLaws.{length-woken}
+use Rattle.rig_model.proofs.WakeLaws.{length-all_woken}
 use Rattle.rig_model.proofs.PollLaws.{polled_number}
 use Rattle.rig_model.proofs.TaskLaws.{task_at-stored}
 use Rattle.rig_model.specs.declared.task.TaskNo.{TaskNo}
 use Rattle.rig_model.specs.declared.task.Entry.{Entry}
 use Rattle.rig_model.specs.declared.task.Given.{Given}
+use Rattle.rig_model.specs.declared.task.Given.TheVariants as given
 use Rattle.rig_model.specs.declared.task.Staged.{Staged}
 use Rattle.rig_model.specs.declared.task.Turned.{Turned}
 use Rattle.rig_model.specs.declared.tree.Waiting.{Waiting}
 use Rattle.scheduler.specs.Tasks.{PollsTask}
-use Rattle.scheduler.specs.Turns.{Fits}
+use Rattle.scheduler.specs.Parts.{Parts, Fits, bounds_of, AreSoundWrites}
 
 length-stored : (t : Task) (ts : List Task) → length (stored t ts) ≡ length ts
 length-stored t [] = refl
@@ -38,10 +39,10 @@ either_false : (p q : Bool) → (p || q) ≡ false → (p ≡ false) × (q ≡ f
 either_false true q h = cc
 either_false false q h = (refl, h)
 
-pub under_limits : (c : Rig) → is_full c ≡ false → (length c.tasks < live_limit) × (c.started < start_limit)
-under_limits c h =
-    let parts : (nat_le live_limit (length c.tasks) ≡ false) × (nat_le start_limit c.started ≡ false) = either_false (nat_le live_limit (length c.tasks)) (nat_le start_limit c.started) h in
-    (over (length c.tasks) live_limit parts.0, over c.started start_limit parts.1)
+pub under_limits : (tasks : List Task) (started : ℕ) → (nat_le live_limit (length tasks) || nat_le start_limit started) ≡ false → (length tasks < live_limit) × (started < start_limit)
+under_limits tasks started h =
+    let parts : (nat_le live_limit (length tasks) ≡ false) × (nat_le start_limit started ≡ false) = either_false (nat_le live_limit (length tasks)) (nat_le start_limit started) h in
+    (over (length tasks) live_limit parts.0, over started start_limit parts.1)
 
 -- without a live task there is one task less
 length-dropped : (number : TaskNo) (ts : List Task) → IsSome (task_at number ts) → length (dropped number ts) + 1 ≡ length ts
@@ -52,95 +53,154 @@ length-dropped number (t ∷ ts) h = decided (is_numbered number t) refl (λ k. 
     decided true q more = rw q (omega arith)
     decided false q more = let k : IsSome (task_at number ts) = rw q at h in let m : length (dropped number ts) + 1 ≡ length ts = more k in rw q (omega arith)
 
--- a task that has its turn lives no more
-pub fits_dropped : (setup : Setup) (room : ℕ) (c : Rig) (task : TaskNo) → Fits setup 1 room c → IsSome (task_at task c.tasks) → Fits setup 0 room (record c { tasks = dropped task c.tasks })
-fits_dropped setup room c task f h =
-    let less : length (dropped task c.tasks) + 1 ≡ length c.tasks = length-dropped task c.tasks h in
-    let held : length c.ready + length c.waiting + 1 ≤ length c.tasks = f.held in
-    let room_is : length c.tasks ≤ room = f.room_is in
-    let live : length c.tasks ≤ live_limit = f.live in
-    record { held = omega arith; room_is = omega arith; live = omega arith; started = f.started; tasks = dropped_sound (length setup.functions) task c.tasks f.tasks; functions = f.functions }
+-- a live task is sound
+pub sound_at : (bounds : Bounds) (ts : List Task) (at : ℕ) (d : Task) → at < length ts → AreSoundTasks bounds ts → IsSoundTask bounds (get_or ts at d)
+sound_at bounds [] at d h s = absurd (omega arith)
+sound_at bounds (t ∷ ts) zero d h s = s.0
+sound_at bounds (t ∷ ts) (suc at) d h s = sound_at bounds ts at d (omega arith) s.1
 
--- a task is started by one that has its turn
-pub fits_added : (setup : Setup) (room room' more : ℕ) (c c' : Rig) (func : ℕ) → Fits setup more room c → c' ≡ with_new_task (function_at setup.functions func) c
-    → length c.tasks < live_limit → c.started < start_limit → length c.tasks + 1 ≤ room' → Fits setup more room' c'
-fits_added setup room room' more c c' func f e live started room_is =
-    let held : length c.ready + length c.waiting + more ≤ length c.tasks = f.held in
-    let t : Task = fresh (record { 0 = c.started }) (function_at setup.functions func) in
-    let tasks_are : length (c.tasks ++ t ∷ []) ≡ length c.tasks + 1 = length-append c.tasks (t ∷ []) in
-    let one : (x : Entry) → length (c.ready ++ x ∷ []) ≡ length c.ready + 1 = λ x. length-append c.ready (x ∷ []) in
-    rw e (record {
-      held = rw one (omega arith);
-      room_is = omega arith;
-      live = omega arith;
-      started = omega arith;
-      tasks = append_sound (length setup.functions) c.tasks t f.tasks (fresh_sound (length setup.functions) (record { 0 = c.started }) setup.functions func f.functions);
-      functions = f.functions;
-    })
+-- without some of them writes are still sound
+filter_sound : (signals : ℕ) (test : Staged → Bool) (ws : List Staged) → AreSoundWrites signals ws → AreSoundWrites signals (filter test ws)
+filter_sound signals test [] h = tt
+filter_sound signals test (w ∷ ws) h = decided (test w) refl (filter_sound signals test ws h.1)
+  where
+    decided : (b : Bool) → test w ≡ b → AreSoundWrites signals (filter test ws) → AreSoundWrites signals (filter test (w ∷ ws))
+    decided true q more = rw q (h.0, more)
+    decided false q more = rw q more
 
--- a task that has its turn gives it up and is ready
-pub fits_gives_way : (setup : Setup) (room : ℕ) (c : Rig) (e : Entry) → Fits setup 1 room c → Fits setup 0 room (record c { ready = c.ready ++ e ∷ [] })
-fits_gives_way setup room c e f =
-    let held : length c.ready + length c.waiting + 1 ≤ length c.tasks = f.held in
-    let one : length (c.ready ++ e ∷ []) ≡ length c.ready + 1 = length-append c.ready (e ∷ []) in
-    record { held = omega arith; room_is = f.room_is; live = f.live; started = f.started; tasks = f.tasks; functions = f.functions }
+write_last : (signals : ℕ) (ws : List Staged) (w : Staged) → AreSoundWrites signals ws → w.sig.0 < signals → AreSoundWrites signals (ws ++ w ∷ [])
+write_last signals [] w h k = (k, tt)
+write_last signals (v ∷ vs) w h k = (h.0, write_last signals vs w h.1 k)
 
--- a poll keeps what holds, leaves the task live, and wants no start of a function that isn't there
-pub fits_polled : (setup : Setup) (room : ℕ) (c : Rig) (view : View) (fuel : ℕ) (number : TaskNo) (given : Given) (turned : Turned) (fuel' : ℕ) (tasks' : List Task)
-    → Fits setup 1 room c → PollsTask view fuel c.tasks number given turned fuel' tasks'
-    → Fits setup 1 room (record c { tasks = tasks' }) × IsSoundTurned (length setup.functions) turned × IsSome (task_at number tasks')
-fits_polled setup room c view fuel number given turned fuel' tasks' f p =
-    let count : length tasks' ≡ length c.tasks = ap length p.stored_is ∙ length-stored p.rest c.tasks in
-    let held : length c.ready + length c.waiting + 1 ≤ length c.tasks = f.held in
-    let room_is : length c.tasks ≤ room = f.room_is in
-    let live : length c.tasks ≤ live_limit = f.live in
-    let old_sound : IsSoundTask (length setup.functions) p.task = task_at_sound (length setup.functions) number c.tasks p.task p.found f.tasks in
-    let sound : IsSoundTask (length setup.functions) p.rest × IsSoundTurned (length setup.functions) turned
-    = polled_sound (length setup.functions) view fuel p.task (Some given) turned fuel' p.rest p.polled old_sound in
-    let own : p.rest.number ≡ number = polled_number view fuel p.task (Some given) turned fuel' p.rest p.polled ∙ p.own in
-    let there : task_at number tasks' ≡ Some p.rest = ap (task_at number) p.stored_is ∙ task_at-stored number c.tasks p.task p.rest p.found own in (
+restaged_sound : (signals : ℕ) (sig : SigId) (number : ℕ) (ws : List Staged) → AreSoundWrites signals ws → sig.0 < signals → AreSoundWrites signals (restaged sig number ws)
+restaged_sound signals sig number ws h k =
+    write_last signals (filter (λ (w : Staged). not (w.sig.0 == sig.0)) ws) (record { sig = sig; number = number }) (filter_sound signals (λ (w : Staged). not (w.sig.0 == sig.0)) ws h) k
+
+module _ (setup : Setup) (room : ℕ) (p : Parts) where
+  -- a write is staged
+  pub fits_staged : (more : ℕ) (sig : SigId) (number : ℕ) → Fits setup more room p → sig.0 < length setup.flat.signals → Fits setup more room (record p { staged = restaged sig number p.staged })
+  fits_staged more sig number f k =
+      record { held = f.held; room_is = f.room_is; live = f.live; started = f.started; tasks = f.tasks; writes = restaged_sound (length setup.flat.signals) sig number p.staged f.writes k; functions = f.functions }
+
+  -- the oldest write is taken out
+  pub fits_unstaged : (more : ℕ) (write : Staged) (writes : List Staged) → Fits setup more room p → p.staged ≡ write ∷ writes
+      → (write.sig.0 < length setup.flat.signals) × Fits setup more room (record p { staged = writes })
+  fits_unstaged more write writes f e =
+      let w : AreSoundWrites (length setup.flat.signals) (write ∷ writes) = rw e at f.writes in
+      (w.0, record { held = f.held; room_is = f.room_is; live = f.live; started = f.started; tasks = f.tasks; writes = w.1; functions = f.functions })
+
+  -- a task that has its turn lives no more
+  pub fits_dropped : (task : TaskNo) → Fits setup 1 room p → IsSome (task_at task p.tasks) → Fits setup 0 room (record p { tasks = dropped task p.tasks })
+  fits_dropped task f h =
+      let less : length (dropped task p.tasks) + 1 ≡ length p.tasks = length-dropped task p.tasks h in
+      let held : length p.ready + length p.waiting + 1 ≤ length p.tasks = f.held in
+      let room_is : length p.tasks ≤ room = f.room_is in
+      let live : length p.tasks ≤ live_limit = f.live in
+      record { held = omega arith; room_is = omega arith; live = omega arith; started = f.started; tasks = dropped_sound (bounds_of setup) task p.tasks f.tasks; writes = f.writes; functions = f.functions }
+
+  -- a task is started
+  pub fits_added : (room' more func : ℕ) (number : TaskNo) → Fits setup more room p → length p.tasks < live_limit → p.started < start_limit → length p.tasks + 1 ≤ room'
+      → Fits setup more room' (record p {
+        tasks = p.tasks ++ fresh number (function_at setup.functions func) ∷ [];
+        started = p.started + 1;
+        ready = p.ready ++ record { task = number; given = given.Begin } ∷ [];
+      })
+  fits_added room' more func number f live started room_is =
+      let held : length p.ready + length p.waiting + more ≤ length p.tasks = f.held in
+      let t : Task = fresh number (function_at setup.functions func) in
+      let tasks_are : length (p.tasks ++ t ∷ []) ≡ length p.tasks + 1 = length-append p.tasks (t ∷ []) in
+      let one : (x : Entry) → length (p.ready ++ x ∷ []) ≡ length p.ready + 1 = λ x. length-append p.ready (x ∷ []) in
       record {
-        held = omega arith;
+        held = rw one (omega arith);
         room_is = omega arith;
         live = omega arith;
-        started = f.started;
-        tasks = rw p.stored_is (stored_sound (length setup.functions) p.rest c.tasks sound.0 f.tasks);
+        started = omega arith;
+        tasks = append_sound (bounds_of setup) p.tasks t f.tasks (fresh_sound (bounds_of setup) number setup.functions func f.functions);
+        writes = f.writes;
         functions = f.functions;
-      },
-      sound.1,
-      rw there refl,
-    )
+      }
 
--- the first that is ready gets its turn
-pub fits_taken : (setup : Setup) (room room' : ℕ) (c : Rig) (e : Entry) (es : List Entry) → Fits setup 0 room c → c.ready ≡ e ∷ es → room' ≡ room → Fits setup 1 room' (record c { ready = es })
-fits_taken setup room room' c e es f h r =
-    let held : length c.ready + length c.waiting + 0 ≤ length c.tasks = f.held in
-    let count : length c.ready ≡ length (e ∷ es) = ap length h in
-    let room_is : length c.tasks ≤ room = f.room_is in
-    record { held = omega arith; room_is = omega arith; live = f.live; started = f.started; tasks = f.tasks; functions = f.functions }
+  -- a task that has its turn gives it up and is ready
+  pub fits_gives_way : (e : Entry) → Fits setup 1 room p → Fits setup 0 room (record p { ready = p.ready ++ e ∷ [] })
+  fits_gives_way e f =
+      let held : length p.ready + length p.waiting + 1 ≤ length p.tasks = f.held in
+      let one : length (p.ready ++ e ∷ []) ≡ length p.ready + 1 = length-append p.ready (e ∷ []) in
+      record { held = omega arith; room_is = f.room_is; live = f.live; started = f.started; tasks = f.tasks; writes = f.writes; functions = f.functions }
 
--- a turn is lost
-pub fits_less : (setup : Setup) (room : ℕ) (c : Rig) → Fits setup 1 room c → Fits setup 0 room c
-fits_less setup room c f =
-    let held : length c.ready + length c.waiting + 1 ≤ length c.tasks = f.held in
-    record { held = omega arith; room_is = f.room_is; live = f.live; started = f.started; tasks = f.tasks; functions = f.functions }
+  -- a task that has its turn gives it up and waits
+  pub fits_waits : (w : Waiting) → Fits setup 1 room p → Fits setup 0 room (record p { waiting = p.waiting ++ w ∷ [] })
+  fits_waits w f =
+      let held : length p.ready + length p.waiting + 1 ≤ length p.tasks = f.held in
+      let one : length (p.waiting ++ w ∷ []) ≡ length p.waiting + 1 = length-append p.waiting (w ∷ []) in
+      record { held = omega arith; room_is = f.room_is; live = f.live; started = f.started; tasks = f.tasks; writes = f.writes; functions = f.functions }
 
--- a cause is served
-pub fits_served : (setup : Setup) (room room' : ℕ) (c : Rig) (cause : Cause) (sim' : Sim) (staged' : List Staged) (ready' : List Entry) (waiting' : List Waiting) → Fits setup 0 room c
-    → room' ≡ room → ready' ≡ c.ready ++ woken cause c.waiting → waiting' ≡ still_waiting cause c.waiting → Fits setup 0 room' (record c { sim = sim'; ready = ready'; waiting = waiting'; staged = staged' })
-fits_served setup room room' c cause sim' staged' ready' waiting' f r e w =
-    let held : length c.ready + length c.waiting + 0 ≤ length c.tasks = f.held in
-    let room_is : length c.tasks ≤ room = f.room_is in
-    let ready_is : length ready' ≡ length c.ready + length (woken cause c.waiting) = ap length e ∙ length-append c.ready (woken cause c.waiting) in
-    let waiting_is : length waiting' ≡ length (still_waiting cause c.waiting) = ap length w in
-    let all : length (woken cause c.waiting) + length (still_waiting cause c.waiting) ≡ length c.waiting = length-woken cause c.waiting in
-    record { held = omega arith; room_is = omega arith; live = f.live; started = f.started; tasks = f.tasks; functions = f.functions }
+  -- a poll keeps what holds, leaves the task live, and wants what is sound
+  pub fits_polled : (view : View) (fuel : ℕ) (number : TaskNo) (g : Given) (turned : Turned) (fuel' : ℕ) (tasks' : List Task)
+      → Fits setup 1 room p → PollsTask view fuel p.tasks number g turned fuel' tasks'
+      → Fits setup 1 room (record p { tasks = tasks' }) × IsSoundTurned (bounds_of setup) turned × IsSome (task_at number tasks')
+  fits_polled view fuel number g turned fuel' tasks' f q =
+      let count : length tasks' ≡ length p.tasks = ap length q.stored_is ∙ length-stored q.rest p.tasks in
+      let held : length p.ready + length p.waiting + 1 ≤ length p.tasks = f.held in
+      let room_is : length p.tasks ≤ room = f.room_is in
+      let live : length p.tasks ≤ live_limit = f.live in
+      let old_sound : IsSoundTask (bounds_of setup) q.task = task_at_sound (bounds_of setup) number p.tasks q.task q.found f.tasks in
+      let sound : IsSoundTask (bounds_of setup) q.rest × IsSoundTurned (bounds_of setup) turned
+      = polled_sound (bounds_of setup) view fuel q.task (Some g) turned fuel' q.rest q.polled old_sound in
+      let own : q.rest.number ≡ number = polled_number view fuel q.task (Some g) turned fuel' q.rest q.polled ∙ q.own in
+      let there : task_at number tasks' ≡ Some q.rest = ap (task_at number) q.stored_is ∙ task_at-stored number p.tasks q.task q.rest q.found own in (
+        record {
+          held = omega arith;
+          room_is = omega arith;
+          live = omega arith;
+          started = f.started;
+          tasks = rw q.stored_is (stored_sound (bounds_of setup) q.rest p.tasks sound.0 f.tasks);
+          writes = f.writes;
+          functions = f.functions;
+        },
+        sound.1,
+        rw there refl,
+      )
 
--- a test begins
-pub fits_begun : (setup : Setup) (room' : ℕ) (c c' : Rig) (func : ℕ) → c ≡ emptied c.sim → AreSoundFunctions (length setup.functions) setup.functions
-    → c' ≡ with_new_task (function_at setup.functions func) c → length c.tasks + 1 ≤ room' → Fits setup 0 room' c'
-fits_begun setup room' c c' func e sound added room =
-    let empty : Fits setup 0 (length c.tasks) c = rw e (record { held = omega arith; room_is = omega arith; live = omega arith; started = omega arith; tasks = tt; functions = sound }) in
-    let none : length c.tasks ≡ 0 = ap (λ (x : Rig). length x.tasks) e in
-    let new : c.started ≡ 0 = ap (λ (x : Rig). x.started) e in
-    fits_added setup (length c.tasks) room' 0 c c' func empty added (omega arith) (omega arith) room
+  -- the first that is ready gets its turn
+  pub fits_taken : (room' : ℕ) (e : Entry) (es : List Entry) → Fits setup 0 room p → p.ready ≡ e ∷ es → room' ≡ room → Fits setup 1 room' (record p { ready = es })
+  fits_taken room' e es f h r =
+      let held : length p.ready + length p.waiting + 0 ≤ length p.tasks = f.held in
+      let count : length p.ready ≡ length (e ∷ es) = ap length h in
+      let room_is : length p.tasks ≤ room = f.room_is in
+      record { held = omega arith; room_is = omega arith; live = f.live; started = f.started; tasks = f.tasks; writes = f.writes; functions = f.functions }
+
+  -- a turn is lost
+  pub fits_less : Fits setup 1 room p → Fits setup 0 room p
+  fits_less f =
+      let held : length p.ready + length p.waiting + 1 ≤ length p.tasks = f.held in
+      record { held = omega arith; room_is = f.room_is; live = f.live; started = f.started; tasks = f.tasks; writes = f.writes; functions = f.functions }
+
+  -- keys are served
+  pub fits_served : (room' : ℕ) (keys : List Key) (ready' : List Entry) (waiting' : List Waiting) → Fits setup 0 room p
+      → room' ≡ room → ready' ≡ p.ready ++ all_woken keys p.waiting → waiting' ≡ all_waiting keys p.waiting → Fits setup 0 room' (record p { ready = ready'; waiting = waiting' })
+  fits_served room' keys ready' waiting' f r e w =
+      let held : length p.ready + length p.waiting + 0 ≤ length p.tasks = f.held in
+      let room_is : length p.tasks ≤ room = f.room_is in
+      let ready_is : length ready' ≡ length p.ready + length (all_woken keys p.waiting) = ap length e ∙ length-append p.ready (all_woken keys p.waiting) in
+      let waiting_is : length waiting' ≡ length (all_waiting keys p.waiting) = ap length w in
+      let all : length (all_woken keys p.waiting) + length (all_waiting keys p.waiting) ≡ length p.waiting = length-all_woken keys p.waiting in
+      record { held = omega arith; room_is = omega arith; live = f.live; started = f.started; tasks = f.tasks; writes = f.writes; functions = f.functions }
+
+-- nothing of a test is there
+pub fits_empty : (setup : Setup) (room : ℕ) → AreSoundFunctions (bounds_of setup) setup.functions → Fits setup 0 room (record { tasks = []; started = 0; ready = []; waiting = []; staged = [] })
+fits_empty setup room sound = record { held = omega arith; room_is = omega arith; live = omega arith; started = omega arith; tasks = tt; writes = tt; functions = sound }
+
+-- the same, however it is told
+pub fits_told : (setup setup' : Setup) (more room : ℕ) (p p' : Parts) → setup' ≡ setup → p' ≡ p → Fits setup more room p → Fits setup' more room p'
+fits_told setup setup' more room p p' e1 e2 f = subst (λ (s : Setup). Fits s more room p') (sym e1) (subst (λ (q : Parts). Fits setup more room q) (sym e2) f)
+
+-- there is room for a task that gives way
+pub has_room : (setup : Setup) (room : ℕ) (p : Parts) → Fits setup 1 room p → length p.ready < room
+has_room setup room p f =
+    let held : length p.ready + length p.waiting + 1 ≤ length p.tasks = f.held in
+    let room_is : length p.tasks ≤ room = f.room_is in
+    omega arith
+
+-- the parts of a configuration
+abbrev pub parts_in : Rig → Parts
+parts_in c = record { tasks = c.tasks; started = c.started; ready = c.ready; waiting = c.waiting; staged = c.staged }

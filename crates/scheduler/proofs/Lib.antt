@@ -1,7 +1,12 @@
 pub mod PlaceLaws
 pub mod Results
+pub mod PutLaws
+pub mod DigitLaws
 pub mod FitLaws
+pub mod StandLaws
+pub mod StartLaws
+pub mod EventLaws
 pub mod TurnLaws
-pub mod EventTurns
 pub mod TaskTurns
+pub mod EventTurns
 pub mod ManyTurns

@@ -1,10 +1,10 @@
 -- Turns one after another.
-use Rattle.std.proofs.Common.{◌≡◌, ℕ, suc, List, Option, Some, Result, Ok, Err, IsErr, sym, subst}
+use Rattle.std.proofs.Common.{◌≡◌, ℕ, suc, List, Option, Some, Result, Ok, Err, IsErr, subst}
 use Rattle.port_io.specs.declared.ports.NoMemory.{NoMemory}
 use Rattle.rig_model.specs.Rig.{Rig, Setup}
 use Rattle.rig_model.specs.FitSteps.{FitSteps, TurnSteps, anywhere, Moves, Begins}
 use Rattle.rig_model.proofs.StepLaws.{turn_anywhere}
-use Rattle.scheduler.specs.Turns.{TurnsTo, Turning, Fits, FitsAfter}
+use Rattle.scheduler.specs.Turns.{TurnsTo, Turning}
 use Rattle.scheduler.proofs.TurnLaws.{turning_then}
 use Rattle.scheduler.specs.declared.turn.Turn.{Turn}
 use Rattle.scheduler.specs.declared.turn.Turn.TheVariants.{Went, Over, Spent, WriteFault}
@@ -47,7 +47,3 @@ module _ {O : Type 0} (takes breaks : O → List ℕ → O → Type 0) (told : O
   turning_err setup' fuel c out x (Err y) fuel' e out' s h p =
       let q : Turning takes breaks told (FitSteps anywhere setup) setup fuel c out (Err x) fuel' e out' = turning_anywhere setup' fuel c out (Err x) fuel' e out' s p in
       record { lines = q.lines; turns = q.turns; puts = q.puts }
-
--- what holds after a turn that went
-pub fits_went : (setup' setup : Setup) (room : ℕ) (t : Turn) (e : Rig) → setup' ≡ setup → t ≡ Went → FitsAfter setup room t e → Fits setup' 0 room e
-fits_went setup' setup room t e s h f = subst (λ (x : Setup). Fits x 0 room e) (sym s) (subst (λ (x : Turn). FitsAfter setup room x e) h f)

@@ -6,22 +6,21 @@ use Rattle.port_io.specs.PutLaws.{takes_then, puts_then}
 use Rattle.port_io.proofs.PartLaws.{part_none, part_then}
 use Rattle.port_io.specs.declared.ports.NoMemory.{NoMemory}
 use Rattle.rig_model.specs.Task.{Task}
-use Rattle.rig_model.specs.Sim.{Sim}
 use Rattle.rig_model.specs.Rig.{Rig, Setup, view_of}
 use Rattle.rig_model.specs.Effect.{effect, goes_on}
 use Rattle.rig_model.specs.Step.{kept, resumed}
 use Rattle.rig_model.specs.FitSteps.{FitSteps, TurnSteps, in_turn, Moves, Short, Begins, NoFit}
 use Rattle.rig_model.proofs.StepLaws.{fit_then, moves_then, moves_short, resumed_steps, resumed_moves, resumed_short}
 use Rattle.rig_model.proofs.TaskLaws.{PollSteps, polled_steps}
-use Rattle.rig_model.proofs.EventLaws.{resting}
 use Rattle.rig_model.specs.declared.task.TaskNo.{TaskNo}
 use Rattle.rig_model.specs.declared.task.Entry.{Entry}
 use Rattle.rig_model.specs.declared.task.Given.{Given}
-use Rattle.rig_model.specs.declared.task.Staged.{Staged}
 use Rattle.rig_model.specs.declared.task.Turned.{Turned}
 use Rattle.rig_model.specs.declared.task.Turned.TheVariants as turned
-use Rattle.rig_model.specs.declared.tree.Waiting.{Waiting}
+use Rattle.gpi.specs.Content.{Content}
+use Rattle.scheduler.specs.Parts.{Parts}
 use Rattle.scheduler.specs.Tasks.{PollsTask}
+use Rattle.scheduler.proofs.StandLaws.{rig_between}
 use Rattle.scheduler.specs.Turns.{TurnsTo, PutsFor, Turning, LeadsTo, PutsNext}
 use Rattle.scheduler.specs.declared.turn.Turn.{Turn}
 use Rattle.scheduler.specs.declared.turn.Turn.TheVariants.{Went, Over, WriteFault}
@@ -140,19 +139,19 @@ module _ {O : Type 0} (takes breaks : O → List ℕ → O → Type 0) (told : O
     turning_resumed fuel out r fuel' e out' t = record { lines = t.lines; turns = resumed_turns fuel t.lines r fuel' e t.turns; puts = t.puts }
 
 -- what a poll of a live task makes of its turn
-module _ (setup : Setup) (number : TaskNo) (sim : Sim) (tasks : List Task) (started : ℕ) (ready : List Entry) (waiting : List Waiting) (staged : List Staged) where
+module _ (setup : Setup) (number : TaskNo) (p : Parts) (k : Content) where
   abbrev before : Rig
-  before = resting sim tasks started ready waiting staged
+  before = rig_between p k
 
   abbrev after : List Task → ℕ → Rig
-  after tasks' started' = resting sim tasks' started' ready waiting staged
+  after tasks' started' = rig_between (record p { tasks = tasks'; started = started' }) k
 
-  module _ (fuel : ℕ) (g : Given) (t : Turned) (fuel' : ℕ) (tasks' : List Task) (started' : ℕ) (p : PollsTask (view_of before) fuel tasks number g t fuel' tasks') (same : started' ≡ started) where
-    poll : PollSteps setup number fuel (Some g) before t fuel' p.rest
-    poll = polled_steps setup number before fuel p.task (Some g) t fuel' p.rest p.found p.own refl p.polled
+  module _ (fuel : ℕ) (g : Given) (t : Turned) (fuel' : ℕ) (tasks' : List Task) (started' : ℕ) (q : PollsTask (view_of before) fuel p.tasks number g t fuel' tasks') (same : started' ≡ p.started) where
+    poll : PollSteps setup number fuel (Some g) before t fuel' q.rest
+    poll = polled_steps setup number before fuel q.task (Some g) t fuel' q.rest q.found q.own refl q.polled
 
-    kept_is : kept p.rest before ≡ after tasks' started'
-    kept_is = ap (λ (ts : List Task). after ts started) (sym p.stored_is) ∙ ap (λ (n : ℕ). after tasks' n) (sym same)
+    kept_is : kept q.rest before ≡ after tasks' started'
+    kept_is = ap (λ (ts : List Task). after ts p.started) (sym q.stored_is) ∙ ap (λ (n : ℕ). after tasks' n) (sym same)
 
     pub poll_moves : (t ≡ turned.Spent → ⊥) → Moves (FitSteps in_turn setup) fuel (goes_on number (Some g) before) (effect setup number t (after tasks' started')).lines fuel' (effect setup number t (after tasks' started')).rig
     poll_moves n = elim poll [
@@ -168,6 +167,6 @@ module _ (setup : Setup) (number : TaskNo) (sim : Sim) (tasks : List Task) (star
         count = s.1.count;
         last = s.1.last;
         steps = s.1.steps;
-        no_fit = record { runs = h.runs; short = h.short; rest = record { sim = h.rest.sim; waiting = h.rest.waiting; staged = h.rest.staged; fired = h.rest.fired } };
+        no_fit = record { runs = h.runs; short = h.short; rest = record { sim = h.rest.sim; waiting = h.rest.waiting; staged = h.rest.staged; fired = h.rest.fired; counts = h.rest.counts } };
       })
     ]

@@ -1,7 +1,8 @@
 -- The live tasks, and how many were started.
-use Rattle.std.specs.Prelude.{◌≡◌, ℕ, List, Option, None, Some}
+use Rattle.std.specs.Prelude.{◌≡◌, ℕ, List, length, Option, None, Some}
 use Rattle.rig_model.specs.Task.{Task, View}
 use Rattle.rig_model.specs.Poll.{Polled}
+use Rattle.rig_model.specs.Sound.{Bounds, AreSoundTasks}
 use Rattle.rig_model.specs.Step.{task_at, stored}
 use Rattle.rig_model.specs.declared.task.TaskNo.{TaskNo}
 use Rattle.rig_model.specs.declared.task.Given.{Given}
@@ -24,3 +25,9 @@ pub record PollsTask (view : View) (fuel : ℕ) (old : List Task) (number : Task
 abbrev pub PollsOf : View → ℕ → Tasks → TaskNo → Given → Option Turned → ℕ → Tasks → Type 0
 PollsOf view fuel old number given None fuel' new = (task_at number old.tasks ≡ None) × (fuel' ≡ fuel) × (new ≡ old)
 PollsOf view fuel old number given (Some turned) fuel' new = PollsTask view fuel old.tasks number given turned fuel' new.tasks × (new.started ≡ old.started)
+
+-- the view knows the signals that these tasks name
+pub record KnowsAll (view : View) (tasks : List Task) : Type 0 where
+  pub bounds : Bounds
+  pub signals : bounds.signals ≡ length view.signals
+  pub sound : AreSoundTasks bounds tasks

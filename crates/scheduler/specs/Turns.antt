@@ -1,11 +1,10 @@
 -- What the answers to a turn say of its steps and of what was put.
-use Rattle.std.specs.Prelude.{◌≡◌, ◌⊎◌, ℕ, ◌+◌, ◌≤◌, Bool, true, false, List, [], ◌∷◌, length, Option, Some, Result, Ok, Err}
+use Rattle.std.specs.Prelude.{◌≡◌, ◌⊎◌, ℕ, ◌≤◌, Bool, true, false, List, [], ◌∷◌, length, Option, Some, Result, Ok, Err}
 use Rattle.port_io.specs.Ports.{TakesAll, Puts}
 use Rattle.port_io.specs.PutsPart.{PutsPart}
 use Rattle.port_io.specs.declared.ports.NoMemory.{NoMemory}
 use Rattle.rig_model.specs.Rig.{Rig, Setup}
-use Rattle.rig_model.specs.Effect.{effect, goes_on, live_limit, start_limit}
-use Rattle.rig_model.specs.Sound.{AreSoundFunctions, AreSoundTasks}
+use Rattle.rig_model.specs.Effect.{effect, goes_on}
 use Rattle.rig_model.specs.FitSteps.{Moves, Short, Begins}
 use Rattle.rig_model.specs.Run.{test_begun}
 use Rattle.rig_model.specs.Line.{test_line}
@@ -15,6 +14,7 @@ use Rattle.rig_model.specs.declared.task.TaskNo.{TaskNo}
 use Rattle.rig_model.specs.declared.task.Given.TheVariants as given
 use Rattle.rig_model.specs.declared.task.Value.TheVariants.{Absent}
 use Rattle.rig_model.specs.declared.task.Turned.{Turned}
+use Rattle.scheduler.specs.Parts.{Parts, Fits}
 use Rattle.scheduler.specs.declared.turn.Turn.{Turn}
 use Rattle.scheduler.specs.declared.turn.Turn.TheVariants.{Went, Over, Spent, WriteFault}
 use Rattle.scheduler.specs.declared.turn.Next.{Next}
@@ -75,30 +75,10 @@ is_fine (Ends (Over outcome)) = true
 is_fine (Ends Spent) = true
 is_fine (Ends WriteFault) = false
 
--- What holds between turns, and within one where a task has its turn (more is 1): each task that is ready or waits is a live one of its own,
--- the ring has room for every live task, the limits are kept, and calls name functions of the file.
-pub record Fits (setup : Setup) (more : ℕ) (room : ℕ) (c : Rig) : Type 0 where
-  pub held : length c.ready + length c.waiting + more ≤ length c.tasks
-  pub room_is : length c.tasks ≤ room
-  pub live : length c.tasks ≤ live_limit
-  pub started : c.started ≤ start_limit
-  pub tasks : AreSoundTasks (length setup.functions) c.tasks
-  pub functions : AreSoundFunctions (length setup.functions) setup.functions
-
--- what holds after something that a task wanted
-abbrev pub FitsNext : Setup → ℕ → Next → Rig → Type 0
-FitsNext setup room (GoesOn given) e = Fits setup 1 room e
-FitsNext setup room (Ends Went) e = Fits setup 0 room e
-FitsNext setup room (Ends (Over outcome)) e = Unit {0}
-FitsNext setup room (Ends Spent) e = Unit {0}
-FitsNext setup room (Ends WriteFault) e = Unit {0}
-
--- what holds after a turn
-abbrev pub FitsAfter : Setup → ℕ → Turn → Rig → Type 0
-FitsAfter setup room Went e = Fits setup 0 room e
-FitsAfter setup room (Over outcome) e = Unit {0}
-FitsAfter setup room Spent e = Unit {0}
-FitsAfter setup room WriteFault e = Unit {0}
+-- what holds of the engine's own parts after something that a task wanted
+abbrev pub FitsOwn : Setup → ℕ → Next → Parts → Type 0
+FitsOwn setup room (GoesOn given) p = Fits setup 1 room p
+FitsOwn setup room (Ends turn) p = Fits setup 0 room p
 
 -- From c a test begins: its line is put, and its own task is ready.
 abbrev pub BeginsTo : {O : Type 0} → (O → List ℕ → O → Type 0) → (O → List ℕ → O → Type 0) → (O → Option (List ℕ)) → Setup → TestCase → Rig → Result Turn NoMemory → Rig → O → O → Type 0

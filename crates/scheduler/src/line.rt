@@ -1,8 +1,9 @@
 // The texts of the lines of a run, each with its line feed.
 ghost use Rattle.std.specs.Prelude.{◌≡◌, ◌++◌, IfOk, OnOk};
 ghost use Rattle.std.specs.Fmt.{decimal};
-ghost use Rattle.rig_model.specs.Line.{test_line, log_line, verdict_line, report_line, budget_line, kind_name, level_name, reason_of};
+ghost use Rattle.rig_model.specs.Line.{test_line, log_line, sig_line, verdict_line, report_line, budget_line, kind_name, level_name, reason_of, digit_letters};
 
+use four_value::Bits;
 use port_io::NoMemory;
 use rig_model::{FaultKind, Level, Outcome};
 use std::alloc::{AllocError, Global};
@@ -45,6 +46,31 @@ pub fn log_text(alloc: Global, time: u64, level: Level, text: &[u8]) -> Result<V
     line.extend_from_slice(level_text(level))?;
     line.extend_from_slice(b" ")?;
     line.extend_from_slice(text)?;
+    line.push(b'\n')?;
+    Ok(line)
+}
+
+// The digits of a value, the highest first.
+fn add_digits(line: &mut Vec<u8>, bits: Bits) -> Result<(), AllocError>
+    ensures { OnOk result (line.new.items ≡ line.old.items ++ digit_letters bits) }
+{
+    let text = bits.text();
+    let count = bits.width() as usize;
+    line.extend_from_slice(&text[..count])?;
+    Ok(())
+}
+
+/// `<time> SIG <path> <digits>`: from now on the signal of that path has these digits, which are `0`, `1`, `x` and `z`, the
+/// highest first (IEEE 1364-2005, 17.1.1.4). The time is in steps. Only want of memory is an error.
+pub fn sig_text(alloc: Global, time: u64, path: &[u8], bits: Bits) -> Result<Vec<u8>, NoMemory>
+    ensures { IfOk result (λ line. line.items ≡ sig_line time path.now bits) }
+{
+    let mut line = Vec::new(alloc);
+    add_number(alloc, &mut line, time)?;
+    line.extend_from_slice(b" SIG ")?;
+    line.extend_from_slice(path)?;
+    line.extend_from_slice(b" ")?;
+    add_digits(&mut line, bits)?;
     line.push(b'\n')?;
     Ok(line)
 }

@@ -2,6 +2,7 @@
 ghost use Rattle.std.specs.Prelude.{◌≡◌, ◌<◌, length, IfOk, Some, set, get_or};
 ghost use Rattle.scheduler.specs.Places.{PolledAt};
 ghost use Rattle.scheduler.specs.Meanings.{tasks_of};
+ghost use Rattle.scheduler.specs.Tasks.{KnowsAll};
 
 use crate::live::Live;
 use port_io::NoMemory;
@@ -17,7 +18,9 @@ pub fn poll_at<F: Flow, V: Look>(
     view: &V,
     fuel: &mut u64,
 ) -> Result<Turned, NoMemory>
-    requires { at < length live.old.items }
+    requires at { at < length live.old.items }
+    requires ready { V.is_ready view.now }
+    requires known { KnowsAll (V.view view.now) (tasks_of live.old.items) }
     ensures { IfOk result (λ turned. PolledAt (V.view view.now) (tasks_of live.old.items) at fuel.old given turned fuel.new (tasks_of live.new.items)) }
 {
     let one = &mut live[at];

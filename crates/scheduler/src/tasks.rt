@@ -2,7 +2,7 @@
 ghost use Rattle.std.specs.Prelude.{◌≡◌, ◌<◌, ◌^◌, ◌-◌, ◌+◌, ◌++◌, ◌∷◌, [], length, MatchOption, IfOk, OnOk, OnErr, Some, None};
 ghost use Rattle.rig_model.specs.Effect.{dropped};
 ghost use Rattle.rig_model.specs.Step.{task_at};
-ghost use Rattle.scheduler.specs.Tasks.{PollsOf};
+ghost use Rattle.scheduler.specs.Tasks.{PollsOf, KnowsAll};
 ghost use Rattle.scheduler.specs.Places.{StandsAt};
 ghost use Rattle.scheduler.specs.Meanings.{tasks_of};
 
@@ -88,6 +88,8 @@ impl<F: Flow> LiveTasks<F> {
         view: &V,
         fuel: &mut u64,
     ) -> Result<Option<Turned>, NoMemory>
+        requires ready { V.is_ready view.now }
+        requires known { KnowsAll (V.view view.now) self.old.tasks }
         ensures { IfOk result (λ turned. PollsOf (V.view view.now) fuel.old self.old task given turned fuel.new self.new) }
     {
         let Some(at) = position(self.live.as_slice(), task) else {

@@ -1,21 +1,49 @@
 // What a task sees of the runner.
-use rig_model::{Look, SigId};
+ghost use Rattle.std.specs.Prelude.{IfOk};
+ghost use Rattle.scheduler.specs.Tasks.{KnowsAll, PollsOf};
 
-/// The map of signals, as a task sees it.
-#[derive(Clone, Copy)]
-pub struct MapView<'a> {
-    pub signals: &'a Vec<Option<u8>>,
+use crate::tasks::LiveTasks;
+use four_value::Bits;
+use gpi::{Gpi, SigId};
+use port_io::NoMemory;
+use rig_model::{Flow, Given, Look, TaskNo, Turned};
+use std::alloc::Global;
+
+/// The simulator, as a task sees it.
+pub struct KernelView<'a, K: Gpi> {
+    pub kernel: &'a K,
 }
 
-impl<'a> Look for MapView<'a> {
-    ghost view = { λ v. record { signals = v.signals.now.items } };
-
-    fn read(&self, sig: SigId) -> Option<u8> {
-        let at = sig.0 as usize;
-        if at < self.signals.len() {
-            self.signals[at]
-        } else {
-            None
-        }
+impl<'a, K: Gpi> Drop for KernelView<'a, K> {
+    fn drop(self) {
+        let KernelView { kernel: _ } = self;
     }
+}
+
+impl<'a, K: Gpi> Look for KernelView<'a, K> {
+    ghost view = { λ v. record { signals = (K.content v.kernel.now).state.signals } };
+
+    ghost is_ready = { λ v. K.is_loaded v.kernel.now };
+
+    fn read(&self, sig: SigId) -> Bits {
+        self.kernel.read(sig)
+    }
+}
+
+// The task of that number goes on until it wants something, or `None` where it isn't live.
+pub fn poll_task<F: Flow, K: Gpi>(
+    alloc: Global,
+    live: &mut LiveTasks<F>,
+    kernel: &K,
+    task: TaskNo,
+    given: Given,
+    fuel: &mut u64,
+) -> Result<Option<Turned>, NoMemory>
+    requires loaded { K.is_loaded kernel.now }
+    requires known { KnowsAll (record { signals = (K.content kernel.now).state.signals }) live.old.tasks }
+    ensures { IfOk result (λ turned. PollsOf (record { signals = (K.content kernel.now).state.signals })
+        fuel.old live.old task given turned fuel.new live.new) }
+{
+    let view = KernelView { kernel };
+    live.poll(alloc, task, given, &view, fuel)
 }

@@ -1,10 +1,10 @@
 // The staged writes.
-ghost use Rattle.std.specs.Prelude.{◌≡◌, [], OnOk};
+ghost use Rattle.std.specs.Prelude.{◌≡◌, ◌∷◌, [], OnOk, MatchOption};
 ghost use Rattle.rig_model.specs.Effect.{restaged};
-ghost use Rattle.rig_model.proofs.EventLaws.{written_out};
 
+use gpi::SigId;
 use port_io::NoMemory;
-use rig_model::{SigId, Staged};
+use rig_model::Staged;
 
 // Stages a write as the last one, and takes an older one of the signal out.
 pub fn stage(staged: &mut Vec<Staged>, sig: SigId, number: u8) -> Result<(), NoMemory>
@@ -22,16 +22,13 @@ pub fn stage(staged: &mut Vec<Staged>, sig: SigId, number: u8) -> Result<(), NoM
     Ok(())
 }
 
-// The staged writes go out, the oldest first.
-pub fn write_out(staged: &mut Vec<Staged>, signals: &mut Vec<Option<u8>>)
-    ensures signals { signals.new.items ≡ written_out staged.old.items signals.old.items }
-    ensures staged { staged.new.items ≡ [] }
+// Takes the oldest write out.
+pub fn take_first(staged: &mut Vec<Staged>) -> Option<Staged>
+    ensures { MatchOption result ((staged.old.items ≡ []) × (staged.new.items ≡ [])) (λ write. staged.old.items ≡ write ∷ staged.new.items) }
 {
-    for write in staged.iter() {
-        let at = write.sig.0 as usize;
-        if at < signals.len() {
-            signals[at] = Some(write.number);
-        }
+    if staged.is_empty() {
+        None
+    } else {
+        Some(staged.remove(0))
     }
-    staged.clear();
 }

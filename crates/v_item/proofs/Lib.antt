@@ -1,3 +1,4 @@
 pub mod Rules
 pub mod ItemLaws
 pub mod Lowest
+pub mod CallerLaws

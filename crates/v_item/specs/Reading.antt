@@ -14,7 +14,7 @@ use Rattle.v_syntax.specs.SourceTrees.{RangeTree, Bounds, PortHeadTree, Head, Ne
 use Rattle.v_syntax.specs.Items.{event_of}
 use Rattle.v_expression.specs.Reading.{expression_of, target_of}
 use Rattle.v_expression.specs.Starts.{starts_expression}
-use Rattle.v_phrase.specs.Readers.{Reader, nothing, token_of, place_in, ◌⊛◌, ◌◃◌, ◌▹◌, maybe, separated, one_of, either, starts_mark, starts_word, sign, word_of, listed}
+use Rattle.v_phrase.specs.Readers.{Reader, nothing, token_of, place_in, ◌⊛◌, ◌◃◌, ◌▹◌, maybe, separated, one_of, either, starts_mark, sign, word_of, listed}
 use Rattle.v_statement.specs.Reading.{identifier_of, labels_of, statement_of}
 use Rattle.v_item.specs.Firsts.{form_of, starts_kind, starts_edge, starts_separator, starts_tail, starts_connections}
 

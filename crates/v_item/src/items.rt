@@ -1,8 +1,13 @@
 //! Module items.
 
-ghost use Rattle.std.specs.Prelude.{◌≡◌, ◌<◌};
-ghost use Rattle.v_syntax.specs.SourceTrees.{view_kind, view_item};
+ghost use Rattle.std.specs.Prelude.{◌≡◌, ◌<◌, suc, false, List, IfOk, IfErr};
+ghost use Rattle.v_syntax.specs.declared.token.Token.{Token};
+ghost use Rattle.v_syntax.specs.declared.word.Keyword.TheVariants as word;
+ghost use Rattle.v_syntax.specs.SourceTrees.{ItemTree, view_kind, view_item};
+ghost use Rattle.v_syntax.specs.Items;
 ghost use Rattle.v_expression.specs.Stops.{Gives};
+ghost use Rattle.v_expression.specs.Refusals.{IsRefusal, IsRead};
+ghost use Rattle.v_phrase.specs.Readers.{starts_word};
 ghost use Rattle.v_item.specs.Firsts;
 ghost use Rattle.v_item.specs.Firsts.{form_of, word_form};
 ghost use Rattle.v_item.specs.Reading.{kind_of, item_of};
@@ -73,10 +78,9 @@ fn kind(
     }
 }
 
-/// Reads a module item (IEEE 1364-2005, annex A.1.4) at the front of the tokens, which are the last of a text of `total`
-/// tokens. Its expressions, targets and statements have heights of at most `room + 1`. Also gives the tokens behind it.
+// Its `gives` alone: what it gives is what the reader of an item gives.
 #[tactic(auto, unfolding(crate::specs::Reading::item_of))]
-pub fn item(
+fn item_at(
     alloc: Global,
     total: usize,
     room: usize,
@@ -88,4 +92,24 @@ pub fn item(
     let at = place(total, tokens);
     let (kind, rest) = kind(alloc, total, room, tokens)?;
     Ok((Item { at, kind }, rest))
+}
+
+/// Reads a module item (IEEE 1364-2005, annex A.1.4) at the front of the tokens, which are the last of a text of `total`
+/// tokens. Its expressions, targets and statements have heights of at most `room + 1`. Also gives the tokens behind it.
+pub fn item(
+    alloc: Global,
+    total: usize,
+    room: usize,
+    tokens: &[Token],
+) -> Result<(Item, &[Token]), ReadError>
+    requires { room < 1000 }
+    ensures gives { Gives (λ x. (view_item x.0, x.1.now)) result (item_of total room tokens.now) }
+    // What is read is an item that spells the tokens up to those that are given, within the height.
+    ensures found { IfOk result (λ x. (Items.item total (suc room)).whole (view_item x.0) tokens.now x.1.now) }
+    // An item within the height is read, unless memory runs out, where no `else` follows it.
+    ensures only { (i : ItemTree) (rest : List Token) → (Items.item total (suc room)).whole i tokens.now rest → starts_word word.Else rest ≡ false → IsRead (λ x. (view_item x.0 ≡ i) × (x.1.now ≡ rest)) result }
+    // A refusal is at the first token that no partial item within the height spells.
+    ensures refused { IfErr result (λ e. IsRefusal (λ n rest. (Items.item total (suc n)).front tokens.now rest) room e) }
+{
+    item_at(alloc, total, room, tokens)
 }

@@ -4,7 +4,7 @@ use Rattle.std.specs.Prelude.{ℕ, List, ◌∷◌, Option, Result, length}
 use Rattle.v_syntax.specs.declared.token.Token.{Token}
 use Rattle.v_syntax.specs.declared.mark.Mark.TheVariants as mark
 use Rattle.v_syntax.specs.declared.word.Keyword.TheVariants as word
-use Rattle.v_syntax.specs.SourceTrees.{RangeTree, PortHeadTree, HeaderParameterTree, HeaderParameterOf, HeaderPortTree, HeaderPortOf, HeaderPortsTree, NamedPorts, DeclaredPorts, ItemTree, ModuleTree}
+use Rattle.v_syntax.specs.SourceTrees.{RangeTree, HeaderParameterTree, HeaderParameterOf, HeaderPortTree, HeaderPortOf, HeaderPortsTree, NamedPorts, DeclaredPorts, ItemTree, ModuleTree}
 use Rattle.v_syntax.specs.Sources.{headed, with_head, module_tree}
 use Rattle.v_expression.specs.Stops.{Stop}
 use Rattle.v_phrase.specs.Readers.{Reader, nothing, both, ◌⊛◌, ◌◃◌, ◌▹◌, maybe, many, either, starts_mark, starts_word, sign, word_of, to_the_end}

@@ -75,7 +75,7 @@ fn heights(rt: HostRuntime) -> Result<(), Fail> {
     Ok(())
 }
 
-/// A text of a front, a unit so many times, and a back.
+/// A text of a front, a unit so many times, and a back: about 1 MiB.
 fn check_long(
     rt: &(impl Abort + AllocGlobal),
     front: &[u8],
@@ -99,7 +99,7 @@ fn long_texts(rt: HostRuntime) -> Result<(), Fail> {
         &rt,
         b"module m; assign y = ",
         b"(",
-        100_000,
+        1_000_000,
         b"",
         "TooDeep(69)",
     )?;
@@ -107,7 +107,7 @@ fn long_texts(rt: HostRuntime) -> Result<(), Fail> {
         &rt,
         b"module m; initial ",
         b"begin ",
-        20_000,
+        170_000,
         b"",
         "TooDeep(68)",
     )?;
@@ -115,7 +115,7 @@ fn long_texts(rt: HostRuntime) -> Result<(), Fail> {
         &rt,
         b"module m; initial case (a) ",
         b"a:;",
-        20_000,
+        340_000,
         b"endcase endmodule",
         "1 module",
     )?;
@@ -123,7 +123,7 @@ fn long_texts(rt: HostRuntime) -> Result<(), Fail> {
         &rt,
         b"module m; wire a",
         b",a",
-        50_000,
+        500_000,
         b"; endmodule",
         "1 module",
     )?;

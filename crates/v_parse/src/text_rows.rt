@@ -7,7 +7,7 @@ pub struct Row {
     pub expected: &'static str,
 }
 
-pub static ACCEPTED: [Row; 44] = [
+pub static ACCEPTED: [Row; 46] = [
     Row {
         rule: "an empty text",
         text: b"",
@@ -55,7 +55,12 @@ pub static ACCEPTED: [Row; 44] = [
     },
     Row {
         rule: "wires",
-        text: b"module m; wire a; wire [7:0] b, c = a; wire d = 1, e; endmodule",
+        text: b"module m; wire a; wire [7:0] b, c; wire d = a, e = 1; endmodule",
+        expected: "1 module",
+    },
+    Row {
+        rule: "wider than the standard: a wire with a value beside one without",
+        text: b"module m; wire a, b = 1, c; endmodule",
         expected: "1 module",
     },
     Row {
@@ -90,6 +95,11 @@ pub static ACCEPTED: [Row; 44] = [
     },
     Row {
         rule: "initial",
+        text: b"module m; reg a; initial a = 1; endmodule",
+        expected: "1 module",
+    },
+    Row {
+        rule: "wider than the standard: an initial that is a null statement",
         text: b"module m; initial ; endmodule",
         expected: "1 module",
     },

@@ -5,7 +5,7 @@ use Rattle.v_syntax.specs.declared.word.Keyword.TheVariants as word
 use Rattle.v_syntax.specs.declared.statement.StatementPlace.{StatementPlace}
 use Rattle.v_syntax.specs.StatementTrees.{HeaderTree, StatementTree}
 use Rattle.v_expression.specs.declared.read_error.ReadError.{ReadError}
-use Rattle.v_expression.specs.Stops.{Fails, ◌>>=◌}
+use Rattle.v_expression.specs.Stops.{Fails}
 use Rattle.v_syntax.specs.Statements.{for_tree}
 use Rattle.v_syntax.specs.ExpressionSpans.{place}
 use Rattle.v_phrase.specs.Readers.{Reader, word_of}

@@ -1,6 +1,6 @@
 -- The readers of statements: each is put together as its rule is. `end` is the number of the text's tokens; `room` bounds
 -- the heights of a statement's parts, as the rules' n does, and s reads a statement one level down.
-use Rattle.std.specs.Prelude.{ℕ, zero, suc, List, [], ◌∷◌, length, Option, Some, None, Result, Ok}
+use Rattle.std.specs.Prelude.{ℕ, zero, suc, List, Option, Result, Ok}
 use Rattle.v_syntax.specs.declared.token.Token.{Token}
 use Rattle.v_syntax.specs.declared.mark.Mark.TheVariants as mark
 use Rattle.v_syntax.specs.declared.word.Keyword.TheVariants as word
@@ -9,7 +9,7 @@ use Rattle.v_syntax.specs.declared.statement.StatementForm.{StatementForm}
 use Rattle.v_syntax.specs.declared.statement.StatementForm.TheVariants as form
 use Rattle.v_syntax.specs.declared.statement.StatementPlace.{StatementPlace}
 use Rattle.v_syntax.specs.declared.statement.StatementPlace.TheVariants.{InAlways, InInitial, WholeInitial}
-use Rattle.v_syntax.specs.ExpressionTrees.{Tree, TargetTree}
+use Rattle.v_syntax.specs.ExpressionTrees.{Tree}
 use Rattle.v_syntax.specs.StatementTrees.{ArgumentTree, Value, Text, VariableTree, Variable, HeaderTree, Header, StatementTree, Null, Delay, CaseTree, Match, Default}
 use Rattle.v_syntax.specs.TokenMeanings.{name_of, number_of, text_of, task_of, assignment_kind, case_kind}
 use Rattle.v_syntax.specs.Statements.{named_at, inside, block_tree, delayed_tree, assignment_tree, if_tree, case_tree, numbered, for_tree, task_tree}

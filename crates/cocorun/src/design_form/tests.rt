@@ -61,10 +61,20 @@ fn designs(rt: HostRuntime) -> Result<(), Fail> {
 }
 
 #[test]
-fn signals(rt: HostRuntime) -> Result<(), Fail> {
-    let flat = flat_of_ports(rt.alloc(), b"ca")?;
-    assert_eq!(rt; flat.signals.len(), 2);
-    assert_eq!(rt; flat.signals.get(0).path.bytes(), b"top.c".as_slice());
-    assert_eq!(rt; flat.signals.get(1).path.bytes(), b"top.a".as_slice());
+fn nets(rt: HostRuntime) -> Result<(), Fail> {
+    let alloc = rt.alloc();
+    let design = b"module top(input [7:0] c, input [7:0] a);\nendmodule\n";
+    let ports = read_design(alloc, design)?.ok_or("a design")?;
+    let flat = flat_of_ports(alloc, &ports)?;
+    let paths = ["top.c", "top.a"];
+    assert_eq!(rt; flat.signals.len(), paths.len());
+    for (at, path) in paths.iter().enumerate() {
+        let signal = flat.signals.get(at);
+        assert_eq!(rt; signal.path.bytes(), path.as_bytes());
+        assert_eq!(rt; signal.width, 8);
+        assert_eq!(rt; signal.start, Digit::Z);
+    }
+    assert_eq!(rt; flat.step_fs, 1_000_000);
+    assert!(rt; flat.is_sound());
     Ok(())
 }

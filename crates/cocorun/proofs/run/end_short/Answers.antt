@@ -1,4 +1,4 @@
-use Rattle.std.proofs.Common.{◌≡◌, ◌∙◌, ap, [], ◌∷◌, List, ℕ, Result, Ok, Err, refl, sym}
+use Rattle.std.proofs.Common.{◌∙◌, ap, [], ◌∷◌, List, ℕ, Ok, Err, refl, sym}
 use Rattle.rig_model.specs.Line.{budget_line}
 use Rattle.cocorun.specs.declared.status.Status.TheVariants.{WriteFault}
 use Rattle.cocorun.specs.Runs.{short_status}

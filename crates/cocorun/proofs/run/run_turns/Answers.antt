@@ -1,6 +1,7 @@
-use Rattle.std.proofs.Common.{◌≡◌, ◌∙◌, ap, Ok}
-use Rattle.scheduler.specs.Engine.{rig_of, setup_of}
-use Rattle.scheduler.proofs.ManyTurns.{went_then, turning_anywhere, turning_err, fits_went}
+use Rattle.std.proofs.Common.{◌∙◌, ap, Ok, subst}
+use Rattle.scheduler.specs.Fits.{FitsAfter}
+use Rattle.scheduler.specs.declared.turn.Turn.{Turn}
+use Rattle.scheduler.proofs.ManyTurns.{went_then, turning_anywhere, turning_err}
 use Rattle.cocorun.proofs.run.run_turns.Goals as goal
 
 pub returns-in_err-turn-clause-turning : goal.returns-in_err-turn-clause-turning
@@ -12,7 +13,8 @@ turns-preserved g c = record {
   turning = λ r fuel e out more. c.turns.invariant.turning r fuel e out
       (went_then g.O.Sink.takes g.O.Sink.breaks g.O.Sink.told _ _ _ _ _ _ _ _ _ r fuel e out c.turns.invariant.setup (ap Ok c.in-Went.is) c.in_ok-turn.ensures.turning more);
   setup = c.turn.ensures.setup ∙ c.turns.invariant.setup;
-  fits = fits_went _ (setup_of g.M.FlowMaker.functions c.turns.engine) _ _ _ c.turn.ensures.setup c.in-Went.is c.in_ok-turn.ensures.fits;
+  loaded = c.turn.ensures.loaded;
+  fits = subst (λ (t : Turn). FitsAfter g.M.FlowMaker.functions g.W.Awaits.waiting g.W.Awaits.held t c.turn.new.self (g.K.Gpi.content c.turn.new.kernel)) c.in-Went.is c.in_ok-turn.ensures.fits;
 }
 
 pub returns-in-turns-clause-turning : goal.returns-in-turns-clause-turning

@@ -3,7 +3,8 @@ use Rattle.port_io.specs.declared.ports.NoMemory.{NoMemory}
 use Rattle.rig_model.specs.Rig.{Rig}
 use Rattle.rig_model.specs.FitSteps.{FitSteps, anywhere}
 use Rattle.scheduler.specs.Engine.{rig_of, setup_of}
-use Rattle.scheduler.specs.Turns.{Fits, Turning}
+use Rattle.scheduler.specs.Fits.{FitsKernel}
+use Rattle.scheduler.specs.Turns.{Turning}
 use Rattle.scheduler.specs.declared.turn.Turn.{Turn}
 use Rattle.cocorun.proofs.run.run_turns.Given as goal
 
@@ -12,11 +13,12 @@ abbrev pub invariant-turns : goal.invariant-turns
 invariant-turns g l = record {
   turning : (r : Result Turn NoMemory) (fuel : ℕ) (e : Rig) (out : _)
       → Turning g.O.Sink.takes g.O.Sink.breaks g.O.Sink.told (FitSteps anywhere (setup_of g.M.FlowMaker.functions l.fn.engine)) (setup_of g.M.FlowMaker.functions l.fn.engine)
-      l.fuel (rig_of g.W.Awaits.waiting l.engine) l.out r fuel e out
+      l.fuel (rig_of g.W.Awaits.waiting l.engine (g.K.Gpi.content l.kernel)) l.out r fuel e out
       → Turning g.O.Sink.takes g.O.Sink.breaks g.O.Sink.told (FitSteps anywhere (setup_of g.M.FlowMaker.functions l.fn.engine)) (setup_of g.M.FlowMaker.functions l.fn.engine)
-      l.fn.fuel (rig_of g.W.Awaits.waiting l.fn.engine) l.fn.out r fuel e out;
+      l.fn.fuel (rig_of g.W.Awaits.waiting l.fn.engine (g.K.Gpi.content l.fn.kernel)) l.fn.out r fuel e out;
   setup : setup_of g.M.FlowMaker.functions l.engine ≡ setup_of g.M.FlowMaker.functions l.fn.engine;
-  fits : Fits (setup_of g.M.FlowMaker.functions l.engine) 0 l.engine.ready.room (rig_of g.W.Awaits.waiting l.engine);
+  loaded : g.K.Gpi.is_loaded l.kernel;
+  fits : FitsKernel g.M.FlowMaker.functions g.W.Awaits.waiting g.W.Awaits.held l.engine (g.K.Gpi.content l.kernel);
 }
 
 -- what is left of the fuel, and then how many tasks are ready: of these there are at most 65,536

@@ -1,13 +1,16 @@
-use Rattle.std.proofs.Common.{◌≡◌, ap, subst, sym, inl, inr, List, ℕ}
-use Rattle.rig_model.specs.declared.file.TestFile.{TestFile}
+use Rattle.std.proofs.Common.{ap, subst, sym, inl, inr, List, ℕ, length}
 use Rattle.cocorun.specs.TestsForm.{IsTests}
-use Rattle.cocorun.specs.Reading.{refused}
+use Rattle.cocorun.specs.Reading.{IsOneTest, refused}
 use Rattle.cocorun.specs.declared.status.Status.TheVariants.{TestsRefused}
 use Rattle.cocorun.proofs.Runnable.{one_test}
 use Rattle.cocorun.proofs.top.decide_tests.Goals as goal
 
 pub returns-in-Some-clause-can_run : goal.returns-in-Some-clause-can_run
-returns-in-Some-clause-can_run g c = one_test c.as_slice.result.now c.as_slice-in-Ok.result.now c.in-Some.file (rw c.in-Some.is at c.in_ok-file-in-Ok.ensures)
+returns-in-Some-clause-can_run g c = (
+  c.requires,
+  subst (λ (ports : List ℕ). IsOneTest (length ports) c.in-Some.file) c.as_slice.ensures.value
+      (one_test c.as_slice.result.now c.as_slice-in-Ok.result.now c.in-Some.file (rw c.in-Some.is at c.in_ok-file-in-Ok.ensures)),
+)
 
 pub returns-in-Ok-clause-reads : goal.returns-in-Ok-clause-reads
 returns-in-Ok-clause-reads g c = inr (

@@ -1,7 +1,7 @@
 use Rattle.std.proofs.Common.{length, arith, sym, ◌∙◌}
 use Rattle.std.proofs.lemmas.Result.{err_from_is_err_and}
 use Rattle.v_syntax.specs.SourceTrees.{view_parameter}
-use Rattle.v_item.specs.Reading.{parameter_of, parameter_list_of}
+use Rattle.v_item.specs.Reading.{parameter_of}
 use Rattle.v_phrase.proofs.Loops.{listed_stop, listed_empty, listed_more, listed_fail}
 use Rattle.v_item.proofs.declarations.parameter_list.Goals as goal
 use Rattle.v_item.proofs.declarations.parameter_list.Goals.{else-loop-test, then-loop-test+then-not-starts_mark}

@@ -2,8 +2,7 @@ use Rattle.std.proofs.Common.{length, arith, sym, ◌∙◌}
 use Rattle.std.proofs.lemmas.Result.{err_from_is_err_and}
 use Rattle.v_syntax.specs.declared.mark.Mark.TheVariants as mark
 use Rattle.v_statement.specs.Reading.{identifier_of}
-use Rattle.v_item.specs.Reading.{identifiers_of}
-use Rattle.v_phrase.specs.Readers.{starts_mark, sign, token_of}
+use Rattle.v_phrase.specs.Readers.{starts_mark, sign}
 use Rattle.v_phrase.proofs.Loops.{plain_stop, plain_empty, plain_more, plain_fail}
 use Rattle.v_item.proofs.parts.identifiers.Goals as goal
 use Rattle.v_item.proofs.parts.identifiers.Goals.{else-loop-test, then-loop-test+then-not-starts_mark}

@@ -2,7 +2,7 @@ use Rattle.std.proofs.Common.{◌≡◌, ◌-◌}
 use Rattle.v_syntax.specs.declared.mark.Mark.TheVariants as mark
 use Rattle.v_statement.specs.Reading.{identifier_of}
 use Rattle.v_item.specs.Reading.{identifiers_of}
-use Rattle.v_phrase.specs.Readers.{many_by, with_front, starts_mark, sign, token_of, ◌▹◌}
+use Rattle.v_phrase.specs.Readers.{many_by, with_front, starts_mark, sign, ◌▹◌}
 use Rattle.v_item.proofs.parts.identifiers.Given as goal
 
 abbrev pub invariant-loop : goal.invariant-loop

@@ -1,10 +1,9 @@
 use Rattle.std.proofs.Common.{length, arith, sym, ◌∙◌}
 use Rattle.std.proofs.lemmas.Result.{err_from_is_err_and}
-use Rattle.v_syntax.specs.declared.mark.Mark.TheVariants as mark
 use Rattle.v_syntax.specs.TokenMeanings.{event_separator}
 use Rattle.v_item.specs.Firsts.{starts_separator}
-use Rattle.v_item.specs.Reading.{event_reader, event_list_of}
-use Rattle.v_phrase.specs.Readers.{starts_mark, sign, token_of}
+use Rattle.v_item.specs.Reading.{event_reader}
+use Rattle.v_phrase.specs.Readers.{token_of}
 use Rattle.v_phrase.proofs.Loops.{plain_stop, plain_empty, plain_more, plain_fail}
 use Rattle.v_item.proofs.processes.event_list.Goals as goal
 use Rattle.v_item.proofs.processes.event_list.Goals.{else-loop-test, then-loop-test+then-not-starts_separator}

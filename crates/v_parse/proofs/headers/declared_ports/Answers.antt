@@ -1,7 +1,7 @@
 use Rattle.std.proofs.Common.{length, arith, sym, ◌∙◌}
 use Rattle.std.proofs.lemmas.Result.{err_from_is_err_and}
 use Rattle.v_syntax.specs.SourceTrees.{view_header_port}
-use Rattle.v_parse.specs.Reading.{next_port_of, declared_ports_of}
+use Rattle.v_parse.specs.Reading.{next_port_of}
 use Rattle.v_phrase.proofs.Loops.{listed_stop, listed_empty, listed_more, listed_fail}
 use Rattle.v_parse.proofs.headers.declared_ports.Goals as goal
 use Rattle.v_parse.proofs.headers.declared_ports.Goals.{else-loop-test, then-loop-test+then-not-starts_mark}

@@ -3,8 +3,6 @@ use Rattle.std.proofs.lemmas.Result.{err_from_is_err_and}
 use Rattle.v_syntax.specs.SourceTrees.{view_item}
 use Rattle.v_item.specs.Firsts.{starts_item}
 use Rattle.v_item.specs.Reading.{item_of}
-use Rattle.v_parse.specs.Reading.{items_of}
-use Rattle.v_phrase.specs.Readers.{starts_word}
 use Rattle.v_phrase.proofs.Loops.{items_stop, items_empty, items_more, items_fail}
 use Rattle.v_parse.proofs.modules.items.Goals as goal
 use Rattle.v_parse.proofs.modules.items.Goals.{else-loop-test, then-loop-test+then-not-starts_item}
@@ -13,12 +11,12 @@ pub returns-in_err-another : goal.returns-in_err-another
 returns-in_err-another c =
     let q = err_from_is_err_and c.from_residual.result c.from_residual.ensures.1 in
     rw (q.1, q.2) (items_fail view_item (starts_item) (item_of c.args.total c.args.room) c.loop.all.items (length c.args.tokens.now) c.loop.counter c.loop.rest.now
-    _ _ c.loop-test.true (sym c.starts_item.ensures ∙ c.if-not-starts_item.false) c.loop.invariant c.in_err-another.ensures)
+    _ _ c.loop-test.true (sym c.starts_item.ensures ∙ c.if-not-starts_item.false) c.loop.invariant c.in_err-another.ensures.gives)
 
 pub loop-preserved : goal.loop-preserved
 loop-preserved c =
     items_more view_item (starts_item) (item_of c.args.total c.args.room) c.loop.all.items (length c.args.tokens.now) c.loop.counter c.loop.rest.now
-    _ c.in_ok-another.another _ c.loop-test.true (sym c.starts_item.ensures ∙ c.if-not-starts_item.false) c.in_ok-push.ensures.items c.in_ok-another.ensures ∙ c.loop.invariant
+    _ c.in_ok-another.another _ c.loop-test.true (sym c.starts_item.ensures ∙ c.if-not-starts_item.false) c.in_ok-push.ensures.items c.in_ok-another.ensures.gives ∙ c.loop.invariant
 
 pub returns : goal.returns
 returns c =

@@ -1,7 +1,7 @@
 use Rattle.std.proofs.Common.{length, arith, sym, ◌∙◌}
 use Rattle.std.proofs.lemmas.Result.{err_from_is_err_and}
 use Rattle.v_syntax.specs.StatementTrees.{view_argument}
-use Rattle.v_statement.specs.Reading.{argument_of, argument_list_of}
+use Rattle.v_statement.specs.Reading.{argument_of}
 use Rattle.v_phrase.proofs.Loops.{listed_stop, listed_empty, listed_more, listed_fail}
 use Rattle.v_statement.proofs.lists.arguments.Goals as goal
 use Rattle.v_statement.proofs.lists.arguments.Goals.{else-loop-test, then-loop-test+then-not-starts_mark}

@@ -1,37 +1,29 @@
 use Rattle.std.proofs.Common.{◌∙◌, sym, arith}
-use Rattle.rig_model.specs.Serve.{key}
-use Rattle.rig_model.specs.declared.design.Key.TheVariants.{At, ReadWrite}
-use Rattle.scheduler.specs.Engine.{rig_of}
-use Rattle.scheduler.proofs.EventTurns.{settle_moves, settle_short, time_moves, time_short, stalled_moves, setup_after}
-use Rattle.scheduler.proofs.FitLaws.{fits_served}
+use Rattle.scheduler.specs.Engine.{setup_of, parts_of}
+use Rattle.scheduler.proofs.EventTurns.{stalled_turning, spent_turning, short_turning, went_turning, broken_turning, cut_turning}
+use Rattle.scheduler.proofs.StandLaws.{keys_named}
 use Rattle.scheduler.proofs.engine.Engine.advance.Goals as goal
 
-pub returns-then-fuel-eq0-clause-turns : goal.returns-then-fuel-eq0-clause-turns
-returns-then-fuel-eq0-clause-turns g c = settle_short _ _ _ _ _ _ _ _ c.requires.none (sym c.settles.ensures ∙ c.if-settles.true) c.if-fuel-eq0.true
+pub returns-then-idle-clause-turning : goal.returns-then-idle-clause-turning
+returns-then-idle-clause-turning g c = stalled_turning g.O.Sink.takes g.O.Sink.breaks g.O.Sink.told (setup_of g.M.FlowMaker.functions c.args.self.now) (parts_of g.W.Awaits.waiting c.args.self.now) (g.K.Gpi.content c.args.kernel.now) c.requires.none c.requires.fits.kernel.stands _ _ (sym c.idle.ensures ∙ c.if-idle.true)
 
-pub returns-then-settles-clause-turns : goal.returns-then-settles-clause-turns
-returns-then-settles-clause-turns g c =
-    settle_moves _ _ _ _ _ _ _ _ c.requires.none _ _ _ _ (sym c.settles.ensures ∙ c.if-settles.true) (omega arith)
-    c.write_out.ensures.signals c.fire.ensures.ready c.fire.ensures.waiting c.write_out.ensures.staged
+pub returns-then-idle-clause-keys : goal.returns-then-idle-clause-keys
+returns-then-idle-clause-keys g c = keys_named (setup_of g.M.FlowMaker.functions c.args.self.now) _ _ (parts_of g.W.Awaits.waiting c.args.self.now) c.requires.fits.kernel
 
-pub returns-then-settles-clause-setup : goal.returns-then-settles-clause-setup
-returns-then-settles-clause-setup g c = setup_after _ _ _ c.args.self.now.staged.items c.write_out.ensures.signals
+pub returns-then-fuel-eq0-clause-turning : goal.returns-then-fuel-eq0-clause-turning
+returns-then-fuel-eq0-clause-turning g c = spent_turning g.O.Sink.takes g.O.Sink.breaks g.O.Sink.told (setup_of g.M.FlowMaker.functions c.args.self.now) (parts_of g.W.Awaits.waiting c.args.self.now) (g.K.Gpi.content c.args.kernel.now) c.requires.none c.requires.fits.kernel.stands _ _ (sym c.idle.ensures ∙ c.if-idle.false) c.if-fuel-eq0.true
 
-pub returns-then-settles-clause-fits : goal.returns-then-settles-clause-fits
-returns-then-settles-clause-fits g c =
-    fits_served _ _ _ (rig_of g.W.Awaits.waiting c.args.self.now) (key ReadWrite) _ _ _ _ c.requires.fits c.fire.ensures.room c.fire.ensures.ready c.fire.ensures.waiting
+pub returns-then-fuel-eq0-clause-keys : goal.returns-then-fuel-eq0-clause-keys
+returns-then-fuel-eq0-clause-keys g c = keys_named (setup_of g.M.FlowMaker.functions c.args.self.now) _ _ (parts_of g.W.Awaits.waiting c.args.self.now) c.requires.fits.kernel
 
-pub returns-in_default-clause-turns : goal.returns-in_default-clause-turns
-returns-in_default-clause-turns g c = stalled_moves _ _ _ _ _ _ _ _ c.requires.none (sym c.settles.ensures ∙ c.if-settles.false) c.in_default.ensures
+pub returns-in_err-do_event-clause-turning : goal.returns-in_err-do_event-clause-turning
+returns-in_err-do_event-clause-turning g c = short_turning g.O.Sink.takes g.O.Sink.breaks g.O.Sink.told (setup_of g.M.FlowMaker.functions c.args.self.now) (parts_of g.W.Awaits.waiting c.args.self.now) (g.K.Gpi.content c.args.kernel.now) c.requires.none _ _ _ _ _ _ c.from_residual.ensures.0 c.in_err-do_event.ensures.none
 
-pub returns-then-fuel-eq0-2-clause-turns : goal.returns-then-fuel-eq0-2-clause-turns
-returns-then-fuel-eq0-2-clause-turns g c = time_short _ _ _ _ _ _ _ _ c.requires.none c.in-Some.time (sym c.settles.ensures ∙ c.if-settles.false) c.in-Some.ensures c.if-fuel-eq0-2.true
+pub returns-in-None-clause-turning : goal.returns-in-None-clause-turning
+returns-in-None-clause-turning g c = went_turning g.O.Sink.takes g.O.Sink.breaks g.O.Sink.told (setup_of g.M.FlowMaker.functions c.args.self.now) (parts_of g.W.Awaits.waiting c.args.self.now) (g.K.Gpi.content c.args.kernel.now) c.requires.none _ (omega arith) _ _ _ (rw c.in-None.is at c.in_ok-do_event.ensures.done)
 
-pub returns-clause-turns : goal.returns-clause-turns
-returns-clause-turns g c =
-    time_moves _ _ _ _ _ _ _ _ c.requires.none c.in-Some.time _ _ (sym c.settles.ensures ∙ c.if-settles.false) c.in-Some.ensures (omega arith)
-    c.fire-2.ensures.ready c.fire-2.ensures.waiting
+pub returns-in-Some-Failed-clause-turning : goal.returns-in-Some-Failed-clause-turning
+returns-in-Some-Failed-clause-turning g c = broken_turning g.O.Sink.takes g.O.Sink.breaks g.O.Sink.told (setup_of g.M.FlowMaker.functions c.args.self.now) (parts_of g.W.Awaits.waiting c.args.self.now) (g.K.Gpi.content c.args.kernel.now) c.requires.none _ (omega arith) _ _ _ (rw (c.in-Some-Failed.is, c.in-Some-Failed.field-0-is) at c.in_ok-do_event.ensures.done)
 
-pub returns-clause-fits : goal.returns-clause-fits
-returns-clause-fits g c =
-    fits_served _ _ _ (rig_of g.W.Awaits.waiting c.args.self.now) (key (At c.in-Some.time)) _ _ _ _ c.requires.fits c.fire-2.ensures.room c.fire-2.ensures.ready c.fire-2.ensures.waiting
+pub returns-in-Some-OutOfMemory-clause-turning : goal.returns-in-Some-OutOfMemory-clause-turning
+returns-in-Some-OutOfMemory-clause-turning g c = cut_turning g.O.Sink.takes g.O.Sink.breaks g.O.Sink.told (setup_of g.M.FlowMaker.functions c.args.self.now) (parts_of g.W.Awaits.waiting c.args.self.now) (g.K.Gpi.content c.args.kernel.now) c.requires.none _ (omega arith) _ _ _ _ (rw (c.in-Some-OutOfMemory.is, c.in-Some-OutOfMemory.field-0-is) at c.in_ok-do_event.ensures.done)

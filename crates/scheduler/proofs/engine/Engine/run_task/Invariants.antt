@@ -4,7 +4,8 @@ use Rattle.rig_model.specs.Rig.{Rig}
 use Rattle.rig_model.specs.Effect.{goes_on}
 use Rattle.rig_model.specs.FitSteps.{FitSteps, in_turn}
 use Rattle.scheduler.specs.Engine.{rig_of, setup_of}
-use Rattle.scheduler.specs.Turns.{Turning, Fits}
+use Rattle.scheduler.specs.Fits.{FitsAt}
+use Rattle.scheduler.specs.Turns.{Turning}
 use Rattle.scheduler.specs.declared.turn.Turn.{Turn}
 use Rattle.scheduler.proofs.engine.Engine.run_task.Given as goal
 
@@ -13,12 +14,13 @@ abbrev pub invariant-effects : goal.invariant-effects
 invariant-effects g l = record {
   turning : (r : Result Turn NoMemory) (fuel : ℕ) (e : Rig) (out : _)
       → Turning g.O.Sink.takes g.O.Sink.breaks g.O.Sink.told (FitSteps in_turn (setup_of g.M.FlowMaker.functions l.fn.self)) (setup_of g.M.FlowMaker.functions l.fn.self)
-      l.fuel (goes_on l.task (Some l.given) (rig_of g.W.Awaits.waiting l.self)) l.out r fuel e out
+      l.fuel (goes_on l.task (Some l.given) (rig_of g.W.Awaits.waiting l.self (g.K.Gpi.content l.kernel))) l.out r fuel e out
       → Turning g.O.Sink.takes g.O.Sink.breaks g.O.Sink.told (FitSteps in_turn (setup_of g.M.FlowMaker.functions l.fn.self)) (setup_of g.M.FlowMaker.functions l.fn.self)
-      l.fn.fuel (goes_on l.fn.task (Some l.fn.given) (rig_of g.W.Awaits.waiting l.fn.self)) l.fn.out r fuel e out;
+      l.fn.fuel (goes_on l.fn.task (Some l.fn.given) (rig_of g.W.Awaits.waiting l.fn.self (g.K.Gpi.content l.fn.kernel))) l.fn.out r fuel e out;
   falls : (l.fuel < l.fn.fuel) ⊎ ((l.fuel ≡ l.fn.fuel) × (length l.self.ready.entries ≤ length l.fn.self.ready.entries));
   setup : setup_of g.M.FlowMaker.functions l.self ≡ setup_of g.M.FlowMaker.functions l.fn.self;
-  fits : Fits (setup_of g.M.FlowMaker.functions l.fn.self) 1 l.self.ready.room (rig_of g.W.Awaits.waiting l.self);
+  fits : FitsAt 1 g.M.FlowMaker.functions g.W.Awaits.waiting g.W.Awaits.held l.self (g.K.Gpi.content l.kernel);
+  loaded : g.K.Gpi.is_loaded l.kernel;
 }
 
 abbrev pub decreases-effects : goal.decreases-effects

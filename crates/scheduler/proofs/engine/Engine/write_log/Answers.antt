@@ -6,11 +6,11 @@ use Rattle.scheduler.proofs.engine.Engine.write_log.Goals as goal
 
 pub returns-in-Err-Failed-clause-next : goal.returns-in-Err-Failed-clause-next
 returns-in-Err-Failed-clause-next g c =
-    let e : c.as_slice.result.now ≡ log_line c.args.self.now.time c.args.level c.args.text.now
-    = c.as_slice.ensures.value ∙ c.in_ok-line.ensures ∙ ap (log_line c.args.self.now.time c.args.level) c.bytes.ensures in (
+    let e : c.as_slice.result.now ≡ log_line c.args.time c.args.level c.args.text.now
+    = c.as_slice.ensures.value ∙ c.in_ok-line.ensures ∙ ap (log_line c.args.time c.args.level) c.bytes.ensures in (
       (
         [],
-        log_line c.args.self.now.time c.args.level c.args.text.now,
+        log_line c.args.time c.args.level c.args.text.now,
         [],
         refl,
         (c.args.out.now, refl, subst (λ (line : List ℕ). g.O.Sink.breaks c.args.out.now line c.put.new.self) e (c.in-Err-Failed.ensures.broken (ap Err c.in-Err-Failed.field-0-is))),
@@ -20,7 +20,7 @@ returns-in-Err-Failed-clause-next g c =
 
 pub returns-clause-part : goal.returns-clause-part
 returns-clause-part g c =
-    let e : c.as_slice.result.now ≡ log_line c.args.self.now.time c.args.level c.args.text.now
-    = c.as_slice.ensures.value ∙ c.in_ok-line.ensures ∙ ap (log_line c.args.self.now.time c.args.level) c.bytes.ensures in
-    part_one g.O.Sink.takes g.O.Sink.told c.args.out.now (log_line c.args.self.now.time c.args.level c.args.text.now) c.put.new.self
+    let e : c.as_slice.result.now ≡ log_line c.args.time c.args.level c.args.text.now
+    = c.as_slice.ensures.value ∙ c.in_ok-line.ensures ∙ ap (log_line c.args.time c.args.level) c.bytes.ensures in
+    part_one g.O.Sink.takes g.O.Sink.told c.args.out.now (log_line c.args.time c.args.level c.args.text.now) c.put.new.self
     (subst (λ (line : List ℕ). AppendsPart (g.O.Sink.told c.args.out.now) (g.O.Sink.told c.put.new.self) line) e c.in-Err-OutOfMemory.ensures.part)

@@ -1,0 +1,263 @@
+-- A simulator stands for a configuration, before and after each effect.
+use Rattle.std.proofs.Common.{◌≡◌, ℕ, ◌||◌, ◌&&◌, Bool, true, false, not, List, [], ◌∷◌, ◌++◌, refl, sym, ap, ◌∙◌, append_assoc, append-nil}
+use Rattle.std.specs.Prelude.{filter}
+use Rattle.four_value.specs.declared.Digit.{Digit}
+use Rattle.gpi.specs.Content.{Content, Does}
+use Rattle.gpi.specs.Content as content
+use Rattle.gpi.specs.Design.{Proc}
+use Rattle.gpi.specs.Events.{Event, event, put}
+use Rattle.gpi.specs.Keys.{has, among, same_key, set_of, raised, raised_by}
+use Rattle.gpi.specs.State.{State}
+use Rattle.gpi.specs.declared.types.Counts.{Counts}
+use Rattle.gpi.specs.declared.types.Key.{Key}
+use Rattle.gpi.specs.declared.types.SigId.{SigId}
+use Rattle.gpi.proofs.SameKeys.{event_same, put_same}
+use Rattle.rig_model.specs.Counts.{counts_after, primed_keys, removed_keys, counted}
+use Rattle.rig_model.specs.Kernel.{ahead, StandsAhead, StandsFor}
+use Rattle.rig_model.specs.Keys.{Rekeyed, AreCounted}
+use Rattle.rig_model.specs.declared.file.TestCase.{TestCase}
+use Rattle.rig_model.specs.Run.{opening}
+use Rattle.rig_model.specs.Rig.{Rig, Setup, procs, awaited, named, keys_of, staged_key, event_of}
+use Rattle.rig_model.specs.Serve as serve
+use Rattle.rig_model.specs.Serve.{still_waiting, woken, all_waiting, all_woken, serve_keys, served, put_of, written_digits, after_put, deposited}
+use Rattle.rig_model.specs.declared.tree.Waiting.{Waiting}
+use Rattle.rig_model.proofs.CountLaws.{count_none}
+use Rattle.rig_model.proofs.KeyLaws.{no_keys_are, same_sym, has_set, among-append, among-filter, among-still}
+
+-- a simulator that was just handed the design stands for the configuration in which a run begins
+pub opening_stands : (setup : Setup) (case : TestCase) → StandsFor setup (content.opening setup.flat) (opening setup case).rig
+opening_stands setup case = record { procs_are = refl; state_is = refl; keys_are = no_keys_are; counts_are = refl }
+
+-- ---- what the simulator is asked
+
+module _ (fired : List Key) (setup : Setup) (k : Content) (c : Rig) (s : StandsAhead fired setup k c) where
+  registered_are : (key : Key) → has key k.keys ≡ has key (set_of (awaited c))
+  registered_are key = s.keys_are key ∙ sym (has_set (awaited c) key)
+
+  -- the next event of the simulator is that of the configuration
+  pub event_stands : event k.procs k.state k.keys ≡ event_of setup c
+  event_stands =
+      ap (λ (ps : List Proc). event ps k.state k.keys) s.procs_are
+      ∙ ap (λ (st : State). event (procs setup) st k.keys) s.state_is
+      ∙ event_same (procs setup) c.sim k.keys (set_of (awaited c)) registered_are
+
+  -- a deposit does what it does for the configuration
+  pub put_stands : (sig : SigId) (bits : List Digit) → put k.procs k.state k.keys sig bits ≡ put (procs setup) c.sim (set_of (awaited c)) sig bits
+  put_stands sig bits =
+      ap (λ (ps : List Proc). put ps k.state k.keys sig bits) s.procs_are
+      ∙ ap (λ (st : State). put (procs setup) st k.keys sig bits) s.state_is
+      ∙ put_same (procs setup) c.sim k.keys (set_of (awaited c)) registered_are sig bits
+
+-- ---- the awaited keys
+
+filter_all : (keys : List Key) → filter (λ key. not (among key [])) keys ≡ keys
+filter_all [] = refl
+filter_all (k ∷ ks) = ap (λ (xs : List Key). k ∷ xs) (filter_all ks)
+
+-- where nothing has fired they are those that are named
+pub awaited_named : (c : Rig) → c.fired ≡ [] → awaited c ≡ named c.waiting (staged_key c.staged)
+awaited_named c e =
+    ap (λ (gone : List Key). filter (λ key. not (among key gone)) (named c.waiting (staged_key c.staged))) e
+    ∙ filter_all (named c.waiting (staged_key c.staged))
+
+pub among_awaited : (x : Key) (c : Rig) → among x (awaited c) ≡ (among x (named c.waiting (staged_key c.staged)) && not (among x c.fired))
+among_awaited x c = among-filter x c.fired (named c.waiting (staged_key c.staged))
+
+and_and : (a p q : Bool) → ((a && not p) && not q) ≡ (a && not (p || q))
+and_and true true q = refl
+and_and true false q = refl
+and_and false p q = refl
+
+-- those that wait on, after several keys
+pub among_all : (x : Key) (ks : List Key) (waiting : List Waiting) → among x (keys_of (all_waiting ks waiting)) ≡ (among x (keys_of waiting) && not (among x ks))
+among_all x [] waiting = sym (yes (among x (keys_of waiting)))
+  where
+    yes : (b : Bool) → (b && true) ≡ b
+    yes true = refl
+    yes false = refl
+among_all x (k ∷ ks) waiting =
+    among_all x ks (still_waiting (serve.key k) waiting)
+    ∙ ap (λ (b : Bool). b && not (among x ks)) (among-still x k waiting)
+    ∙ and_and (among x (keys_of waiting)) (same_key k x) (among x ks)
+    ∙ ap (λ (b : Bool). among x (keys_of waiting) && not (b || among x ks)) (same_sym k x)
+
+-- ---- counts
+
+-- only keys that fired have left the set
+pub gone_counts : (fired before after : List Key) (c : Counts) → ((x : Key) → among x after ≡ (among x before && not (among x fired))) → counts_after fired before after c ≡ ahead fired c
+gone_counts fired before after c h = rw (no_primed, no_removed) refl
+  where
+    parts : (a b : Bool) → (a && not b) ≡ true → (a ≡ true) × (b ≡ false)
+    parts true true e = cc
+    parts true false e = (refl, refl)
+    parts false b e = cc
+
+    no_primed : primed_keys fired before after ≡ 0
+    no_primed = count_none (λ k. not (among k before) || among k fired) after (λ k e. let p : (among k before ≡ true) × (among k fired ≡ false) = parts (among k before) (among k fired) (sym (h k) ∙ e) in rw (p.0, p.1) refl)
+
+    stays : (k : Key) (f : Bool) → among k before ≡ true → among k fired ≡ f → not (among k after || among k fired) ≡ false
+    stays k true e f = rw (h k, e, f) refl
+    stays k false e f = rw (h k, e, f) refl
+
+    no_removed : removed_keys fired before after ≡ 0
+    no_removed = count_none (λ k. not (among k after || among k fired)) before (λ k e. stays k (among k fired) e refl)
+
+raised_later : (fired : List Key) (n : ℕ) → raised_by fired (raised n) ≡ raised (raised_by fired n)
+raised_later [] n = refl
+raised_later (k ∷ ks) n = raised_later ks (raised n)
+
+-- the order in which keys are counted as fired doesn't matter
+raised_both : (xs ys : List Key) (n : ℕ) → raised_by xs (raised_by ys n) ≡ raised_by ys (raised_by xs n)
+raised_both [] ys n = refl
+raised_both (x ∷ xs) ys n = ap (raised_by xs) (sym (raised_later ys n)) ∙ raised_both xs ys (raised n)
+
+-- ---- effects within the runner
+
+module _ (setup : Setup) (k after : Content) (c d : Rig) (sim : d.sim ≡ c.sim) (s : StandsFor setup k c) where
+  -- an effect that fires nothing
+  pub effect_stands : Rekeyed k after (awaited d) → AreCounted k after (awaited c) (awaited d) → StandsFor setup after (counted [] c d)
+  effect_stands r n = record {
+    procs_are = r.procs ∙ s.procs_are;
+    state_is = r.state ∙ s.state_is ∙ sym sim;
+    keys_are = r.keys;
+    counts_are = n ∙ ap (counts_after [] (awaited c) (awaited d)) s.counts_are;
+  }
+
+-- an effect that leaves the same keys awaited
+pub same_stands : (setup : Setup) (k : Content) (c d : Rig) → d.sim ≡ c.sim → ((x : Key) → among x (awaited d) ≡ among x (awaited c)) → StandsFor setup k c → StandsFor setup k (counted [] c d)
+same_stands setup k c d sim h s = record {
+  procs_are = s.procs_are;
+  state_is = s.state_is ∙ sym sim;
+  keys_are = λ x. s.keys_are x ∙ sym (h x);
+  counts_are = s.counts_are ∙ sym (gone_counts [] (awaited c) (awaited d) c.counts (λ x. h x ∙ sym (yes (among x (awaited c)))));
+}
+  where
+    yes : (b : Bool) → (b && true) ≡ b
+    yes true = refl
+    yes false = refl
+
+-- ---- events and deposits
+
+-- after an event its keys are fired ones, and counted already
+pub event_ahead : (setup : Setup) (k after : Content) (c : Rig) (e : Event) → c.fired ≡ [] → StandsFor setup k c → Does k e after
+    → StandsAhead e.fired setup after (record c { sim = e.state; fired = c.fired ++ e.fired })
+event_ahead setup k after c e none s d = record {
+  procs_are = d.procs ∙ s.procs_are;
+  state_is = d.state;
+  keys_are = λ x. d.keys x ∙ ap (λ (b : Bool). b && not (among x e.fired)) (s.keys_are x ∙ ap (among x) (awaited_named c none))
+      ∙ sym (among_awaited x (record c { sim = e.state; fired = c.fired ++ e.fired }) ∙ ap (λ (ks : List Key). among x (named c.waiting (staged_key c.staged)) && not (among x (ks ++ e.fired))) none);
+  counts_are = d.counts ∙ ap (ahead e.fired) s.counts_are;
+}
+
+-- what serving keys leaves
+pub serve_keys_is : (ks others : List Key) (c : Rig)
+    → serve_keys ks others c ≡ record c { fired = others; waiting = all_waiting ks c.waiting; ready = c.ready ++ all_woken ks c.waiting }
+serve_keys_is [] others c = sym (ap (λ (r : _). record c { fired = others; ready = r }) (append-nil c.ready))
+serve_keys_is (k ∷ ks) others c =
+    serve_keys_is ks others (record (serve.serve_key k c) { fired = others ++ ks })
+    ∙ ap (λ (r : _). record c { fired = others; waiting = all_waiting (k ∷ ks) c.waiting; ready = r }) (append_assoc c.ready (woken (serve.key k) c.waiting) (all_woken ks (still_waiting (serve.key k) c.waiting)))
+
+no_both : (a f : Bool) → (a ≡ true → f ≡ false) → (a && not f) ≡ a
+no_both true f h = rw (h refl) refl
+no_both false f h = refl
+
+and_or : (a b f : Bool) → (b && not f) ≡ b → ((a || b) && not f) ≡ ((a && not f) || b)
+and_or true true false h = refl
+and_or true true true h = cc
+and_or true false f h = or_no (not f)
+  where
+    or_no : (x : Bool) → x ≡ (x || false)
+    or_no true = refl
+    or_no false = refl
+and_or false b f h = h
+
+-- the named keys that are left once keys are served that the runner doesn't hold
+pub among_left : (x : Key) (ks : List Key) (waiting : List Waiting) (held : List Key) → (among x held ≡ true → among x ks ≡ false)
+    → among x (named (all_waiting ks waiting) held) ≡ (among x (named waiting held) && not (among x ks))
+among_left x ks waiting held h =
+    among-append x (keys_of (all_waiting ks waiting)) held
+    ∙ ap (λ (b : Bool). b || among x held) (among_all x ks waiting)
+    ∙ sym (and_or (among x (keys_of waiting)) (among x held) (among x ks) (no_both (among x held) (among x ks) h))
+    ∙ ap (λ (b : Bool). b && not (among x ks)) (sym (among-append x (keys_of waiting) held))
+
+-- what is left once these keys, which had fired, are served
+abbrev pub left_after : List Key → List Key → Rig → Rig
+left_after fired others c = record c { fired = others; waiting = all_waiting fired c.waiting; ready = c.ready ++ all_woken fired c.waiting }
+
+not_again : (a p q : Bool) → ((a && not p) && not q) ≡ ((a && not q) && not p)
+not_again true true true = refl
+not_again true true false = refl
+not_again true false true = refl
+not_again true false false = refl
+not_again false p q = refl
+
+twice : (a p : Bool) → ((a && not p) && not p) ≡ (a && not p)
+twice true true = refl
+twice true false = refl
+twice false p = refl
+
+-- the keys that are awaited then: those that were, but for these
+awaited_left : (x : Key) (fired others : List Key) (c : Rig) → (among x (staged_key c.staged) ≡ true → among x fired ≡ false)
+    → among x (awaited (left_after fired others c)) ≡ ((among x (named c.waiting (staged_key c.staged)) && not (among x others)) && not (among x fired))
+awaited_left x fired others c h =
+    among_awaited x (left_after fired others c)
+    ∙ ap (λ (b : Bool). b && not (among x others)) (among_left x fired c.waiting (staged_key c.staged) h)
+    ∙ not_again (among x (named c.waiting (staged_key c.staged))) (among x fired) (among x others)
+
+module _ (setup : Setup) (k : Content) (c : Rig) (fired : List Key) (own : c.fired ≡ fired) (free : (x : Key) → among x (staged_key c.staged) ≡ true → among x fired ≡ false) where
+  before_is : (x : Key) → among x (awaited c) ≡ (among x (named c.waiting (staged_key c.staged)) && not (among x fired))
+  before_is x = among_awaited x c ∙ ap (λ (ks : List Key). among x (named c.waiting (staged_key c.staged)) && not (among x ks)) own
+
+  and_yes : (b p : Bool) → ((b && true) && not p) ≡ (b && not p)
+  and_yes true p = refl
+  and_yes false p = refl
+
+  after_is : (x : Key) → among x (awaited (serve_keys fired [] c)) ≡ (among x (named c.waiting (staged_key c.staged)) && not (among x fired))
+  after_is x =
+      ap (λ (d : Rig). among x (awaited d)) (serve_keys_is fired [] c)
+      ∙ awaited_left x fired [] c (free x)
+      ∙ and_yes (among x (named c.waiting (staged_key c.staged))) (among x fired)
+
+  sim_is : (serve_keys fired [] c).sim ≡ c.sim
+  sim_is = ap (λ (d : Rig). d.sim) (serve_keys_is fired [] c)
+
+  -- Keys that fired are served, where no other is left to be: one effect, after which the simulator stands for what is left.
+  pub served_stands : StandsAhead fired setup k c → StandsFor setup k (served fired [] c).rig
+  served_stands s = record {
+    procs_are = s.procs_are;
+    state_is = s.state_is ∙ sym sim_is;
+    keys_are = λ x. s.keys_are x ∙ before_is x ∙ sym (after_is x);
+    counts_are = s.counts_are
+        ∙ sym (gone_counts fired (awaited c) (awaited (serve_keys fired [] c)) c.counts
+        (λ x. after_is x ∙ sym (ap (λ (b : Bool). b && not (among x fired)) (before_is x) ∙ twice (among x (named c.waiting (staged_key c.staged))) (among x fired))));
+  }
+
+-- ---- staged writes
+
+ahead_both : (xs ys : List Key) (c : Counts) → ahead xs (ahead ys c) ≡ ahead ys (ahead xs c)
+ahead_both xs ys c = ap (λ (n : ℕ). let r : Counts = record c { fired = n } in r) (raised_both xs ys c.fired)
+
+-- the configuration that a write leaves as it goes out, while these keys are still to be served
+module _ (setup : Setup) (k after : Content) (c : Rig) (e : Event) (fired : List Key) (own : c.fired ≡ fired)
+    (free : (x : Key) → among x (staged_key c.staged) ≡ true → among x e.fired ≡ false) where
+  pub put_before : (x : Key) → among x (awaited c) ≡ (among x (named c.waiting (staged_key c.staged)) && not (among x c.fired))
+  put_before x = among_awaited x c
+
+  done_is : serve_keys e.fired c.fired (record c { sim = e.state; fired = c.fired ++ e.fired }) ≡ left_after e.fired c.fired (record c { sim = e.state; fired = c.fired ++ e.fired })
+  done_is = serve_keys_is e.fired c.fired (record c { sim = e.state; fired = c.fired ++ e.fired })
+
+  put_after : (x : Key) → among x (awaited (serve_keys e.fired c.fired (record c { sim = e.state; fired = c.fired ++ e.fired }))) ≡ (among x (awaited c) && not (among x e.fired))
+  put_after x =
+      ap (λ (d : Rig). among x (awaited d)) done_is
+      ∙ awaited_left x e.fired c.fired (record c { sim = e.state; fired = c.fired ++ e.fired }) (free x)
+      ∙ ap (λ (b : Bool). b && not (among x e.fired)) (sym (put_before x))
+
+  -- A deposit and the wakes of its keys: one effect.
+  pub put_ahead : StandsAhead fired setup k c → Does k e after → StandsAhead fired setup after (after_put setup e c).rig
+  put_ahead s d = record {
+    procs_are = d.procs ∙ s.procs_are;
+    state_is = d.state ∙ sym (ap (λ (x : Rig). x.sim) done_is);
+    keys_are = λ x. d.keys x ∙ ap (λ (b : Bool). b && not (among x e.fired)) (s.keys_are x) ∙ sym (put_after x);
+    counts_are = d.counts ∙ ap (ahead e.fired) s.counts_are ∙ ahead_both e.fired fired c.counts
+        ∙ ap (ahead fired) (sym (gone_counts e.fired (awaited c) (awaited (serve_keys e.fired c.fired (record c { sim = e.state; fired = c.fired ++ e.fired }))) c.counts put_after));
+  }

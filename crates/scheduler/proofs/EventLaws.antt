@@ -1,0 +1,426 @@
+-- An event, as a turn.
+use Rattle.std.specs.Prelude.{is_none}
+use Rattle.std.proofs.Common.{◌≡◌, ℕ, ◌||◌, ◌&&◌, Bool, true, false, not, if◌then◌else◌, List, [], ◌∷◌, ◌++◌, length, Option, None, Some, refl, sym, ap, subst, ◌∙◌, arith}
+use Rattle.four_value.specs.declared.Digit.{Digit}
+use Rattle.four_value.specs.Vector.{same_digits}
+use Rattle.gpi.specs.Content.{Content, Does, Answers}
+use Rattle.gpi.specs.Design.{Proc}
+use Rattle.gpi.specs.Events.{Event, event, put, value_at, idle}
+use Rattle.gpi.specs.Keys.{Keys, has, among, same_key, set_of, fired_of}
+use Rattle.gpi.specs.State.{State, is_end}
+use Rattle.gpi.specs.Terms.{widths_of}
+use Rattle.gpi.specs.declared.types.Advance.TheVariants as advance
+use Rattle.gpi.specs.declared.types.Moved.{Moved}
+use Rattle.gpi.specs.declared.types.Counts.{Counts}
+use Rattle.gpi.specs.declared.types.Fired.{Fired}
+use Rattle.gpi.specs.declared.types.Key.{Key}
+use Rattle.gpi.specs.declared.types.Key.TheVariants.{ReadOnly, ReadWrite}
+use Rattle.gpi.specs.declared.types.SigId.{SigId}
+use Rattle.gpi.specs.declared.types.Told.{Told}
+use Rattle.port_io.specs.declared.ports.SinkFault.{SinkFault}
+use Rattle.rig_model.specs.Counts.{raised_times}
+use Rattle.rig_model.specs.Fires.{Fires, PutFires}
+use Rattle.rig_model.specs.Kernel.{StandsAhead, StandsFor}
+use Rattle.rig_model.specs.Keys.{Reprimed, keys_in, without_all}
+use Rattle.rig_model.specs.Rig.{Rig, Setup, After, quiet, and_then, awaited, named, keys_of, staged_key, told_lines, procs}
+use Rattle.rig_model.specs.Serve.{all_waiting, all_woken, serve_keys, after_put, put_of, flushed, flushed_if, served, written_digits}
+use Rattle.rig_model.proofs.CountLaws.{count_none}
+use Rattle.rig_model.proofs.FireLaws.{told_back, put_fires, event_fires}
+use Rattle.rig_model.proofs.KernelLaws.{event_stands, put_stands, event_ahead, put_ahead, served_stands, serve_keys_is, among_all, among_awaited}
+use Rattle.rig_model.proofs.KeyLaws.{fired_gone, among-append, same_is, same_sym}
+use Rattle.rig_model.specs.Step.{evented}
+use Rattle.rig_model.specs.declared.task.Entry.{Entry}
+use Rattle.rig_model.specs.declared.task.Staged.{Staged}
+use Rattle.rig_model.specs.declared.tree.Waiting.{Waiting}
+use Rattle.scheduler.specs.Parts.{Parts, rig_amid, FitsContent}
+use Rattle.scheduler.specs.Puts.{PutsOn}
+use Rattle.scheduler.specs.Serves.{Serves, IsOpen, IsEvented}
+use Rattle.scheduler.proofs.PutLaws.{puts_on_none, puts_on_then}
+use Rattle.scheduler.proofs.StandLaws.{rig_between, awaited_held}
+
+-- ---- keys that fired are served
+
+-- where no key that fired is named any more, what the simulator stands for stays
+pub reprimed_stands : (ahead : List Key) (setup : Setup) (k k' : Content) (fired ks : List Key) (c : Rig) → ((x : Key) → among x fired ≡ true → among x ks ≡ false)
+    → Reprimed k k' fired ks → StandsAhead ahead setup k c → StandsAhead ahead setup k' c
+reprimed_stands ahead setup k k' fired ks c gone r s = record {
+  procs_are = r.procs ∙ s.procs_are;
+  state_is = r.state ∙ s.state_is;
+  keys_are = λ x. r.keys x ∙ none x (among x fired) refl ∙ s.keys_are x;
+  counts_are = r.counts ∙ ap (λ (n : ℕ). (let new : Counts = record k.counts { primed = raised_times n k.counts.primed } in new)) (count_none (λ x. among x ks) fired gone) ∙ s.counts_are;
+}
+  where
+    or_none : (b : Bool) → (b || false) ≡ b
+    or_none true = refl
+    or_none false = refl
+
+    none : (x : Key) (b : Bool) → among x fired ≡ b → (has x k.keys || (among x fired && among x ks)) ≡ has x k.keys
+    none x true e = rw (e, gone x e) (or_none (has x k.keys))
+    none x false e = rw e (or_none (has x k.keys))
+
+-- the one key that the runner holds is that of the read-write phase
+pub held_free : (ws : List Staged) (fired : List Key) → among ReadWrite fired ≡ false → (x : Key) → among x (staged_key ws) ≡ true → among x fired ≡ false
+held_free [] fired h x e = cc
+held_free (w ∷ ws) fired h x e = ap (λ (y : Key). among y fired) (same_is x ReadWrite (only (same_key x ReadWrite) e)) ∙ h
+  where
+    only : (b : Bool) → (b || false) ≡ true → b ≡ true
+    only true q = refl
+    only false q = q
+
+no_or : (a b : Bool) → (a || b) ≡ false → (a ≡ false) × (b ≡ false)
+no_or true b h = cc
+no_or false b h = (refl, h)
+
+-- it is held on where other keys are served
+held_on : (ks : List Key) → among ReadWrite ks ≡ false → without_all ks (ReadWrite ∷ []) ≡ ReadWrite ∷ []
+held_on [] h = refl
+held_on (k ∷ ks) h =
+    let parts : (same_key ReadWrite k ≡ false) × (among ReadWrite ks ≡ false) = no_or (same_key ReadWrite k) (among ReadWrite ks) h in
+    let other : same_key k ReadWrite ≡ false = same_sym k ReadWrite ∙ parts.0 in
+    rw other (held_on ks parts.1)
+
+none_held : (ks : List Key) → without_all ks [] ≡ []
+none_held [] = refl
+none_held (k ∷ ks) = none_held ks
+
+pub key_stays : (ks : List Key) (ws : List Staged) → among ReadWrite ks ≡ false → without_all ks (staged_key ws) ≡ staged_key ws
+key_stays ks [] h = none_held ks
+key_stays ks (w ∷ ws) h = held_on ks h
+
+pub key_goes : (ks : List Key) (ws : List Staged) → ks ≡ ReadWrite ∷ [] → without_all ks (staged_key ws) ≡ []
+key_goes ks [] e = none_held ks
+key_goes ks (w ∷ ws) e = ap (λ (xs : List Key). without_all xs (ReadWrite ∷ [])) e
+
+-- ---- a staged write goes out
+
+-- the change that a deposit tells
+pub told_is : (ps : List Proc) (s : State) (keys : Keys) (sig : SigId) (bits : List Digit)
+    → (put ps s keys sig bits).told ≡ (if same_digits (value_at s sig) bits then None else Some (record { sig = sig; bits = bits }))
+told_is ps s keys sig bits = decided (same_digits (value_at s sig) bits) refl
+  where
+    decided : (b : Bool) → same_digits (value_at s sig) bits ≡ b → (put ps s keys sig bits).told ≡ (if same_digits (value_at s sig) bits then None else Some (record { sig = sig; bits = bits }))
+    decided true e = rw e refl
+    decided false e = rw e refl
+
+-- the lines of the change that a deposit tells
+pub told_same : (setup : Setup) (k : Content) (sig : SigId) (old bits : List Digit) (time : ℕ) (change : Option Told) → time ≡ k.state.time → old ≡ value_at k.state sig
+    → change ≡ (if same_digits old bits then None else Some (record { sig = sig; bits = bits }))
+    → told_lines setup time change ≡ told_lines setup k.state.time (put k.procs k.state k.keys sig bits).told
+told_same setup k sig old bits time change t o h =
+    ap (λ (n : ℕ). told_lines setup n change) t
+    ∙ ap (told_lines setup k.state.time)
+    (h ∙ ap (λ (ds : List Digit). (let x : Option Told = if same_digits ds bits then None else Some (record { sig = sig; bits = bits }) in x)) o ∙ sym (told_is k.procs k.state k.keys sig bits))
+
+-- no task begins to wait for the end of the time step
+still_no_end : (ks : List Key) (ws : List Waiting) → among ReadOnly (keys_of ws) ≡ false → among ReadOnly (keys_of (all_waiting ks ws)) ≡ false
+still_no_end ks ws h = among_all ReadOnly ks ws ∙ ap (λ (b : Bool). b && not (among ReadOnly ks)) h
+
+length_widths : (m : List (List Digit)) → length (widths_of m) ≡ length m
+length_widths [] = refl
+length_widths (v ∷ vs) = let h : length (widths_of vs) ≡ length vs = length_widths vs in omega arith
+
+pub same_length : (m n : List (List Digit)) → widths_of m ≡ widths_of n → length m ≡ length n
+same_length m n e = sym (length_widths m) ∙ ap length e ∙ length_widths n
+
+module _ (setup : Setup) (p : Parts) (k k1 k2 : Content) (write : Staged) (bits : List Digit) (held held' : List Key) (fired : Fired) (ready' : List Entry) (waiting' : List Waiting)
+    (fired_is : fired ≡ fired_of (put k.procs k.state k.keys write.sig bits).fired)
+    (done : Does k (put k.procs k.state k.keys write.sig bits) k1)
+    (waiting_is : waiting' ≡ all_waiting (keys_in fired) p.waiting) (held_is : held' ≡ without_all (keys_in fired) held) (ready_is : ready' ≡ p.ready ++ all_woken (keys_in fired) p.waiting)
+    (r : Reprimed k1 k2 (keys_in fired) (named waiting' held')) where
+  abbrev e : Event
+  e = put k.procs k.state k.keys write.sig bits
+
+  abbrev p' : Parts
+  p' = record p { ready = ready'; waiting = waiting' }
+
+  fires : PutFires k.state e
+  fires = put_fires k.procs k.state k.keys write.sig bits
+
+  pub keys_are : keys_in fired ≡ e.fired
+  keys_are = ap keys_in fired_is ∙ told_back e.fired fires.few
+
+  pub held_stays : (ws : List Staged) → held ≡ staged_key ws → held' ≡ staged_key ws
+  held_stays ws h = held_is ∙ ap (without_all (keys_in fired)) h ∙ key_stays (keys_in fired) ws (ap (among ReadWrite) keys_are ∙ fires.other)
+
+  pub put_open : widths_of k1.state.signals ≡ widths_of k.state.signals → IsOpen setup k p.waiting → IsOpen setup k2 waiting'
+  put_open w o = record {
+    signals = ap (λ (st : State). length st.signals) r.state ∙ same_length k1.state.signals k.state.signals w ∙ o.signals;
+    writable = ap (λ (st : State). is_end st.region) (r.state ∙ done.state) ∙ ap is_end fires.region_stays ∙ o.writable;
+    no_end = ap (λ (ws : List Waiting). among ReadOnly (keys_of ws)) waiting_is ∙ still_no_end (keys_in fired) p.waiting o.no_end;
+  }
+
+  gone : (x : Key) → among x (keys_in fired) ≡ true → among x (named waiting' held') ≡ false
+  gone x h = ap (λ (ws : List Waiting). among x (named ws held')) waiting_is ∙ ap (λ (hs : List Key). among x (named (all_waiting (keys_in fired) p.waiting) hs)) held_is
+      ∙ fired_gone x (keys_in fired) p.waiting held h
+
+  module _ (ahead : List Key) (counts : Counts) (s : StandsAhead ahead setup k (rig_amid p k.state ahead counts)) where
+    abbrev c : Rig
+    c = rig_amid p k.state ahead counts
+
+    free : (x : Key) → among x (staged_key c.staged) ≡ true → among x e.fired ≡ false
+    free = held_free p.staged e.fired fires.other
+
+    stands : StandsAhead ahead setup k2 (after_put setup e c).rig
+    stands = reprimed_stands ahead setup k1 k2 (keys_in fired) (named waiting' held') (after_put setup e c).rig gone r (put_ahead setup k k1 c e ahead refl free s done)
+
+    served_rig : serve_keys e.fired ahead (record c { sim = e.state; fired = ahead ++ e.fired }) ≡ rig_amid p' k2.state ahead counts
+    served_rig =
+        serve_keys_is e.fired ahead (record c { sim = e.state; fired = ahead ++ e.fired })
+        ∙ ap (λ (ks : List Key). rig_amid (record p { ready = p.ready ++ all_woken ks p.waiting; waiting = all_waiting ks p.waiting }) e.state ahead counts) (sym keys_are)
+        ∙ ap (λ (es : List Entry). rig_amid (record p { ready = es; waiting = all_waiting (keys_in fired) p.waiting }) e.state ahead counts) (sym ready_is)
+        ∙ ap (λ (ws : List Waiting). rig_amid (record p { ready = ready'; waiting = ws }) e.state ahead counts) (sym waiting_is)
+        ∙ ap (λ (st : State). rig_amid p' st ahead counts) (sym (r.state ∙ done.state))
+
+    rig_is : (after_put setup e c).rig ≡ rig_amid p' k2.state ahead (after_put setup e c).rig.counts
+    rig_is = ap (λ (d : Rig). (let x : Rig = record d { counts = (after_put setup e c).rig.counts } in x)) served_rig
+
+    put_is : bits ≡ written_digits k.state write → e ≡ put_of setup c write
+    put_is h = put_stands ahead setup k c s write.sig bits ∙ ap (put (procs setup) k.state (set_of (awaited c)) write.sig) h
+
+    -- the write is done, its change is told, and its keys are served
+    pub put_serves : {O : Type 0} (takes breaks : O → List ℕ → O → Type 0) (told : O → Option (List ℕ)) (fault : Option SinkFault) (out : O) (fault' : Option SinkFault) (out' : O)
+        → bits ≡ written_digits k.state write → PutsOn takes breaks told fault out (told_lines setup k.state.time e.told) fault' out'
+        → Serves takes breaks told setup ahead (after_put setup (put_of setup c write) c) p' k2 fault out fault' out'
+    put_serves takes breaks told fault out fault' out' h q =
+        subst (λ (x : Event). Serves takes breaks told setup ahead (after_put setup x c) p' k2 fault out fault' out') (put_is h)
+        (record { rig_is = rig_is; stands = stands; puts = q })
+
+-- ---- the staged writes go out
+
+module _ {O : Type 0} (takes breaks : O → List ℕ → O → Type 0) (told : O → Option (List ℕ)) (setup : Setup) where
+  -- an effect, and then another
+  pub serves_then : (fired : List Key) (a : After) (p : Parts) (k : Content) (f : Option SinkFault) (o : O) (g : Option SinkFault) (q : O) (next : Rig → After) (p' : Parts) (k' : Content) (h : Option SinkFault) (r : O)
+      → Serves takes breaks told setup fired a p k f o g q → Serves takes breaks told setup fired (next (rig_amid p k.state fired a.rig.counts)) p' k' g q h r
+      → Serves takes breaks told setup fired (and_then a next) p' k' f o h r
+  serves_then fired a p k f o g q next p' k' h r s t =
+      let t' : Serves takes breaks told setup fired (next a.rig) p' k' g q h r = subst (λ (c : Rig). Serves takes breaks told setup fired (next c) p' k' g q h r) (sym s.rig_is) t in
+      record { rig_is = t'.rig_is; stands = t'.stands; puts = puts_on_then takes breaks told f o a.lines g q (next a.rig).lines h r s.puts t'.puts }
+
+  -- nothing is done
+  pub serves_none : (fired : List Key) (p : Parts) (k : Content) (counts : Counts) (f : Option SinkFault) (o : O) → StandsAhead fired setup k (rig_amid p k.state fired counts)
+      → Serves takes breaks told setup fired (quiet (rig_amid p k.state fired counts)) p k f o f o
+  serves_none fired p k counts f o s = record { rig_is = refl; stands = s; puts = puts_on_none takes breaks told f o }
+
+  abbrev rw_key : List Key
+  rw_key = ReadWrite ∷ []
+
+  -- Some of the writes have gone out: what comes from here is what comes from the start.
+  pub record Flushing (start : After) (f0 : Option SinkFault) (o0 : O) (p : Parts) (k : Content) (f : Option SinkFault) (o : O) : Type 0 where
+    pub counts : Counts
+    pub stands : StandsAhead rw_key setup k (rig_amid p k.state rw_key counts)
+    pub rest : (p' : Parts) (k' : Content) (h : Option SinkFault) (r : O) → Serves takes breaks told setup rw_key (flushed setup p.staged (rig_amid p k.state rw_key counts)) p' k' f o h r
+        → Serves takes breaks told setup rw_key start p' k' f0 o0 h r
+
+  pub flushing_begins : (p : Parts) (k : Content) (f : Option SinkFault) (o : O) (counts : Counts) → StandsAhead rw_key setup k (rig_amid p k.state rw_key counts)
+      → Flushing (flushed setup p.staged (rig_amid p k.state rw_key counts)) f o p k f o
+  flushing_begins p k f o counts s = record { counts = counts; stands = s; rest = λ p' k' h r t. t }
+
+  pub flushing_ends : (start : After) (f0 : Option SinkFault) (o0 : O) (p : Parts) (k : Content) (f : Option SinkFault) (o : O) → Flushing start f0 o0 p k f o → p.staged ≡ []
+      → Serves takes breaks told setup rw_key start p k f0 o0 f o
+  flushing_ends start f0 o0 p k f o m e =
+      m.rest p k f o (subst (λ (ws : List Staged). Serves takes breaks told setup rw_key (flushed setup ws (rig_amid p k.state rw_key m.counts)) p k f o f o) (sym e) (serves_none rw_key p k m.counts f o m.stands))
+
+  same_anyway : (a g h s : Bool) → (s ≡ false → g ≡ h) → ((a || g) && not s) ≡ ((a || h) && not s)
+  same_anyway true g h s e = refl
+  same_anyway false true true s e = refl
+  same_anyway false false false s e = refl
+  same_anyway false true false true e = refl
+  same_anyway false false true true e = refl
+  same_anyway false true false false e = e refl
+  same_anyway false false true false e = e refl
+
+  no_key : (x : Key) (ws : List Staged) → among x rw_key ≡ false → among x (staged_key ws) ≡ false
+  no_key x [] h = refl
+  no_key x (w ∷ ws) h = h
+
+  -- while the read-write phase is served it isn't awaited, whatever is staged
+  unstaged : (p : Parts) (k : Content) (counts : Counts) (ws : List Staged) → StandsAhead rw_key setup k (rig_amid p k.state rw_key counts)
+      → StandsAhead rw_key setup k (rig_amid (record p { staged = ws }) k.state rw_key counts)
+  unstaged p k counts ws s = record {
+    procs_are = s.procs_are;
+    state_is = s.state_is;
+    keys_are = λ x. s.keys_are x
+        ∙ among_awaited x (rig_amid p k.state rw_key counts)
+        ∙ ap (λ (b : Bool). b && not (among x rw_key)) (among-append x (keys_of p.waiting) (staged_key p.staged))
+        ∙ same_anyway (among x (keys_of p.waiting)) (among x (staged_key p.staged)) (among x (staged_key ws)) (among x rw_key) (λ e. no_key x p.staged e ∙ sym (no_key x ws e))
+        ∙ ap (λ (b : Bool). b && not (among x rw_key)) (sym (among-append x (keys_of p.waiting) (staged_key ws)))
+        ∙ sym (among_awaited x (rig_amid (record p { staged = ws }) k.state rw_key counts));
+    counts_are = s.counts_are;
+  }
+
+  pub flushing_more : (setup' : Setup) (same : setup' ≡ setup) (start : After) (f0 : Option SinkFault) (o0 : O) (p : Parts) (k : Content) (f : Option SinkFault) (o : O) → Flushing start f0 o0 p k f o
+      → (write : Staged) (writes : List Staged) → p.staged ≡ write ∷ writes → (p' : Parts) (k' : Content) (f' : Option SinkFault) (o' : O) → p'.staged ≡ writes
+      → ((fired : List Key) (counts : Counts) → (let c = rig_amid (record p { staged = writes }) k.state fired counts in
+      StandsAhead fired setup' k c → Serves takes breaks told setup' fired (after_put setup' (put_of setup' c write) c) p' k' f o f' o'))
+      → Flushing start f0 o0 p' k' f' o'
+  flushing_more setup' same start f0 o0 p k f o m write writes e p' k' f' o' e' put =
+      let c : Rig = rig_amid (record p { staged = writes }) k.state rw_key m.counts in
+      let a : After = after_put setup (put_of setup c write) c in
+      let s : Serves takes breaks told setup rw_key a p' k' f o f' o'
+      = subst (λ (st : Setup). StandsAhead rw_key st k c → Serves takes breaks told st rw_key (after_put st (put_of st c write) c) p' k' f o f' o') same (put rw_key m.counts) (unstaged p k m.counts writes m.stands) in
+      record {
+        counts = a.rig.counts;
+        stands = subst (λ (d : Rig). StandsAhead rw_key setup k' d) s.rig_is s.stands;
+        rest = λ p'' k'' h r t. m.rest p'' k'' h r
+            (subst (λ (ws : List Staged). Serves takes breaks told setup rw_key (flushed setup ws (rig_amid p k.state rw_key m.counts)) p'' k'' f o h r) (sym e)
+            (serves_then rw_key a p' k' f o f' o' (flushed setup writes) p'' k'' h r s
+            (subst (λ (ws : List Staged). Serves takes breaks told setup rw_key (flushed setup ws (rig_amid p' k'.state rw_key a.rig.counts)) p'' k'' f' o' h r) e' t)));
+      }
+
+  -- the staged writes go out where the read-write phase is among the keys that fired
+  pub flushed_then : (fired : List Key) (p : Parts) (k : Content) (counts : Counts) (p' : Parts) (k' : Content) (f : Option SinkFault) (o : O) (g : Option SinkFault) (q : O) → fired ≡ rw_key
+      → (StandsAhead rw_key setup k (rig_amid p k.state rw_key counts) → Serves takes breaks told setup rw_key (flushed setup p.staged (rig_amid p k.state rw_key counts)) p' k' f o g q)
+      → StandsAhead fired setup k (rig_amid p k.state fired counts) → Serves takes breaks told setup fired (flushed_if setup (among ReadWrite fired) (rig_amid p k.state fired counts)) p' k' f o g q
+  flushed_then fired p k counts p' k' f o g q e h =
+      subst (λ (ks : List Key). StandsAhead ks setup k (rig_amid p k.state ks counts) → Serves takes breaks told setup ks (flushed_if setup (among ReadWrite ks) (rig_amid p k.state ks counts)) p' k' f o g q)
+      (sym e) h
+
+  pub flushed_else : (fired : List Key) (p : Parts) (k : Content) (counts : Counts) (f : Option SinkFault) (o : O) → among ReadWrite fired ≡ false
+      → StandsAhead fired setup k (rig_amid p k.state fired counts) → Serves takes breaks told setup fired (flushed_if setup (among ReadWrite fired) (rig_amid p k.state fired counts)) p k f o f o
+  flushed_else fired p k counts f o e s =
+      subst (λ (b : Bool). Serves takes breaks told setup fired (flushed_if setup b (rig_amid p k.state fired counts)) p k f o f o) (sym e) (serves_none fired p k counts f o s)
+
+pub nothing_staged : (ws : List Staged) (fired : List Key) → ws ≡ [] → (x : Key) → among x (staged_key ws) ≡ true → among x fired ≡ false
+nothing_staged [] fired h x e = cc
+nothing_staged (w ∷ ws) fired h x e = cc
+
+-- ---- an event
+
+-- the next event
+abbrev pub event_at : Content → Option Event
+event_at k = event k.procs k.state k.keys
+
+-- The simulator has done its next event.
+pub record Advances (k : Content) (m : Moved) (k' : Content) : Type 0 where
+  pub event : Event
+  pub next : event_at k ≡ Some event
+  pub change_is : m.change ≡ event.told
+  pub fired_is : m.fired ≡ fired_of event.fired
+  pub done : Does k event k'
+
+pub advances_of : (k : Content) (m : Moved) (k' : Content) → Answers k (event_at k) (advance.Moved m) k' → Advances k m k'
+advances_of k m k' a = by_event (event_at k) refl a
+  where
+    by_event : (o : Option Event) → event_at k ≡ o → Answers k o (advance.Moved m) k' → Advances k m k'
+    by_event None q h = absurd (let e : advance.Moved m ≡ advance.Idle = h.0 in cc)
+    by_event (Some e) q h =
+        let is : m ≡ record { change = e.told; fired = fired_of e.fired } = moved_is m (record { change = e.told; fired = fired_of e.fired }) h.0 in
+        record { event = e; next = q; change_is = ap (λ (x : Moved). x.change) is; fired_is = ap (λ (x : Moved). x.fired) is; done = h.1 }
+      where
+        moved_is : (x y : Moved) → advance.Moved x ≡ advance.Moved y → x ≡ y
+        moved_is x y h = cc
+
+-- where there is a next event the simulator doesn't answer that there is none
+pub not_idle : (k : Content) (k' : Content) → idle k.procs k.state k.keys ≡ false → Answers k (event_at k) advance.Idle k' → ⊥
+not_idle k k' h a = by_event (event_at k) refl a
+  where
+    by_event : (o : Option Event) → event_at k ≡ o → Answers k o advance.Idle k' → ⊥
+    by_event None q r = let e : true ≡ false = sym (ap is_none q) ∙ h in cc
+    by_event (Some e) q r = let e : advance.Idle ≡ advance.Moved (record { change = e.told; fired = fired_of e.fired }) = r.0 in cc
+
+module _ (setup : Setup) (p : Parts) (k k1 : Content) (held : List Key) (f : FitsContent setup held k (rig_between p k)) (m : Moved) (a : Advances k m k1) where
+  event_does : Fires k.state k.keys a.event
+  event_does = event_fires k.procs k.state k.keys a.event a.next
+
+  pub event_keys : keys_in m.fired ≡ a.event.fired
+  event_keys = ap keys_in a.fired_is ∙ told_back a.event.fired event_does.few
+
+  -- the read-write phase fires alone
+  pub event_alone : among ReadWrite (keys_in m.fired) ≡ true → keys_in m.fired ≡ ReadWrite ∷ []
+  event_alone h = event_keys ∙ event_does.alone (sym (ap (among ReadWrite) event_keys) ∙ h)
+
+  no_end_key : has ReadOnly k.keys ≡ false
+  no_end_key =
+      f.stands.keys_are ReadOnly
+      ∙ ap (among ReadOnly) (awaited_held held p k.state k.counts f.held_is)
+      ∙ among-append ReadOnly (keys_of p.waiting) held
+      ∙ ap (λ (b : Bool). b || among ReadOnly held) f.no_end
+      ∙ ap (among ReadOnly) f.held_is
+      ∙ other p.staged
+    where
+      other : (ws : List Staged) → among ReadOnly (staged_key ws) ≡ false
+      other [] = refl
+      other (w ∷ ws) = refl
+
+  pub event_open : widths_of k1.state.signals ≡ widths_of k.state.signals → IsOpen setup k1 p.waiting
+  event_open w = record {
+    signals = same_length k1.state.signals k.state.signals w ∙ f.signals;
+    writable = ap (λ (st : State). is_end st.region) a.done.state ∙ event_does.stays_open no_end_key f.writable;
+    no_end = f.no_end;
+  }
+
+  -- the keys that fired are still to be served
+  pub event_stands_ahead : StandsAhead (keys_in m.fired) setup k1 (rig_amid p k1.state (keys_in m.fired) k.counts)
+  event_stands_ahead =
+      subst (λ (ks : List Key). StandsAhead ks setup k1 (rig_amid p k1.state ks k.counts)) (sym event_keys)
+      (subst (λ (st : State). StandsAhead a.event.fired setup k1 (rig_amid p st a.event.fired k.counts)) (sym a.done.state)
+      (event_ahead setup k k1 (rig_between p k) a.event refl f.stands a.done))
+
+  abbrev own_keys : List Key
+  own_keys = keys_in m.fired
+
+  -- the staged writes have gone out if they were to, and then the keys are served
+  module _ {O : Type 0} (takes breaks : O → List ℕ → O → Type 0) (told : O → Option (List ℕ)) (p2 : Parts) (k2 k3 : Content) (f1 : Option SinkFault) (o1 : O) (f2 : Option SinkFault) (o2 : O)
+      (fl : Serves takes breaks told setup own_keys (flushed_if setup (among ReadWrite own_keys) (rig_amid p k1.state own_keys k.counts)) p2 k2 f1 o1 f2 o2)
+      (free : (x : Key) → among x (staged_key p2.staged) ≡ true → among x own_keys ≡ false) (held2 held3 : List Key) (goes : without_all own_keys held2 ≡ staged_key p2.staged)
+      (o : IsOpen setup k2 p2.waiting) (ready3 : List Entry) (waiting3 : List Waiting) (waiting_is : waiting3 ≡ all_waiting own_keys p2.waiting) (held_is : held3 ≡ without_all own_keys held2)
+      (ready_is : ready3 ≡ p2.ready ++ all_woken own_keys p2.waiting) (r : Reprimed k2 k3 own_keys (named waiting3 held3)) where
+    abbrev flush_of : List Key → State → After
+    flush_of ks st = flushed_if setup (among ReadWrite ks) (rig_amid p st ks k.counts)
+
+    abbrev p3 : Parts
+    p3 = record p2 { ready = ready3; waiting = waiting3 }
+
+    abbrev mid : Rig
+    mid = rig_amid p2 k2.state own_keys (flush_of own_keys k1.state).rig.counts
+
+    served_gone : (x : Key) → among x own_keys ≡ true → among x (named waiting3 held3) ≡ false
+    served_gone x h = ap (λ (ws : List Waiting). among x (named ws held3)) waiting_is ∙ ap (λ (hs : List Key). among x (named (all_waiting own_keys p2.waiting) hs)) held_is
+        ∙ fired_gone x own_keys p2.waiting held2 h
+
+    stands_after : StandsFor setup k3 (served own_keys [] mid).rig
+    stands_after = reprimed_stands [] setup k2 k3 own_keys (named waiting3 held3) (served own_keys [] mid).rig served_gone r
+        (served_stands setup k2 mid own_keys refl free (subst (λ (d : Rig). StandsAhead own_keys setup k2 d) fl.rig_is fl.stands))
+
+    after_is : (served own_keys [] mid).rig ≡ rig_between p3 k3
+    after_is =
+        ap (λ (d : Rig). (let x : Rig = record d { counts = (served own_keys [] mid).rig.counts } in x)) (serve_keys_is own_keys [] mid)
+        ∙ ap (λ (es : List Entry). rig_amid (record p2 { ready = es; waiting = all_waiting own_keys p2.waiting }) k2.state [] (served own_keys [] mid).rig.counts) (sym ready_is)
+        ∙ ap (λ (ws : List Waiting). rig_amid (record p2 { ready = ready3; waiting = ws }) k2.state [] (served own_keys [] mid).rig.counts) (sym waiting_is)
+        ∙ ap (λ (st : State). rig_amid p3 st [] (served own_keys [] mid).rig.counts) (sym r.state)
+        ∙ ap (λ (n : Counts). rig_amid p3 k3.state [] n) (sym stands_after.counts_are)
+
+    pub event_fits : FitsContent setup held3 k3 (rig_between p3 k3)
+    event_fits = record {
+      stands = subst (λ (d : Rig). StandsFor setup k3 d) after_is stands_after;
+      held_is = held_is ∙ goes;
+      signals = ap (λ (st : State). length st.signals) r.state ∙ o.signals;
+      writable = ap (λ (st : State). is_end st.region) r.state ∙ o.writable;
+      no_end = ap (λ (ws : List Waiting). among ReadOnly (keys_of ws)) waiting_is ∙ still_no_end own_keys p2.waiting o.no_end;
+    }
+
+    same_flush : flush_of a.event.fired a.event.state ≡ flush_of own_keys k1.state
+    same_flush = ap (λ (ks : List Key). flush_of ks a.event.state) (sym event_keys) ∙ ap (flush_of own_keys) (sym a.done.state)
+
+    evented_is : (evented setup a.event (rig_between p k)).rig ≡ rig_between p3 k3
+    evented_is =
+        ap (λ (x : After). (served a.event.fired [] x.rig).rig) same_flush
+        ∙ ap (λ (ks : List Key). (served ks [] (flush_of own_keys k1.state).rig).rig) (sym event_keys)
+        ∙ ap (λ (d : Rig). (served own_keys [] d).rig) fl.rig_is
+        ∙ after_is
+
+    pub event_evented : (out : O) (time : ℕ) → time ≡ k.state.time → PutsOn takes breaks told None out (told_lines setup time m.change) f1 o1
+        → IsEvented takes breaks told setup (rig_between p k) (rig_between p3 k3) out o2 f2
+    event_evented out time t q =
+        let told_are : told_lines setup time m.change ≡ told_lines setup k.state.time a.event.told = ap (λ (n : ℕ). told_lines setup n m.change) t ∙ ap (told_lines setup k.state.time) a.change_is in
+        let flushing : PutsOn takes breaks told f1 o1 ((flush_of own_keys k1.state).lines ++ []) f2 o2
+        = puts_on_then takes breaks told f1 o1 (flush_of own_keys k1.state).lines f2 o2 [] f2 o2 fl.puts (puts_on_none takes breaks told f2 o2) in
+        let flushed_to : PutsOn takes breaks told f1 o1 ((flush_of a.event.fired a.event.state).lines ++ []) f2 o2
+        = subst (λ (x : After). PutsOn takes breaks told f1 o1 (x.lines ++ []) f2 o2) (sym same_flush) flushing in
+        let first : PutsOn takes breaks told None out (told_lines setup k.state.time a.event.told) f1 o1 = subst (λ (ls : List (List ℕ)). PutsOn takes breaks told None out ls f1 o1) told_are q in
+        record {
+          event = a.event;
+          is = sym (event_stands [] setup k (rig_between p k) f.stands) ∙ a.next;
+          rig_is = evented_is;
+          puts = puts_on_then takes breaks told None out (told_lines setup k.state.time a.event.told) f1 o1 ((flush_of a.event.fired a.event.state).lines ++ []) f2 o2 first flushed_to;
+        }

@@ -1,0 +1,238 @@
+-- An engine and its simulator stand together, before and after each effect.
+use Rattle.std.proofs.Common.{◌≡◌, ℕ, ◌||◌, Bool, true, false, not, List, [], ◌∷◌, ◌++◌, length, refl, sym, ap, subst, ◌∙◌, append_assoc, eqb-true, arith, Option, None}
+use Rattle.std.specs.Prelude.{filter, ◌==◌}
+use Rattle.gpi.specs.Content.{Content, opening}
+use Rattle.gpi.specs.Keys.{among}
+use Rattle.gpi.specs.State.{State, is_end}
+use Rattle.gpi.specs.Design.{procs_of, start_map}
+use Rattle.gpi.specs.declared.design.Flat.{Flat}
+use Rattle.gpi.specs.declared.design.Signal.{Signal}
+use Rattle.gpi.specs.declared.types.Counts.{Counts}
+use Rattle.gpi.specs.declared.types.Key.{Key}
+use Rattle.gpi.specs.declared.types.Key.TheVariants.{At, ReadOnly, ReadWrite}
+use Rattle.gpi.specs.declared.types.SigId.{SigId}
+use Rattle.rig_model.specs.Counts.{counts_after, counted}
+use Rattle.rig_model.specs.Effect.{restaged, with_waiting, refusal, begun, awaits}
+use Rattle.rig_model.specs.Kernel.{StandsFor}
+use Rattle.rig_model.specs.Keys.{AreKeys, Rekeyed, AreCounted}
+use Rattle.rig_model.specs.Rig.{Rig, Setup, awaited, named, keys_of, staged_key, leaves}
+use Rattle.rig_model.specs.Run.{ended}
+use Rattle.rig_model.specs.Task.{Task}
+use Rattle.rig_model.proofs.KernelLaws.{awaited_named, effect_stands, same_stands}
+use Rattle.rig_model.proofs.KeyLaws.{no_keys_are, among-append}
+use Rattle.rig_model.specs.declared.task.Entry.{Entry}
+use Rattle.rig_model.specs.declared.task.Staged.{Staged}
+use Rattle.rig_model.specs.declared.task.TaskNo.{TaskNo}
+use Rattle.rig_model.specs.declared.task.Fault.{Fault}
+use Rattle.rig_model.specs.declared.task.Trig.{Trig}
+use Rattle.rig_model.specs.declared.tree.Tree.{Tree}
+use Rattle.rig_model.specs.declared.tree.Tree.TheVariants.{Leaf}
+use Rattle.rig_model.specs.declared.tree.Waiting.{Waiting}
+use Rattle.scheduler.specs.Parts.{Parts, rig_amid, FitsContent}
+
+-- the configuration between two turns
+abbrev pub rig_between : Parts → Content → Rig
+rig_between p k = rig_amid p k.state [] k.counts
+
+-- ---- registered keys
+
+-- the registered keys are the named ones
+pub keys_named : (setup : Setup) (held : List Key) (k : Content) (p : Parts) → FitsContent setup held k (rig_between p k) → AreKeys k.keys (named p.waiting held)
+keys_named setup held k p f x =
+    f.stands.keys_are x
+    ∙ ap (among x) (awaited_named (rig_between p k) refl)
+    ∙ ap (λ (h : List Key). among x (named p.waiting h)) (sym f.held_is)
+
+-- the awaited keys are the named ones
+pub awaited_held : (held : List Key) (p : Parts) (sim : State) (counts : Counts) → held ≡ staged_key p.staged → awaited (rig_amid p sim [] counts) ≡ named p.waiting held
+awaited_held held p sim counts e = awaited_named (rig_amid p sim [] counts) refl ∙ ap (named p.waiting) (sym e)
+
+-- ---- other parts have changed alone
+
+module _ {W : Type 0} (waiting : W → List Waiting) (held : W → List Key) where
+  pub stands_same : (setup setup' : Setup) (k : Content) (a a' : W) (staged staged' : List Staged) (tasks tasks' : List Task) (started started' : ℕ) (ready ready' : List Entry)
+      → setup' ≡ setup → a' ≡ a → staged' ≡ staged
+      → FitsContent setup (held a) k (rig_between (record { tasks = tasks; started = started; ready = ready; waiting = waiting a; staged = staged }) k)
+      → FitsContent setup' (held a') k (rig_between (record { tasks = tasks'; started = started'; ready = ready'; waiting = waiting a'; staged = staged' }) k)
+  stands_same setup setup' k a a' staged staged' tasks tasks' started started' ready ready' e1 e2 e3 f =
+      rw (e1, e2, e3) (record {
+        stands = record { procs_are = f.stands.procs_are; state_is = f.stands.state_is; keys_are = f.stands.keys_are; counts_are = f.stands.counts_are };
+        held_is = f.held_is;
+        signals = f.signals;
+        writable = f.writable;
+        no_end = f.no_end;
+      })
+
+-- ---- effects that fire nothing
+
+module _ (setup : Setup) (p : Parts) (k k' : Content) (held : List Key) (f : FitsContent setup held k (rig_between p k)) (p' : Parts) (held' : List Key) (own : held' ≡ staged_key p'.staged)
+    (r : Rekeyed k k' (named p'.waiting held')) (n : AreCounted k k' (named p.waiting held) (named p'.waiting held')) where
+  abbrev before : Rig
+  before = rig_between p k
+
+  abbrev after : Rig
+  after = rig_amid p' k.state [] k.counts
+
+  old_keys : awaited before ≡ named p.waiting held
+  old_keys = awaited_held held p k.state k.counts f.held_is
+
+  new_keys : awaited after ≡ named p'.waiting held'
+  new_keys = awaited_held held' p' k.state k.counts own
+
+  counts_are : AreCounted k k' (awaited before) (awaited after)
+  counts_are = n ∙ ap (λ (ks : List Key). counts_after [] ks (named p'.waiting held') k.counts) (sym old_keys) ∙ ap (λ (ks : List Key). counts_after [] (awaited before) ks k.counts) (sym new_keys)
+
+  -- the effect, counted, is what the engine and its simulator stand for then
+  pub effect_is : counted [] before after ≡ rig_between p' k'
+  effect_is =
+      ap (λ (c : Counts). rig_amid p' k.state [] c) (sym counts_are)
+      ∙ ap (λ (st : State). rig_amid p' st [] k'.counts) (sym r.state)
+
+  rekeyed : Rekeyed k k' (awaited after)
+  rekeyed = record { procs = r.procs; state = r.state; keys = λ x. r.keys x ∙ ap (among x) (sym new_keys) }
+
+  pub effect_fits : among ReadOnly (keys_of p'.waiting) ≡ false → FitsContent setup held' k' (rig_between p' k')
+  effect_fits e = record {
+    stands = subst (λ (c : Rig). StandsFor setup k' c) effect_is (effect_stands setup k k' before after refl f.stands rekeyed counts_are);
+    held_is = own;
+    signals = ap (λ (st : State). length st.signals) r.state ∙ f.signals;
+    writable = ap (λ (st : State). is_end st.region) r.state ∙ f.writable;
+    no_end = e;
+  }
+
+-- ---- a task waits
+
+keys_of-append : (ws vs : List Waiting) → keys_of (ws ++ vs) ≡ keys_of ws ++ keys_of vs
+keys_of-append [] vs = refl
+keys_of-append (w ∷ ws) vs = ap (λ (ks : List Key). leaves w.tree ++ ks) (keys_of-append ws vs) ∙ sym (append_assoc (leaves w.tree) (keys_of ws) (keys_of vs))
+
+-- a task that waits for a time doesn't wait for the end of the time step
+waits_no_end : (ws : List Waiting) (task : TaskNo) (due : ℕ) (trig : Trig) → among ReadOnly (keys_of ws) ≡ false → among ReadOnly (keys_of (ws ++ record { task = task; tree = Leaf (At due) trig } ∷ [])) ≡ false
+waits_no_end ws task due trig h =
+    ap (among ReadOnly) (keys_of-append ws (record { task = task; tree = Leaf (At due) trig } ∷ []))
+    ∙ among-append ReadOnly (keys_of ws) (At due ∷ [])
+    ∙ ap (λ (b : Bool). b || false) h
+
+module _ (setup : Setup) (p : Parts) (k k' : Content) (held held' : List Key) (f : FitsContent setup held k (rig_between p k)) (task : TaskNo) (trig : Trig) (due : ℕ) (waiting' : List Waiting)
+    (waits : waiting' ≡ p.waiting ++ record { task = task; tree = Leaf (At due) trig } ∷ []) (same : held' ≡ held)
+    (r : Rekeyed k k' (named waiting' held')) (n : AreCounted k k' (named p.waiting held) (named waiting' held')) where
+  pub wait_is : refusal trig.form k.state.time ≡ None → begun trig.form trig k.state.time ≡ Leaf (At due) trig
+      → (awaits task trig (refusal trig.form k.state.time) (rig_between p k)).rig ≡ rig_between (record p { waiting = waiting' }) k'
+  wait_is h b =
+      ap (λ (o : Option Fault). (awaits task trig o (rig_between p k)).rig) h
+      ∙ ap (λ (t : Tree). counted [] (rig_between p k) (with_waiting task t (rig_between p k))) b
+      ∙ ap (λ (ws : List Waiting). counted [] (rig_between p k) (rig_amid (record p { waiting = ws }) k.state [] k.counts)) (sym waits)
+      ∙ effect_is setup p k k' held f (record p { waiting = waiting' }) held' (same ∙ f.held_is) r n
+
+  pub wait_fits : FitsContent setup held' k' (rig_between (record p { waiting = waiting' }) k')
+  wait_fits =
+      effect_fits setup p k k' held f (record p { waiting = waiting' }) held' (same ∙ f.held_is) r n
+      (ap (λ (ws : List Waiting). among ReadOnly (keys_of ws)) waits ∙ waits_no_end p.waiting task due trig f.no_end)
+
+-- ---- a write is staged
+
+-- some write is staged then
+pub restaged_key : (sig : SigId) (number : ℕ) (ws : List Staged) → staged_key (restaged sig number ws) ≡ ReadWrite ∷ []
+restaged_key sig number ws = some (filter (λ (w : Staged). not (w.sig.0 == sig.0)) ws)
+  where
+    some : (vs : List Staged) → staged_key (vs ++ record { sig = sig; number = number } ∷ []) ≡ ReadWrite ∷ []
+    some [] = refl
+    some (v ∷ vs) = refl
+
+module _ (setup : Setup) (p : Parts) (k : Content) (held : List Key) (f : FitsContent setup held k (rig_between p k)) (staged' : List Staged) where
+  abbrev restaged_rig : Rig
+  restaged_rig = rig_between (record p { staged = staged' }) k
+
+  -- where a write was staged before
+  module _ (same : staged_key staged' ≡ staged_key p.staged) where
+    same_keys : awaited restaged_rig ≡ awaited (rig_between p k)
+    same_keys =
+        awaited_named restaged_rig refl ∙ ap (named p.waiting) same ∙ sym (awaited_named (rig_between p k) refl)
+
+    still_stands : StandsFor setup k (counted [] (rig_between p k) restaged_rig)
+    still_stands = same_stands setup k (rig_between p k) restaged_rig refl (λ x. ap (among x) same_keys) f.stands
+
+    pub restage_is : counted [] (rig_between p k) restaged_rig ≡ restaged_rig
+    restage_is = ap (λ (c : Counts). rig_amid (record p { staged = staged' }) k.state [] c) (sym still_stands.counts_are)
+
+    pub restage_fits : FitsContent setup held k restaged_rig
+    restage_fits = record {
+      stands = subst (λ (c : Rig). StandsFor setup k c) restage_is still_stands;
+      held_is = f.held_is ∙ sym same;
+      signals = f.signals;
+      writable = f.writable;
+      no_end = f.no_end;
+    }
+
+no_write : (ws : List Staged) → (length ws == 0) ≡ true → staged_key ws ≡ []
+no_write [] h = refl
+no_write (w ∷ ws) h = let e : length (w ∷ ws) ≡ 0 = eqb-true (length (w ∷ ws)) 0 h in absurd (omega arith)
+
+some_write : (ws : List Staged) → (length ws == 0) ≡ false → staged_key ws ≡ ReadWrite ∷ []
+some_write [] h = cc
+some_write (w ∷ ws) h = refl
+
+module _ (setup : Setup) (p : Parts) (k : Content) (held : List Key) (f : FitsContent setup held k (rig_between p k)) (sig : SigId) (number : ℕ) (staged' : List Staged) (is : staged' ≡ restaged sig number p.staged) where
+  abbrev wanted : Rig
+  wanted = counted [] (rig_between p k) (record (rig_between p k) { staged = restaged sig number p.staged })
+
+  written_key : staged_key staged' ≡ ReadWrite ∷ []
+  written_key = ap staged_key is ∙ restaged_key sig number p.staged
+
+  wanted_is : wanted ≡ counted [] (rig_between p k) (record (rig_between p k) { staged = staged' })
+  wanted_is = ap (λ (ws : List Staged). counted [] (rig_between p k) (record (rig_between p k) { staged = ws })) (sym is)
+
+  -- the first write is staged
+  module _ (first : (length p.staged == 0) ≡ true) (k' : Content) (waiting' : List Waiting) (held' : List Key) (same : waiting' ≡ p.waiting) (holds : held' ≡ held ++ ReadWrite ∷ [])
+      (r : Rekeyed k k' (named waiting' held')) (n : AreCounted k k' (named p.waiting held) (named waiting' held')) where
+    own_is : held' ≡ staged_key staged'
+    own_is = holds ∙ ap (λ (ks : List Key). ks ++ ReadWrite ∷ []) (f.held_is ∙ no_write p.staged first) ∙ sym written_key
+
+    pub first_is : wanted ≡ rig_between (record p { waiting = waiting'; staged = staged' }) k'
+    first_is =
+        wanted_is
+        ∙ ap (λ (ws : List Waiting). counted [] (rig_between p k) (rig_amid (record p { waiting = ws; staged = staged' }) k.state [] k.counts)) (sym same)
+        ∙ effect_is setup p k k' held f (record p { waiting = waiting'; staged = staged' }) held' own_is r n
+
+    pub first_fits : FitsContent setup held' k' (rig_between (record p { waiting = waiting'; staged = staged' }) k')
+    first_fits =
+        effect_fits setup p k k' held f (record p { waiting = waiting'; staged = staged' }) held' own_is r n
+        (ap (λ (ws : List Waiting). among ReadOnly (keys_of ws)) same ∙ f.no_end)
+
+  -- a further write is staged
+  module _ (more : (length p.staged == 0) ≡ false) where
+    still : staged_key staged' ≡ staged_key p.staged
+    still = written_key ∙ sym (some_write p.staged more)
+
+    pub more_is : wanted ≡ rig_between (record p { staged = staged' }) k
+    more_is = wanted_is ∙ restage_is setup p k held f staged' still
+
+    pub more_fits : FitsContent setup held k (rig_between (record p { staged = staged' }) k)
+    more_fits = restage_fits setup p k held f staged' still
+
+-- ---- a test ends, and one begins
+
+-- all of a test is dropped, and that is counted
+module _ (setup : Setup) (p : Parts) (k k' : Content) (held : List Key) (f : FitsContent setup held k (rig_between p k)) (r : Rekeyed k k' []) (n : AreCounted k k' (named p.waiting held) []) where
+  abbrev nothing : Parts
+  nothing = record { tasks = []; started = 0; ready = []; waiting = []; staged = [] }
+
+  pub dropped_is : rig_between nothing k' ≡ ended (rig_between p k)
+  dropped_is = sym (effect_is setup p k k' held f nothing [] refl r n)
+
+  pub dropped_fits : FitsContent setup [] k' (rig_between nothing k')
+  dropped_fits = effect_fits setup p k k' held f nothing [] refl r n refl
+
+length_start : (ss : List Signal) → length (start_map ss) ≡ length ss
+length_start [] = refl
+length_start (s ∷ ss) = let h : length (start_map ss) ≡ length ss = length_start ss in omega arith
+
+-- a simulator that has just loaded the design
+pub opening_fits : (setup : Setup) (flat : Flat) → setup.flat ≡ flat → FitsContent setup [] (opening flat) (rig_between (record { tasks = []; started = 0; ready = []; waiting = []; staged = [] }) (opening flat))
+opening_fits setup flat e = record {
+  stands = record { procs_are = ap (λ (f : Flat). procs_of f.processes) (sym e); state_is = refl; keys_are = no_keys_are; counts_are = refl };
+  held_is = refl;
+  signals = length_start flat.signals ∙ ap (λ (f : Flat). length f.signals) (sym e);
+  writable = refl;
+  no_end = refl;
+}

@@ -1,0 +1,61 @@
+use Rattle.std.proofs.Common.{subst}
+use Rattle.rig_model.specs.Rig.{Setup}
+use Rattle.scheduler.specs.Engine.{setup_of, parts_of}
+use Rattle.scheduler.specs.Serves.{IsOpen}
+use Rattle.scheduler.proofs.EventLaws.{advances_of, event_alone, event_open, event_stands_ahead, event_fits, event_evented}
+use Rattle.scheduler.proofs.FitLaws.{fits_served}
+use Rattle.scheduler.proofs.StandLaws.{keys_named}
+use Rattle.scheduler.proofs.engine.Engine.do_event.Goals as goal
+
+pub returns-in_err-moved-clause-keys : goal.returns-in_err-moved-clause-keys
+returns-in_err-moved-clause-keys g c = rw c.in_err-moved.ensures.kept (keys_named (setup_of g.M.FlowMaker.functions c.args.self.now) _ _ (parts_of g.W.Awaits.waiting c.args.self.now) c.requires.fits.kernel)
+
+pub flush_if-put-requires-clause-writable : goal.flush_if-put-requires-clause-writable
+flush_if-put-requires-clause-writable g c = event_open (setup_of g.M.FlowMaker.functions c.args.self.now) (parts_of g.W.Awaits.waiting c.args.self.now) (g.K.Gpi.content c.args.kernel.now) (g.K.Gpi.content c.advance.new.self) (g.W.Awaits.held c.args.self.now.awaits) c.requires.fits.kernel c.in-Moved.moved
+    (advances_of (g.K.Gpi.content c.args.kernel.now) c.in-Moved.moved (g.K.Gpi.content c.advance.new.self) (rw c.in-Moved.is at c.in_ok-moved.ensures.is))
+    c.advance.ensures.widths
+
+pub flush_if-put-requires-clause-alone : goal.flush_if-put-requires-clause-alone
+flush_if-put-requires-clause-alone g c = event_alone (setup_of g.M.FlowMaker.functions c.args.self.now) (parts_of g.W.Awaits.waiting c.args.self.now) (g.K.Gpi.content c.args.kernel.now) (g.K.Gpi.content c.advance.new.self) (g.W.Awaits.held c.args.self.now.awaits) c.requires.fits.kernel c.in-Moved.moved
+    (advances_of (g.K.Gpi.content c.args.kernel.now) c.in-Moved.moved (g.K.Gpi.content c.advance.new.self) (rw c.in-Moved.is at c.in_ok-moved.ensures.is))
+
+pub returns-clause-done : goal.returns-clause-done
+returns-clause-done g c = event_evented (setup_of g.M.FlowMaker.functions c.args.self.now) (parts_of g.W.Awaits.waiting c.args.self.now) (g.K.Gpi.content c.args.kernel.now) (g.K.Gpi.content c.advance.new.self) (g.W.Awaits.held c.args.self.now.awaits) c.requires.fits.kernel c.in-Moved.moved
+    (advances_of (g.K.Gpi.content c.args.kernel.now) c.in-Moved.moved (g.K.Gpi.content c.advance.new.self) (rw c.in-Moved.is at c.in_ok-moved.ensures.is))
+    g.O.Sink.takes g.O.Sink.breaks g.O.Sink.told (parts_of g.W.Awaits.waiting c.flush_if-put.new.self) (g.K.Gpi.content c.flush_if-put.new.kernel) (g.K.Gpi.content c.fire.new.kernel)
+    c.tell-told.result c.tell-told.new.out c.flush_if-put.result c.flush_if-put.new.out
+    (c.flush_if-put.ensures.serves (g.K.Gpi.content c.args.kernel.now).counts
+    (event_stands_ahead (setup_of g.M.FlowMaker.functions c.args.self.now) (parts_of g.W.Awaits.waiting c.args.self.now) (g.K.Gpi.content c.args.kernel.now) (g.K.Gpi.content c.advance.new.self) (g.W.Awaits.held c.args.self.now.awaits) c.requires.fits.kernel c.in-Moved.moved
+    (advances_of (g.K.Gpi.content c.args.kernel.now) c.in-Moved.moved (g.K.Gpi.content c.advance.new.self) (rw c.in-Moved.is at c.in_ok-moved.ensures.is))))
+    c.flush_if-put.ensures.free _ _ c.flush_if-put.ensures.held
+    (subst (λ (st : Setup). IsOpen st (g.K.Gpi.content c.flush_if-put.new.kernel) (g.W.Awaits.waiting c.flush_if-put.new.self.awaits)) c.flush_if-put.ensures.setup c.flush_if-put.ensures.writable)
+    _ _ c.fire.ensures.waiting c.fire.ensures.held c.fire.ensures.ready c.fire.ensures.keys
+    c.args.out.now _ c.now-time.ensures c.tell-told.ensures
+
+pub returns-clause-fits : goal.returns-clause-fits
+returns-clause-fits g c = record {
+  own = fits_served (setup_of g.M.FlowMaker.functions c.flush_if-put.new.self) _ (parts_of g.W.Awaits.waiting c.flush_if-put.new.self) _ _ _ _ c.flush_if-put.ensures.own c.fire.ensures.room c.fire.ensures.ready c.fire.ensures.waiting;
+  kernel = rw c.flush_if-put.ensures.setup (event_fits (setup_of g.M.FlowMaker.functions c.args.self.now) (parts_of g.W.Awaits.waiting c.args.self.now) (g.K.Gpi.content c.args.kernel.now) (g.K.Gpi.content c.advance.new.self) (g.W.Awaits.held c.args.self.now.awaits) c.requires.fits.kernel c.in-Moved.moved
+      (advances_of (g.K.Gpi.content c.args.kernel.now) c.in-Moved.moved (g.K.Gpi.content c.advance.new.self) (rw c.in-Moved.is at c.in_ok-moved.ensures.is))
+      g.O.Sink.takes g.O.Sink.breaks g.O.Sink.told (parts_of g.W.Awaits.waiting c.flush_if-put.new.self) (g.K.Gpi.content c.flush_if-put.new.kernel) (g.K.Gpi.content c.fire.new.kernel)
+      c.tell-told.result c.tell-told.new.out c.flush_if-put.result c.flush_if-put.new.out
+      (c.flush_if-put.ensures.serves (g.K.Gpi.content c.args.kernel.now).counts
+      (event_stands_ahead (setup_of g.M.FlowMaker.functions c.args.self.now) (parts_of g.W.Awaits.waiting c.args.self.now) (g.K.Gpi.content c.args.kernel.now) (g.K.Gpi.content c.advance.new.self) (g.W.Awaits.held c.args.self.now.awaits) c.requires.fits.kernel c.in-Moved.moved
+      (advances_of (g.K.Gpi.content c.args.kernel.now) c.in-Moved.moved (g.K.Gpi.content c.advance.new.self) (rw c.in-Moved.is at c.in_ok-moved.ensures.is))))
+      c.flush_if-put.ensures.free _ _ c.flush_if-put.ensures.held
+      (subst (λ (st : Setup). IsOpen st (g.K.Gpi.content c.flush_if-put.new.kernel) (g.W.Awaits.waiting c.flush_if-put.new.self.awaits)) c.flush_if-put.ensures.setup c.flush_if-put.ensures.writable)
+      _ _ c.fire.ensures.waiting c.fire.ensures.held c.fire.ensures.ready c.fire.ensures.keys);
+}
+
+pub returns-clause-keys : goal.returns-clause-keys
+returns-clause-keys g c = keys_named (setup_of g.M.FlowMaker.functions c.args.self.now) _ _ (record (parts_of g.W.Awaits.waiting c.flush_if-put.new.self) { ready = c.fire.new.ready.entries; waiting = g.W.Awaits.waiting c.fire.new.self })
+    (event_fits (setup_of g.M.FlowMaker.functions c.args.self.now) (parts_of g.W.Awaits.waiting c.args.self.now) (g.K.Gpi.content c.args.kernel.now) (g.K.Gpi.content c.advance.new.self) (g.W.Awaits.held c.args.self.now.awaits) c.requires.fits.kernel c.in-Moved.moved
+    (advances_of (g.K.Gpi.content c.args.kernel.now) c.in-Moved.moved (g.K.Gpi.content c.advance.new.self) (rw c.in-Moved.is at c.in_ok-moved.ensures.is))
+    g.O.Sink.takes g.O.Sink.breaks g.O.Sink.told (parts_of g.W.Awaits.waiting c.flush_if-put.new.self) (g.K.Gpi.content c.flush_if-put.new.kernel) (g.K.Gpi.content c.fire.new.kernel)
+    c.tell-told.result c.tell-told.new.out c.flush_if-put.result c.flush_if-put.new.out
+    (c.flush_if-put.ensures.serves (g.K.Gpi.content c.args.kernel.now).counts
+    (event_stands_ahead (setup_of g.M.FlowMaker.functions c.args.self.now) (parts_of g.W.Awaits.waiting c.args.self.now) (g.K.Gpi.content c.args.kernel.now) (g.K.Gpi.content c.advance.new.self) (g.W.Awaits.held c.args.self.now.awaits) c.requires.fits.kernel c.in-Moved.moved
+    (advances_of (g.K.Gpi.content c.args.kernel.now) c.in-Moved.moved (g.K.Gpi.content c.advance.new.self) (rw c.in-Moved.is at c.in_ok-moved.ensures.is))))
+    c.flush_if-put.ensures.free _ _ c.flush_if-put.ensures.held
+    (subst (λ (st : Setup). IsOpen st (g.K.Gpi.content c.flush_if-put.new.kernel) (g.W.Awaits.waiting c.flush_if-put.new.self.awaits)) c.flush_if-put.ensures.setup c.flush_if-put.ensures.writable)
+    _ _ c.fire.ensures.waiting c.fire.ensures.held c.fire.ensures.ready c.fire.ensures.keys)

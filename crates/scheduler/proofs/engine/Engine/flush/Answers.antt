@@ -1,0 +1,44 @@
+use Rattle.std.proofs.Common.{◌∙◌, refl, sym, ap, subst, [], ◌∷◌, Vec, Global}
+use Rattle.gpi.specs.declared.types.Key.TheVariants.{ReadWrite}
+use Rattle.rig_model.specs.Rig.{Setup}
+use Rattle.rig_model.specs.Serve.{flushed}
+use Rattle.rig_model.specs.declared.task.Staged.{Staged}
+use Rattle.scheduler.specs.Engine.{setup_of, parts_of}
+use Rattle.scheduler.specs.Parts.{rig_amid}
+use Rattle.scheduler.specs.Serves.{Serves, IsOpen}
+use Rattle.scheduler.proofs.EventLaws.{flushing_begins, flushing_more, flushing_ends}
+use Rattle.scheduler.proofs.FitLaws.{fits_told}
+use Rattle.scheduler.proofs.engine.Engine.flush.Goals as goal
+
+pub writes-init : goal.writes-init
+writes-init g c = record {
+  loaded = c.requires.loaded;
+  own = c.requires.own;
+  writable = c.requires.writable;
+  held = λ writes h. h;
+  setup = refl;
+  flushing = λ counts s. flushing_begins g.O.Sink.takes g.O.Sink.breaks g.O.Sink.told (setup_of g.M.FlowMaker.functions c.args.self.now) (parts_of g.W.Awaits.waiting c.args.self.now) (g.K.Gpi.content c.args.kernel.now) _ _ counts s;
+}
+
+pub writes-preserved : goal.writes-preserved
+writes-preserved g c = record {
+  loaded = c.put_out-fault.ensures.loaded;
+  own = fits_told _ _ 0 _ _ _ (sym (c.put_out-fault.ensures.setup ∙ c.writes.invariant.setup)) refl c.put_out-fault.ensures.own;
+  writable = subst (λ (st : Setup). IsOpen st (g.K.Gpi.content c.put_out-fault.new.kernel) (g.W.Awaits.waiting c.put_out-fault.new.self.awaits)) (c.put_out-fault.ensures.setup ∙ c.writes.invariant.setup) c.put_out-fault.ensures.writable;
+  held = λ writes h. c.put_out-fault.ensures.held writes (c.writes.invariant.held writes h);
+  setup = c.put_out-fault.ensures.setup ∙ c.writes.invariant.setup;
+  flushing = λ counts s. flushing_more g.O.Sink.takes g.O.Sink.breaks g.O.Sink.told (setup_of g.M.FlowMaker.functions c.args.self.now) _ c.writes.invariant.setup _ _ _
+      (parts_of g.W.Awaits.waiting c.writes.self) (g.K.Gpi.content c.writes.kernel) _ _ (c.writes.invariant.flushing counts s) c.in-Some.write _ c.in-Some.ensures
+      (parts_of g.W.Awaits.waiting c.put_out-fault.new.self) (g.K.Gpi.content c.put_out-fault.new.kernel) _ _ (ap (λ (v : Vec Staged Global). v.items) c.put_out-fault.ensures.staged)
+      c.put_out-fault.ensures.serves;
+}
+
+pub returns-clause-serves : goal.returns-clause-serves
+returns-clause-serves g c = λ counts s.
+    let ended : Serves g.O.Sink.takes g.O.Sink.breaks g.O.Sink.told (setup_of g.M.FlowMaker.functions c.args.self.now) (ReadWrite ∷ [])
+    (flushed (setup_of g.M.FlowMaker.functions c.args.self.now) c.args.self.now.staged.items
+    (rig_amid (parts_of g.W.Awaits.waiting c.args.self.now) (g.K.Gpi.content c.args.kernel.now).state (ReadWrite ∷ []) counts))
+    (parts_of g.W.Awaits.waiting c.writes.self) (g.K.Gpi.content c.writes.kernel) c.args.fault c.args.out.now c.writes.fault c.writes.out
+    = flushing_ends g.O.Sink.takes g.O.Sink.breaks g.O.Sink.told (setup_of g.M.FlowMaker.functions c.args.self.now) _ _ _
+    (parts_of g.W.Awaits.waiting c.writes.self) (g.K.Gpi.content c.writes.kernel) _ _ (c.writes.invariant.flushing counts s) c.in_default.ensures.0 in
+    rw (c.in_default.ensures.1) (rw (c.in_default.ensures.0) at ended)

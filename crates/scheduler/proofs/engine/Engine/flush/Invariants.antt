@@ -1,0 +1,29 @@
+use Rattle.std.proofs.Common.{◌≡◌, ◌∷◌, [], List, length}
+use Rattle.gpi.specs.declared.types.Counts.{Counts}
+use Rattle.gpi.specs.declared.types.Key.TheVariants.{ReadWrite}
+use Rattle.rig_model.specs.Kernel.{StandsAhead}
+use Rattle.rig_model.specs.Rig.{staged_key}
+use Rattle.rig_model.specs.Serve.{flushed}
+use Rattle.rig_model.specs.declared.task.Staged.{Staged}
+use Rattle.scheduler.specs.Engine.{setup_of, parts_of}
+use Rattle.scheduler.specs.Parts.{Fits, rig_amid}
+use Rattle.scheduler.specs.Serves.{IsOpen}
+use Rattle.scheduler.proofs.EventLaws.{Flushing}
+use Rattle.scheduler.proofs.engine.Engine.flush.Given as goal
+
+abbrev pub invariant-writes : goal.invariant-writes
+invariant-writes g l = record {
+  loaded : g.K.Gpi.is_loaded l.kernel;
+  own : Fits (setup_of g.M.FlowMaker.functions l.fn.self) 0 l.self.ready.room (parts_of g.W.Awaits.waiting l.self);
+  writable : IsOpen (setup_of g.M.FlowMaker.functions l.fn.self) (g.K.Gpi.content l.kernel) (g.W.Awaits.waiting l.self.awaits);
+  held : (writes : List Staged) → g.W.Awaits.held l.fn.self.awaits ≡ staged_key writes → g.W.Awaits.held l.self.awaits ≡ staged_key writes;
+  setup : setup_of g.M.FlowMaker.functions l.self ≡ setup_of g.M.FlowMaker.functions l.fn.self;
+  flushing : (counts : Counts)
+      → (let c = rig_amid (parts_of g.W.Awaits.waiting l.fn.self) (g.K.Gpi.content l.fn.kernel).state (ReadWrite ∷ []) counts in
+      StandsAhead (ReadWrite ∷ []) (setup_of g.M.FlowMaker.functions l.fn.self) (g.K.Gpi.content l.fn.kernel) c
+      → Flushing g.O.Sink.takes g.O.Sink.breaks g.O.Sink.told (setup_of g.M.FlowMaker.functions l.fn.self) (flushed (setup_of g.M.FlowMaker.functions l.fn.self) l.fn.self.staged.items c) l.fn.fault l.fn.out
+      (parts_of g.W.Awaits.waiting l.self) (g.K.Gpi.content l.kernel) l.fault l.out);
+}
+
+abbrev pub decreases-writes : goal.decreases-writes
+decreases-writes g l = length l.self.staged.items

@@ -1,0 +1,38 @@
+use Rattle.std.proofs.Common.{◌∙◌, sym, ap, subst, length, ℕ, List}
+use Rattle.four_value.specs.declared.Digit.{Digit}
+use Rattle.four_value.specs.Vector.{vector}
+use Rattle.four_value.proofs.Numbers.{length_vector}
+use Rattle.scheduler.specs.Engine.{setup_of, parts_of}
+use Rattle.scheduler.specs.Puts.{PutsOn}
+use Rattle.scheduler.proofs.EventLaws.{put_serves, put_open, held_stays, told_same}
+use Rattle.scheduler.proofs.FitLaws.{fits_served}
+use Rattle.scheduler.proofs.engine.Engine.put_out.Goals as goal
+
+pub deposit-fired-requires-clause-width : goal.deposit-fired-requires-clause-width
+deposit-fired-requires-clause-width g c =
+    ap (λ (ds : List Digit). length ds) c.from_number-bits.ensures ∙ length_vector _ _ ∙ c.width.ensures.is ∙ ap (λ (ds : List Digit). length ds) c.read-old.ensures
+
+pub change_of-requires : goal.change_of-requires
+change_of-requires g c = sym (ap (λ (ds : List Digit). length ds) c.from_number-bits.ensures ∙ length_vector _ _ ∙ c.width.ensures.is)
+
+pub returns-clause-serves : goal.returns-clause-serves
+returns-clause-serves g c = λ ahead counts s.
+    put_serves (setup_of g.M.FlowMaker.functions c.args.self.now) (parts_of g.W.Awaits.waiting c.args.self.now) _ _ _ c.args.write _ _ _ _ _ _
+    c.deposit-fired.ensures.is.0 c.deposit-fired.ensures.is.1 c.fire.ensures.waiting c.fire.ensures.held c.fire.ensures.ready c.fire.ensures.keys ahead counts s
+    g.O.Sink.takes g.O.Sink.breaks g.O.Sink.told _ _ _ _
+    (c.from_number-bits.ensures ∙ ap (vector c.width.result) c.from.ensures ∙ ap (λ (w : ℕ). vector w c.args.write.number) (c.width.ensures.is ∙ ap (λ (ds : List Digit). length ds) c.read-old.ensures))
+    (subst (λ (lines : List (List ℕ)). PutsOn g.O.Sink.takes g.O.Sink.breaks g.O.Sink.told c.args.fault c.args.out.now lines c.tell-fault.result c.tell-fault.new.out)
+    (told_same (setup_of g.M.FlowMaker.functions c.args.self.now) (g.K.Gpi.content c.args.kernel.now) c.args.write.sig _ _ _ _ c.now-time.ensures c.read-old.ensures c.change_of.ensures)
+    c.tell-fault.ensures)
+
+pub returns-clause-own : goal.returns-clause-own
+returns-clause-own g c =
+    fits_served (setup_of g.M.FlowMaker.functions c.args.self.now) _ (parts_of g.W.Awaits.waiting c.args.self.now) _ _ _ _ c.requires.own c.fire.ensures.room c.fire.ensures.ready c.fire.ensures.waiting
+
+pub returns-clause-held : goal.returns-clause-held
+returns-clause-held g c = held_stays (setup_of g.M.FlowMaker.functions c.args.self.now) (parts_of g.W.Awaits.waiting c.args.self.now) _ _ _ c.args.write _ _ _ _ _ _
+    c.deposit-fired.ensures.is.0 c.deposit-fired.ensures.is.1 c.fire.ensures.waiting c.fire.ensures.held c.fire.ensures.ready c.fire.ensures.keys
+
+pub returns-clause-writable : goal.returns-clause-writable
+returns-clause-writable g c = put_open (setup_of g.M.FlowMaker.functions c.args.self.now) (parts_of g.W.Awaits.waiting c.args.self.now) _ _ _ c.args.write _ _ _ _ _ _
+    c.deposit-fired.ensures.is.0 c.deposit-fired.ensures.is.1 c.fire.ensures.waiting c.fire.ensures.held c.fire.ensures.ready c.fire.ensures.keys c.deposit-fired.ensures.widths c.requires.writable

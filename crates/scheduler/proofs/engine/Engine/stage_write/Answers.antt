@@ -1,0 +1,52 @@
+use Rattle.std.proofs.Common.{◌≡◌, refl, sym, ap, ◌∙◌, Some, ℕ, Bool, length, vec_len, Vec, Global, arith}
+use Rattle.std.specs.Prelude.{◌==◌}
+use Rattle.rig_model.specs.declared.task.Staged.{Staged}
+use Rattle.rig_model.specs.Effect.{goes_on}
+use Rattle.rig_model.specs.declared.task.Given.TheVariants.{Value}
+use Rattle.rig_model.specs.declared.task.Value.TheVariants.{Absent}
+use Rattle.scheduler.specs.Engine.{setup_of, parts_of}
+use Rattle.scheduler.proofs.FitLaws.{fits_staged}
+use Rattle.scheduler.proofs.Results.{on_ok}
+use Rattle.scheduler.proofs.StandLaws.{keys_named, first_is, first_fits, more_is, more_fits}
+use Rattle.scheduler.proofs.engine.Engine.stage_write.Goals as goal
+use Rattle.scheduler.proofs.engine.Engine.stage_write.Goals.{then-is_empty+in_ok-hold, else-is_empty}
+
+staged_len : (v : Vec Staged Global) {b : Bool} → (vec_len v == 0) ≡ b → (length v.items == 0) ≡ b
+staged_len v e = let z : length v.items ≡ vec_len v = omega (arith, v.ok.0) in ap (λ (n : ℕ). n == 0) z ∙ e
+
+pub hold-requires-clause-keys : goal.hold-requires-clause-keys
+hold-requires-clause-keys g c = keys_named (setup_of g.M.FlowMaker.functions c.args.self.now) _ _ (parts_of g.W.Awaits.waiting c.args.self.now) c.requires.fits.kernel
+
+pub returns-clause-leads : goal.returns-clause-leads
+returns-clause-leads g c = elim c.if-is_empty.branch [
+  | then-is_empty+in_ok-hold w ↦ rw (w.self-is, w.kernel-is) (on_ok c.stage.result (rw w.self-is at c.stage.ensures) (λ e task. (
+    refl,
+    ap (goes_on task (Some (Value Absent)))
+        (first_is (setup_of g.M.FlowMaker.functions c.args.self.now) (parts_of g.W.Awaits.waiting c.args.self.now) _ _ c.requires.fits.kernel c.args.sig c.args.number _ e (staged_len c.args.self.now.staged (sym c.is_empty.ensures ∙ w.if-is_empty.true)) _ _ _
+        w.hold.ensures.waiting w.in_ok-hold.ensures.ok w.hold.ensures.keys w.in_ok-hold.ensures.counts),
+  )))
+  | else-is_empty w ↦ rw (w.self-is, w.kernel-is) (on_ok c.stage.result (rw w.self-is at c.stage.ensures) (λ e task. (
+    refl,
+    ap (goes_on task (Some (Value Absent)))
+        (more_is (setup_of g.M.FlowMaker.functions c.args.self.now) (parts_of g.W.Awaits.waiting c.args.self.now) _ _ c.requires.fits.kernel c.args.sig c.args.number _ e (staged_len c.args.self.now.staged (sym c.is_empty.ensures ∙ w.if-is_empty.false))),
+  )))
+]
+
+pub returns-clause-fits : goal.returns-clause-fits
+returns-clause-fits g c = elim c.if-is_empty.branch [
+  | then-is_empty+in_ok-hold w ↦ rw (w.self-is, w.kernel-is) (on_ok c.stage.result (rw w.self-is at c.stage.ensures) (λ e. record {
+    own = rw (e, w.hold.ensures.waiting) (fits_staged (setup_of g.M.FlowMaker.functions c.args.self.now) _ (parts_of g.W.Awaits.waiting c.args.self.now) 1 c.args.sig c.args.number c.requires.fits.own c.requires.sound);
+    kernel = first_fits (setup_of g.M.FlowMaker.functions c.args.self.now) (parts_of g.W.Awaits.waiting c.args.self.now) _ _ c.requires.fits.kernel c.args.sig c.args.number _ e (staged_len c.args.self.now.staged (sym c.is_empty.ensures ∙ w.if-is_empty.true)) _ _ _
+        w.hold.ensures.waiting w.in_ok-hold.ensures.ok w.hold.ensures.keys w.in_ok-hold.ensures.counts;
+  }))
+  | else-is_empty w ↦ rw (w.self-is, w.kernel-is) (on_ok c.stage.result (rw w.self-is at c.stage.ensures) (λ e. record {
+    own = rw e (fits_staged (setup_of g.M.FlowMaker.functions c.args.self.now) _ (parts_of g.W.Awaits.waiting c.args.self.now) 1 c.args.sig c.args.number c.requires.fits.own c.requires.sound);
+    kernel = more_fits (setup_of g.M.FlowMaker.functions c.args.self.now) (parts_of g.W.Awaits.waiting c.args.self.now) _ _ c.requires.fits.kernel c.args.sig c.args.number _ e (staged_len c.args.self.now.staged (sym c.is_empty.ensures ∙ w.if-is_empty.false));
+  }))
+]
+
+pub returns-clause-keys : goal.returns-clause-keys
+returns-clause-keys g c = elim c.if-is_empty.branch [
+  | then-is_empty+in_ok-hold w ↦ rw (w.self-is, w.kernel-is) w.hold.ensures.keys.keys
+  | else-is_empty w ↦ rw (w.self-is, w.kernel-is) (keys_named (setup_of g.M.FlowMaker.functions c.args.self.now) _ _ (parts_of g.W.Awaits.waiting c.args.self.now) c.requires.fits.kernel)
+]

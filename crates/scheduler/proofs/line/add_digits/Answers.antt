@@ -1,0 +1,9 @@
+use Rattle.std.proofs.Common.{ap, ◌∙◌, ◌++◌, List, ℕ, take}
+use Rattle.scheduler.proofs.DigitLaws.{letters_front}
+use Rattle.scheduler.proofs.line.add_digits.Goals as goal
+
+pub returns : goal.returns
+returns c =
+    c.in_ok-extend_from_slice.ensures.items
+    ∙ ap (λ (letters : List ℕ). c.args.line.now.items ++ letters)
+    (ap (λ (n : ℕ). take n c.text-text.result) c.width-count.ensures.is ∙ ap (take _) c.text-text.ensures ∙ letters_front c.args.bits)

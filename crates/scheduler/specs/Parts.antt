@@ -1,0 +1,69 @@
+-- The parts of a configuration that the engine keeps, and what holds of them.
+use Rattle.std.specs.Prelude.{◌≡◌, ℕ, ◌+◌, ◌<◌, ◌≤◌, false, List, [], ◌∷◌, length, None}
+use Rattle.gpi.specs.Content.{Content}
+use Rattle.gpi.specs.Keys.{among}
+use Rattle.gpi.specs.State.{State, is_end}
+use Rattle.gpi.specs.declared.types.Counts.{Counts}
+use Rattle.gpi.specs.declared.types.Key.{Key}
+use Rattle.gpi.specs.declared.types.Key.TheVariants.{ReadOnly}
+use Rattle.rig_model.specs.Effect.{live_limit, start_limit}
+use Rattle.rig_model.specs.Kernel.{StandsFor}
+use Rattle.rig_model.specs.Rig.{Rig, Setup, keys_of, staged_key}
+use Rattle.rig_model.specs.Sound.{Bounds, AreSoundFunctions, AreSoundTasks}
+use Rattle.rig_model.specs.Task.{Task}
+use Rattle.rig_model.specs.declared.task.Entry.{Entry}
+use Rattle.rig_model.specs.declared.task.Staged.{Staged}
+use Rattle.rig_model.specs.declared.tree.Waiting.{Waiting}
+
+-- all but what a simulator holds
+pub record Parts : Type 0 where
+  pub tasks : List Task
+  pub started : ℕ
+  pub ready : List Entry
+  pub waiting : List Waiting
+  pub staged : List Staged
+
+-- the configuration of these parts, in which no task has its turn, while these keys have fired and are still to be served
+abbrev pub rig_amid : Parts → State → List Key → Counts → Rig
+rig_amid p sim fired counts = record {
+  sim = sim;
+  tasks = p.tasks;
+  started = p.started;
+  running = None;
+  ready = p.ready;
+  waiting = p.waiting;
+  staged = p.staged;
+  fired = fired;
+  counts = counts;
+  outcome = None;
+}
+
+-- how many functions and signals there are to be named
+abbrev pub bounds_of : Setup → Bounds
+bounds_of setup = record { functions = length setup.functions; signals = length setup.flat.signals }
+
+-- each of these writes is of a signal of the design
+abbrev pub AreSoundWrites : ℕ → List Staged → Type 0
+AreSoundWrites signals [] = Unit {0}
+AreSoundWrites signals (w ∷ ws) = (w.sig.0 < signals) × AreSoundWrites signals ws
+
+-- What holds of the engine's own parts between turns, and within one where a task has its turn (more is 1): each task that is ready or waits is a live one of its own,
+-- the ring has room for every live task, the limits are kept, and what tasks and staged writes name is there.
+pub record Fits (setup : Setup) (more : ℕ) (room : ℕ) (p : Parts) : Type 0 where
+  pub held : length p.ready + length p.waiting + more ≤ length p.tasks
+  pub room_is : length p.tasks ≤ room
+  pub live : length p.tasks ≤ live_limit
+  pub started : p.started ≤ start_limit
+  pub tasks : AreSoundTasks (bounds_of setup) p.tasks
+  pub writes : AreSoundWrites (length setup.flat.signals) p.staged
+  pub functions : AreSoundFunctions (bounds_of setup) setup.functions
+
+-- What holds between a configuration and a simulator: the simulator stands for it, the runner holds the read-write phase
+-- while a write is staged and no other key, the simulator has the signals of the design, and the time step isn't over for
+-- those who write, as no task waits for its end.
+pub record FitsContent (setup : Setup) (held : List Key) (content : Content) (c : Rig) : Type 0 where
+  pub stands : StandsFor setup content c
+  pub held_is : held ≡ staged_key c.staged
+  pub signals : length content.state.signals ≡ length setup.flat.signals
+  pub writable : is_end content.state.region ≡ false
+  pub no_end : among ReadOnly (keys_of c.waiting) ≡ false

@@ -1,0 +1,234 @@
+// Events of the simulator.
+ghost use Rattle.std.specs.Prelude.{◌≡◌, ◌≤◌, ◌<◌, ◌∷◌, ◌+◌, [], List, length, IfOk, OnOk, OnErr, Ok, true, false};
+ghost use Rattle.gpi.specs.Content.{IsChangeOf};
+ghost use Rattle.gpi.specs.Events.{idle};
+ghost use Rattle.gpi.specs.Keys.{among};
+ghost use Rattle.gpi.specs.declared.types.Counts.{Counts};
+ghost use Rattle.gpi.specs.declared.types.Key.{Key};
+ghost use Rattle.gpi.specs.declared.types.Key.TheVariants.{ReadWrite};
+ghost use Rattle.rig_model.specs.FitSteps.{TurnSteps};
+ghost use Rattle.rig_model.specs.Kernel.{StandsAhead};
+ghost use Rattle.rig_model.specs.Keys.{AreKeys, key_list, keys_in, without_all};
+ghost use Rattle.rig_model.specs.Rig.{named, staged_key, told_lines};
+ghost use Rattle.rig_model.specs.declared.task.Staged.{Staged};
+ghost use Rattle.rig_model.specs.Serve.{after_put, put_of, flushed, flushed_if};
+
+use crate::Engine;
+use crate::puts::{change_of, put_change};
+use crate::turn::Turn;
+use crate::writes::take_first;
+use four_value::Bits;
+use gpi::{Advance, Fired, Gpi, Key, Told};
+use port_io::{NoMemory, Sink, SinkFault};
+use rig_model::{Awaits, FlowMaker, Outcome, Staged, Steps};
+use std::alloc::Global;
+use std::sync::ledger::Ledger;
+
+fn is_read_write(key: Option<Key>) -> bool
+    ensures { result ≡ among ReadWrite (key_list key) }
+{
+    matches!(key, Some(Key::ReadWrite))
+}
+
+// Whether the read-write phase is among the keys that fired.
+fn settles(fired: Fired) -> bool
+    ensures { result ≡ among ReadWrite (keys_in fired) }
+{
+    is_read_write(fired.first) || is_read_write(fired.second)
+}
+
+impl<'a, M: FlowMaker + Drop, W: Awaits> Engine<'a, M, W> {
+    ghost use Rattle.scheduler.specs.Engine.{parts_of, rig_of, setup_of};
+    ghost use Rattle.scheduler.specs.Parts.{Fits, rig_amid};
+    ghost use Rattle.scheduler.specs.Puts.{PutsOn};
+    ghost use Rattle.scheduler.specs.Serves.{Serves, IsOpen, IsEvented};
+    ghost use Rattle.scheduler.specs.Fits.{FitsKernel, FitsAfter};
+    ghost use Rattle.scheduler.specs.Turns.{Turning};
+
+    // Puts the line of a told change, where changes are written and no put has failed.
+    fn tell<O: Sink>(
+        &self,
+        alloc: Global,
+        time: u64,
+        change: Option<Told>,
+        out: &mut O,
+        fault: Option<SinkFault>,
+    ) -> Option<SinkFault>
+        requires { IsChangeOf (length self.now.flat.now.signals) change }
+        ensures { PutsOn O.takes O.breaks O.told fault out.old (told_lines (setup_of M.functions self.now) time change) result out.new }
+    {
+        if fault.is_some() || !self.trace {
+            return fault;
+        }
+        match change {
+            Some(told) => put_change(alloc, out, time, self.path(told.sig).bytes(), told.bits),
+            None => None,
+        }
+    }
+
+    // A staged write goes out: it is done, its change is told, and the tasks are woken that wait for it.
+    fn put_out<O: Sink, K: Gpi, L: Ledger>(
+        &mut self,
+        alloc: Global,
+        kernel: &mut K,
+        write: Staged,
+        out: &mut O,
+        fault: Option<SinkFault>,
+        steps: &mut Steps<L>,
+    ) -> Option<SinkFault>
+        requires loaded { K.is_loaded kernel.old }
+        requires own { Fits (setup_of M.functions self.old) 0 self.old.ready.room (parts_of W.waiting self.old) }
+        requires writable { IsOpen (setup_of M.functions self.old) (K.content kernel.old) (W.waiting self.old.awaits) }
+        requires sig { write.sig.0 < length self.old.flat.now.signals }
+        ensures serves { (fired : List Key) (counts : Counts)
+            → let setup = setup_of M.functions self.old in let before = K.content kernel.old in
+            let c = rig_amid (parts_of W.waiting self.old) before.state fired counts in
+            StandsAhead fired setup before c → Serves O.takes O.breaks O.told setup fired (after_put setup (put_of setup c write) c)
+            (parts_of W.waiting self.new) (K.content kernel.new) fault out.old result out.new }
+        ensures loaded { K.is_loaded kernel.new }
+        ensures own { Fits (setup_of M.functions self.new) 0 self.new.ready.room (parts_of W.waiting self.new) }
+        ensures writable { IsOpen (setup_of M.functions self.new) (K.content kernel.new) (W.waiting self.new.awaits) }
+        ensures held { (writes : List Staged) → W.held self.old.awaits ≡ staged_key writes → W.held self.new.awaits ≡ staged_key writes }
+        ensures setup { setup_of M.functions self.new ≡ setup_of M.functions self.old }
+        ensures staged { self.new.staged ≡ self.old.staged }
+    {
+        let time = kernel.now();
+        let old = kernel.read(write.sig);
+        let bits = Bits::from_number(old.width(), u128::from(write.number));
+        let fired = kernel.deposit(write.sig, bits);
+        let fault = self.tell(alloc, time, change_of(write.sig, old, bits), out, fault);
+        self.awaits.fire(kernel, fired, &mut self.ready, steps);
+        fault
+    }
+
+    // The staged writes go out, the oldest first.
+    fn flush<O: Sink, K: Gpi, L: Ledger>(
+        &mut self,
+        alloc: Global,
+        kernel: &mut K,
+        out: &mut O,
+        fault: Option<SinkFault>,
+        steps: &mut Steps<L>,
+    ) -> Option<SinkFault>
+        requires loaded { K.is_loaded kernel.old }
+        requires own { Fits (setup_of M.functions self.old) 0 self.old.ready.room (parts_of W.waiting self.old) }
+        requires writable { IsOpen (setup_of M.functions self.old) (K.content kernel.old) (W.waiting self.old.awaits) }
+        ensures serves { (counts : Counts)
+            → let fired = ReadWrite ∷ [] in let setup = setup_of M.functions self.old in let before = K.content kernel.old in
+            let c = rig_amid (parts_of W.waiting self.old) before.state fired counts in
+            StandsAhead fired setup before c → Serves O.takes O.breaks O.told setup fired (flushed setup self.old.staged.items c)
+            (parts_of W.waiting self.new) (K.content kernel.new) fault out.old result out.new }
+        ensures loaded { K.is_loaded kernel.new }
+        ensures own { Fits (setup_of M.functions self.new) 0 self.new.ready.room (parts_of W.waiting self.new) }
+        ensures writable { IsOpen (setup_of M.functions self.new) (K.content kernel.new) (W.waiting self.new.awaits) }
+        ensures held { (writes : List Staged) → W.held self.old.awaits ≡ staged_key writes → W.held self.new.awaits ≡ staged_key writes }
+        ensures setup { setup_of M.functions self.new ≡ setup_of M.functions self.old }
+        ensures staged { self.new.staged.items ≡ [] }
+    {
+        let mut fault = fault;
+        'writes: while let Some(write) = take_first(&mut self.staged) {
+            fault = self.put_out(alloc, kernel, write, out, fault, steps);
+        }
+        fault
+    }
+
+    // The staged writes go out where the read-write phase is among the keys that fired.
+    fn flush_if<O: Sink, K: Gpi, L: Ledger>(
+        &mut self,
+        alloc: Global,
+        kernel: &mut K,
+        keys: Fired,
+        out: &mut O,
+        fault: Option<SinkFault>,
+        steps: &mut Steps<L>,
+    ) -> Option<SinkFault>
+        requires loaded { K.is_loaded kernel.old }
+        requires own { Fits (setup_of M.functions self.old) 0 self.old.ready.room (parts_of W.waiting self.old) }
+        requires writable { IsOpen (setup_of M.functions self.old) (K.content kernel.old) (W.waiting self.old.awaits) }
+        requires held { W.held self.old.awaits ≡ staged_key self.old.staged.items }
+        requires alone { among ReadWrite (keys_in keys) ≡ true → keys_in keys ≡ ReadWrite ∷ [] }
+        ensures serves { (counts : Counts)
+            → let fired = keys_in keys in let setup = setup_of M.functions self.old in let before = K.content kernel.old in
+            let c = rig_amid (parts_of W.waiting self.old) before.state fired counts in
+            StandsAhead fired setup before c → Serves O.takes O.breaks O.told setup fired (flushed_if setup (among ReadWrite fired) c)
+            (parts_of W.waiting self.new) (K.content kernel.new) fault out.old result out.new }
+        ensures loaded { K.is_loaded kernel.new }
+        ensures own { Fits (setup_of M.functions self.new) 0 self.new.ready.room (parts_of W.waiting self.new) }
+        ensures writable { IsOpen (setup_of M.functions self.new) (K.content kernel.new) (W.waiting self.new.awaits) }
+        ensures held { without_all (keys_in keys) (W.held self.new.awaits) ≡ staged_key self.new.staged.items }
+        ensures free { (x : Key) → among x (staged_key self.new.staged.items) ≡ true → among x (keys_in keys) ≡ false }
+        ensures setup { setup_of M.functions self.new ≡ setup_of M.functions self.old }
+    {
+        if settles(keys) {
+            self.flush(alloc, kernel, out, fault, steps)
+        } else {
+            fault
+        }
+    }
+
+    // The simulator does an event, of which there is one: its change is told, and the keys are served that it fires.
+    fn do_event<O: Sink, K: Gpi, L: Ledger>(
+        &mut self,
+        alloc: Global,
+        kernel: &mut K,
+        out: &mut O,
+        steps: &mut Steps<L>,
+    ) -> Result<Option<SinkFault>, NoMemory>
+        requires loaded { K.is_loaded kernel.old }
+        requires fits { FitsKernel M.functions W.waiting W.held self.old (K.content kernel.old) }
+        requires none { self.old.ready.entries ≡ [] }
+        requires some { idle (K.content kernel.old).procs (K.content kernel.old).state (K.content kernel.old).keys ≡ false }
+        ensures done { IfOk result (IsEvented O.takes O.breaks O.told (setup_of M.functions self.old)
+            (rig_of W.waiting self.old (K.content kernel.old)) (rig_of W.waiting self.new (K.content kernel.new)) out.old out.new) }
+        ensures fits { OnOk result (FitsKernel M.functions W.waiting W.held self.new (K.content kernel.new)) }
+        ensures none { OnErr result (out.new ≡ out.old) }
+        ensures setup { setup_of M.functions self.new ≡ setup_of M.functions self.old }
+        ensures loaded { K.is_loaded kernel.new }
+        ensures keys { AreKeys (K.content kernel.new).keys (named (W.waiting self.new.awaits) (W.held self.new.awaits)) }
+    {
+        let time = kernel.now();
+        let moved = match kernel.advance()? {
+            Advance::Moved(moved) => moved,
+            Advance::Idle => unreachable!(),
+        };
+        let told = self.tell(alloc, time, moved.change, out, None);
+        let put = self.flush_if(alloc, kernel, moved.fired, out, told, steps);
+        self.awaits
+            .fire(kernel, moved.fired, &mut self.ready, steps);
+        Ok(put)
+    }
+
+    // The simulator does an event, where no task is ready. Where nothing is left that could happen the test has stalled.
+    pub fn advance<O: Sink, K: Gpi, L: Ledger>(
+        &mut self,
+        alloc: Global,
+        kernel: &mut K,
+        out: &mut O,
+        fuel: &mut u64,
+        steps: &mut Steps<L>,
+    ) -> Result<Turn, NoMemory>
+        requires loaded { K.is_loaded kernel.old }
+        requires fits { FitsKernel M.functions W.waiting W.held self.old (K.content kernel.old) }
+        requires none { self.old.ready.entries ≡ [] }
+        ensures turning { Turning O.takes O.breaks O.told (TurnSteps (setup_of M.functions self.old)) (setup_of M.functions self.old)
+            fuel.old (rig_of W.waiting self.old (K.content kernel.old)) out.old result fuel.new (rig_of W.waiting self.new (K.content kernel.new)) out.new }
+        ensures falls { result ≡ Ok Turn.Went → fuel.new < fuel.old }
+        ensures fits { IfOk result (λ turn. FitsAfter M.functions W.waiting W.held turn self.new (K.content kernel.new)) }
+        ensures setup { setup_of M.functions self.new ≡ setup_of M.functions self.old }
+        ensures loaded { K.is_loaded kernel.new }
+        ensures keys { AreKeys (K.content kernel.new).keys (named (W.waiting self.new.awaits) (W.held self.new.awaits)) }
+    {
+        if kernel.idle() {
+            return Ok(Turn::Over(Outcome::Stalled));
+        }
+        if *fuel == 0 {
+            return Ok(Turn::Spent);
+        }
+        *fuel -= 1;
+        match self.do_event(alloc, kernel, out, steps)? {
+            None => Ok(Turn::Went),
+            Some(SinkFault::Failed) => Ok(Turn::WriteFault),
+            Some(SinkFault::OutOfMemory) => Err(NoMemory),
+        }
+    }
+}

@@ -1,0 +1,59 @@
+// The turn of a task.
+ghost use Rattle.std.specs.Prelude.{◌≡◌, ◌≤◌, ◌<◌, ◌⊎◌, length, IfOk, Ok, Some};
+ghost use Rattle.rig_model.specs.Effect.{goes_on};
+ghost use Rattle.rig_model.specs.FitSteps.{FitSteps, in_turn};
+ghost use Rattle.rig_model.specs.Keys.{AreKeys};
+ghost use Rattle.rig_model.specs.Rig.{named};
+
+use crate::Engine;
+use crate::turn::{Next, Turn};
+use crate::view::poll_task;
+use gpi::Gpi;
+use port_io::{NoMemory, Sink};
+use rig_model::{Awaits, FlowMaker, Given, Steps, TaskNo, Turned};
+use std::alloc::Global;
+use std::sync::ledger::Ledger;
+
+impl<'a, M: FlowMaker + Drop, W: Awaits> Engine<'a, M, W> {
+    ghost use Rattle.scheduler.specs.Engine.{rig_of, setup_of};
+    ghost use Rattle.scheduler.specs.Fits.{FitsAt, FitsAfter};
+    ghost use Rattle.scheduler.specs.Turns.{Turning};
+
+    // The task runs until its turn ends.
+    pub fn run_task<O: Sink, K: Gpi, L: Ledger>(
+        &mut self,
+        alloc: Global,
+        kernel: &mut K,
+        task: TaskNo,
+        given: Given,
+        out: &mut O,
+        fuel: &mut u64,
+        steps: &mut Steps<L>,
+    ) -> Result<Turn, NoMemory>
+        requires loaded { K.is_loaded kernel.old }
+        requires fits { FitsAt 1 M.functions W.waiting W.held self.old (K.content kernel.old) }
+        ensures turning { Turning O.takes O.breaks O.told (FitSteps in_turn (setup_of M.functions self.old)) (setup_of M.functions self.old)
+            fuel.old (goes_on task (Some given) (rig_of W.waiting self.old (K.content kernel.old))) out.old result
+            fuel.new (rig_of W.waiting self.new (K.content kernel.new)) out.new }
+        ensures falls { result ≡ Ok Turn.Went → (fuel.new < fuel.old) ⊎ ((fuel.new ≤ fuel.old) × (length self.new.ready.entries ≤ length self.old.ready.entries)) }
+        ensures fits { IfOk result (λ turn. FitsAfter M.functions W.waiting W.held turn self.new (K.content kernel.new)) }
+        ensures setup { setup_of M.functions self.new ≡ setup_of M.functions self.old }
+        ensures loaded { K.is_loaded kernel.new }
+        ensures keys { AreKeys (K.content kernel.new).keys (named (W.waiting self.new.awaits) (W.held self.new.awaits)) }
+    {
+        let mut given = given;
+        'effects: loop {
+            let polled = poll_task(alloc, &mut self.live, kernel, task, given, fuel)?;
+            let Some(turned) = polled else {
+                return Ok(Turn::Went);
+            };
+            if let Turned::Spent = turned {
+                return Ok(Turn::Spent);
+            }
+            match self.apply(alloc, kernel, task, turned, out, steps)? {
+                Next::GoesOn(next) => given = next,
+                Next::Ends(turn) => return Ok(turn),
+            }
+        }
+    }
+}
