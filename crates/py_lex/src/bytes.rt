@@ -22,10 +22,10 @@ pub fn is_word_byte(byte: u8) -> bool
     is_letter(byte) || is_digit(byte)
 }
 
-pub fn is_number_byte(byte: u8) -> bool
-    ensures { result ≡ Bytes.is_number_byte byte }
+pub fn is_number_byte(base: u8, byte: u8) -> bool
+    ensures { result ≡ Bytes.is_number_byte base byte }
 {
-    is_word_byte(byte) || byte == b'.'
+    is_word_byte(byte) || (base == 10 && byte == b'.')
 }
 
 pub fn is_quote(byte: u8) -> bool

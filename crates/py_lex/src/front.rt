@@ -9,7 +9,7 @@ ghost use Rattle.py_lex.specs.Fits.{FitsIn};
 
 use crate::bytes::{are_printable, byte_at, is_brace, is_digit, is_letter, is_printable, is_quote};
 use crate::marks::{bracket_of, operator_at};
-use crate::numbers::number_of;
+use crate::numbers::{base_of, number_of};
 use crate::texts::{docstring_end, is_line_empty, literal_len, said, text_end};
 use crate::words::{line_feeds, line_len, number_len, word_len};
 use port_io::{Name, NoMemory};
@@ -37,7 +37,7 @@ fn number_piece(text: &[u8]) -> (Piece, usize)
     ensures value { (result.0, result.1) ≡ Pieces.number_piece text.now }
     ensures fits { FitsIn text.now result.0 result.1 }
 {
-    let length = number_len(text);
+    let length = number_len(base_of(text), text);
     let token = match number_of(&text[..length]) {
         Some(number) => Token::Number(number),
         None => Token::Invalid,

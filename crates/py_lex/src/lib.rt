@@ -11,8 +11,6 @@ mod place;
 mod reader;
 mod rules;
 mod scan;
-#[cfg(test)]
-mod tests;
 mod texts;
 mod words;
 

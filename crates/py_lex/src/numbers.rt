@@ -23,7 +23,7 @@ fn digit_value(byte: u8) -> u8
 }
 
 /// The base that `0x`, `0o` or `0b` says, else 10.
-fn base_of(word: &[u8]) -> u8
+pub fn base_of(word: &[u8]) -> u8
     ensures value { result ≡ Numbers.base_of word.now }
     ensures low { 2 ≤ result }
     ensures high { result ≤ 16 }

@@ -17,15 +17,15 @@ pub fn word_len(text: &[u8]) -> usize
     text.iter().take_while(|byte| is_word_byte(**byte)).count()
 }
 
-/// How many bytes of a number stand at the front.
+/// How many bytes of a number of this base stand at the front.
 #[tactic(auto, using(crate::proofs::Passes::first_passes))]
-pub fn number_len(text: &[u8]) -> usize
-    ensures value { result ≡ length (take_while Bytes.is_number_byte text.now) }
+pub fn number_len(base: u8, text: &[u8]) -> usize
+    ensures value { result ≡ length (take_while (Bytes.is_number_byte base) text.now) }
     ensures bound { result ≤ length text.now }
-    ensures positive { Bytes.is_number_byte (slice_index text.now 0) ≡ true → 0 < result }
+    ensures positive { Bytes.is_number_byte base (slice_index text.now 0) ≡ true → 0 < result }
 {
     text.iter()
-        .take_while(|byte| is_number_byte(**byte))
+        .take_while(|byte| is_number_byte(base, **byte))
         .count()
 }
 

@@ -9,7 +9,7 @@ use Rattle.std.proofs.lemmas.List.Sums.{take_while-cons}
 use Rattle.std.proofs.lemmas.Bool.Decides.{nat_tests}
 use Rattle.py_syntax.specs.Bytes.{is_digit, is_letter, is_word_byte, is_number_byte, is_quote, is_brace, is_printable, is_escapable}
 use Rattle.py_syntax.specs.Keywords.{keyword_of}
-use Rattle.py_syntax.specs.Numbers.{number_of}
+use Rattle.py_syntax.specs.Numbers.{base_of, number_of}
 use Rattle.py_syntax.specs.Marks.{bracket_of, operator_at, or_shorter, single, with_equals, doubled, doubled_with_equals}
 use Rattle.py_syntax.specs.Texts.{text_end, said_from, literal_len, docstring_end, is_line_empty, line_feeds, with_byte, after}
 use Rattle.py_syntax.specs.Pieces.{Front, or_else, piece_at, piece_in, blank_piece, code_piece, expression_piece, format_piece, word_or_mark, word_piece, number_piece, mark_piece, mark_or_bracket, operator_piece, other_piece, quoted_piece, docstring_piece, docstring_of, long_docstring, short_docstring, text_piece, text_until, after_backslash, brace_piece, text_token, word_token, number_token, are_printable}
@@ -95,8 +95,35 @@ digit_is_word b e = go (is_letter b) (is_digit b) e
     go true y e = refl
     go false y e = e
 
-digit_is_number : (b : ℕ) → is_digit b ≡ true → is_number_byte b ≡ true
-digit_is_number b e = rw (digit_is_word b e) refl
+digit_is_number : (base b : ℕ) → is_digit b ≡ true → is_number_byte base b ≡ true
+digit_is_number base b e = rw (digit_is_word b e) refl
+
+no_word : (base b : ℕ) → is_number_byte base b ≡ false → is_word_byte b ≡ false
+no_word base b e = go (is_word_byte b) ((base == 10) && (b == 46)) e
+  where
+    go : (x y : Bool) → (x || y) ≡ false → x ≡ false
+    go false y e = refl
+    go true y e = e
+
+not_this : (n b : ℕ) → is_word_byte n ≡ true → is_word_byte b ≡ false → (b == n) ≡ false
+not_this n b h e = go (b == n) refl
+  where
+    go : (x : Bool) → (b == n) ≡ x → x ≡ false
+    go false k = refl
+    go true k = let q : b ≡ n = equal b n k in let r : is_word_byte n ≡ false = rw q at e in cc
+
+-- What stands behind a number says nothing of its base.
+base_of_front : (base : ℕ) (front rest : List ℕ) → 0 < length front → EndsBefore (is_number_byte base) rest → base_of (front ++ rest) ≡ base_of front
+base_of_front base [] rest h e = absurd (omega arith)
+base_of_front base (a ∷ d ∷ front) rest h e = refl
+base_of_front base (a ∷ []) [] h e = refl
+base_of_front base (a ∷ []) (d ∷ rest) h e =
+    let k : is_word_byte d ≡ false = no_word base d e in
+    rw (not_this 120 d refl k, not_this 111 d refl k, not_this 98 d refl k) refl
+
+digit_known : (front : List ℕ) → is_digit (slice_index front 0) ≡ true → 0 < length front
+digit_known [] e = cc
+digit_known (b ∷ bs) e = omega arith
 
 word_stands : (c : Context) (text : List ℕ) → is_letter (slice_index text 0) ≡ true → IsFront c text (word_piece text)
 unfolding word_piece
@@ -113,13 +140,17 @@ word_stands c text h =
 number_stands : (c : Context) (text : List ℕ) → is_digit (slice_index text 0) ≡ true → IsFront c text (number_piece text)
 unfolding number_piece
 number_stands c text h =
-    let r = run is_number_byte text in
+    let base : ℕ = base_of text in
+    let r = run (is_number_byte base) text in
+    let first : is_digit (slice_index r.front 0) ≡ true = first_in (is_number_byte base) is_digit text r refl (digit_is_number base) h in
+    let same : base ≡ base_of r.front = ap base_of r.split ∙ base_of_front base r.front r.rest (digit_known r.front first) r.ends in
     record {
       bytes = r.front;
       rest = r.rest;
       split = r.split;
       size = sym (ap length r.taken);
-      stands = standing.number (ap (λ (w : List ℕ). piece.Token (number_token (number_of w)) true) r.taken) (first_in is_number_byte is_digit text r refl digit_is_number h) r.all r.ends;
+      stands = standing.number (ap (λ (w : List ℕ). piece.Token (number_token (number_of w)) true) r.taken) first
+      (subst (λ (n : ℕ). list_all (is_number_byte n) r.front ≡ true) same r.all) (subst (λ (n : ℕ). EndsBefore (is_number_byte n) r.rest) same r.ends);
     }
 
 -- Brackets and operators.

@@ -12,9 +12,10 @@ is_letter b = (nat_le 97 b && nat_le b 122) || (nat_le 65 b && nat_le b 90) || (
 abbrev pub is_word_byte : ℕ → Bool
 is_word_byte b = is_letter b || is_digit b
 
--- what a number goes on with: a point too, so that `5.x` is one word, and no number
-abbrev pub is_number_byte : ℕ → Bool
-is_number_byte b = is_word_byte b || (b == 46)
+-- what a number of this base goes on with: a decimal one with a point too, so that `5.x` is one word, and no number, and
+-- `0x5.x` the number 5 before a point
+abbrev pub is_number_byte : ℕ → ℕ → Bool
+is_number_byte base b = is_word_byte b || ((base == 10) && (b == 46))
 
 -- `"` and `'`
 abbrev pub is_quote : ℕ → Bool

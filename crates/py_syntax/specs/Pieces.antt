@@ -4,7 +4,7 @@ use Rattle.std.specs.List.{take_while, list_all}
 use Rattle.py_syntax.specs.Bytes.{is_digit, is_letter, is_word_byte, is_number_byte, is_quote, is_brace, is_printable}
 use Rattle.py_syntax.specs.Keywords.{keyword_of}
 use Rattle.py_syntax.specs.Texts.{text_end, said_from, literal_len, docstring_end, is_line_empty, line_feeds}
-use Rattle.py_syntax.specs.Numbers.{number_of}
+use Rattle.py_syntax.specs.Numbers.{base_of, number_of}
 use Rattle.py_syntax.specs.Marks.{bracket_of, operator_at}
 use Rattle.py_syntax.specs.declared.keyword.Keyword.{Keyword}
 use Rattle.py_syntax.specs.declared.operator.Operator.{Operator}
@@ -34,14 +34,14 @@ word_piece text =
     let word = take_while is_word_byte text in
     (piece.Token (word_token word (keyword_of word)) true, length word)
 
--- A number is the whole word of letters, digits, `_` and points.
+-- A number is the whole word of letters, digits and `_`, in a decimal one of points too.
 abbrev pub number_token : Option ℕ → Token
 number_token (Some n) = token.Number n
 number_token None = token.Invalid
 
 unfoldable pub number_piece : List ℕ → Front
 number_piece text =
-    let word = take_while is_number_byte text in
+    let word = take_while (is_number_byte (base_of text)) text in
     (piece.Token (number_token (number_of word)) true, length word)
 
 -- A bracket or the longest operator; another printable byte begins no token of a form, and any other byte has no place.

@@ -4,7 +4,7 @@ use Rattle.std.specs.List.{list_all}
 use Rattle.py_syntax.specs.Bytes.{is_digit, is_letter, is_word_byte, is_number_byte, is_quote, is_brace, is_printable}
 use Rattle.py_syntax.specs.Items.{Item, bytes_of, said_by, AreInText}
 use Rattle.py_syntax.specs.Keywords.{keyword_of}
-use Rattle.py_syntax.specs.Numbers.{number_of}
+use Rattle.py_syntax.specs.Numbers.{base_of, number_of}
 use Rattle.py_syntax.specs.Texts.{said_from, is_line_empty, line_feeds}
 use Rattle.py_syntax.specs.Pieces.{word_token, number_token, text_token, literal_token, are_printable}
 use Rattle.py_syntax.specs.declared.operator.Operator.{Operator}
@@ -75,7 +75,7 @@ pub data Stands (c : Context) (p : Piece) (bytes rest : List ℕ) : Type 0 where
   carriage_return : p ≡ piece.LineEnd → bytes ≡ 13 ∷ 10 ∷ [] → Stands c p bytes rest
   comment : c.region ≡ region.Code → p ≡ piece.Comment → slice_index bytes 0 ≡ 35 → list_all not_line_feed bytes ≡ true → EndsBefore not_line_feed rest → Stands c p bytes rest
   word : p ≡ piece.Token (word_token bytes (keyword_of bytes)) true → is_letter (slice_index bytes 0) ≡ true → list_all is_word_byte bytes ≡ true → EndsBefore is_word_byte rest → Stands c p bytes rest
-  number : p ≡ piece.Token (number_token (number_of bytes)) true → is_digit (slice_index bytes 0) ≡ true → list_all is_number_byte bytes ≡ true → EndsBefore is_number_byte rest → Stands c p bytes rest
+  number : p ≡ piece.Token (number_token (number_of bytes)) true → is_digit (slice_index bytes 0) ≡ true → list_all (is_number_byte (base_of bytes)) bytes ≡ true → EndsBefore (is_number_byte (base_of bytes)) rest → Stands c p bytes rest
   open_bracket : (b : Bracket) → p ≡ piece.Token (token.Open b) true → bytes ≡ open_bytes b → Stands c p bytes rest
   close_bracket : (b : Bracket) → p ≡ piece.Token (token.Close b) true → bytes ≡ close_bytes b → Stands c p bytes rest
   mark : (op : Operator) → p ≡ piece.Token (token.Operator op) true → bytes ≡ operator_bytes op → Stands c p bytes rest
