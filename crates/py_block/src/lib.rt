@@ -5,6 +5,3 @@ mod level;
 mod nest;
 
 pub use nest::{module_of, one_tree};
-
-#[cfg(test)]
-mod tests;

@@ -18,6 +18,3 @@ pub use tokens::{
     after_call, after_comma, after_last, after_member, after_open, close_of_line, end_of_line,
 };
 pub use values::{value, whole_value, within};
-
-#[cfg(test)]
-mod tests;

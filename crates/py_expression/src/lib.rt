@@ -18,6 +18,3 @@ pub use laws::one_expression;
 pub use measured::{KEPT, Measured};
 pub use reader::{expression, primary};
 pub use tokens::constant;
-
-#[cfg(test)]
-mod tests;

@@ -5,6 +5,7 @@ use Rattle.std.specs.Str.{bytes_eq}
 use Rattle.py_syntax.specs.declared.constant.Const.{Const}
 use Rattle.py_syntax.specs.declared.operator.Bracket.TheVariants as bracket
 use Rattle.py_syntax.specs.declared.token.Token.{Token}
+use Rattle.py_syntax.specs.declared.token.Token.TheVariants as token
 use Rattle.py_syntax.specs.ModuleTrees.{Import, FromImport, Constant, Test, Factory, AddOption, GenerateTests, Function}
 use Rattle.py_syntax.specs.ModuleForms as form
 use Rattle.py_syntax.specs.Phrases.{Phrase, exactly, word, name, text, both, ◌◃◌, ◌▹◌, by_name, closes, nothing, elements, listed}
@@ -15,7 +16,7 @@ use Rattle.py_phrase.specs.Readers as read
 use Rattle.py_phrase.specs.Readers.{Reader, bind, ending, elements_of, choose}
 use Rattle.py_phrase.proofs.Facts.{after_is, after_again, after_word_is, after_word_again}
 use Rattle.py_phrase.proofs.Phrased.{Reads, Anything, End, bind_some, pair_same, mark_reads, word_reads, name_reads, text_reads, both_reads, makes_reads, seq, left, right, weaker}
-use Rattle.py_phrase.proofs.Choices.{or_reads}
+use Rattle.py_phrase.proofs.Choices.{either_reads, or_reads}
 use Rattle.py_phrase.proofs.Lists.{Parts, closing_parts, open_parts, elements_reads}
 use Rattle.py_phrase.proofs.ConstantLaws.{constant_reads, constants_reads}
 use Rattle.py_phrase.proofs.SettingLaws.{settings_reads, parameters_reads}
@@ -161,33 +162,61 @@ bracket_unnamed w ts rest cs (x, ds, us, q, h, e) f = rw q refl
 abbrev by_place : Phrase (List ℕ × List Const)
 by_place = both (λ o cs. (o, cs)) (text ◃ exactly form.comma) (by_name (codes "optionlist") form.constants_form)
 
-abbrev by_names : Phrase (List ℕ × List Const)
-by_names =
+abbrev name_first : Phrase (List ℕ × List Const)
+name_first =
     both (λ o cs. (o, cs)) (word (codes "name") ▹ exactly form.assign ▹ text ◃ exactly form.comma ◃ word (codes "optionlist") ◃ exactly form.assign) form.constants_form
+
+abbrev list_first : Phrase (List ℕ × List Const)
+list_first =
+    both (λ cs o. (o, cs)) (word (codes "optionlist") ▹ exactly form.assign ▹ form.constants_form ◃ exactly form.comma ◃ word (codes "name") ◃ exactly form.assign) text
 
 place_reads : Reads by_place Reading.option_by_place Anything
 place_reads =
     seq (λ o cs. (o, cs)) (left text_reads (mark_reads comma))
     (by_name_reads (codes "optionlist") form.constants_form Reading.bracketed_constants Anything bracketed_reads (bracket_unnamed (codes "optionlist")))
 
-names_reads : Reads by_names Reading.option_by_name Anything
-names_reads =
+name_first_reads : Reads name_first Reading.option_name_first Anything
+name_first_reads =
     seq (λ o cs. (o, cs))
     (left (left (left (right (right (word_reads (codes "name")) (mark_reads assign)) text_reads) (mark_reads comma)) (word_reads (codes "optionlist"))) (mark_reads assign))
     bracketed_reads
 
-place_unnamed : (ts rest : List Token) (x : List ℕ × List Const) → by_place x ts rest → Anything rest → Reading.is_there (after_word (codes "name") ts) ≡ false
-unfolding after_word
-place_unnamed ts rest x (o, cs, us, (b, u, vs, q, r, e), h, e2) f = rw q refl
+list_first_reads : Reads list_first Reading.option_list_first Anything
+list_first_reads =
+    seq (λ cs o. (o, cs))
+    (left (left (left (right (right (word_reads (codes "optionlist")) (mark_reads assign)) bracketed_reads) (mark_reads comma)) (word_reads (codes "name"))) (mark_reads assign))
+    text_reads
 
-names_there : (ts rest : List Token) (x : List ℕ × List Const) → by_names x ts rest → Anything rest → Reading.is_there (after_word (codes "name") ts) ≡ true
+name_first_word : (ts rest : List Token) (x : List ℕ × List Const) → name_first x ts rest → (us : List Token) × (ts ≡ token.Name (codes "name") ∷ us)
+name_first_word ts rest x (o, cs, us, (o2, u2, us2, (o3, u3, us3, (o4, u4, us4, (u5, o5, us5, (u6, u7, us6, q, q7, e7), q5, e5), q4, e4), q3, e3), q2, e2), h, e) = (us6, q)
+
+list_first_word : (ts rest : List Token) (x : List ℕ × List Const) → list_first x ts rest → (us : List Token) × (ts ≡ token.Name (codes "optionlist") ∷ us)
+list_first_word ts rest x (o, cs, us, (o2, u2, us2, (o3, u3, us3, (o4, u4, us4, (u5, o5, us5, (u6, u7, us6, q, q7, e7), q5, e5), q4, e4), q3, e3), q2, e2), h, e) = (us6, q)
+
+no_list_there : (ts rest : List Token) (x : List ℕ × List Const) → name_first x ts rest → Anything rest → Reading.is_there (after_word (codes "optionlist") ts) ≡ false
 unfolding after_word
-names_there ts rest x (o, cs, us, (o2, u2, us2, (o3, u3, us3, (o4, u4, us4, (u5, o5, us5, (u6, u7, us6, q, q7, e7), q5, e5), q4, e4), q3, e3), q2, e2), h, e) f = rw q refl
+no_list_there ts rest x h f = rw (name_first_word ts rest x h).1 refl
+
+list_there : (ts rest : List Token) (x : List ℕ × List Const) → list_first x ts rest → Anything rest → Reading.is_there (after_word (codes "optionlist") ts) ≡ true
+unfolding after_word
+list_there ts rest x h f = rw (list_first_word ts rest x h).1 refl
+
+named_reads : Reads form.named_option Reading.option_by_name Anything
+unfolding Reading.option_by_name
+named_reads = or_reads name_first list_first Reading.option_name_first Reading.option_list_first Anything Anything Anything (λ ts. Reading.is_there (after_word (codes "optionlist") ts))
+    name_first_reads list_first_reads (λ ts f. f) (λ ts f. f) no_list_there list_there
+
+text_there : (ts rest : List Token) (x : List ℕ × List Const) → by_place x ts rest → Anything rest → Reading.begins_with_text ts ≡ true
+text_there ts rest x (o, cs, us, (b, u, vs, q, r, e), h, e2) f = rw q refl
+
+no_text_there : (ts rest : List Token) (x : List ℕ × List Const) → form.named_option x ts rest → Anything rest → Reading.begins_with_text ts ≡ false
+no_text_there ts rest x (inl h) f = rw (name_first_word ts rest x h).1 refl
+no_text_there ts rest x (inr h) f = rw (list_first_word ts rest x h).1 refl
 
 option_reads : Reads form.option Reading.option Anything
 unfolding Reading.option
-option_reads = or_reads by_place by_names Reading.option_by_place Reading.option_by_name Anything Anything Anything (λ ts. Reading.is_there (after_word (codes "name") ts))
-    place_reads names_reads (λ ts f. f) (λ ts f. f) place_unnamed names_there
+option_reads = either_reads by_place form.named_option Reading.option_by_place Reading.option_by_name Anything Anything Anything Reading.begins_with_text
+    place_reads named_reads (λ ts f. f) (λ ts f. f) text_there no_text_there
 
 pub add_option_reads : Reads form.add_option_form Reading.add_option_of Anything
 add_option_reads =

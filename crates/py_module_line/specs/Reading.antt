@@ -1,5 +1,5 @@
 -- How the lines of a module are read, as functions on lists of tokens.
-use Rattle.std.specs.Prelude.{ℕ, Bool, true, false, List, Option, Some, None, codes, if◌then◌else◌}
+use Rattle.std.specs.Prelude.{ℕ, Bool, true, false, List, [], ◌∷◌, Option, Some, None, codes, if◌then◌else◌}
 use Rattle.py_syntax.specs.ModuleForms.{affixes, parameters}
 use Rattle.py_syntax.specs.ModuleTrees.{ModuleLine, Import, FromImport, Constant, Test, Factory, AddOption, GenerateTests, Function}
 use Rattle.py_syntax.specs.declared.constant.Const.{Const}
@@ -7,6 +7,7 @@ use Rattle.py_syntax.specs.declared.keyword.Keyword.TheVariants as keyword
 use Rattle.py_syntax.specs.declared.operator.Operator.TheVariants as operator
 use Rattle.py_syntax.specs.declared.operator.Bracket.TheVariants as bracket
 use Rattle.py_syntax.specs.declared.token.Token.{Token}
+use Rattle.py_syntax.specs.declared.token.Token.TheVariants as token
 use Rattle.py_phrase.specs.declared.mark.Mark.{Mark}
 use Rattle.py_phrase.specs.declared.mark.Mark.TheVariants as marks
 use Rattle.py_phrase.specs.Marks.{after, after_word, comma, assign}
@@ -124,12 +125,23 @@ bracketed_constants = mark (marks.Open bracket.Square) ▹ constants_in
 abbrev pub option_by_place : Reader (List ℕ × List Const)
 option_by_place = both_of (λ o cs. (o, cs)) (text ◃ mark comma) (by_name_of (codes "optionlist") bracketed_constants)
 
-abbrev pub option_by_name : Reader (List ℕ × List Const)
-option_by_name =
+abbrev pub option_name_first : Reader (List ℕ × List Const)
+option_name_first =
     both_of (λ o cs. (o, cs)) (word (codes "name") ▹ mark assign ▹ text ◃ mark comma ◃ word (codes "optionlist") ◃ mark assign) bracketed_constants
 
+abbrev pub option_list_first : Reader (List ℕ × List Const)
+option_list_first =
+    both_of (λ cs o. (o, cs)) (word (codes "optionlist") ▹ mark assign ▹ bracketed_constants ◃ mark comma ◃ word (codes "name") ◃ mark assign) text
+
+unfoldable pub option_by_name : Reader (List ℕ × List Const)
+option_by_name ts = choose (is_there (after_word (codes "optionlist") ts)) (option_list_first ts) (option_name_first ts)
+
+abbrev pub begins_with_text : List Token → Bool
+begins_with_text (token.Text text ∷ ts) = true
+begins_with_text _ = false
+
 unfoldable pub option : Reader (List ℕ × List Const)
-option ts = choose (is_there (after_word (codes "name") ts)) (option_by_name ts) (option_by_place ts)
+option ts = choose (begins_with_text ts) (option_by_place ts) (option_by_name ts)
 
 -- `name.method(`
 abbrev pub call_of : List ℕ → Reader (List ℕ)

@@ -61,11 +61,11 @@ fn option_by_place(
 }
 
 /// `name="parameter", optionlist=[constant, ..]`
-fn option_by_name(
+fn option_name_first(
     alloc: Global,
     tokens: &[Token],
 ) -> Result<((Name, Vec<Const>), &[Token]), ReadError>
-    ensures { Gives (λ x. ((x.0.0, x.0.1.items), x.1.now)) result (Reading.option_by_name tokens.now) }
+    ensures { Gives (λ x. ((x.0.0, x.0.1.items), x.1.now)) result (Reading.option_name_first tokens.now) }
 {
     let rest = expect_word(b"name", tokens)?;
     let rest = expect(Mark::Operator(Operator::Assign), rest)?;
@@ -77,14 +77,53 @@ fn option_by_name(
     Ok(((parameter, values), rest))
 }
 
+/// `optionlist=[constant, ..], name="parameter"`
+fn option_list_first(
+    alloc: Global,
+    tokens: &[Token],
+) -> Result<((Name, Vec<Const>), &[Token]), ReadError>
+    ensures { Gives (λ x. ((x.0.0, x.0.1.items), x.1.now)) result (Reading.option_list_first tokens.now) }
+{
+    let rest = expect_word(b"optionlist", tokens)?;
+    let rest = expect(Mark::Operator(Operator::Assign), rest)?;
+    let (values, rest) = bracketed_constants(alloc, rest)?;
+    let rest = expect(Mark::Operator(Operator::Comma), rest)?;
+    let rest = expect_word(b"name", rest)?;
+    let rest = expect(Mark::Operator(Operator::Assign), rest)?;
+    let (parameter, rest) = text(alloc, rest)?;
+    Ok(((parameter, values), rest))
+}
+
+/// The parameter and its values, both by their names, in either order.
+#[tactic(auto, unfolding(crate::specs::Reading::option_by_name))]
+fn option_by_name(
+    alloc: Global,
+    tokens: &[Token],
+) -> Result<((Name, Vec<Const>), &[Token]), ReadError>
+    ensures { Gives (λ x. ((x.0.0, x.0.1.items), x.1.now)) result (Reading.option_by_name tokens.now) }
+{
+    if after_word(b"optionlist", tokens).is_some() {
+        option_list_first(alloc, tokens)
+    } else {
+        option_name_first(alloc, tokens)
+    }
+}
+
+fn begins_with_text(tokens: &[Token]) -> bool
+    ensures { result ≡ Reading.begins_with_text tokens.now }
+{
+    matches!(tokens.first(), Some(Token::Text(_)))
+}
+
+/// The parameter and its values.
 #[tactic(auto, unfolding(crate::specs::Reading::option))]
 fn option(alloc: Global, tokens: &[Token]) -> Result<((Name, Vec<Const>), &[Token]), ReadError>
     ensures { Gives (λ x. ((x.0.0, x.0.1.items), x.1.now)) result (Reading.option tokens.now) }
 {
-    if after_word(b"name", tokens).is_some() {
-        option_by_name(alloc, tokens)
-    } else {
+    if begins_with_text(tokens) {
         option_by_place(alloc, tokens)
+    } else {
+        option_by_name(alloc, tokens)
     }
 }
 

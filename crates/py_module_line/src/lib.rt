@@ -11,6 +11,3 @@ mod line;
 
 pub use laws::one_module_line;
 pub use line::module_line;
-
-#[cfg(test)]
-mod tests;

@@ -12,6 +12,3 @@ mod words;
 pub use fault::PyFault;
 pub use laws::one_outline;
 pub use reader::outline;
-
-#[cfg(test)]
-mod tests;

@@ -11,6 +11,3 @@ pub use constant::constants;
 pub use element::{Element, end, name, text};
 pub use list::{elements, last, listed};
 pub use mark::{Mark, after, after_word, expect, expect_word};
-
-#[cfg(test)]
-mod tests;

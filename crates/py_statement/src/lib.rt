@@ -14,6 +14,3 @@ mod words;
 pub use fault::LineError;
 pub use laws::{lines_have_their_forms, one_form};
 pub use line::statement_line;
-
-#[cfg(test)]
-mod tests;

@@ -78,11 +78,15 @@ factory_form = both Factory (name ◃ exactly assign ◃ word (codes "TestFactor
 abbrev pub constants_form : Phrase (List Const)
 constants_form = exactly (token.Open bracket.Square) ▹ listed SpellsConstant (token.Close bracket.Square)
 
--- `"parameter", [constant, ..]`, the first or both by their names
+-- `name="parameter", optionlist=[constant, ..]`, in either order
+abbrev pub named_option : Phrase (List ℕ × List Const)
+named_option =
+    either (both (λ o cs. (o, cs)) (word (codes "name") ▹ exactly assign ▹ text ◃ exactly comma ◃ word (codes "optionlist") ◃ exactly assign) constants_form)
+    (both (λ cs o. (o, cs)) (word (codes "optionlist") ▹ exactly assign ▹ constants_form ◃ exactly comma ◃ word (codes "name") ◃ exactly assign) text)
+
+-- `"parameter", [constant, ..]`, the list perhaps by its name, or both by their names
 abbrev pub option : Phrase (List ℕ × List Const)
-option =
-    either (both (λ o cs. (o, cs)) (text ◃ exactly comma) (by_name (codes "optionlist") constants_form))
-    (both (λ o cs. (o, cs)) (word (codes "name") ▹ exactly assign ▹ text ◃ exactly comma ◃ word (codes "optionlist") ◃ exactly assign) constants_form)
+option = either (both (λ o cs. (o, cs)) (text ◃ exactly comma) (by_name (codes "optionlist") constants_form)) named_option
 
 -- `name.add_option("parameter", [constant, ..])`
 abbrev pub add_option_form : Phrase ModuleLine

@@ -1,4 +1,12 @@
-//! The tokens and the logical lines of a Python text, and the rules by which a text has them.
+//! What a Python text says: its tokens, logical lines, expressions, statements, blocks and modules, as trees and as tables.
+//!
+//! `Token`, `LogicalLine` and `Lines` are what a text is made of; `Piece`, `Context` and `LineRule` are the terms of the rules
+//! by which it has them. `Expression`, `Statement`, `Header`, `ModuleLine` and `Module` are the trees, and `Content`,
+//! `PlacedLine` and `OpenBlock` the lines of a module in their places. `Keyword`, `Function`, `Method`, `FaultKind` and the
+//! operators know their names and how tightly they bind.
+//!
+//! The definitions in `specs/` say which bytes the tokens spell, which tokens the trees spell, and which rule a text breaks
+//! first. Reading is left to other crates: `py_lex` reads the lines, `py_expression` and those above it the trees.
 #![tactic(auto)]
 
 mod call;

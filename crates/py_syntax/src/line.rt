@@ -85,6 +85,7 @@ impl Model for Lines {
 }
 
 impl Lines {
+    /// These lines, in this order.
     pub fn new(lines: Vec<LogicalLine>) -> Self
         ensures { result ≡ lines.items }
     {
