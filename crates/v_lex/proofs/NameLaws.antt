@@ -12,7 +12,7 @@ use Rattle.std.specs.List.{list_any}
 use Rattle.std.specs.Set.{KeepsOthers}
 use Rattle.std.proofs.lemmas.Bool.{cases_Bool, cond-true, cond-false}
 use Rattle.std.proofs.lemmas.Map.Text.{is_eq-slice_cmp}
-use Rattle.v_syntax.specs.Lexing.{with_name}
+use Rattle.v_lex.specs.Lexing.{with_name}
 use Rattle.v_lex.specs.Names.{has_name}
 
 -- a key that is the name is no other name

@@ -2,8 +2,8 @@
 use Rattle.std.proofs.Common.{◌≡◌, ℕ, ◌+◌, ◌<◌, true, false, List, length, get_or, drop, arith}
 use Rattle.std.specs.List.{prefix_len}
 use Rattle.std.proofs.lemmas.List.Sums.{prefix_len-drop_yes, prefix_len-drop_no, prefix_len-drop_all}
-use Rattle.v_syntax.specs.declared.bytes.ByteClass.{ByteClass}
-use Rattle.v_syntax.specs.Bytes.{is_in, run}
+use Rattle.v_lex.specs.declared.bytes.ByteClass.{ByteClass}
+use Rattle.v_lex.specs.Bytes.{is_in, run}
 
 pub run_stops : (k : ByteClass) (text : List ℕ) (i : ℕ) → i < length text → is_in k (get_or text i 0) ≡ false → i + prefix_len (is_in k) (drop i text) ≡ prefix_len (is_in k) text → i ≡ run k text
 unfolding run

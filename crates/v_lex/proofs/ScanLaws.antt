@@ -3,15 +3,15 @@ use Rattle.std.proofs.Common.{◌≡◌, ℕ, zero, suc, ◌+◌, ◌-◌, ◌<�
 use Rattle.std.proofs.lemmas.List.{drop_more, drop_all, drop-drop, length-drop, append-nil}
 use Rattle.std.proofs.lemmas.Bool.{cases_Bool, leb-true, leb-false, le-leb, lt-leb}
 use Rattle.v_syntax.specs.declared.token.Token.{Token}
-use Rattle.v_syntax.specs.declared.directive.BrokenRule.{BrokenRule}
-use Rattle.v_syntax.specs.declared.directive.Conditional.{Conditional}
-use Rattle.v_syntax.specs.declared.directive.Content.{Content}
-use Rattle.v_syntax.specs.declared.directive.Content.TheVariants as content
-use Rattle.v_syntax.specs.declared.directive.Piece.{Piece}
-use Rattle.v_syntax.specs.declared.directive.LexRule.{LexRule}
-use Rattle.v_syntax.specs.declared.directive.LexRule.TheVariants as rule
-use Rattle.v_syntax.specs.Pieces.{piece_at}
-use Rattle.v_syntax.specs.Lexing.{State, Scan, is_taken, is_allowed, broken_at, earlier, earliest, left_open, with_token, with_fault, with_content, after_content, scan_from, scan_of, faults_of, lexed, start, nanosecond}
+use Rattle.v_lex.specs.declared.directive.BrokenRule.{BrokenRule}
+use Rattle.v_lex.specs.declared.directive.Conditional.{Conditional}
+use Rattle.v_lex.specs.declared.directive.Content.{Content}
+use Rattle.v_lex.specs.declared.directive.Content.TheVariants as content
+use Rattle.v_lex.specs.declared.directive.Piece.{Piece}
+use Rattle.v_lex.specs.declared.directive.LexRule.{LexRule}
+use Rattle.v_lex.specs.declared.directive.LexRule.TheVariants as rule
+use Rattle.v_lex.specs.Pieces.{piece_at}
+use Rattle.v_lex.specs.Lexing.{State, Scan, is_taken, is_allowed, broken_at, earlier, earliest, left_open, with_token, with_fault, with_content, after_content, scan_from, scan_of, faults_of, lexed, start, nanosecond}
 use Rattle.v_lex.specs.Faults.{fault_at, fault_of, IsFault}
 use Rattle.v_lex.specs.Found.{Sum, nothing, found_with, end_of}
 

@@ -1,8 +1,8 @@
 -- The answer for a broken rule.
 use Rattle.std.specs.Prelude.{◌≡◌, ℕ, Option, Some}
-use Rattle.v_syntax.specs.declared.directive.BrokenRule.{BrokenRule}
-use Rattle.v_syntax.specs.declared.directive.LexRule.{LexRule}
-use Rattle.v_syntax.specs.declared.directive.LexRule.TheVariants as rule
+use Rattle.v_lex.specs.declared.directive.BrokenRule.{BrokenRule}
+use Rattle.v_lex.specs.declared.directive.LexRule.{LexRule}
+use Rattle.v_lex.specs.declared.directive.LexRule.TheVariants as rule
 use Rattle.v_lex.specs.declared.fault.LexFault.{LexFault}
 use Rattle.v_lex.specs.declared.fault.LexFault.TheVariants as fault
 

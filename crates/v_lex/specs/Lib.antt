@@ -1,3 +1,8 @@
+pub mod Bytes
+pub mod DirectiveWords
+pub mod Numbers
+pub mod Pieces
+pub mod Lexing
 pub mod Faults
 pub mod Found
 pub mod Names

@@ -1,5 +1,5 @@
 -- What the code keeps of the directives, as a state of the definitions.
-use Rattle.v_syntax.specs.Lexing as lexing
+use Rattle.v_lex.specs.Lexing as lexing
 use Rattle.v_lex.specs.declared.state.State.{State}
 use Rattle.v_lex.specs.Names.{has_name}
 

@@ -4,9 +4,9 @@ ghost use Rattle.std.specs.Prelude.{◌≡◌};
 ghost use Rattle.v_lex.specs.Faults.{fault_of};
 ghost use Rattle.v_lex.specs.declared.fault.LexFault.TheVariants.{OutOfMemory};
 
+use crate::directive::{BrokenRule, LexRule};
 use port_io::NoMemory;
 use std::alloc::AllocFailed;
-use v_syntax::{BrokenRule, LexRule};
 
 /// The first rule that a text breaks, with its byte place, counted from 0.
 #[derive(Clone, Copy, Debug, PartialEq, Eq)]

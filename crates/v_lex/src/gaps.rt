@@ -1,10 +1,11 @@
 //! Separators and comments.
 
 ghost use Rattle.std.specs.Prelude.{◌≡◌, ◌≤◌, ◌<◌, ◌+◌, length, Option, IfSome, drop};
-ghost use Rattle.v_syntax.specs.Pieces.{comment_end, comment_at, block_comment_to, gap_size, is_blank};
+ghost use Rattle.v_lex.specs.Pieces.{comment_end, comment_at, block_comment_to, gap_size, is_blank};
 
+use crate::bytes::{ByteClass, is_separator};
+use crate::directive::{Content, LexRule, Piece};
 use crate::runs::run;
-use v_syntax::{ByteClass, Content, LexRule, Piece, is_separator};
 
 /// How many bytes stand up to the first `*/` and with it.
 fn comment_end(text: &[u8]) -> Option<usize>
@@ -40,7 +41,7 @@ fn block_comment(text: &[u8]) -> Piece
 }
 
 /// The comment at the front of the text (IEEE 1364-2005, clause 3.3).
-#[tactic(auto, unfolding(v_syntax::specs::Pieces::comment_at))]
+#[tactic(auto, unfolding(crate::specs::Pieces::comment_at))]
 pub fn comment_at(text: &[u8]) -> Option<Piece>
     ensures is { result ≡ comment_at text.now }
     ensures some { IfSome result (λ p. 1 ≤ p.size) }
@@ -60,7 +61,7 @@ pub fn comment_at(text: &[u8]) -> Option<Piece>
 }
 
 /// How many bytes the separator or the comment at the front has.
-#[tactic(auto, unfolding(v_syntax::specs::Pieces::gap_size))]
+#[tactic(auto, unfolding(crate::specs::Pieces::gap_size))]
 fn gap_size(text: &[u8]) -> Option<usize>
     ensures is { result ≡ gap_size text.now }
     ensures some { IfSome result (λ n. 1 ≤ n) }

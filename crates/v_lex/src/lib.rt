@@ -1,6 +1,12 @@
-//! The tokens of a Verilog text.
+//! The tokens of a Verilog text: what its bytes spell, and what its directives set.
+//!
+//! Begin with `lex`, which gives `Tokens` or the first rule that the text breaks, a `LexFault`. The lexical rules are those
+//! of IEEE 1364-2005, clauses 3 and 19; they stand in `specs/`. Whether the tokens make modules is asked of `v_parse`.
 #![tactic(auto)]
 
+mod base;
+mod bytes;
+mod directive;
 mod directives;
 mod fault;
 mod gaps;
@@ -18,6 +24,3 @@ mod words;
 pub use fault::LexFault;
 pub use scanner::lex;
 pub use tokens::Tokens;
-
-#[cfg(test)]
-mod tests;

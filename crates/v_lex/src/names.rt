@@ -1,7 +1,7 @@
 //! Which names are defined.
 
 ghost use Rattle.std.specs.Prelude.{◌≡◌, true, false, OnOk};
-ghost use Rattle.v_syntax.specs.Lexing.{no_name, with_name};
+ghost use Rattle.v_lex.specs.Lexing.{no_name, with_name};
 ghost use Rattle.v_lex.specs.Names.{has_name};
 
 use port_io::NoMemory;

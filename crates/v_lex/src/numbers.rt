@@ -2,13 +2,16 @@
 
 ghost use Rattle.std.specs.Prelude.{◌≡◌, ◌≤◌, ◌<◌, ◌+◌, ◌^◌, ◌++◌, length, take, drop, Option, IfSome, SomeIff, option_map, ◌==◌};
 ghost use Rattle.std.specs.List.{list_all};
-ghost use Rattle.v_syntax.specs.Bytes.{is_in};
-ghost use Rattle.v_syntax.specs.Numbers.{decimal_step, decimal_of, unknown_of, hexadecimal_of, digits_of, digits_below, fill_of, begins_with_digit, lone_unknown, decimal_vector, vector_in, vector_of, size_of, bits_of};
-ghost use Rattle.v_syntax.specs.Pieces.{base_at, number_or_bad, plain_value, based_value, number_at};
+ghost use Rattle.v_lex.specs.Bytes.{is_in};
+ghost use Rattle.v_lex.specs.Numbers.{decimal_step, decimal_of, unknown_of, hexadecimal_of, digits_of, digits_below, fill_of, begins_with_digit, lone_unknown, decimal_vector, vector_in, vector_of, size_of, bits_of};
+ghost use Rattle.v_lex.specs.Pieces.{base_at, number_or_bad, plain_value, based_value, number_at};
 
+use crate::base::Base;
+use crate::bytes::ByteClass;
+use crate::directive::{Content, LexRule, Piece};
 use crate::runs::run;
 use four_value::{Bits, Digit};
-use v_syntax::{Base, ByteClass, Content, LexRule, Piece, Token};
+use v_syntax::Token;
 
 /// The number with one more low digit, below 2 to the power of 128.
 fn decimal_step(n: u128, byte: u8) -> Option<u128>
@@ -36,7 +39,7 @@ fn decimal_of(text: &[u8]) -> Option<u128>
 }
 
 /// The size that is written before a base: 1 to 128, and 32 where none is.
-#[tactic(auto, unfolding(v_syntax::specs::Numbers::size_of))]
+#[tactic(auto, unfolding(crate::specs::Numbers::size_of))]
 fn size_of(text: &[u8]) -> Option<u8>
     ensures is { result ≡ size_of text.now }
     ensures some { IfSome result (λ n. 1 ≤ n) }
@@ -83,7 +86,7 @@ fn hexadecimal_of(byte: u8) -> u8
 }
 
 /// The bits of one written digit.
-#[tactic(auto, unfolding(v_syntax::specs::Numbers::digits_of))]
+#[tactic(auto, unfolding(crate::specs::Numbers::digits_of))]
 fn digits_of(bits: u8, byte: u8) -> Option<Bits>
     requires some { 1 ≤ bits }
     requires few { bits ≤ 4 }
@@ -198,7 +201,7 @@ fn vector_in(base: Base, size: u8, text: &[u8]) -> Option<Bits>
 }
 
 /// The vector of the size that written digits stand for.
-#[tactic(auto, unfolding(v_syntax::specs::Numbers::vector_of))]
+#[tactic(auto, unfolding(crate::specs::Numbers::vector_of))]
 fn vector_of(base: Base, size: u8, text: &[u8]) -> Option<Bits>
     requires some { 1 ≤ size }
     requires most { size ≤ 128 }
@@ -236,7 +239,7 @@ fn based_value(size: &[u8], base: Base, written: &[u8]) -> Option<Bits>
 }
 
 /// The base that `'` and a letter name.
-#[tactic(auto, unfolding(v_syntax::specs::Pieces::base_at))]
+#[tactic(auto, unfolding(crate::specs::Pieces::base_at))]
 fn base_at(text: &[u8]) -> Option<Base>
     ensures is { result ≡ base_at text.now }
     ensures within { IfSome result (λ _. 2 ≤ length text.now) }
@@ -248,7 +251,7 @@ fn base_at(text: &[u8]) -> Option<Base>
 }
 
 /// A number (IEEE 1364-2005, clause 3.5), or a `'` that begins none.
-#[tactic(auto, unfolding(v_syntax::specs::Pieces::number_at))]
+#[tactic(auto, unfolding(crate::specs::Pieces::number_at))]
 pub fn number_at(text: &[u8]) -> Piece
     requires some { 1 ≤ length text.now }
     requires most { length text.now < 2 ^ 60 }

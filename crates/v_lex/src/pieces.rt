@@ -1,8 +1,10 @@
 //! What stands at a place of a text.
 
 ghost use Rattle.std.specs.Prelude.{◌≡◌, ◌≤◌, ◌<◌, ◌+◌, ◌^◌, ◌∷◌, ℕ, List, length, drop, IfOk};
-ghost use Rattle.v_syntax.specs.Pieces.{word_token, word_at, task_at, mark_piece, text_len, closed_text_or_byte, is_conditional, skipped_from, token_from, piece_at, gap};
+ghost use Rattle.v_lex.specs.Pieces.{word_token, word_at, task_at, mark_piece, text_len, closed_text_or_byte, is_conditional, skipped_from, token_from, piece_at, gap};
 
+use crate::bytes::{ByteClass, is_digit, is_name_start, is_separator};
+use crate::directive::{Content, DirectiveWord, LexRule, Piece};
 use crate::directives::directive_at;
 use crate::gaps::comment_at;
 use crate::marks::mark_at;
@@ -12,12 +14,10 @@ use crate::texts::{text_at, text_len};
 use crate::words::{directive_of, keyword_of, reserved_of, task_of};
 use port_io::{Name, NoMemory};
 use std::alloc::Global;
-use v_syntax::{
-    ByteClass, Content, DirectiveWord, LexRule, Piece, Token, is_digit, is_name_start, is_separator,
-};
+use v_syntax::Token;
 
 /// The token of a word: a keyword, another reserved word, or a name.
-#[tactic(auto, unfolding(v_syntax::specs::Pieces::word_token))]
+#[tactic(auto, unfolding(crate::specs::Pieces::word_token))]
 fn word_token(alloc: Global, word: &[u8]) -> Result<Token, NoMemory>
     ensures { IfOk result (λ t. t ≡ word_token word.now) }
 {
@@ -31,7 +31,7 @@ fn word_token(alloc: Global, word: &[u8]) -> Result<Token, NoMemory>
 }
 
 /// The name or the reserved word at the front of the text (IEEE 1364-2005, clause 3.7).
-#[tactic(auto, unfolding(v_syntax::specs::Pieces::word_at))]
+#[tactic(auto, unfolding(crate::specs::Pieces::word_at))]
 fn word_at(alloc: Global, text: &[u8]) -> Result<Piece, NoMemory>
     requires some { 1 ≤ length text.now }
     requires most { length text.now < 2 ^ 60 }
@@ -49,7 +49,7 @@ fn word_at(alloc: Global, text: &[u8]) -> Result<Piece, NoMemory>
 }
 
 /// The system task at the front of the text (IEEE 1364-2005, clause 3.7.3).
-#[tactic(auto, unfolding(v_syntax::specs::Pieces::task_at))]
+#[tactic(auto, unfolding(crate::specs::Pieces::task_at))]
 fn task_at(text: &[u8]) -> Piece
     requires some { 1 ≤ length text.now }
     requires most { length text.now < 2 ^ 60 }
@@ -73,7 +73,7 @@ fn task_at(text: &[u8]) -> Piece
 }
 
 /// The operator or mark at the front of the text.
-#[tactic(auto, unfolding(v_syntax::specs::Pieces::mark_piece))]
+#[tactic(auto, unfolding(crate::specs::Pieces::mark_piece))]
 fn mark_piece(text: &[u8]) -> Piece
     requires { 1 ≤ length text.now }
     ensures is { result ≡ mark_piece text.now }
@@ -166,7 +166,7 @@ fn token_from(alloc: Global, first: u8, after: &[u8], text: &[u8]) -> Result<Pie
 }
 
 /// What stands at the front of a text, in a part that is taken or not.
-#[tactic(auto, unfolding(v_syntax::specs::Pieces::piece_at))]
+#[tactic(auto, unfolding(crate::specs::Pieces::piece_at))]
 pub fn piece_at(alloc: Global, is_taken: bool, text: &[u8]) -> Result<Piece, NoMemory>
     requires some { 1 ≤ length text.now }
     requires most { length text.now < 2 ^ 60 }

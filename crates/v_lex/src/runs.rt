@@ -1,9 +1,9 @@
 //! How many bytes of a class stand at the front.
 
 ghost use Rattle.std.specs.Prelude.{◌≡◌, ◌≤◌, length};
-ghost use Rattle.v_syntax.specs.Bytes.{run};
+ghost use Rattle.v_lex.specs.Bytes.{run};
 
-use v_syntax::ByteClass;
+use crate::bytes::ByteClass;
 
 /// How many bytes of the class stand at the front of the text.
 pub fn run(class: ByteClass, text: &[u8]) -> usize

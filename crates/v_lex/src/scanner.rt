@@ -1,17 +1,18 @@
 //! The whole text, piece by piece.
 
 ghost use Rattle.std.specs.Prelude.{◌≡◌, ◌≤◌, ◌<◌, ◌+◌, ◌^◌, List, [], length, Option, None, IfOk, IfErr, OnOk};
-ghost use Rattle.v_syntax.specs.Lexing.{Scan, State, earlier, earliest, left_open, with_content, with_token, with_fault, after_content, scan_of, faults_of, lexed};
+ghost use Rattle.v_lex.specs.Lexing.{Scan, State, earlier, earliest, left_open, with_content, with_token, with_fault, after_content, scan_of, faults_of, lexed};
 ghost use Rattle.v_lex.specs.Faults.{IsFault};
 ghost use Rattle.v_lex.specs.Found.{found_with, nothing, of_found, end_of};
 ghost use Rattle.v_lex.specs.States.{state_of};
 
+use crate::directive::{BrokenRule, Conditional, Content, LexRule};
 use crate::pieces::piece_at;
 use crate::state::{NANOSECOND, State};
 use crate::{LexFault, Tokens};
 use port_io::NoMemory;
 use std::alloc::Global;
-use v_syntax::{BrokenRule, Conditional, Content, LexRule, Token};
+use v_syntax::Token;
 
 /// What was found before a place.
 #[derive(Drop)]
@@ -73,7 +74,7 @@ impl Found {
     }
 
     /// Adds what stands at a place.
-    #[tactic(auto, unfolding(v_syntax::specs::Lexing::with_content, v_syntax::specs::Lexing::after_content))]
+    #[tactic(auto, unfolding(crate::specs::Lexing::with_content, crate::specs::Lexing::after_content))]
     fn add(
         &mut self,
         alloc: Global,

@@ -2,12 +2,12 @@
 
 ghost use Rattle.std.specs.Prelude.{◌≡◌, ◌≤◌, ◌<◌, ◌&&◌, not, length, Option, IfOk, OnOk, IfSome, ◌++◌, ◌∷◌, []};
 ghost use Rattle.v_lex.specs.States.{state_of};
-ghost use Rattle.v_syntax.specs.Lexing.{innermost, outer, is_taken, opened, next_part, with_next_part, may_go_on, is_allowed, after_directive, start, least, nanosecond};
+ghost use Rattle.v_lex.specs.Lexing.{innermost, outer, is_taken, opened, next_part, with_next_part, may_go_on, is_allowed, after_directive, start, least, nanosecond};
 
+use crate::directive::{Conditional, Directive};
 use crate::names::Names;
 use port_io::NoMemory;
 use std::alloc::Global;
-use v_syntax::{Conditional, Directive};
 
 /// Femtoseconds of the unit where no directive sets one.
 pub const NANOSECOND: u64 = 1_000_000;
@@ -31,7 +31,7 @@ fn innermost(conditionals: &[Conditional]) -> Option<Conditional>
 }
 
 /// Whether the part at hand is taken.
-#[tactic(auto, unfolding(v_syntax::specs::Lexing::is_taken))]
+#[tactic(auto, unfolding(crate::specs::Lexing::is_taken))]
 fn is_taken(conditionals: &[Conditional]) -> bool
     ensures { result ≡ is_taken conditionals.now }
 {
@@ -101,7 +101,7 @@ fn least(before: Option<u64>, precision: u64) -> u64
 
 impl State {
     /// The state at the start of a text.
-    #[tactic(auto, unfolding(v_syntax::specs::Lexing::start))]
+    #[tactic(auto, unfolding(crate::specs::Lexing::start))]
     pub fn start(alloc: Global) -> Result<State, NoMemory>
         ensures { IfOk result (λ s. state_of s ≡ start) }
     {
@@ -123,7 +123,7 @@ impl State {
     }
 
     /// Whether the directive has its parts and stands where it may.
-    #[tactic(auto, unfolding(v_syntax::specs::Lexing::is_allowed))]
+    #[tactic(auto, unfolding(crate::specs::Lexing::is_allowed))]
     pub fn is_allowed(&self, directive: &Directive) -> bool
         ensures { result ≡ is_allowed (state_of self.now) directive.now }
     {
@@ -136,7 +136,7 @@ impl State {
     }
 
     /// What the directive at a place changes.
-    #[tactic(auto, unfolding(v_syntax::specs::Lexing::after_directive))]
+    #[tactic(auto, unfolding(crate::specs::Lexing::after_directive))]
     pub fn apply(&mut self, alloc: Global, place: u32, directive: Directive) -> Result<(), NoMemory>
         ensures { OnOk result (state_of self.new ≡ after_directive (state_of self.old) place directive) }
     {

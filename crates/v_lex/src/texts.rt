@@ -1,12 +1,14 @@
 //! Texts between quotes.
 
 ghost use Rattle.std.specs.Prelude.{◌≡◌, ◌≤◌, ◌<◌, ◌+◌, length, Option, IfSome, IfOk, ◌^◌};
-ghost use Rattle.v_syntax.specs.Pieces.{text_len, text_at};
+ghost use Rattle.v_lex.specs.Pieces.{text_len, text_at};
 
+use crate::bytes::ByteClass;
+use crate::directive::{Content, LexRule, Piece};
 use crate::runs::run;
 use port_io::{Name, NoMemory};
 use std::alloc::Global;
-use v_syntax::{ByteClass, Content, LexRule, Piece, Token};
+use v_syntax::Token;
 
 /// How many bytes stand between a quote and the next one on its line.
 pub fn text_len(after: &[u8]) -> Option<usize>
@@ -23,7 +25,7 @@ pub fn text_len(after: &[u8]) -> Option<usize>
 }
 
 /// The text behind a quote (IEEE 1364-2005, clause 3.6).
-#[tactic(auto, unfolding(v_syntax::specs::Pieces::text_at))]
+#[tactic(auto, unfolding(crate::specs::Pieces::text_at))]
 pub fn text_at(alloc: Global, after: &[u8]) -> Result<Piece, NoMemory>
     requires { length after.now < 2 ^ 60 }
     ensures is { IfOk result (λ p. p ≡ text_at after.now) }

@@ -17,7 +17,7 @@ pub struct Tokens {
 
 impl Model for Tokens {
     ghost use Rattle.std.specs.Prelude.{◌≡◌, ◌≤◌, ◌+◌, length};
-    ghost use Rattle.v_syntax.specs.Lexing.{Lexed};
+    ghost use Rattle.v_lex.specs.Lexing.{Lexed};
 
     ghost Value = { Lexed };
 

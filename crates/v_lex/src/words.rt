@@ -4,12 +4,10 @@ ghost use Rattle.std.specs.Prelude.{◌≡◌, Option};
 ghost use Rattle.std.specs.List.{find};
 ghost use Rattle.std.specs.Str.{bytes_eq};
 ghost use Rattle.v_syntax.specs.Words.{keyword_of, keyword_spelling, reserved_of, reserved_spelling, task_of, task_spelling};
-ghost use Rattle.v_syntax.specs.DirectiveWords.{directive_of, directive_spelling};
+ghost use Rattle.v_lex.specs.DirectiveWords.{directive_of, directive_spelling};
 
-use v_syntax::{
-    DIRECTIVE_WORDS, DirectiveWord, KEYWORDS, Keyword, RESERVED_WORDS, ReservedWord, SYSTEM_TASKS,
-    SystemTask,
-};
+use crate::directive::{DIRECTIVE_WORDS, DirectiveWord};
+use v_syntax::{KEYWORDS, Keyword, RESERVED_WORDS, ReservedWord, SYSTEM_TASKS, SystemTask};
 
 fn keyword_among(keywords: &[Keyword], word: &[u8]) -> Option<Keyword>
     ensures { result ≡ find (λ x. bytes_eq word.now (keyword_spelling x)) keywords.now }
@@ -80,7 +78,7 @@ fn directive_among(directives: &[DirectiveWord], word: &[u8]) -> Option<Directiv
 }
 
 /// The directive whose word it is.
-#[tactic(auto, unfolding(v_syntax::specs::DirectiveWords::directive_of))]
+#[tactic(auto, unfolding(crate::specs::DirectiveWords::directive_of))]
 pub fn directive_of(word: &[u8]) -> Option<DirectiveWord>
     ensures { result ≡ directive_of word.now }
 {

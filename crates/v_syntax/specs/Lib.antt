@@ -1,11 +1,6 @@
 pub mod Words
 pub mod Marks
 pub mod SameMarks
-pub mod Bytes
-pub mod DirectiveWords
-pub mod Numbers
-pub mod Pieces
-pub mod Lexing
 pub mod ExpressionTrees
 pub mod ExpressionOperators
 pub mod ExpressionSpans

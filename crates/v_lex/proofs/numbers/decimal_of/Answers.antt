@@ -1,5 +1,5 @@
 use Rattle.std.proofs.Common.{◌≤◌, ◌+◌, ◌^◌, get_or, ap, ◌∙◌, arith, drop}
-use Rattle.v_syntax.specs.Numbers.{decimal_step, decimal_from}
+use Rattle.v_lex.specs.Numbers.{decimal_step, decimal_from}
 use Rattle.v_lex.proofs.NumberLaws.{decimal_more, decimal_large, decimal_all}
 use Rattle.v_lex.proofs.numbers.decimal_of.Goals as goal
 

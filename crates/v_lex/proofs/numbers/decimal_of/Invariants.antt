@@ -1,5 +1,5 @@
 use Rattle.std.proofs.Common.{◌≡◌, ◌<◌, ◌^◌, drop}
-use Rattle.v_syntax.specs.Numbers.{decimal_from}
+use Rattle.v_lex.specs.Numbers.{decimal_from}
 use Rattle.v_lex.proofs.numbers.decimal_of.Given as goal
 
 abbrev pub invariant-loop-byte : goal.invariant-loop-byte

@@ -1,6 +1,6 @@
 use Rattle.std.proofs.Common.{◌≡◌, length, take, drop}
 use Rattle.std.specs.Prelude.{option_map}
-use Rattle.v_syntax.specs.Numbers.{digits_below}
+use Rattle.v_lex.specs.Numbers.{digits_below}
 use Rattle.v_lex.proofs.numbers.digits_below.Given as goal
 
 abbrev pub invariant-loop-byte : goal.invariant-loop-byte

@@ -1,5 +1,5 @@
 use Rattle.std.proofs.Common.{◌+◌, drop, ap, ◌∙◌}
-use Rattle.v_syntax.specs.Lexing.{earlier, earliest, left_open}
+use Rattle.v_lex.specs.Lexing.{earlier, earliest, left_open}
 use Rattle.v_lex.proofs.ScanLaws.{open_more, open_all}
 use Rattle.v_lex.proofs.scanner.first_open.Goals as goal
 

@@ -1,5 +1,5 @@
 use Rattle.std.proofs.Common.{◌≡◌, drop}
-use Rattle.v_syntax.specs.Lexing.{earlier, earliest, left_open}
+use Rattle.v_lex.specs.Lexing.{earlier, earliest, left_open}
 use Rattle.v_lex.proofs.scanner.first_open.Given as goal
 
 abbrev pub invariant-loop-conditional : goal.invariant-loop-conditional

@@ -1,6 +1,6 @@
 use Rattle.std.proofs.Common.{◌≡◌, Some, None, length, ap, sym, ◌∙◌, arith}
 use Rattle.std.proofs.lemmas.List.{length_push}
-use Rattle.v_syntax.specs.Lexing.{earlier, earliest, left_open, faults_of}
+use Rattle.v_lex.specs.Lexing.{earlier, earliest, left_open, faults_of}
 use Rattle.v_lex.specs.Found.{of_found}
 use Rattle.v_lex.specs.States.{state_of}
 use Rattle.v_lex.proofs.ScanLaws.{is_first, has_places, has_few, is_lexed, fault_is, earliest_none}

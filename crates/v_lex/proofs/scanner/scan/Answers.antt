@@ -1,6 +1,6 @@
 use Rattle.std.proofs.Common.{◌≡◌, drop, ap, sym, refl, ◌∙◌, arith}
-use Rattle.v_syntax.specs.Lexing.{scan_of, is_taken}
-use Rattle.v_syntax.specs.Pieces.{piece_at}
+use Rattle.v_lex.specs.Lexing.{scan_of, is_taken}
+use Rattle.v_lex.specs.Pieces.{piece_at}
 use Rattle.v_lex.specs.Found.{found_with, nothing, of_found}
 use Rattle.v_lex.specs.States.{state_of}
 use Rattle.v_lex.proofs.ScanLaws.{found_next, last_next, last_end, scan_end}

@@ -1,7 +1,7 @@
 use Rattle.std.proofs.Common.{◌≡◌, true, false, get_or}
 use Rattle.std.specs.Str.{bytes_eq}
-use Rattle.v_syntax.specs.DirectiveWords.{directive_spelling}
-use Rattle.v_syntax.specs.declared.directive.DirectiveWord.TheVariants.{DefaultNetType as FIRST}
+use Rattle.v_lex.specs.DirectiveWords.{directive_spelling}
+use Rattle.v_lex.specs.declared.directive.DirectiveWord.TheVariants.{DefaultNetType as FIRST}
 use Rattle.v_lex.proofs.Lists.{find_hit, find_miss, find_none}
 use Rattle.v_lex.proofs.words.directive_among.Goals as goal
 

@@ -1,6 +1,6 @@
 use Rattle.std.proofs.Common.{true, ap, ◌∙◌}
 use mathlib.Core.Path.{fun_ext}
-use Rattle.v_syntax.specs.Lexing.{with_name}
+use Rattle.v_lex.specs.Lexing.{with_name}
 use Rattle.v_lex.specs.Names.{has_name}
 use Rattle.v_lex.proofs.NameLaws.{has_name_after}
 use Rattle.v_lex.proofs.names.Names.define.Goals as goal

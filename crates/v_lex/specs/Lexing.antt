@@ -4,15 +4,15 @@ use Rattle.std.specs.List.{slice_get}
 use Rattle.std.specs.Str.{bytes_eq}
 use lib.Chars.{codes}
 use Rattle.v_syntax.specs.declared.token.Token.{Token}
-use Rattle.v_syntax.specs.declared.directive.Directive.{Directive}
-use Rattle.v_syntax.specs.declared.directive.Directive.TheVariants.{TimeScale, Define, Undef, IfDef, IfNDef, ElsIf, Else, EndIf, ResetAll, DefaultNetType, Unnamed, Broken}
-use Rattle.v_syntax.specs.declared.directive.LexRule.{LexRule}
-use Rattle.v_syntax.specs.declared.directive.LexRule.TheVariants as rule
-use Rattle.v_syntax.specs.declared.directive.BrokenRule.{BrokenRule}
-use Rattle.v_syntax.specs.declared.directive.Content.{Content}
-use Rattle.v_syntax.specs.declared.directive.Content.TheVariants as content
-use Rattle.v_syntax.specs.declared.directive.Conditional.{Conditional}
-use Rattle.v_syntax.specs.Pieces.{piece_at}
+use Rattle.v_lex.specs.declared.directive.Directive.{Directive}
+use Rattle.v_lex.specs.declared.directive.Directive.TheVariants.{TimeScale, Define, Undef, IfDef, IfNDef, ElsIf, Else, EndIf, ResetAll, DefaultNetType, Unnamed, Broken}
+use Rattle.v_lex.specs.declared.directive.LexRule.{LexRule}
+use Rattle.v_lex.specs.declared.directive.LexRule.TheVariants as rule
+use Rattle.v_lex.specs.declared.directive.BrokenRule.{BrokenRule}
+use Rattle.v_lex.specs.declared.directive.Content.{Content}
+use Rattle.v_lex.specs.declared.directive.Content.TheVariants as content
+use Rattle.v_lex.specs.declared.directive.Conditional.{Conditional}
+use Rattle.v_lex.specs.Pieces.{piece_at}
 
 -- what the directives before a place have set
 pub record State : Type 0 where

@@ -1,8 +1,8 @@
 -- The classes of bytes that tokens are made of, and how many of a class stand at the front of a text.
 use Rattle.std.specs.Prelude.{ℕ, Bool, not, nat_le, ◌==◌, ◌||◌, ◌&&◌, List}
 use Rattle.std.specs.List.{prefix_len}
-use Rattle.v_syntax.specs.declared.bytes.ByteClass.{ByteClass}
-use Rattle.v_syntax.specs.declared.bytes.ByteClass.TheVariants.{Separator, Digit, Decimal, Name, Written, Line, Text}
+use Rattle.v_lex.specs.declared.bytes.ByteClass.{ByteClass}
+use Rattle.v_lex.specs.declared.bytes.ByteClass.TheVariants.{Separator, Digit, Decimal, Name, Written, Line, Text}
 
 -- space, tab, line feed, carriage return, form feed
 abbrev pub is_separator : ℕ → Bool

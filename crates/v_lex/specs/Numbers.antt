@@ -4,10 +4,10 @@ use Rattle.std.specs.List.{list_all}
 use Rattle.four_value.specs.declared.Digit.{Digit}
 use Rattle.four_value.specs.declared.Digit.TheVariants.{Zero, X, Z}
 use Rattle.four_value.specs.Vector.{vector}
-use Rattle.v_syntax.specs.declared.number.Base.{Base}
-use Rattle.v_syntax.specs.declared.number.Base.TheVariants.{Binary, Octal, Decimal, Hexadecimal}
-use Rattle.v_syntax.specs.declared.bytes.ByteClass.TheVariants.{Decimal as decimals}
-use Rattle.v_syntax.specs.Bytes.{is_in}
+use Rattle.v_lex.specs.declared.base.Base.{Base}
+use Rattle.v_lex.specs.declared.base.Base.TheVariants.{Binary, Octal, Decimal, Hexadecimal}
+use Rattle.v_lex.specs.declared.bytes.ByteClass.TheVariants.{Decimal as decimals}
+use Rattle.v_lex.specs.Bytes.{is_in}
 
 infixl 10 ◌>>=◌
 abbrev pub ◌>>=◌ : {A B : Type 0} → Option A → (A → Option B) → Option B

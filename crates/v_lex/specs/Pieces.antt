@@ -5,28 +5,28 @@ use Rattle.std.specs.Str.{bytes_eq}
 use lib.Chars.{codes}
 use Rattle.four_value.specs.declared.Digit.{Digit}
 use Rattle.four_value.specs.Vector.{vector}
-use Rattle.v_syntax.specs.declared.number.Base.{Base}
-use Rattle.v_syntax.specs.declared.bytes.ByteClass.TheVariants as class
+use Rattle.v_lex.specs.declared.base.Base.{Base}
+use Rattle.v_lex.specs.declared.bytes.ByteClass.TheVariants as class
 use Rattle.v_syntax.specs.declared.word.Keyword.{Keyword}
 use Rattle.v_syntax.specs.declared.word.ReservedWord.{ReservedWord}
 use Rattle.v_syntax.specs.declared.word.SystemTask.{SystemTask}
 use Rattle.v_syntax.specs.declared.mark.Mark.{Mark}
 use Rattle.v_syntax.specs.declared.token.Token.{Token}
 use Rattle.v_syntax.specs.declared.token.Token.TheVariants as token
-use Rattle.v_syntax.specs.declared.directive.DirectiveWord.{DirectiveWord}
-use Rattle.v_syntax.specs.declared.directive.DirectiveWord.TheVariants as word
-use Rattle.v_syntax.specs.declared.directive.Directive.{Directive}
-use Rattle.v_syntax.specs.declared.directive.Directive.TheVariants as directive
-use Rattle.v_syntax.specs.declared.directive.LexRule.{LexRule}
-use Rattle.v_syntax.specs.declared.directive.LexRule.TheVariants as rule
-use Rattle.v_syntax.specs.declared.directive.Content.{Content}
-use Rattle.v_syntax.specs.declared.directive.Content.TheVariants as content
-use Rattle.v_syntax.specs.declared.directive.Piece.{Piece}
-use Rattle.v_syntax.specs.Bytes.{is_separator, is_digit, is_name_start, run}
+use Rattle.v_lex.specs.declared.directive.DirectiveWord.{DirectiveWord}
+use Rattle.v_lex.specs.declared.directive.DirectiveWord.TheVariants as word
+use Rattle.v_lex.specs.declared.directive.Directive.{Directive}
+use Rattle.v_lex.specs.declared.directive.Directive.TheVariants as directive
+use Rattle.v_lex.specs.declared.directive.LexRule.{LexRule}
+use Rattle.v_lex.specs.declared.directive.LexRule.TheVariants as rule
+use Rattle.v_lex.specs.declared.directive.Content.{Content}
+use Rattle.v_lex.specs.declared.directive.Content.TheVariants as content
+use Rattle.v_lex.specs.declared.directive.Piece.{Piece}
+use Rattle.v_lex.specs.Bytes.{is_separator, is_digit, is_name_start, run}
 use Rattle.v_syntax.specs.Words.{keyword_of, reserved_of, task_of}
 use Rattle.v_syntax.specs.Marks.{mark_at, mark_spelling}
-use Rattle.v_syntax.specs.DirectiveWords.{directive_of}
-use Rattle.v_syntax.specs.Numbers.{◌>>=◌, base_of, decimal_of, vector_of, size_of}
+use Rattle.v_lex.specs.DirectiveWords.{directive_of}
+use Rattle.v_lex.specs.Numbers.{◌>>=◌, base_of, decimal_of, vector_of, size_of}
 
 abbrev pub piece : ℕ → Content → Piece
 piece n c = record { size = n; content = c }

@@ -1,7 +1,7 @@
 //! The classes of bytes that tokens are made of.
 
 ghost use Rattle.std.specs.Prelude.{◌≡◌};
-ghost use Rattle.v_syntax.specs.Bytes.{is_separator, is_digit, is_letter, is_name_start, is_in};
+ghost use Rattle.v_lex.specs.Bytes.{is_separator, is_digit, is_letter, is_name_start, is_in};
 
 /// Space, tab, line feed, carriage return or form feed (IEEE 1364-2005, clause 3.2).
 pub fn is_separator(byte: u8) -> bool

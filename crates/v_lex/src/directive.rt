@@ -1,10 +1,10 @@
 //! Compiler directives, and what stands at a place of a text.
 
 ghost use Rattle.std.specs.Prelude.{◌≡◌};
-ghost use Rattle.v_syntax.specs.DirectiveWords.{directive_spelling};
+ghost use Rattle.v_lex.specs.DirectiveWords.{directive_spelling};
 
-use crate::Token;
 use port_io::Name;
+use v_syntax::Token;
 
 /// The word behind the backquote of a directive (IEEE 1364-2005, clause 19).
 #[derive(Clone, Copy, Debug, PartialEq, Eq)]
