@@ -1,3 +1,4 @@
+//! The calls of `four_value`, by the names in the table.
 ghost use Rattle.std.specs.Prelude.{◌≡◌, ◌≤◌, length};
 
 use crate::fields::{digit, vector, width};

@@ -1,3 +1,4 @@
+//! The fields of a row of the table.
 ghost use Rattle.std.specs.Prelude.{◌≤◌, IfSome};
 
 use four_value::{Bits, Digit};

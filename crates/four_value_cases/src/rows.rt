@@ -1,3 +1,4 @@
+//! The rows of the table.
 use crate::calls::outcome;
 use crate::fields::{digit, vector};
 use four_value::{Edge, edge};
@@ -15,7 +16,7 @@ pub fn agrees(row: &str) -> Option<bool> {
     }
 }
 
-// Whether the bytes are the answer and then spaces.
+/// Whether the bytes are the answer and then spaces.
 fn shows(bytes: &[u8], answer: &str) -> Option<bool> {
     let (digits, rest) = bytes.split_at_checked(answer.len())?;
     Some(digits == answer.as_bytes() && rest.iter().all(|byte| *byte == b' '))

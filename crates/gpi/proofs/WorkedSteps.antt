@@ -1,4 +1,5 @@
--- Worked steps of simulators, computed from the definitions: what each call of the interface answers and leaves.
+-- Worked steps of simulators, computed from the definitions: what each call of the interface answers and leaves, from the
+-- opening state of a design on.
 use Rattle.std.proofs.Common.{if◌then◌else◌, ◌≡◌, ℕ, ◌&&◌, ◌||◌, not, Bool, true, false, List, [], ◌∷◌, replicate, Option, None, Some, refl, Box, Global}
 use Rattle.four_value.specs.declared.Digit.{Digit}
 use Rattle.four_value.specs.declared.Digit.TheVariants.{Zero, One, X, Z}
@@ -11,20 +12,21 @@ use Rattle.gpi.specs.declared.types.Key.TheVariants as key
 use Rattle.gpi.specs.declared.design.Wake.{Wake}
 use Rattle.gpi.specs.declared.design.WakeEdge.TheVariants.{Any, Pos}
 use Rattle.gpi.specs.declared.design.Kind.TheVariants.{Assign, Always}
+use Rattle.gpi.specs.declared.design.Process.{Process}
+use Rattle.gpi.specs.declared.design.Signal.{Signal}
+use Rattle.gpi.specs.declared.design.Flat.{Flat}
 use Rattle.gpi.specs.declared.operators.Unary.TheVariants.{Invert}
 use Rattle.gpi.specs.declared.operators.Arith.TheVariants.{And}
 use Rattle.gpi.specs.declared.terms.Term.{Term}
-use Rattle.gpi.specs.declared.terms.Term.TheVariants.{Signal}
+use Rattle.gpi.specs.declared.terms.Term.TheVariants as term
 use Rattle.gpi.specs.declared.terms.Term.TheViews.{Unary, Arith}
 use Rattle.gpi.specs.declared.targets.Object.TheVariants as object
 use Rattle.gpi.specs.declared.targets.Target.TheVariants.{Whole}
 use Rattle.gpi.specs.declared.acts.Act.{Act}
 use Rattle.gpi.specs.declared.acts.Act.TheVariants.{Blocking, Nonblocking}
-use Rattle.gpi.specs.Activation.{Map, Run, activation}
-use Rattle.gpi.specs.Design.{Proc}
-use Rattle.gpi.specs.Keys.{Keys, no_keys, same_key, among, raised, raised_by}
+use Rattle.gpi.specs.Keys.{Keys, same_key, among, raised, raised_by}
 use Rattle.gpi.specs.Events.{Event, event, idle, put}
-use Rattle.gpi.specs.Content.{Content, no_counts}
+use Rattle.gpi.specs.Content.{Content, no_counts, opening}
 
 -- a call of the interface
 data Call : Type 0 where
@@ -92,17 +94,15 @@ unfoldable content_after : List Call → Content → Content
 content_after [] c = c
 content_after (x ∷ xs) c = content_after xs (after x c)
 
-abbrev process : Act → Map → Run
-process body m = activation body (record { signals = m; updates = [] })
+-- a design of one process over these signals
+abbrev design : List Signal → Process → Flat
+design signals p = record { signals = signals; nodes = []; processes = p ∷ []; step_fs = 1000000 }
 
--- a design of these processes, with this map and these active at the start
-abbrev opened : List Proc → Map → List ℕ → Content
-opened ps m active = record {
-  procs = ps;
-  state = record { signals = m; active = active; reports = []; due = []; later = []; time = 0; region = region.Begin };
-  keys = no_keys;
-  counts = no_counts;
-}
+abbrev wire : ℕ → Signal
+wire width = record { path = []; width = width; start = Z }
+
+abbrev reg : ℕ → Signal
+reg width = record { path = []; width = width; start = X }
 
 abbrev any : ℕ → Wake
 any n = record { sig = sig n; edge = Any }
@@ -113,12 +113,10 @@ tells n bits = Some (record { sig = sig n; bits = bits })
 -- `module top(input clk, input [7:0] a, output reg [7:0] q); always @(posedge clk) q <= a; endmodule`
 
 abbrev flop_body : Act
-flop_body = Nonblocking (Whole (object.Signal (sig 2) 8)) (Signal (sig 1) 8)
+flop_body = Nonblocking (Whole (object.Signal (sig 2) 8)) (term.Signal (sig 1) 8)
 
 abbrev flop : Content
-flop = opened
-    (record { kind = Always; wakes = record { sig = sig 0; edge = Pos } ∷ []; run = λ m. process flop_body m } ∷ [])
-    ((Z ∷ []) ∷ replicate 8 Z ∷ replicate 8 X ∷ []) []
+flop = opening (design (wire 1 ∷ wire 8 ∷ reg 8 ∷ []) (record { kind = Always; wakes = record { sig = sig 0; edge = Pos } ∷ []; body = flop_body }))
 
 abbrev flop_calls : List Call
 flop_calls =
@@ -188,12 +186,10 @@ abbrev boxed : Box Term Global → Term → Box Term Global
 boxed b t = record b { value = t }
 
 abbrev loop_body : Box Term Global → Act
-loop_body b = Blocking (Whole (object.Signal (sig 1) 1)) (Arith And (boxed b (Signal (sig 0) 1)) (boxed b (Unary Invert (boxed b (Signal (sig 1) 1)))))
+loop_body b = Blocking (Whole (object.Signal (sig 1) 1)) (Arith And (boxed b (term.Signal (sig 0) 1)) (boxed b (Unary Invert (boxed b (term.Signal (sig 1) 1)))))
 
 abbrev loop : Box Term Global → Content
-loop b = opened
-    (record { kind = Assign; wakes = any 0 ∷ any 1 ∷ []; run = λ m. process (loop_body b) m } ∷ [])
-    ((Z ∷ []) ∷ (Z ∷ []) ∷ []) (0 ∷ [])
+loop b = opening (design (wire 1 ∷ wire 1 ∷ []) (record { kind = Assign; wakes = any 0 ∷ any 1 ∷ []; body = loop_body b }))
 
 abbrev loop_calls : List Call
 loop_calls = Advance ∷ Advance ∷ Advance ∷ Deposit 0 (Zero ∷ []) ∷ Advance ∷ Advance ∷ Advance ∷ Advance ∷ []

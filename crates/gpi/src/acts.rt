@@ -1,10 +1,13 @@
-// Statements.
+//! Statements.
 ghost use Rattle.std.specs.Prelude.{◌≡◌, ℕ, ◌<◌, ◌≤◌, ◌++◌, ◌∷◌, [], length, IfOk, OnOk, OnErr, Some, slice_get};
 ghost use Rattle.gpi.specs.Terms.{widths_of, read};
 ghost use Rattle.gpi.specs.Cases.{digits_agree, all_agree, first_match};
 ghost use Rattle.gpi.specs.Activation.{acts_of, MakesBlock, MakesIf, MakesCase, IsActCopy, AreActCopies};
 ghost use Rattle.gpi.specs.Cases.{AreLabelCopies};
+ghost use Rattle.gpi.specs.Made.{IsCopy};
+ghost use Rattle.gpi.specs.Targets.{IsTargetCopy};
 
+use crate::boxed::{boxed, boxed_both};
 use crate::targets::Target;
 use crate::terms::Term;
 pub use activation::{apply, placed};
@@ -77,12 +80,14 @@ impl Acts {
         Ok(())
     }
 
+    /// How many statements there are.
     pub fn len(&self) -> usize
         ensures { result ≡ length (acts_of self.now) }
     {
         self.list.len()
     }
 
+    /// The statement at that place, counted from 0.
     pub fn get(&self, at: usize) -> &Act
         requires { at < length (acts_of self.now) }
         ensures { slice_get (acts_of self.now) at ≡ Some result.now }
@@ -103,7 +108,8 @@ impl Act {
     pub fn choice(alloc: Global, condition: Term, a: Act, b: Act) -> Result<Act, NoMemory>
         ensures { IfOk result (MakesIf condition a b) }
     {
-        Ok(Act::If(condition, Box::new(alloc, a)?, Box::new(alloc, b)?))
+        let (a, b) = boxed_both(alloc, a, b)?;
+        Ok(Act::If(condition, a, b))
     }
 
     /// A case statement over these items.
@@ -117,8 +123,8 @@ impl Act {
     ) -> Result<Act, NoMemory>
         ensures { IfOk result (MakesCase kind value labels items other) }
     {
-        let other = Box::new(alloc, other)?;
-        Ok(Act::Case(kind, value, labels, items, other))
+        let other = boxed(alloc, other)?;
+        Ok(case_of(kind, value, labels, items, other))
     }
 
     /// A copy, which means the same.
@@ -129,6 +135,20 @@ impl Act {
     }
 }
 
+/// A case statement over these items, whose last statement is on the heap.
+fn case_of(
+    kind: CaseKind,
+    value: Term,
+    labels: Sequence<Label>,
+    items: Acts,
+    other: Box<Act>,
+) -> Act
+    ensures { MakesCase kind value labels items other.value result }
+{
+    Act::Case(kind, value, labels, items, other)
+}
+
+/// A copy of a statement.
 #[cycle(copying)]
 fn copy_act(alloc: Global, act: &Act) -> Result<Act, NoMemory>
     ensures { IfOk result (IsActCopy act.now) }
@@ -136,33 +156,47 @@ fn copy_act(alloc: Global, act: &Act) -> Result<Act, NoMemory>
     match act {
         Act::Empty => Ok(Act::Empty),
         Act::Block(list) => Ok(Act::block(copy_acts(alloc, list)?)),
-        Act::If(t, a, b) => {
-            Act::choice(
-                alloc,
-                t.copy(alloc)?,
-                copy_act(alloc, a)?,
-                copy_act(alloc, b)?,
-            )
+        Act::If(test, a, b) => {
+            let test = test.copy(alloc)?;
+            let a = copy_boxed(alloc, a)?;
+            Ok(Act::If(test, a, copy_boxed(alloc, b)?))
         }
         Act::Case(kind, value, labels, items, other) => {
             let value = value.copy(alloc)?;
             let labels = copy_labels(alloc, labels)?;
             let items = copy_acts(alloc, items)?;
-            let other = copy_act(alloc, other)?;
-            let act = Act::case(alloc, *kind, value, labels, items, other)?;
+            let other = copy_boxed(alloc, other)?;
+            let act = case_of(*kind, value, labels, items, other);
             Ok(act)
         }
         Act::Blocking(target, value) => {
-            let target = target.copy(alloc)?;
-            Ok(Act::Blocking(target, value.copy(alloc)?))
+            let (target, value) = copy_assignment(alloc, target, value)?;
+            Ok(Act::Blocking(target, value))
         }
         Act::Nonblocking(target, value) => {
-            let target = target.copy(alloc)?;
-            Ok(Act::Nonblocking(target, value.copy(alloc)?))
+            let (target, value) = copy_assignment(alloc, target, value)?;
+            Ok(Act::Nonblocking(target, value))
         }
     }
 }
 
+/// A copy of a statement, on the heap.
+#[cycle(copying)]
+fn copy_boxed(alloc: Global, act: &Act) -> Result<Box<Act>, NoMemory>
+    ensures { IfOk result (λ made. IsActCopy act.now made.value) }
+{
+    boxed(alloc, copy_act(alloc, act)?)
+}
+
+/// Copies of the two sides of an assignment.
+fn copy_assignment(alloc: Global, target: &Target, value: &Term) -> Result<(Target, Term), NoMemory>
+    ensures { IfOk result (λ made. IsTargetCopy target.now made.0 × IsCopy value.now made.1) }
+{
+    let target = target.copy(alloc)?;
+    Ok((target, value.copy(alloc)?))
+}
+
+/// Copies of statements.
 #[cycle(copying)]
 fn copy_acts(alloc: Global, acts: &Acts) -> Result<Acts, NoMemory>
     ensures { IfOk result (λ copies. AreActCopies (acts_of acts.now) (acts_of copies)) }
@@ -174,6 +208,7 @@ fn copy_acts(alloc: Global, acts: &Acts) -> Result<Acts, NoMemory>
     Ok(copies)
 }
 
+/// Copies of labels.
 #[tactic(auto, using(crate::proofs::Copies::label_copies))]
 fn copy_labels(alloc: Global, labels: &Sequence<Label>) -> Result<Sequence<Label>, NoMemory>
     ensures { IfOk result (AreLabelCopies labels.now) }
@@ -190,7 +225,7 @@ fn copy_labels(alloc: Global, labels: &Sequence<Label>) -> Result<Sequence<Label
 }
 
 impl CaseKind {
-    // Whether two digits agree.
+    /// Whether two digits agree.
     fn agrees(self, a: Digit, b: Digit) -> bool
         ensures { result ≡ digits_agree self a b }
     {

@@ -1,4 +1,4 @@
-// A flattened design.
+//! A flattened design.
 use crate::acts::Act;
 use crate::types::SigId;
 use four_value::Digit;

@@ -1,4 +1,4 @@
-// The interface of a simulator.
+//! The interface of a simulator.
 use crate::design::Flat;
 use crate::types::{Advance, Counts, Fired, Key, Region, SigId};
 use four_value::Bits;
@@ -38,9 +38,11 @@ pub trait Gpi {
     fn now(&self) -> u64
         ensures { result ≡ (content self.now).state.time };
 
+    /// Where in the time step the simulation stands.
     fn region(&self) -> Region
         ensures { result ≡ (content self.now).state.region };
 
+    /// How many keys were registered, removed and fired since the last `load`.
     fn counts(&self) -> Counts
         ensures { result ≡ (content self.now).counts };
 

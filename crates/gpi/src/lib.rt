@@ -6,6 +6,7 @@
 #![tactic(auto)]
 
 mod acts;
+mod boxed;
 mod design;
 mod interface;
 mod operators;

@@ -1,4 +1,4 @@
-// The operators, in groups that share a rule of widths.
+//! The operators, in groups that share a rule of widths.
 ghost use Rattle.std.specs.Prelude.{◌≡◌, length};
 ghost use Rattle.four_value.specs.Vector.{and_digit, or_digit};
 ghost use Rattle.gpi.specs.Operators.{unary_value, arith_value, compare_value, logic_value, reduce_value, shift_value, choose};
@@ -89,6 +89,7 @@ pub enum Shift {
 }
 
 impl Unary {
+    /// The value on an operand.
     #[tactic(auto, using(crate::proofs::Widths::operators))]
     pub fn apply(self, a: Bits) -> Bits
         ensures is { result ≡ unary_value self a }
@@ -103,6 +104,7 @@ impl Unary {
 }
 
 impl Arith {
+    /// The value on two operands of one width.
     #[tactic(auto, using(four_value::proofs::Lengths::lengths))]
     pub fn apply(self, a: Bits, b: Bits) -> Bits
         requires { length a ≡ length b }
@@ -124,6 +126,7 @@ impl Arith {
 }
 
 impl Compare {
+    /// The digit that the comparison of two operands of one width gives.
     pub fn apply(self, a: Bits, b: Bits) -> Digit
         requires { length a ≡ length b }
         ensures { result ≡ compare_value self a b }
@@ -142,6 +145,7 @@ impl Compare {
 }
 
 impl Logic {
+    /// The digit that two operands give by their truth.
     pub fn apply(self, a: Bits, b: Bits) -> Digit
         ensures { result ≡ logic_value self a b }
     {
@@ -153,6 +157,7 @@ impl Logic {
 }
 
 impl Reduce {
+    /// The digit that an operand gives.
     pub fn apply(self, a: Bits) -> Digit
         ensures { result ≡ reduce_value self a }
     {
@@ -168,6 +173,7 @@ impl Reduce {
 }
 
 impl Shift {
+    /// The value of a shift by a count.
     #[tactic(auto, using(crate::proofs::Widths::operators))]
     pub fn apply(self, a: Bits, count: Bits) -> Bits
         ensures is { result ≡ shift_value self a count }
@@ -180,7 +186,7 @@ impl Shift {
     }
 }
 
-// The table of `&` (clause 5.1.10).
+/// The table of `&` (clause 5.1.10).
 fn and_digits(a: Digit, b: Digit) -> Digit
     ensures { result ≡ and_digit a b }
 {
@@ -191,7 +197,7 @@ fn and_digits(a: Digit, b: Digit) -> Digit
     }
 }
 
-// The table of `|` (clause 5.1.10).
+/// The table of `|` (clause 5.1.10).
 fn or_digits(a: Digit, b: Digit) -> Digit
     ensures { result ≡ or_digit a b }
 {

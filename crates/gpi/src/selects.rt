@@ -1,4 +1,4 @@
-// Selects from vectors and memories.
+//! Selects from vectors and memories.
 ghost use Rattle.std.specs.Prelude.{◌≡◌, ◌<◌, ◌≤◌, ◌+◌, length, IfSome};
 ghost use Rattle.gpi.specs.Selects.{overlap_of, selected, shown, word_at, IsInside};
 
@@ -89,7 +89,7 @@ impl Range {
     }
 }
 
-// A vector of `width` digits with `middle` from the place `skip` on, and x elsewhere.
+/// A vector of `width` digits with `middle` from the place `skip` on, and x elsewhere.
 fn surrounded(middle: Bits, skip: u8, width: u8) -> Bits
     requires high { width ≤ 128 }
     requires inside { skip + length middle ≤ width }

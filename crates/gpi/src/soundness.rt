@@ -1,4 +1,4 @@
-// Whether a design is sound: expressions, targets and statements.
+//! Whether a design is sound: expressions, targets and statements.
 ghost use Rattle.std.specs.Prelude.{◌≡◌, ℕ, ◌+◌, ◌*◌, ◌<◌, ◌≤◌, ◌↔◌, length, slice_index, IsTrue};
 ghost use Rattle.gpi.specs.Terms.{width, IsSound, IsWidth, AreWords};
 ghost use Rattle.gpi.specs.Targets.{target_width, object_width, IsSoundTarget, IsSoundObject};
@@ -16,14 +16,14 @@ use crate::terms::Term;
 use crate::types::SigId;
 use port_io::Sequence;
 
-// A width of 1 to 128.
+/// A width of 1 to 128.
 fn proper(w: u8) -> Option<u8>
     ensures { IsWidthFound result (IsWidth w) w }
 {
     if 1 <= w && w <= 128 { Some(w) } else { None }
 }
 
-// The width of both operands.
+/// The width of both operands.
 fn common(a: u8, b: u8) -> Option<u8>
     requires { IsWidth a }
     ensures { IsWidthFound result (a ≡ b) a }
@@ -31,7 +31,7 @@ fn common(a: u8, b: u8) -> Option<u8>
     if a == b { Some(a) } else { None }
 }
 
-// The width of a concatenation.
+/// The width of a concatenation.
 fn joined(high: u8, low: u8) -> Option<u8>
     requires high { IsWidth high }
     requires low { IsWidth low }
@@ -44,7 +44,7 @@ fn joined(high: u8, low: u8) -> Option<u8>
     }
 }
 
-// The width of a replication.
+/// The width of a replication.
 fn multiplied(n: u8, w: u8) -> Option<u8>
     requires { IsWidth w }
     ensures { IsWidthFound result ((1 ≤ n) × (n * w ≤ 128)) (n * w) }
@@ -57,7 +57,7 @@ fn multiplied(n: u8, w: u8) -> Option<u8>
     }
 }
 
-// The width of a signal, if it is this one.
+/// The width of a signal, if it is this one.
 #[tactic(auto, using(crate::proofs::Sound::signals))]
 fn signal_width(signals: &Sequence<Signal>, sig: SigId, w: u8) -> Option<u8>
     requires { IsTrue (are_wide signals.now) }
@@ -72,7 +72,7 @@ fn signal_width(signals: &Sequence<Signal>, sig: SigId, w: u8) -> Option<u8>
 }
 
 impl Words {
-    // The width of the words, if it is this one.
+    /// The width of the words, if it is this one.
     #[tactic(auto, using(crate::proofs::Sound::signals))]
     fn sound_width(self, signals: &Sequence<Signal>, w: u8) -> Option<u8>
         requires wide { IsTrue (are_wide signals.now) }
@@ -97,7 +97,7 @@ impl Words {
 }
 
 impl Term {
-    // The width, where the expression is sound.
+    /// The width, where the expression is sound.
     fn sound_width(&self, signals: &Sequence<Signal>) -> Option<u8>
         requires wide { IsTrue (are_wide signals.now) }
         requires few { length signals.now ≤ 65536 }
@@ -150,7 +150,7 @@ impl Term {
 }
 
 impl Object {
-    // The width, where the object is sound.
+    /// The width, where the object is sound.
     fn sound_width(&self, signals: &Sequence<Signal>) -> Option<u8>
         requires wide { IsTrue (are_wide signals.now) }
         requires few { length signals.now ≤ 65536 }
@@ -167,7 +167,7 @@ impl Object {
 }
 
 impl Target {
-    // The width, where the target is sound.
+    /// The width, where the target is sound.
     fn sound_width(&self, signals: &Sequence<Signal>) -> Option<u8>
         requires wide { IsTrue (are_wide signals.now) }
         requires few { length signals.now ≤ 65536 }
@@ -185,7 +185,7 @@ impl Target {
     }
 }
 
-// Whether an assignment of a value to a target is sound.
+/// Whether an assignment of a value to a target is sound.
 fn fits(target: &Target, value: &Term, signals: &Sequence<Signal>) -> bool
     requires wide { IsTrue (are_wide signals.now) }
     requires few { length signals.now ≤ 65536 }
@@ -197,7 +197,7 @@ fn fits(target: &Target, value: &Term, signals: &Sequence<Signal>) -> bool
     }
 }
 
-// Whether a label of a case statement is sound: of this width, and with one of so many items.
+/// Whether a label of a case statement is sound: of this width, and with one of so many items.
 fn is_label(label: &Label, w: u8, items: usize, signals: &Sequence<Signal>) -> bool
     requires wide { IsTrue (are_wide signals.now) }
     requires few { length signals.now ≤ 65536 }
@@ -209,7 +209,7 @@ fn is_label(label: &Label, w: u8, items: usize, signals: &Sequence<Signal>) -> b
     }
 }
 
-// Whether the labels of a case statement are sound: of the width of the value, and each with one of so many items.
+/// Whether the labels of a case statement are sound: of the width of the value, and each with one of so many items.
 fn are_labels(labels: &Sequence<Label>, w: u8, items: usize, signals: &Sequence<Signal>) -> bool
     requires wide { IsTrue (are_wide signals.now) }
     requires few { length signals.now ≤ 65536 }
@@ -223,7 +223,7 @@ fn are_labels(labels: &Sequence<Label>, w: u8, items: usize, signals: &Sequence<
     true
 }
 
-// Whether the value and the labels of a case statement are sound, with so many items.
+/// Whether the value and the labels of a case statement are sound, with so many items.
 fn is_choice(
     value: &Term,
     labels: &Sequence<Label>,
@@ -241,7 +241,7 @@ fn is_choice(
 }
 
 impl Act {
-    // Whether the statement is sound over these signals.
+    /// Whether the statement is sound over these signals.
     #[cycle(soundness)]
     pub fn is_sound(&self, signals: &Sequence<Signal>) -> bool
         requires wide { IsTrue (are_wide signals.now) }
@@ -269,7 +269,7 @@ impl Act {
 }
 
 impl Acts {
-    // Whether each statement is sound.
+    /// Whether each statement is sound.
     #[cycle(soundness)]
     fn are_sound(&self, signals: &Sequence<Signal>) -> bool
         requires wide { IsTrue (are_wide signals.now) }

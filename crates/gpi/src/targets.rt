@@ -1,8 +1,9 @@
-// Where an assignment writes.
+//! Where an assignment writes.
 ghost use Rattle.std.specs.Prelude.{◌≡◌, ℕ, ◌<◌, ◌≤◌, List, length, IfOk, IfSome, slice_index};
 ghost use Rattle.gpi.specs.Terms.{widths_of, read};
 ghost use Rattle.gpi.specs.Targets.{target_width, IsSoundTarget, IsSoundObject, IsObjectCopy, IsTargetCopy, MakesJoin, object_at, object_width};
 
+use crate::boxed::{boxed, boxed_both};
 use crate::selects::{Range, Words};
 use crate::terms::Term;
 use crate::types::SigId;
@@ -82,6 +83,7 @@ impl Target {
     }
 
     /// A copy, which means the same.
+    #[cycle(target_copies)]
     pub fn copy(&self, alloc: Global) -> Result<Target, NoMemory>
         ensures { IfOk result (IsTargetCopy self.now) }
     {
@@ -92,14 +94,23 @@ impl Target {
                 let index = index.copy(alloc)?;
                 Ok(Target::Select(object, *range, index, *w))
             }
-            Target::Join(a, b) => Target::join(alloc, a.copy(alloc)?, b.copy(alloc)?),
+            Target::Join(a, b) => Ok(Target::Join(a.copy_boxed(alloc)?, b.copy_boxed(alloc)?)),
         }
+    }
+
+    /// A copy on the heap.
+    #[cycle(target_copies)]
+    fn copy_boxed(&self, alloc: Global) -> Result<Box<Target>, NoMemory>
+        ensures { IfOk result (λ made. IsTargetCopy self.now made.value) }
+    {
+        boxed(alloc, self.copy(alloc)?)
     }
 
     /// `{high, low}`
     pub fn join(alloc: Global, high: Target, low: Target) -> Result<Target, NoMemory>
         ensures { IfOk result (MakesJoin high low) }
     {
-        Ok(Target::Join(Box::new(alloc, high)?, Box::new(alloc, low)?))
+        let (high, low) = boxed_both(alloc, high, low)?;
+        Ok(Target::Join(high, low))
     }
 }

@@ -1,8 +1,9 @@
-// Expressions.
+//! Expressions.
 ghost use Rattle.std.specs.Prelude.{◌≡◌, ℕ, ◌+◌, ◌*◌, ◌<◌, ◌≤◌, length, IfOk};
 ghost use Rattle.gpi.specs.Terms.{value, width, IsSound, read, widths_of, copies};
 ghost use Rattle.gpi.specs.Made.{MakesWord, MakesSelect, MakesUnary, MakesArith, MakesCompare, MakesLogic, MakesReduce, MakesShift, MakesCond, MakesConcat, MakesRepeat, MakesResize, IsCopy};
 
+use crate::boxed::{boxed, boxed_both};
 use crate::operators::{Arith, Compare, Logic, Reduce, Shift, Unary, chosen};
 use crate::selects::{Range, Words};
 use crate::types::SigId;
@@ -41,12 +42,15 @@ pub enum Term {
 }
 
 impl Term {
+    /// A word of a memory, chosen by an index, where the words have `w` digits. Only want of memory is an error.
     pub fn word(alloc: Global, words: Words, index: Term, w: u8) -> Result<Term, NoMemory>
         ensures { IfOk result (MakesWord words index w) }
     {
-        Ok(Term::Word(words, Box::new(alloc, index)?, w))
+        Ok(Term::Word(words, boxed(alloc, index)?, w))
     }
 
+    /// `w` digits from an index upwards (clauses 5.2.1 and 5.2.2) of a signal or a word that has this range.
+    /// Only want of memory is an error.
     pub fn select(
         alloc: Global,
         from: Term,
@@ -56,98 +60,144 @@ impl Term {
     ) -> Result<Term, NoMemory>
         ensures { IfOk result (MakesSelect from range index w) }
     {
-        Ok(Term::Select(Box::new(alloc, from)?, range, Box::new(alloc, index)?, w))
+        let (from, index) = boxed_both(alloc, from, index)?;
+        Ok(Term::Select(from, range, index, w))
     }
 
+    /// An operator on one operand. Only want of memory is an error.
     pub fn unary(alloc: Global, op: Unary, a: Term) -> Result<Term, NoMemory>
         ensures { IfOk result (MakesUnary op a) }
     {
-        Ok(Term::Unary(op, Box::new(alloc, a)?))
+        Ok(Term::Unary(op, boxed(alloc, a)?))
     }
 
+    /// An operator on two operands of one width, which keeps it. Only want of memory is an error.
     pub fn arith(alloc: Global, op: Arith, a: Term, b: Term) -> Result<Term, NoMemory>
         ensures { IfOk result (MakesArith op a b) }
     {
-        Ok(Term::Arith(op, Box::new(alloc, a)?, Box::new(alloc, b)?))
+        let (a, b) = boxed_both(alloc, a, b)?;
+        Ok(Term::Arith(op, a, b))
     }
 
+    /// A comparison of two operands of one width. Only want of memory is an error.
     pub fn compare(alloc: Global, op: Compare, a: Term, b: Term) -> Result<Term, NoMemory>
         ensures { IfOk result (MakesCompare op a b) }
     {
-        Ok(Term::Compare(op, Box::new(alloc, a)?, Box::new(alloc, b)?))
+        let (a, b) = boxed_both(alloc, a, b)?;
+        Ok(Term::Compare(op, a, b))
     }
 
+    /// A connective of two truth values. Only want of memory is an error.
     pub fn logic(alloc: Global, op: Logic, a: Term, b: Term) -> Result<Term, NoMemory>
         ensures { IfOk result (MakesLogic op a b) }
     {
-        Ok(Term::Logic(op, Box::new(alloc, a)?, Box::new(alloc, b)?))
+        let (a, b) = boxed_both(alloc, a, b)?;
+        Ok(Term::Logic(op, a, b))
     }
 
+    /// An operator that gives one digit. Only want of memory is an error.
     pub fn reduce(alloc: Global, op: Reduce, a: Term) -> Result<Term, NoMemory>
         ensures { IfOk result (MakesReduce op a) }
     {
-        Ok(Term::Reduce(op, Box::new(alloc, a)?))
+        Ok(Term::Reduce(op, boxed(alloc, a)?))
     }
 
+    /// A shift. Only want of memory is an error.
     pub fn shift(alloc: Global, op: Shift, a: Term, count: Term) -> Result<Term, NoMemory>
         ensures { IfOk result (MakesShift op a count) }
     {
-        Ok(Term::Shift(op, Box::new(alloc, a)?, Box::new(alloc, count)?))
+        let (a, count) = boxed_both(alloc, a, count)?;
+        Ok(Term::Shift(op, a, count))
     }
 
+    /// `condition ? a : b`
     pub fn cond(alloc: Global, condition: Term, a: Term, b: Term) -> Result<Term, NoMemory>
         ensures { IfOk result (MakesCond condition a b) }
     {
-        Ok(Term::Cond(
-            Box::new(alloc, condition)?,
-            Box::new(alloc, a)?,
-            Box::new(alloc, b)?,
-        ))
+        let (a, b) = boxed_both(alloc, a, b)?;
+        Ok(Term::Cond(boxed(alloc, condition)?, a, b))
     }
 
     /// `{high, low}`
     pub fn concat(alloc: Global, high: Term, low: Term) -> Result<Term, NoMemory>
         ensures { IfOk result (MakesConcat high low) }
     {
-        Ok(Term::Concat(Box::new(alloc, high)?, Box::new(alloc, low)?))
+        let (high, low) = boxed_both(alloc, high, low)?;
+        Ok(Term::Concat(high, low))
     }
 
+    /// `n` copies, one after the other (clause 5.1.14). Only want of memory is an error.
     pub fn repeat(alloc: Global, n: u8, a: Term) -> Result<Term, NoMemory>
         ensures { IfOk result (MakesRepeat n a) }
     {
-        Ok(Term::Repeat(n, Box::new(alloc, a)?))
+        Ok(Term::Repeat(n, boxed(alloc, a)?))
     }
 
+    /// The same digits in the width `w`: zeros above, or the highest cut. Only want of memory is an error.
     pub fn resize(alloc: Global, a: Term, w: u8) -> Result<Term, NoMemory>
         ensures { IfOk result (MakesResize a w) }
     {
-        Ok(Term::Resize(Box::new(alloc, a)?, w))
+        Ok(Term::Resize(boxed(alloc, a)?, w))
     }
 
     /// A copy, which means the same.
+    #[cycle(term_copies)]
     pub fn copy(&self, alloc: Global) -> Result<Term, NoMemory>
         ensures { IfOk result (IsCopy self.now) }
     {
         match self {
             Term::Const(bits) => Ok(Term::Const(*bits)),
             Term::Signal(s, w) => Ok(Term::Signal(*s, *w)),
-            Term::Word(words, i, w) => Term::word(alloc, *words, i.copy(alloc)?, *w),
+            Term::Word(words, i, w) => Ok(Term::Word(*words, i.copy_boxed(alloc)?, *w)),
             Term::Select(a, range, i, w) => {
-                Term::select(alloc, a.copy(alloc)?, *range, i.copy(alloc)?, *w)
+                let a = a.copy_boxed(alloc)?;
+                let i = i.copy_boxed(alloc)?;
+                Ok(Term::Select(a, *range, i, *w))
             }
-            Term::Unary(op, a) => Term::unary(alloc, *op, a.copy(alloc)?),
-            Term::Arith(op, a, b) => Term::arith(alloc, *op, a.copy(alloc)?, b.copy(alloc)?),
-            Term::Compare(op, a, b) => Term::compare(alloc, *op, a.copy(alloc)?, b.copy(alloc)?),
-            Term::Logic(op, a, b) => Term::logic(alloc, *op, a.copy(alloc)?, b.copy(alloc)?),
-            Term::Reduce(op, a) => Term::reduce(alloc, *op, a.copy(alloc)?),
-            Term::Shift(op, a, b) => Term::shift(alloc, *op, a.copy(alloc)?, b.copy(alloc)?),
+            Term::Unary(op, a) => Ok(Term::Unary(*op, a.copy_boxed(alloc)?)),
+            Term::Arith(op, a, b) => {
+                let a = a.copy_boxed(alloc)?;
+                let b = b.copy_boxed(alloc)?;
+                Ok(Term::Arith(*op, a, b))
+            }
+            Term::Compare(op, a, b) => {
+                let a = a.copy_boxed(alloc)?;
+                let b = b.copy_boxed(alloc)?;
+                Ok(Term::Compare(*op, a, b))
+            }
+            Term::Logic(op, a, b) => {
+                let a = a.copy_boxed(alloc)?;
+                let b = b.copy_boxed(alloc)?;
+                Ok(Term::Logic(*op, a, b))
+            }
+            Term::Reduce(op, a) => Ok(Term::Reduce(*op, a.copy_boxed(alloc)?)),
+            Term::Shift(op, a, b) => {
+                let a = a.copy_boxed(alloc)?;
+                let b = b.copy_boxed(alloc)?;
+                Ok(Term::Shift(*op, a, b))
+            }
             Term::Cond(t, a, b) => {
-                Term::cond(alloc, t.copy(alloc)?, a.copy(alloc)?, b.copy(alloc)?)
+                let t = t.copy_boxed(alloc)?;
+                let a = a.copy_boxed(alloc)?;
+                let b = b.copy_boxed(alloc)?;
+                Ok(Term::Cond(t, a, b))
             }
-            Term::Concat(a, b) => Term::concat(alloc, a.copy(alloc)?, b.copy(alloc)?),
-            Term::Repeat(n, a) => Term::repeat(alloc, *n, a.copy(alloc)?),
-            Term::Resize(a, w) => Term::resize(alloc, a.copy(alloc)?, *w),
+            Term::Concat(a, b) => {
+                let a = a.copy_boxed(alloc)?;
+                let b = b.copy_boxed(alloc)?;
+                Ok(Term::Concat(a, b))
+            }
+            Term::Repeat(n, a) => Ok(Term::Repeat(*n, a.copy_boxed(alloc)?)),
+            Term::Resize(a, w) => Ok(Term::Resize(a.copy_boxed(alloc)?, *w)),
         }
+    }
+
+    /// A copy on the heap.
+    #[cycle(term_copies)]
+    fn copy_boxed(&self, alloc: Global) -> Result<Box<Term>, NoMemory>
+        ensures { IfOk result (λ made. IsCopy self.now made.value) }
+    {
+        boxed(alloc, self.copy(alloc)?)
     }
 
     /// The value, by the values of the signals.
@@ -189,7 +239,7 @@ impl Term {
     }
 }
 
-// `n` copies of a vector, one after the other.
+/// `n` copies of a vector, one after the other.
 fn repeated(n: u8, bits: Bits) -> Bits
     requires some { 1 ≤ n }
     requires few { n * length bits ≤ 128 }

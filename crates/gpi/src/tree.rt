@@ -1,4 +1,4 @@
-// Whether a design is sound: its lists, and the tree of its nodes.
+//! Whether a design is sound: its lists, and the tree of its nodes.
 ghost use Rattle.std.specs.Prelude.{◌≡◌, ℕ, ◌<◌, ◌≤◌, ◌==◌, ◌↔◌, length, IsTrue, if◌then◌else◌, slice_get, Some, Option};
 ghost use Rattle.gpi.specs.Design.{widths};
 ghost use Rattle.gpi.specs.Activation.{IsSound};
@@ -22,7 +22,7 @@ impl Flat {
             && is_tree(&self.nodes)
     }
 
-    // Whether no list is too long, and the step is at least 1.
+    /// Whether no list is too long, and the step is at least 1.
     fn are_short(&self) -> bool
         ensures { IsTrue result ↔ ((length self.now.signals ≤ 65536) × (length self.now.nodes ≤ 65536) × (length self.now.processes ≤ 65536) × (1 ≤ self.now.step_fs)) }
     {
@@ -32,7 +32,7 @@ impl Flat {
             && 1 <= self.step_fs
     }
 
-    // Whether each process is sound.
+    /// Whether each process is sound.
     fn are_processes(&self) -> bool
         requires wide { IsTrue (are_wide self.now.signals) }
         requires few { length self.now.signals ≤ 65536 }
@@ -48,7 +48,7 @@ impl Flat {
     }
 }
 
-// Whether the body and the wakes of a process are sound.
+/// Whether the body and the wakes of a process are sound.
 #[tactic(auto, using(crate::proofs::Sound::signals))]
 fn is_process(process: &Process, signals: &Sequence<Signal>) -> bool
     requires wide { IsTrue (are_wide signals.now) }
@@ -58,7 +58,7 @@ fn is_process(process: &Process, signals: &Sequence<Signal>) -> bool
     process.body.is_sound(signals) && are_wakes(&process.wakes, signals.len())
 }
 
-// Whether each width is 1 to 128.
+/// Whether each width is 1 to 128.
 fn are_wide(signals: &Sequence<Signal>) -> bool
     ensures { result ≡ are_wide signals.now }
 {
@@ -71,7 +71,7 @@ fn are_wide(signals: &Sequence<Signal>) -> bool
     true
 }
 
-// Whether each wake is of one of so many signals.
+/// Whether each wake is of one of so many signals.
 fn are_wakes(wakes: &Sequence<Wake>, signals: usize) -> bool
     ensures { result ≡ are_wakes wakes.now signals }
 {
@@ -83,7 +83,7 @@ fn are_wakes(wakes: &Sequence<Wake>, signals: usize) -> bool
     true
 }
 
-// Whether a child is one of so many nodes, or of so many signals.
+/// Whether a child is one of so many nodes, or of so many signals.
 fn is_spot(spot: Spot, nodes: usize, signals: usize) -> bool
     requires { signals ≤ 65536 }
     ensures { result ≡ is_spot nodes signals spot }
@@ -98,6 +98,7 @@ fn is_spot(spot: Spot, nodes: usize, signals: usize) -> bool
     }
 }
 
+/// Whether each child is one of so many nodes, or of so many signals.
 fn are_spots(children: &Sequence<(Name, Spot)>, nodes: usize, signals: usize) -> bool
     requires { signals ≤ 65536 }
     ensures { result ≡ are_spots nodes signals children.now }
@@ -110,7 +111,7 @@ fn are_spots(children: &Sequence<(Name, Spot)>, nodes: usize, signals: usize) ->
     true
 }
 
-// Whether each child of a node is one of the nodes, or of so many signals.
+/// Whether each child of a node is one of the nodes, or of so many signals.
 fn are_nodes(nodes: &Sequence<Node>, signals: usize) -> bool
     requires { signals ≤ 65536 }
     ensures { result ≡ are_nodes (length nodes.now) signals nodes.now }
@@ -123,6 +124,7 @@ fn are_nodes(nodes: &Sequence<Node>, signals: usize) -> bool
     true
 }
 
+/// Whether a child is this node.
 fn is_child(node: u32, spot: Spot) -> bool
     ensures { result ≡ is_child node spot }
 {
@@ -132,7 +134,7 @@ fn is_child(node: u32, spot: Spot) -> bool
     }
 }
 
-// How often a node is among the children, where 2 stands for more than once.
+/// How often a node is among the children, where 2 stands for more than once.
 fn times_among(node: u32, children: &Sequence<(Name, Spot)>) -> u8
     ensures is { result ≡ times_among node children.now }
     ensures few { result ≤ 2 }
@@ -148,7 +150,7 @@ fn times_among(node: u32, children: &Sequence<(Name, Spot)>) -> u8
     times
 }
 
-// How often a node is a child of these nodes, counted so.
+/// How often a node is a child of these nodes, counted so.
 fn times_child(node: u32, nodes: &Sequence<Node>) -> u8
     ensures { result ≡ times_child node nodes.now }
 {
@@ -161,7 +163,7 @@ fn times_child(node: u32, nodes: &Sequence<Node>) -> u8
     times
 }
 
-// The first node that has this one as a child.
+/// The first node that has this one as a child.
 fn parent(node: u32, nodes: &Sequence<Node>) -> Option<u32>
     requires { length nodes.now ≤ 65536 }
     ensures { result ≡ parent_from node 0 nodes.now }
@@ -174,7 +176,7 @@ fn parent(node: u32, nodes: &Sequence<Node>) -> Option<u32>
     None
 }
 
-// Whether one comes from a node to node 0 by going from child to parent.
+/// Whether one comes from a node to node 0 by going from child to parent.
 fn climbs(node: u32, nodes: &Sequence<Node>) -> bool
     requires { length nodes.now ≤ 65536 }
     ensures { result ≡ climbs (length nodes.now) nodes.now node }
@@ -191,7 +193,7 @@ fn climbs(node: u32, nodes: &Sequence<Node>) -> bool
     at == 0
 }
 
-// Whether a node has its place in the tree.
+/// Whether a node has its place in the tree.
 fn is_placed(node: u32, nodes: &Sequence<Node>) -> bool
     requires { length nodes.now ≤ 65536 }
     ensures { IsTrue result ↔ IsPlaced nodes.now node }
@@ -200,7 +202,7 @@ fn is_placed(node: u32, nodes: &Sequence<Node>) -> bool
     times_child(node, nodes) == wanted && climbs(node, nodes)
 }
 
-// Whether the nodes form one tree below node 0.
+/// Whether the nodes form one tree below node 0.
 fn is_tree(nodes: &Sequence<Node>) -> bool
     requires { length nodes.now ≤ 65536 }
     ensures { IsTrue result ↔ IsTree nodes.now }

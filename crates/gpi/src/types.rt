@@ -1,4 +1,4 @@
-// What a simulator is asked, and what it tells.
+//! What a simulator is asked, and what it tells.
 use four_value::Bits;
 
 /// A signal, by its number in the design.

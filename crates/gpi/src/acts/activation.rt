@@ -1,4 +1,4 @@
-// One activation of a statement.
+//! One activation of a statement.
 ghost use Rattle.std.specs.Prelude.{◌≡◌, ℕ, ◌+◌, ◌<◌, ◌≤◌, ◌++◌, ◌∷◌, [], length, take, drop, OnOk, OnErr};
 ghost use Rattle.gpi.specs.Terms.{widths_of, read};
 ghost use Rattle.gpi.specs.Targets.{target_width, IsSoundTarget, updates_of, AreFitting, IsFitting};
@@ -58,7 +58,7 @@ impl Act {
     }
 }
 
-// The item of the first label that agrees with a value.
+/// The item of the first label that agrees with a value.
 #[tactic(auto, using(crate::proofs::Steps::labels))]
 fn first_match(
     kind: CaseKind,
@@ -79,7 +79,7 @@ fn first_match(
     None
 }
 
-// A blocking assignment of a value.
+/// A blocking assignment of a value.
 fn assign(
     target: &Target,
     bits: Bits,
@@ -101,7 +101,7 @@ fn assign(
     Ok(())
 }
 
-// Applies the updates from number `from` on, in order, and takes them away.
+/// Applies the updates from number `from` on, in order, and takes them away.
 #[tactic(auto, using(crate::proofs::Steps::applies))]
 fn apply_from(from: usize, signals: &mut Vec<Bits>, updates: &mut Vec<Update>)
     requires inside { from ≤ length updates.old.items }
@@ -150,7 +150,7 @@ pub fn placed(bits: Bits, low: u8, part: Bits) -> Bits
     }
 }
 
-// Appends the updates that give a target these digits.
+/// Appends the updates that give a target these digits.
 #[tactic(auto, using(crate::proofs::Steps::pushes))]
 fn push_updates(
     target: &Target,
@@ -204,6 +204,7 @@ fn push_updates(
     }
 }
 
+/// Adds an update at the end.
 fn push(updates: &mut Vec<Update>, update: &Update) -> Result<(), NoMemory>
     ensures ok { OnOk result (updates.new.items ≡ updates.old.items ++ update.now ∷ []) }
     ensures err { OnErr result (updates.new.items ≡ updates.old.items) }

@@ -8,12 +8,13 @@ pub copy_act-returns-in_ok-copy_acts-in-Block : goal.copy_act-returns-in_ok-copy
 copy_act-returns-in_ok-copy_acts-in-Block t c =
     copied_block c.args.act.now c.in-Block.list c.in_ok-copy_acts-in-Block.field-0 c.block.result c.in-Block.is c.in_ok-copy_acts-in-Block.ensures c.block.ensures
 
-pub copy_act-returns-in_ok-act-in-Case : goal.copy_act-returns-in_ok-act-in-Case
-copy_act-returns-in_ok-act-in-Case t c =
+pub copy_act-returns-in_ok-other-in-Case : goal.copy_act-returns-in_ok-other-in-Case
+copy_act-returns-in_ok-other-in-Case t c =
+    let b = c.in_ok-other-in-Case.other in
     copied_case c.args.act.now c.in-Case.kind c.in-Case.value c.in_ok-value-in-Case.value c.in-Case.labels c.in_ok-labels-in-Case.labels
-    c.in-Case.items c.in_ok-items-in-Case.items c.in-Case.other c.in_ok-other-in-Case.other c.in_ok-act-in-Case.act
+    c.in-Case.items c.in_ok-items-in-Case.items c.in-Case.other b.value c.case_of-act.result
     c.in-Case.is c.in_ok-value-in-Case.ensures c.in_ok-labels-in-Case.ensures c.in_ok-items-in-Case.ensures
-    (subst (λ (a : Act). IsActCopy a c.in_ok-other-in-Case.other) c.deref-in-Case.ensures c.in_ok-other-in-Case.ensures) c.in_ok-act-in-Case.ensures
+    (subst (λ (a : Act). IsActCopy a b.value) c.deref-in-Case.ensures c.in_ok-other-in-Case.ensures) c.case_of-act.ensures
 
 pub copy_acts-loop-act-preserved : goal.copy_acts-loop-act-preserved
 copy_acts-loop-act-preserved t c =
