@@ -2,7 +2,11 @@
 use Rattle.std.proofs.Common.{◌≡◌, ℕ, List, [], ◌∷◌, length, drop, None, Some, Result, Ok, Err, refl, sym, subst, ap, ◌∙◌, arith, append-nil}
 use Rattle.py_syntax.specs.Line.{Line}
 use Rattle.py_syntax.specs.Pieces.{piece_at}
-use Rattle.py_syntax.specs.Places.{Place, first_place, place_after, context_of, IsMadeOf}
+use Rattle.py_syntax.specs.Places.{Place, first_place, place_after, context_of}
+use Rattle.py_syntax.specs.Found.{IsMadeOf}
+use Rattle.py_syntax.specs.Spelled.{IsSpelled}
+use Rattle.py_syntax.proofs.Stands.{spelled}
+use Rattle.py_syntax.proofs.Finds.{found}
 use Rattle.py_syntax.specs.Logical.{lines_of, first_broken, broken_on}
 use Rattle.py_syntax.specs.declared.piece.Piece.{Piece}
 use Rattle.py_syntax.specs.declared.piece.LineRule.{LineRule}
@@ -13,7 +17,7 @@ use Rattle.py_lex.specs.Scan.{State, lines_in, broken_in, HasRead}
 use Rattle.py_lex.specs.Answer.{Answers, IsAnswered, fault_of, fault_by}
 use Rattle.py_lex.proofs.Laws.{read_lines, read_broken}
 
-pub made_once : (a : Place) (text : List ℕ) (ps qs : List Piece) → IsMadeOf a text ps → IsMadeOf a text qs → ps ≡ qs
+made_once : (a : Place) (text : List ℕ) (ps qs : List Piece) → IsMadeOf a text ps → IsMadeOf a text qs → ps ≡ qs
 made_once a text [] [] m n = refl
 made_once a text [] (q ∷ qs) m n = absurd (omega (arith, ap length m, n.0))
 made_once a text (p ∷ ps) [] m n = absurd (omega (arith, ap length n, m.0))
@@ -38,23 +42,30 @@ fault_answers ps n rule.Dedent e = e
 fault_answers ps n rule.UnclosedText e = e
 fault_answers ps n rule.BadByte e = e
 
+-- No text is spelled by two lists of pieces.
+pub spelled_once : (a : Place) (text : List ℕ) (ps qs : List Piece) → IsSpelled a ps text → IsSpelled a qs text → ps ≡ qs
+spelled_once a text ps qs m n = made_once a text ps qs (found a ps text m) (found a qs text n)
+
+spelled_of_read : (text : List ℕ) (s : State) → (h : HasRead text [] s) → IsSpelled first_place h.pieces text
+spelled_of_read text s h = spelled first_place text h.pieces tt (made_of_read text s h)
+
 -- any text's answer is that of all its pieces, where it is that of some
-pub for_all : (text : List ℕ) (r : Result (List Line) LineFault) (ps : List Piece) → IsMadeOf first_place text ps → Answers ps r
-    → (qs : List Piece) → IsMadeOf first_place text qs → Answers qs r
-for_all text r ps m a qs n = subst (λ (xs : List Piece). Answers xs r) (made_once first_place text ps qs m n) a
+pub for_all : (text : List ℕ) (r : Result (List Line) LineFault) (ps : List Piece) → IsSpelled first_place ps text → Answers ps r
+    → (qs : List Piece) → IsSpelled first_place qs text → Answers qs r
+for_all text r ps m a qs n = subst (λ (xs : List Piece). Answers xs r) (spelled_once first_place text ps qs m n) a
 
 pub lines_answer : (text : List ℕ) (s : State) (ls : List Line) → HasRead text [] s → ls ≡ lines_in s → None ≡ broken_in s
-    → (ps : List Piece) × IsMadeOf first_place text ps × Answers ps (Ok ls)
-lines_answer text s ls h e b = (h.pieces, made_of_read text s h, (sym (broken_of_read text s h) ∙ sym b, e ∙ lines_of_read text s h))
+    → (ps : List Piece) × IsSpelled first_place ps text × Answers ps (Ok ls)
+lines_answer text s ls h e b = (h.pieces, spelled_of_read text s h, (sym (broken_of_read text s h) ∙ sym b, e ∙ lines_of_read text s h))
 
 pub fault_answer : (text : List ℕ) (s : State) (b : Broken) → HasRead text [] s → Some b ≡ broken_in s
-    → (ps : List Piece) × IsMadeOf first_place text ps × Answers ps (Err (fault_of b))
-fault_answer text s b h e = (h.pieces, made_of_read text s h, fault_answers h.pieces b.line b.rule (sym (broken_of_read text s h) ∙ sym e))
+    → (ps : List Piece) × IsSpelled first_place ps text × Answers ps (Err (fault_of b))
+fault_answer text s b h e = (h.pieces, spelled_of_read text s h, fault_answers h.pieces b.line b.rule (sym (broken_of_read text s h) ∙ sym e))
 
-pub is_answered : (text : List ℕ) (b : Broken) → ((ps : List Piece) × IsMadeOf first_place text ps × Answers ps (Err (fault_of b))) → IsAnswered text (Err (fault_of b))
+pub is_answered : (text : List ℕ) (b : Broken) → ((ps : List Piece) × IsSpelled first_place ps text × Answers ps (Err (fault_of b))) → IsAnswered text (Err (fault_of b))
 is_answered text b h = go b.rule b.line h
   where
-    go : (r : LineRule) (n : ℕ) → ((ps : List Piece) × IsMadeOf first_place text ps × Answers ps (Err (fault_by r n))) → IsAnswered text (Err (fault_by r n))
+    go : (r : LineRule) (n : ℕ) → ((ps : List Piece) × IsSpelled first_place ps text × Answers ps (Err (fault_by r n))) → IsAnswered text (Err (fault_by r n))
     go rule.Tab n h = h
     go rule.Dedent n h = h
     go rule.UnclosedText n h = h

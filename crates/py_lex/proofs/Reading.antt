@@ -1,7 +1,8 @@
 -- A scan, from piece to piece.
 use Rattle.std.proofs.Common.{◌≡◌, ℕ, ◌<◌, ◌≤◌, ◌+◌, Bool, true, false, List, [], ◌∷◌, ◌++◌, length, drop, fold, refl, sym, subst, ap, ◌∙◌, arith, append_assoc}
 use Rattle.py_syntax.specs.Pieces.{piece_at}
-use Rattle.py_syntax.specs.Places.{place_after, context_of, spaces_after, line_ends, IsMadeOf}
+use Rattle.py_syntax.specs.Places.{place_after, context_of, spaces_after, line_ends}
+use Rattle.py_syntax.specs.Found.{IsMadeOf}
 use Rattle.py_syntax.specs.declared.piece.Piece.{Piece}
 use Rattle.py_syntax.specs.declared.piece.Piece.TheVariants as piece
 use Rattle.py_lex.specs.Scan.{State, step, first_state, HasRead}

@@ -1,6 +1,6 @@
 -- What a text says, from a front of it on.
 use Rattle.std.proofs.Common.{◌≡◌, ℕ, List, [], ◌∷◌, ◌++◌, Option, None, Some, refl, ap, append_assoc, append-nil}
-use Rattle.py_syntax.specs.Texts.{with_byte}
+use Rattle.py_syntax.specs.Items.{with_byte}
 
 abbrev pub with_front : List ℕ → Option (List ℕ) → Option (List ℕ)
 with_front front None = None

@@ -1,7 +1,8 @@
 -- What the lines of a text are, and what is answered where it breaks a rule.
 use Rattle.std.specs.Prelude.{◌≡◌, ℕ, List, None, Some, Result, Ok, Err}
 use Rattle.py_syntax.specs.Line.{Line}
-use Rattle.py_syntax.specs.Places.{first_place, IsMadeOf}
+use Rattle.py_syntax.specs.Places.{first_place}
+use Rattle.py_syntax.specs.Spelled.{IsSpelled}
 use Rattle.py_syntax.specs.Logical.{lines_of, first_broken, broken_on}
 use Rattle.py_syntax.specs.declared.piece.Piece.{Piece}
 use Rattle.py_syntax.specs.declared.piece.LineRule.{LineRule}
@@ -19,7 +20,7 @@ fault_by rule.BadByte n = fault.BadByte n
 abbrev pub fault_of : Broken → LineFault
 fault_of b = fault_by b.rule b.line
 
--- Of a text that is made of these pieces: its lines if no rule is broken, else the fault of the first broken rule. Memory may
+-- Of a text that these pieces spell: its lines if no rule is broken, else the fault of the first broken rule. Memory may
 -- always run out.
 abbrev pub Answers : List Piece → Result (List Line) LineFault → Type 0
 Answers ps (Ok lines) = (first_broken ps ≡ None) × (lines ≡ lines_of ps)
@@ -29,7 +30,7 @@ Answers ps (Err (fault.UnclosedText n)) = first_broken ps ≡ Some (broken_on n 
 Answers ps (Err (fault.BadByte n)) = first_broken ps ≡ Some (broken_on n rule.BadByte)
 Answers ps (Err fault.OutOfMemory) = Unit {0}
 
--- The text is made of some pieces, and these have this answer.
+-- Some pieces spell the text, and these have this answer.
 abbrev pub IsAnswered : List ℕ → Result (List Line) LineFault → Type 0
 IsAnswered text (Err fault.OutOfMemory) = Unit {0}
-IsAnswered text answer = (ps : List Piece) × IsMadeOf first_place text ps × Answers ps answer
+IsAnswered text answer = (ps : List Piece) × IsSpelled first_place ps text × Answers ps answer

@@ -1,8 +1,9 @@
--- A scan of a text, piece by piece.
+-- A means of proof: a scan of a text, piece by piece. It follows the code.
 use Rattle.std.specs.Prelude.{◌≡◌, ℕ, Bool, List, [], ◌∷◌, ◌++◌, Option, None, Some, if◌then◌else◌, fold, slice_get}
 use Rattle.std.specs.Option.{option_map, option_to_list}
 use Rattle.py_syntax.specs.Line.{Line}
-use Rattle.py_syntax.specs.Places.{Place, first_place, place_after, is_token, is_logical_end, IsMadeOf}
+use Rattle.py_syntax.specs.Places.{Place, first_place, place_after, is_token, is_logical_end}
+use Rattle.py_syntax.specs.Found.{IsMadeOf}
 use Rattle.py_syntax.specs.Logical.{is_docstring, tokens_of, broken_by, open_format, open_line, first_dedent, earlier}
 use Rattle.py_syntax.specs.declared.token.Token.{Token}
 use Rattle.py_syntax.specs.declared.piece.Piece.{Piece}

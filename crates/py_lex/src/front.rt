@@ -1,6 +1,6 @@
 //! Which piece stands at the front of a text, and how long it is.
 
-ghost use Rattle.std.specs.Prelude.{◌≡◌, ◌≤◌, ◌<◌, ◌==◌, not, true, length, slice_index, IfOk, IfSome};
+ghost use Rattle.std.specs.Prelude.{◌≡◌, ◌≤◌, ◌<◌, ◌==◌, not, true, length, slice_index, slice_get, IfOk, IfSome};
 ghost use Rattle.std.specs.Option.{option_map};
 ghost use Rattle.py_syntax.specs.Bytes;
 ghost use Rattle.py_syntax.specs.Pieces;
@@ -192,17 +192,15 @@ fn code_piece(alloc: Global, context: Context, text: &[u8]) -> Result<(Piece, us
     word_or_mark(alloc, text)
 }
 
-fn after_backslash(byte: u8) -> (Piece, usize)
-    ensures value { (result.0, result.1) ≡ Pieces.after_backslash byte }
-    ensures lines { line_ends result.0 ≡ 0 }
-    ensures positive { 0 < result.1 }
-    ensures short { result.1 ≤ 2 }
-    ensures second { 1 < result.1 → 0 < byte }
+/// A backslash in a part of an f-string, with the byte that it takes with it.
+fn after_backslash(text: &[u8]) -> (Piece, usize)
+    requires { 0 < length text.now }
+    ensures value { (result.0, result.1) ≡ Pieces.after_backslash (slice_get text.now 1) }
+    ensures fits { FitsIn text.now result.0 result.1 }
 {
-    if byte == 0 || byte == b'\n' {
-        (Piece::Token(Token::Invalid, true), 1)
-    } else {
-        (Piece::Token(Token::Invalid, is_printable(byte)), 2)
+    match text.get(1) {
+        Some(byte) if *byte != b'\n' => { (Piece::Token(Token::Invalid, is_printable(*byte)), 2) }
+        _ => (Piece::Token(Token::Invalid, true), 1),
     }
 }
 
@@ -220,7 +218,7 @@ fn expression_piece(alloc: Global, quote: u8, text: &[u8]) -> Result<(Piece, usi
         return Ok((Piece::FormatCut, 1));
     }
     if byte == b'\\' {
-        return Ok(after_backslash(byte_at(text, 1)));
+        return Ok(after_backslash(text));
     }
     word_or_mark(alloc, text)
 }

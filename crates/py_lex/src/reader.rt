@@ -1,7 +1,8 @@
 //! The logical lines of a text.
 
 ghost use Rattle.std.specs.Prelude.{◌≡◌, ℕ, ◌≤◌, length, List};
-ghost use Rattle.py_syntax.specs.Places.{Place, first_place, IsMadeOf};
+ghost use Rattle.py_syntax.specs.Places.{Place, first_place};
+ghost use Rattle.py_syntax.specs.Spelled.{IsSpelled};
 ghost use Rattle.py_syntax.specs.declared.piece.Piece.{Piece};
 ghost use Rattle.py_lex.specs.Answer.{Answers, IsAnswered};
 
@@ -16,9 +17,9 @@ use std::alloc::Global;
 /// comes first in `LineFault`.
 pub fn logical_lines(alloc: Global, text: &[u8]) -> Result<Lines, LineFault>
     requires { length text.now ≤ 1048576 }
-    // Whatever pieces the text is made of: it has the lines that they make, or the fault that they have.
-    ensures exact { (pieces : List Piece) → IsMadeOf first_place text.now pieces → Answers pieces result }
-    // It is made of some.
+    // Whatever pieces spell the text: it has the lines that they make, or the fault that they have.
+    ensures exact { (pieces : List Piece) → IsSpelled first_place pieces text.now → Answers pieces result }
+    // Some spell it.
     ensures made { IsAnswered text.now result }
 {
     let scanner = scan(alloc, text)?;
@@ -29,7 +30,7 @@ pub fn logical_lines(alloc: Global, text: &[u8]) -> Result<Lines, LineFault>
     }
 }
 
-/// No text is made of two lists of pieces, wherever it begins.
+/// No text is spelled by two lists of pieces, wherever it begins.
 pub fn one_reading()
-    ensures { (place : Place) (text : List ℕ) (left right : List Piece) → IsMadeOf place text left → IsMadeOf place text right → left ≡ right }
+    ensures { (place : Place) (text : List ℕ) (left right : List Piece) → IsSpelled place left text → IsSpelled place right text → left ≡ right }
 {}

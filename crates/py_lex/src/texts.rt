@@ -2,6 +2,7 @@
 
 ghost use Rattle.std.specs.Prelude.{◌≡◌, ◌≤◌, ◌<◌, false, length, slice_index, IfSome, IfOk};
 ghost use Rattle.py_lex.specs.Fits.{IsLiteral};
+ghost use Rattle.py_syntax.specs.Standing;
 ghost use Rattle.py_syntax.specs.Texts;
 
 use crate::bytes::{byte_at, is_brace, is_escapable};
@@ -92,7 +93,7 @@ pub fn docstring_end(text: &[u8]) -> Option<usize>
 }
 
 fn is_line_over(text: &[u8]) -> bool
-    ensures { result ≡ Texts.is_line_over text.now }
+    ensures { result ≡ Standing.is_line_over text.now }
 {
     match text {
         [] => true,
@@ -103,9 +104,9 @@ fn is_line_over(text: &[u8]) -> bool
 }
 
 /// Whether nothing but spaces and a comment stands before the line's end.
-#[tactic(auto, unfolding(py_syntax::specs::Texts::is_line_empty))]
+#[tactic(auto, unfolding(py_syntax::specs::Standing::is_line_empty))]
 pub fn is_line_empty(text: &[u8]) -> bool
-    ensures { result ≡ Texts.is_line_empty text.now }
+    ensures { result ≡ Standing.is_line_empty text.now }
 {
     is_line_over(&text[space_len(text)..])
 }

@@ -3,7 +3,6 @@
 ghost use Rattle.std.specs.Prelude.{◌≡◌, ◌≤◌, ◌<◌, ◌==◌, not, true, length, count_by, slice_index};
 ghost use Rattle.std.specs.List.{take_while};
 ghost use Rattle.py_syntax.specs.Bytes;
-ghost use Rattle.py_syntax.specs.Texts;
 
 use crate::bytes::{is_number_byte, is_word_byte};
 
@@ -48,7 +47,7 @@ pub fn space_len(text: &[u8]) -> usize
 
 /// How many line feeds there are.
 pub fn line_feeds(text: &[u8]) -> usize
-    ensures value { result ≡ Texts.line_feeds text.now }
+    ensures value { result ≡ Bytes.line_feeds text.now }
     ensures bound { result ≤ length text.now }
 {
     text.iter().filter(|byte| **byte == b'\n').count()

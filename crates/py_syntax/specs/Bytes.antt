@@ -1,5 +1,6 @@
 -- Kinds of bytes.
-use Rattle.std.specs.Prelude.{ℕ, Bool, ◌&&◌, ◌||◌, nat_le, ◌==◌}
+use Rattle.std.specs.Prelude.{ℕ, Bool, ◌&&◌, ◌||◌, not, nat_le, ◌==◌, List, count_by}
+use Rattle.std.specs.List.{list_all}
 
 abbrev pub is_digit : ℕ → Bool
 is_digit b = nat_le 48 b && nat_le b 57
@@ -31,3 +32,13 @@ is_printable b = nat_le 32 b && nat_le b 126
 -- what may stand behind a backslash in a text: a backslash or a quote
 abbrev pub is_escapable : ℕ → Bool
 is_escapable b = (b == 92) || is_quote b
+
+-- all but a line feed, with which a line ends
+abbrev pub not_line_feed : ℕ → Bool
+not_line_feed b = not (b == 10)
+
+abbrev pub are_printable : List ℕ → Bool
+are_printable bytes = list_all is_printable bytes
+
+abbrev pub line_feeds : List ℕ → ℕ
+line_feeds bytes = count_by (λ b. b == 10) bytes

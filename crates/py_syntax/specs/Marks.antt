@@ -1,4 +1,4 @@
--- Brackets, operators and delimiters: the longest one is taken.
+-- A means of proof: brackets, operators and delimiters, found by their bytes; the longest one is taken.
 use Rattle.std.specs.Prelude.{ℕ, ◌&&◌, ◌==◌, Option, None, Some, if◌then◌else◌}
 use Rattle.py_syntax.specs.declared.operator.Operator.{Operator}
 use Rattle.py_syntax.specs.declared.operator.Operator.TheVariants as operator

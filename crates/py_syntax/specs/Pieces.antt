@@ -1,12 +1,12 @@
--- Which piece stands at the front of a text, and how long it is.
-use Rattle.std.specs.Prelude.{ℕ, Bool, true, false, ◌&&◌, ◌||◌, not, ◌+◌, ◌-◌, ◌==◌, List, [], ◌∷◌, length, take, drop, slice_index, Option, None, Some, if◌then◌else◌}
-use Rattle.std.specs.List.{take_while, list_all}
-use Rattle.py_syntax.specs.Bytes.{is_digit, is_letter, is_word_byte, is_number_byte, is_quote, is_brace, is_printable}
+-- A means of proof: the piece at the front of a text, and how long it is, found by cases on its bytes.
+use Rattle.std.specs.Prelude.{ℕ, Bool, true, false, ◌&&◌, not, ◌+◌, ◌-◌, ◌==◌, List, [], ◌∷◌, length, take, drop, slice_index, slice_get, Option, None, Some, if◌then◌else◌}
+use Rattle.std.specs.List.{take_while}
+use Rattle.py_syntax.specs.Bytes.{is_digit, is_letter, is_word_byte, is_number_byte, is_quote, is_brace, is_printable, are_printable, not_line_feed, line_feeds}
 use Rattle.py_syntax.specs.Keywords.{keyword_of}
-use Rattle.py_syntax.specs.Texts.{text_end, said_from, literal_len, docstring_end, is_line_empty, line_feeds}
+use Rattle.py_syntax.specs.Texts.{text_end, said_from, literal_len, docstring_end}
 use Rattle.py_syntax.specs.Numbers.{base_of, number_of}
 use Rattle.py_syntax.specs.Marks.{bracket_of, operator_at}
-use Rattle.py_syntax.specs.declared.keyword.Keyword.{Keyword}
+use Rattle.py_syntax.specs.Standing.{word_token, number_token, text_token, literal_token, is_line_empty}
 use Rattle.py_syntax.specs.declared.operator.Operator.{Operator}
 use Rattle.py_syntax.specs.declared.token.Token.{Token}
 use Rattle.py_syntax.specs.declared.token.Token.TheVariants as token
@@ -25,20 +25,12 @@ or_else (Some x) y = x
 or_else None y = y
 
 -- A name is the whole word of letters, digits and `_`.
-abbrev pub word_token : List ℕ → Option Keyword → Token
-word_token word (Some k) = token.Keyword k
-word_token word None = token.Name word
-
 unfoldable pub word_piece : List ℕ → Front
 word_piece text =
     let word = take_while is_word_byte text in
     (piece.Token (word_token word (keyword_of word)) true, length word)
 
 -- A number is the whole word of letters, digits and `_`, in a decimal one of points too.
-abbrev pub number_token : Option ℕ → Token
-number_token (Some n) = token.Number n
-number_token None = token.Invalid
-
 unfoldable pub number_piece : List ℕ → Front
 number_piece text =
     let word = take_while (is_number_byte (base_of text)) text in
@@ -75,20 +67,12 @@ blank_piece text =
     else (if (b == 13) && (slice_index text 1 == 10) then Some (piece.LineEnd, 2)
     else (if b == 32 then Some (piece.Space, 1) else None))
 
--- What the bytes between two quotes say.
-abbrev pub text_token : Option (List ℕ) → Token
-text_token (Some said) = token.Text said
-text_token None = token.Invalid
-
-abbrev pub are_printable : List ℕ → Bool
-are_printable bytes = list_all is_printable bytes
-
 -- A text is closed on its line, or takes all that is left of it. So many bytes of it stand behind the quote.
 abbrev pub text_until : List ℕ → Option ℕ → Front
 text_until text (Some n) =
     let body = take (n - 1) (drop 1 text) in
     (piece.Token (text_token (said_from false body)) (are_printable body), n + 1)
-text_until text None = (piece.OpenText, length (take_while (λ b. not (b == 10)) text))
+text_until text None = (piece.OpenText, length (take_while not_line_feed text))
 
 unfoldable pub text_piece : List ℕ → Front
 text_piece text = text_until text (text_end (slice_index text 0) false (drop 1 text))
@@ -120,21 +104,22 @@ unfoldable pub code_piece : Context → List ℕ → Front
 code_piece c text =
     let b = slice_index text 0 in
     if (b == 9) && c.at_front then (piece.Tab, 1)
-    else (if b == 35 then (piece.Comment, length (take_while (λ b. not (b == 10)) text))
+    else (if b == 35 then (piece.Comment, length (take_while not_line_feed text))
     else (if is_quote b then quoted_piece c.is_fresh text
     else (if (b == 102) && is_quote (slice_index text 1) then (piece.FormatStart (slice_index text 1), 2)
     else word_or_mark text)))
 
--- In a part of an f-string no quote, brace or backslash stands.
-abbrev pub after_backslash : ℕ → Front
-after_backslash b = if (b == 0) || (b == 10) then (piece.Token token.Invalid true, 1) else (piece.Token token.Invalid (is_printable b), 2)
+-- In a part of an f-string no quote, brace or backslash stands. A backslash takes the next byte with it, but no line feed.
+abbrev pub after_backslash : Option ℕ → Front
+after_backslash None = (piece.Token token.Invalid true, 1)
+after_backslash (Some b) = if b == 10 then (piece.Token token.Invalid true, 1) else (piece.Token token.Invalid (is_printable b), 2)
 
 unfoldable pub expression_piece : ℕ → List ℕ → Front
 expression_piece quote text =
     let b = slice_index text 0 in
     if b == 125 then (piece.FormatClose, 1)
     else (if b == quote then (piece.FormatCut, 1)
-    else (if b == 92 then after_backslash (slice_index text 1)
+    else (if b == 92 then after_backslash (slice_get text 1)
     else word_or_mark text))
 
 -- Between its quotes and outside of its parts an f-string stands for itself, where `{{` and `}}` are braces.
@@ -142,10 +127,6 @@ abbrev pub brace_piece : ℕ → ℕ → Front
 brace_piece b c =
     if b == c then (piece.Token (token.FormatText (b ∷ [])) true, 2)
     else (if b == 123 then (piece.FormatOpen, 1) else (piece.Token token.Invalid true, 1))
-
-abbrev pub literal_token : Option (List ℕ) → Token
-literal_token (Some said) = token.FormatText said
-literal_token None = token.Invalid
 
 abbrev pub literal_piece : List ℕ → Front
 literal_piece literal = (piece.Token (literal_token (said_from false literal)) (are_printable literal), length literal)

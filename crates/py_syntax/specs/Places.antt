@@ -1,6 +1,6 @@
--- A place in a text, how a piece moves it on, and the pieces that a text is made of.
-use Rattle.std.specs.Prelude.{◌≡◌, ℕ, ◌+◌, ◌<◌, Bool, true, false, ◌&&◌, ◌||◌, not, List, [], ◌∷◌, ◌++◌, length, take, drop, slice_get, Option, None, Some, ◌-◌, if◌then◌else◌}
-use Rattle.py_syntax.specs.Pieces.{piece_at}
+-- A place in a text, and how a piece moves it on.
+use Rattle.std.specs.Prelude.{◌≡◌, ℕ, ◌+◌, Bool, true, false, ◌&&◌, ◌||◌, not, List, [], ◌∷◌, ◌++◌, length, take, slice_get, Option, None, Some, ◌-◌, if◌then◌else◌}
+use Rattle.py_syntax.specs.Bytes.{is_quote}
 use Rattle.py_syntax.specs.declared.operator.Bracket.{Bracket}
 use Rattle.py_syntax.specs.declared.operator.Bracket.TheVariants.{Round, Square}
 use Rattle.py_syntax.specs.declared.token.Token.{Token}
@@ -28,6 +28,12 @@ context_of p = record { region = p.region; at_front = p.at_front; is_fresh = p.i
 -- the front of a text
 abbrev pub first_place : Place
 first_place = record { region = region.Code; at_front = true; is_fresh = true; spaces = 0; line = 1; open_brackets = [] }
+
+-- An f-string is read between two quotes of its own.
+abbrev pub HasQuote : Region → Type 0
+HasQuote region.Code = Unit {0}
+HasQuote (region.Format quote) = is_quote quote ≡ true
+HasQuote (region.Expression quote) = is_quote quote ≡ true
 
 -- all but blanks, comments and line ends; a byte that has no place counts as a token
 abbrev pub is_token : Piece → Bool
@@ -127,9 +133,3 @@ place_after a p = record {
   line = a.line + line_ends p;
   open_brackets = open_after a.region a.line a.open_brackets p;
 }
-
--- From this place on the text is made of these pieces: each is the one that stands there.
-abbrev pub IsMadeOf : Place → List ℕ → List Piece → Type 0
-IsMadeOf a text [] = text ≡ []
-IsMadeOf a text (p ∷ ps) =
-    (0 < length text) × ((piece_at (context_of a) text).0 ≡ p) × IsMadeOf (place_after a p) (drop (piece_at (context_of a) text).1 text) ps

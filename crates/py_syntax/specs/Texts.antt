@@ -1,7 +1,7 @@
--- Texts, f-strings and docstrings: where they end, and what they say.
-use Rattle.std.specs.Prelude.{ℕ, Bool, true, false, ◌&&◌, ◌||◌, ◌+◌, ◌==◌, List, [], ◌∷◌, length, drop, slice_index, Option, None, Some, if◌then◌else◌, count_by}
-use Rattle.std.specs.List.{take_while}
+-- A means of proof: how far a text, an f-string and a docstring reach, and what a text says, found byte by byte.
+use Rattle.std.specs.Prelude.{ℕ, Bool, true, false, ◌||◌, ◌+◌, ◌==◌, List, [], ◌∷◌, Option, None, Some, if◌then◌else◌}
 use Rattle.py_syntax.specs.Bytes.{is_brace, is_escapable}
+use Rattle.py_syntax.specs.Items.{with_byte}
 
 -- n more
 abbrev pub after : ℕ → Option ℕ → Option ℕ
@@ -17,11 +17,6 @@ text_end quote escaped (b ∷ bs) =
     else (if escaped then after 1 (text_end quote false bs)
     else (if b == quote then Some 1
     else after 1 (text_end quote (b == 92) bs)))
-
--- b before what a text says
-abbrev pub with_byte : ℕ → Option (List ℕ) → Option (List ℕ)
-with_byte b None = None
-with_byte b (Some bs) = Some (b ∷ bs)
 
 -- What these bytes of a text say, if each backslash stands before a backslash or a quote. The first byte may be escaped.
 unfoldable pub said_from : Bool → List ℕ → Option (List ℕ)
@@ -46,15 +41,3 @@ docstring_end escaped quotes (b ∷ bs) =
     if escaped then after 1 (docstring_end false 0 bs)
     else (if b == 34 then (if quotes == 2 then Some 1 else after 1 (docstring_end false (quotes + 1) bs))
     else after 1 (docstring_end (b == 92) 0 bs))
-
--- the text ends here, or a line feed or a comment begins
-abbrev pub is_line_over : List ℕ → Bool
-is_line_over [] = true
-is_line_over (b ∷ bs) = (b == 10) || (b == 35) || ((b == 13) && (slice_index bs 0 == 10))
-
--- nothing but spaces and a comment stands before the line's end
-unfoldable pub is_line_empty : List ℕ → Bool
-is_line_empty text = is_line_over (drop (length (take_while (λ b. b == 32) text)) text)
-
-abbrev pub line_feeds : List ℕ → ℕ
-line_feeds text = count_by (λ b. b == 10) text

@@ -29,7 +29,7 @@ pub use constant::Const;
 pub use expression::{BinOp, BoolOp, Expression, FormatPart, Function, Method, Operation, UnOp};
 pub use fault_kind::FaultKind;
 pub use keyword::Keyword;
-pub use laws::pieces_spell_the_text;
+pub use laws::{pieces_spell_the_text, spelling_pieces_are_found};
 pub use line::{Lines, LogicalLine};
 pub use module::{ModuleLine, Parameter, Setting};
 pub use operator::{Bracket, Operator};
