@@ -2,7 +2,8 @@
 use Rattle.std.specs.Prelude.{ℕ, List, [], ◌++◌, Option, None}
 use Rattle.v_syntax.specs.declared.token.Token.{Token}
 use Rattle.v_lex.specs.declared.directive.BrokenRule.{BrokenRule}
-use Rattle.v_lex.specs.Lexing.{Scan, State, earlier, earliest, scan_from}
+use Rattle.v_lex.specs.Lexing.{Scan, State, earlier, earliest}
+use Rattle.v_lex.specs.Scan.{scan_from}
 use Rattle.v_lex.specs.declared.scanner.Found.{Found}
 
 -- tokens, places, and the first broken rule
