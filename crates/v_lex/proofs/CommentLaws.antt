@@ -1,5 +1,5 @@
 -- Comments, as they stand and as the code finds them.
-use Rattle.std.proofs.Common.{◌≡◌, ℕ, suc, ◌+◌, Bool, true, false, cond, List, [], ◌∷◌, ◌++◌, length, get_or, drop, Option, Some, None, ap, ◌∙◌, sym, refl, subst, ⊎_elim, inl, inr, ◌⊎◌, nat_eq, append_assoc, arith}
+use Rattle.std.proofs.Common.{◌≡◌, ℕ, suc, ◌+◌, ◌≤◌, Bool, true, false, cond, List, [], ◌∷◌, ◌++◌, length, get_or, drop, Option, Some, None, ap, ◌∙◌, sym, refl, subst, ⊎_elim, inl, inr, ◌⊎◌, nat_eq, append_assoc, arith}
 use Rattle.std.specs.Prelude.{option_map}
 use Rattle.std.specs.List.{starts_with}
 use lib.Chars.{codes}
@@ -245,3 +245,32 @@ no_comment text h =
     (λ (u : blocks text ≡ false). at_step text ∙ cond-false _ _ _ t ∙ cond-false _ _ _ u)
     (cases_Bool (blocks text)))
     (cases_Bool (lines text))
+
+-- ---- its first byte
+
+pub one : (b : ℕ) (bytes rest : List ℕ) → bytes ≡ b ∷ rest → 1 ≤ length bytes
+one b bytes rest e = let n = ap (λ (xs : List ℕ). length xs) e in omega (arith, n)
+
+pub comment_first : (c : Content) (bytes behind : List ℕ) → CommentStands c bytes behind → (rest : List ℕ) × (bytes ++ behind ≡ 47 ∷ rest)
+comment_first content.Gap bytes behind h = ⊎_elim
+    (λ (k : IsLineComment bytes behind). (47 ∷ (k.0 ++ behind), ap (λ (xs : List ℕ). xs ++ behind) k.1))
+    (λ (k : IsBlockComment bytes). (42 ∷ ((k.0 ++ (42 ∷ 47 ∷ [])) ++ behind), ap (λ (xs : List ℕ). xs ++ behind) k.1))
+    h
+comment_first (content.Broken rule.UnclosedText) bytes behind h = (42 ∷ (h.0 ++ behind), ap (λ (xs : List ℕ). xs ++ behind) h.1)
+comment_first (content.Broken rule.BadByte) bytes behind h = absurd h
+comment_first (content.Broken rule.BadNumber) bytes behind h = absurd h
+comment_first (content.Broken rule.Directive) bytes behind h = absurd h
+comment_first (content.Token t) bytes behind h = absurd h
+comment_first (content.Directive d) bytes behind h = absurd h
+
+pub comment_some : (c : Content) (bytes behind : List ℕ) → CommentStands c bytes behind → 1 ≤ length bytes
+comment_some content.Gap bytes behind h = ⊎_elim
+    (λ (k : IsLineComment bytes behind). one 47 bytes (47 ∷ k.0) k.1)
+    (λ (k : IsBlockComment bytes). one 47 bytes (42 ∷ (k.0 ++ (42 ∷ 47 ∷ []))) k.1)
+    h
+comment_some (content.Broken rule.UnclosedText) bytes behind h = one 47 bytes (42 ∷ h.0) h.1
+comment_some (content.Broken rule.BadByte) bytes behind h = absurd h
+comment_some (content.Broken rule.BadNumber) bytes behind h = absurd h
+comment_some (content.Broken rule.Directive) bytes behind h = absurd h
+comment_some (content.Token t) bytes behind h = absurd h
+comment_some (content.Directive d) bytes behind h = absurd h

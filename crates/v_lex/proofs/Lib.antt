@@ -11,6 +11,6 @@ pub mod WordLaws
 pub mod CommentLaws
 pub mod TokenFronts
 pub mod TakenFronts
-pub mod DirectiveSizes
+pub mod DirectiveFronts
 pub mod PieceFronts
 pub mod RowLaws

@@ -6,21 +6,21 @@ use Rattle.v_lex.specs.declared.bytes.ByteClass.TheVariants as class
 use Rattle.v_lex.specs.declared.directive.Directive.{Directive}
 use Rattle.v_lex.specs.declared.directive.Content.{Content}
 use Rattle.v_lex.specs.declared.directive.Content.TheVariants as content
-use Rattle.v_lex.specs.declared.directive.LexRule.TheVariants as rule
 use Rattle.v_lex.specs.declared.directive.Piece.{Piece}
 use Rattle.v_lex.specs.Bytes.{run, is_separator}
 use Rattle.v_lex.specs.DirectiveWords.{directive_of}
 use Rattle.v_lex.specs.Comments.{piece, gap, comment_at, directive_of_parts}
-use Rattle.v_lex.specs.Directives.{directive_at, is_conditional}
+use Rattle.v_lex.specs.DirectiveScan.{directive_at, is_conditional}
 use Rattle.v_lex.specs.Pieces.{text_len, token_from, comment_or, closed_text_or_byte, conditional_or_byte, skipped_from, taken_or_skipped, piece_at}
 use Rattle.v_lex.specs.Spelling.{AllIn, IsQuoted}
-use Rattle.v_lex.specs.Gaps.{BeginsComment, IsLineComment, IsBlockComment}
-use Rattle.v_lex.specs.Row.{IsDirective, BeginsConditional, IsSkipped, CommentStands, TakenStands, SkippedStands, Stands}
+use Rattle.v_lex.specs.Gaps.{BeginsComment}
+use Rattle.v_lex.specs.Directives.{IsDirective, BeginsConditional}
+use Rattle.v_lex.specs.Row.{IsSkipped, CommentStands, TakenStands, SkippedStands, Stands}
 use Rattle.v_lex.proofs.Splits.{split}
 use Rattle.v_lex.proofs.WordLaws.{begins_of}
 use Rattle.v_lex.proofs.CommentLaws as comments
 use Rattle.v_lex.proofs.TakenFronts.{taken_at, taken_is, taken_stands, from_backquote, quotes, len_split, len_closed, quoted_again, quoted_length}
-use Rattle.v_lex.proofs.DirectiveSizes as directives
+use Rattle.v_lex.proofs.DirectiveFronts as directives
 
 -- ---- parts that aren't taken
 
@@ -43,8 +43,9 @@ text_closed after n e =
 
 skipped_directive : (d : Directive) (bytes behind : List ℕ) → BeginsConditional (bytes ++ behind) → IsDirective d bytes behind → skipped_at (bytes ++ behind) ≡ piece (length bytes) (content.Directive d)
 skipped_directive d bytes behind h k =
-    let same : h.0 ≡ k.0 = ap (drop 1) (sym h.1 ∙ k.1) in
-    ap skipped_at h.1 ∙ cond-true (is_conditional (directive_of (take (run class.Name h.0) h.0))) (directive_at h.0) (gap 1) h.2 ∙ ap directive_at same ∙ k.2
+    let r = directives.read d bytes behind k in
+    let t : directives.conditional_at r.after ≡ true = directives.conditional_is r.after (subst BeginsConditional r.is h) in
+    ap skipped_at r.is ∙ cond-true (directives.conditional_at r.after) (directive_at r.after) (gap 1) t ∙ r.found
 
 skipped_byte : (byte : ℕ) (behind : List ℕ) → ((front rest inside : List ℕ) → byte ∷ behind ≡ front ++ rest → IsQuoted front inside → ⊥) → (BeginsConditional (byte ∷ behind) → ⊥) → skipped_from byte behind ≡ gap 1
 skipped_byte byte behind q t =
@@ -65,7 +66,7 @@ skipped_byte byte behind q t =
 
     other : byte ≡ 96 → conditional_or_byte behind (directive_of (take (run class.Name behind) behind)) ≡ gap 1
     other c = ⊎_elim
-        (λ (k : is_conditional (directive_of (take (run class.Name behind) behind)) ≡ true). absurd (t (behind, ap (λ (x : ℕ). x ∷ behind) c, k)))
+        (λ (k : is_conditional (directive_of (take (run class.Name behind) behind)) ≡ true). absurd (t (subst (λ (x : ℕ). BeginsConditional (x ∷ behind)) (sym c) (directives.conditional_begins behind k))))
         (λ (k : is_conditional (directive_of (take (run class.Name behind) behind)) ≡ false). cond-false (is_conditional (directive_of (take (run class.Name behind) behind))) (directive_at behind) (gap 1) k)
         (cases_Bool (is_conditional (directive_of (take (run class.Name behind) behind))))
 
@@ -111,7 +112,7 @@ some_none x e = cc
 at_quote : (bs : List ℕ) (o : Option ℕ) → text_len bs ≡ o → Skipped (34 ∷ bs) (skipped_from 34 bs)
 at_quote bs None e = one_byte 34 bs
     (λ front rest inside w h. let f = quoted_first 34 bs front rest inside w h in some_none (length inside) (sym e ∙ ap text_len f.1 ∙ len_closed inside rest h.1))
-    (λ h. unequal 34 96 refl (ap (λ (xs : List ℕ). get_or xs 0 0) h.1))
+    (λ h. unequal 34 96 refl (ap (λ (xs : List ℕ). get_or xs 0 0) h.3))
 at_quote bs (Some n) e =
     let c = text_closed bs n e in
     let p : skipped_from 34 bs ≡ gap (2 + length c.0) = ap closed_text_or_byte e ∙ ap (λ (k : ℕ). gap (2 + k)) c.4 in
@@ -131,11 +132,11 @@ at_backquote bs =
     let f = directives.found bs in
     let p : skipped_from 96 bs ≡ directive_of_parts (length f.bytes) f.kind = cond-true (is_conditional (directive_of (take (run class.Name bs) bs))) (directive_at bs) (gap 1) k ∙ f.found in
     subst (Skipped (96 ∷ bs)) (sym p)
-    (record { bytes = f.bytes; behind = f.behind; is = f.is; size = refl; stands = ((bs, sym f.is, k), (bs, sym f.is, f.found)) }))
+    (record { bytes = f.bytes; behind = f.behind; is = f.is; size = refl; stands = (subst BeginsConditional f.is (directives.conditional_begins bs k), f.stands) }))
     (λ (k : is_conditional (directive_of (take (run class.Name bs) bs)) ≡ false).
     one_byte 96 bs
     (λ front rest inside w h. unequal 96 34 refl (quoted_first 96 bs front rest inside w h).0)
-    (λ h. false≢true (sym k ∙ ap (λ (xs : List ℕ). is_conditional (directive_of (take (run class.Name xs) xs))) (ap (drop 1) h.1) ∙ h.2)))
+    (λ h. false≢true (sym k ∙ directives.conditional_is bs h)))
     (cases_Bool (is_conditional (directive_of (take (run class.Name bs) bs))))
 
 skipped_stands : (b : ℕ) (bs : List ℕ) → Skipped (b ∷ bs) (skipped_from b bs)
@@ -146,7 +147,7 @@ skipped_stands b bs =
     (λ (t : eqb b 96 ≡ true). subst (λ (x : ℕ). Skipped (x ∷ bs) (skipped_from x bs)) (sym (eqb-true b 96 t)) (at_backquote bs))
     (λ (t : eqb b 96 ≡ false). one_byte b bs
     (λ front rest inside w h. unequal b 34 q (quoted_first b bs front rest inside w h).0)
-    (λ h. unequal b 96 t (ap (λ (xs : List ℕ). get_or xs 0 0) h.1)))
+    (λ h. unequal b 96 t (ap (λ (xs : List ℕ). get_or xs 0 0) h.3)))
     (cases_Bool (eqb b 96)))
     (cases_Bool (eqb b 34))
 
@@ -182,25 +183,13 @@ skipped_piece (b ∷ bs) e =
 comment_piece : (is_taken : Bool) (rest : List ℕ) (p : Piece) → comment_at (47 ∷ rest) ≡ Some p → piece_at is_taken (47 ∷ rest) ≡ p
 comment_piece is_taken rest p e = at_step is_taken 47 rest ∙ ap (comment_or (taken_or_skipped is_taken 47 rest)) e
 
-comment_first : (c : Content) (bytes behind : List ℕ) → CommentStands c bytes behind → (rest : List ℕ) × (bytes ++ behind ≡ 47 ∷ rest)
-comment_first content.Gap bytes behind h = ⊎_elim
-    (λ (k : IsLineComment bytes behind). (47 ∷ (k.0 ++ behind), ap (λ (xs : List ℕ). xs ++ behind) k.1))
-    (λ (k : IsBlockComment bytes). (42 ∷ ((k.0 ++ (42 ∷ 47 ∷ [])) ++ behind), ap (λ (xs : List ℕ). xs ++ behind) k.1))
-    h
-comment_first (content.Broken rule.UnclosedText) bytes behind h = (42 ∷ (h.0 ++ behind), ap (λ (xs : List ℕ). xs ++ behind) h.1)
-comment_first (content.Broken rule.BadByte) bytes behind h = absurd h
-comment_first (content.Broken rule.BadNumber) bytes behind h = absurd h
-comment_first (content.Broken rule.Directive) bytes behind h = absurd h
-comment_first (content.Token t) bytes behind h = absurd h
-comment_first (content.Directive d) bytes behind h = absurd h
-
 comment_is : (is_taken : Bool) (c : Content) (bytes behind : List ℕ) → CommentStands c bytes behind → piece_at is_taken (bytes ++ behind) ≡ piece (length bytes) c
 comment_is is_taken c bytes behind h =
-    let f = comment_first c bytes behind h in
+    let f = comments.comment_first c bytes behind h in
     ap (piece_at is_taken) f.1 ∙ comment_piece is_taken f.0 (piece (length bytes) c) (sym (ap comment_at f.1) ∙ comments.comment_is c bytes behind h)
 
 taken_directive : (bytes behind : List ℕ) (d : Directive) → IsDirective d bytes behind → taken_at (bytes ++ behind) ≡ piece (length bytes) (content.Directive d)
-taken_directive bytes behind d h = ap taken_at h.1 ∙ from_backquote h.0 ∙ h.2
+taken_directive bytes behind d h = let r = directives.read d bytes behind h in ap taken_at r.is ∙ from_backquote r.after ∙ r.found
 
 pub stands_is : (is_taken : Bool) (c : Content) (bytes behind : List ℕ) → Stands is_taken c bytes behind → piece_at is_taken (bytes ++ behind) ≡ piece (length bytes) c
 stands_is true c bytes behind h = ⊎_elim

@@ -2,12 +2,11 @@
 use Rattle.std.proofs.Common.{◌≡◌, ℕ, zero, suc, ◌+◌, ◌≤◌, Bool, true, false, List, [], ◌∷◌, ◌++◌, length, take, drop, Some, ap, ◌∙◌, sym, refl, subst, ⊎_elim, unwrap_or, arith}
 use lib.Seq.{take-append_seam, drop-append_seam}
 use Rattle.std.proofs.lemmas.List.{length-append}
-use Rattle.v_lex.specs.declared.directive.Directive.{Directive}
 use Rattle.v_lex.specs.declared.directive.Content.{Content}
 use Rattle.v_lex.specs.declared.directive.Content.TheVariants as content
 use Rattle.v_lex.specs.declared.directive.LexRule.TheVariants as rule
 use Rattle.v_lex.specs.declared.directive.Piece.{Piece}
-use Rattle.v_lex.specs.Comments.{piece, directive_of_parts}
+use Rattle.v_lex.specs.Comments.{piece}
 use Rattle.v_lex.specs.Pieces.{piece_at}
 use Rattle.v_lex.specs.Lexing.{State, Scan, Lexed, is_taken, left_open, with_content, after_content, earliest, start, nanosecond}
 use Rattle.v_lex.specs.declared.directive.LexRule.{LexRule}
@@ -15,45 +14,24 @@ use Rattle.v_lex.specs.declared.directive.BrokenRule.{BrokenRule}
 use Rattle.v_lex.specs.Scan.{scan_from, scan_of, faults_of, lexed}
 use Rattle.v_lex.specs.Faults.{fault_at, fault_of, IsFault}
 use Rattle.v_lex.specs.Spelling.{Form, SystemName, Number, HasForm, IsQuoted}
-use Rattle.v_lex.specs.Gaps.{BeginsComment, IsLineComment, IsBlockComment}
-use Rattle.v_lex.specs.Row.{Part, IsDirective, IsStray, IsNoToken, IsSkipped, CommentStands, TakenStands, SkippedStands, Stands, IsRow, spelled, told_of, told, Reads, BreaksFirst}
+use Rattle.v_lex.specs.Gaps.{BeginsComment}
+use Rattle.v_lex.specs.Row.{Part, IsStray, IsNoToken, IsSkipped, CommentStands, TakenStands, SkippedStands, Stands, IsRow, spelled, told_of, told, Reads, BreaksFirst}
 use Rattle.v_lex.proofs.FormKinds.{has_some}
 use Rattle.v_lex.proofs.ScanLaws.{scan_step}
-use Rattle.v_lex.proofs.DirectiveSizes as directives
+use Rattle.v_lex.proofs.CommentLaws.{one, comment_some}
+use Rattle.v_lex.proofs.DirectiveFronts as directives
 use Rattle.v_lex.proofs.PieceFronts.{stands_is, piece_stands}
 
 -- ---- a part has bytes
-
-one : (b : ℕ) (bytes rest : List ℕ) → bytes ≡ b ∷ rest → 1 ≤ length bytes
-one b bytes rest e = let n = ap (λ (xs : List ℕ). length xs) e in omega (arith, n)
 
 form_some : (f : Form) (bytes : List ℕ) → HasForm f bytes → 1 ≤ length bytes
 form_some f [] h = absurd (has_some f h)
 form_some f (b ∷ bs) h = omega arith
 
-directive_some : (d : Directive) (bytes behind : List ℕ) → IsDirective d bytes behind → 1 ≤ length bytes
-directive_some d bytes behind h =
-    let f = directives.found h.0 in
-    let e : directive_of_parts (length bytes) d ≡ directive_of_parts (length f.bytes) f.kind = sym h.2 ∙ f.found in
-    let n : length bytes ≡ length f.bytes = ap (λ (p : Piece). p.size) e in
-    omega (arith, n, f.some)
-
-comment_some : (c : Content) (bytes behind : List ℕ) → CommentStands c bytes behind → 1 ≤ length bytes
-comment_some content.Gap bytes behind h = ⊎_elim
-    (λ (k : IsLineComment bytes behind). one 47 bytes (47 ∷ k.0) k.1)
-    (λ (k : IsBlockComment bytes). one 47 bytes (42 ∷ (k.0 ++ (42 ∷ 47 ∷ []))) k.1)
-    h
-comment_some (content.Broken rule.UnclosedText) bytes behind h = one 47 bytes (42 ∷ h.0) h.1
-comment_some (content.Broken rule.BadByte) bytes behind h = absurd h
-comment_some (content.Broken rule.BadNumber) bytes behind h = absurd h
-comment_some (content.Broken rule.Directive) bytes behind h = absurd h
-comment_some (content.Token t) bytes behind h = absurd h
-comment_some (content.Directive d) bytes behind h = absurd h
-
 taken_some : (c : Content) (bytes behind : List ℕ) → TakenStands c bytes behind → 1 ≤ length bytes
 taken_some content.Gap bytes behind h = one h.0 bytes [] h.1
 taken_some (content.Token t) bytes behind h = form_some h.0 bytes h.1.has
-taken_some (content.Directive d) bytes behind h = directive_some d bytes behind h
+taken_some (content.Directive d) bytes behind h = directives.directive_some d bytes behind h
 taken_some (content.Broken rule.BadByte) bytes behind h = ⊎_elim
     (λ (k : IsStray bytes behind). one k.byte bytes [] k.is)
     (λ (k : IsNoToken SystemName bytes behind). form_some SystemName bytes k.0.has)
@@ -68,7 +46,7 @@ skipped_some content.Gap bytes behind h = ⊎_elim
     (λ (k : IsSkipped bytes behind). one k.byte bytes [] k.is)
     h
 skipped_some (content.Token t) bytes behind h = absurd h
-skipped_some (content.Directive d) bytes behind h = directive_some d bytes behind h.1
+skipped_some (content.Directive d) bytes behind h = directives.directive_some d bytes behind h.1
 skipped_some (content.Broken r) bytes behind h = absurd h
 
 stands_some : (is_taken : Bool) (c : Content) (bytes behind : List ℕ) → Stands is_taken c bytes behind → 1 ≤ length bytes

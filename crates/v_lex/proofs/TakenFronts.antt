@@ -23,7 +23,7 @@ use Rattle.v_lex.specs.declared.directive.Piece.{Piece}
 use Rattle.v_lex.specs.Bytes.{run, is_in, is_digit, is_name_start, is_separator}
 use Rattle.v_lex.specs.Comments.{piece, gap, broken, token_of}
 use Rattle.v_lex.specs.Pieces.{number_or_bad, plain_value, based_value, base_at, number_with, number_at, word_token, word_at, task_or_bad, task_at, mark_or_bad, mark_piece, text_len, text_to, text_at, token_from}
-use Rattle.v_lex.specs.Directives.{directive_at}
+use Rattle.v_lex.specs.DirectiveScan.{directive_at}
 use Rattle.v_lex.specs.Spelling.{AllIn, Form, Word, SystemName, Number, Quoted, Sign, HasForm, IsLongest, IsWord, IsSystemName, IsDecimal, IsSize, IsBased, IsNumber, IsQuoted, NumberOf, Spells}
 use Rattle.v_lex.specs.Gaps.{Stops}
 use Rattle.v_lex.specs.Row.{IsOpenText, IsNoToken, IsStray, TakenStands}

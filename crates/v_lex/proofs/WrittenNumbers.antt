@@ -12,7 +12,7 @@ use Rattle.v_lex.specs.Bytes.{is_in, is_digit}
 use Rattle.v_lex.specs.Digits.{digits_of, unknown_of, fill_of}
 use Rattle.v_lex.specs.Numbers.{◌>>=◌, decimal_from, decimal_of, digits_below, begins_with_digit, lone_unknown, decimal_vector, vector_in, vector_of, within_size, size_of}
 use Rattle.v_lex.specs.Pieces.{plain_value, based_value}
-use Rattle.v_lex.specs.Spelling.{AllIn, IsDecimal, places, decimal, SizeOf, Writes, IsLone, DecimalVector, WrittenVector, InBase, BeginsWithDigit, BasedVector, PlainVector}
+use Rattle.v_lex.specs.Spelling.{AllIn, IsDecimal, digit_count, decimal, SizeOf, Writes, IsLone, DecimalVector, WrittenVector, InBase, BeginsWithDigit, BasedVector, PlainVector}
 use Rattle.v_lex.proofs.FormKinds.{between}
 
 pub bind_some : {A B : Type 0} (o : Option A) (f : A → Option B) (y : B) → (o >>= f) ≡ Some y → (x : A) × (o ≡ Some x) × (f x ≡ Some y)
@@ -31,17 +31,17 @@ some_is x y e = cc
 one_more : (n d p m : ℕ) → (10 * n + d) * p + m ≡ n * (p * 10) + (d * p + m)
 one_more n d p m = rw (add-mul (10 * n) d p, mul_comm 10 n, mul_assoc n 10 p, mul_comm 10 p) (add_assoc (n * (p * 10)) (d * p) m)
 
-decimal_goes_on : (n : ℕ) (bs : List ℕ) → decimal_from n bs ≡ n * 10 ^ places bs + decimal bs
-unfolding decimal_from places decimal
+decimal_goes_on : (n : ℕ) (bs : List ℕ) → decimal_from n bs ≡ n * 10 ^ digit_count bs + decimal bs
+unfolding decimal_from digit_count decimal
 decimal_goes_on n [] = omega arith
 decimal_goes_on n (b ∷ bs) =
     ⊎_elim
     (λ (t : eqb b 95 ≡ true). rw t (decimal_goes_on n bs))
-    (λ (t : eqb b 95 ≡ false). rw t (decimal_goes_on (10 * n + (b - 48)) bs ∙ one_more n (b - 48) (10 ^ places bs) (decimal bs) ∙ rw (pow-suc 10 (places bs)) refl))
+    (λ (t : eqb b 95 ≡ false). rw t (decimal_goes_on (10 * n + (b - 48)) bs ∙ one_more n (b - 48) (10 ^ digit_count bs) (decimal bs) ∙ rw (pow-suc 10 (digit_count bs)) refl))
     (cases_Bool (eqb b 95))
 
 decimal_is : (bs : List ℕ) → decimal_from 0 bs ≡ decimal bs
-decimal_is bs = decimal_goes_on 0 bs ∙ rw (zero-mul (10 ^ places bs), zero-add (decimal bs)) refl
+decimal_is bs = decimal_goes_on 0 bs ∙ rw (zero-mul (10 ^ digit_count bs), zero-add (decimal bs)) refl
 
 pub decimal_some : (bs : List ℕ) → decimal bs < 2 ^ 128 → decimal_of bs ≡ Some (decimal bs)
 unfolding decimal_of

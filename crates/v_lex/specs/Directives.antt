@@ -1,128 +1,105 @@
--- The directive behind a backquote: its word directly behind it, and its parts, with separators between them.
-use Rattle.std.specs.Prelude.{ℕ, zero, suc, ◌+◌, ◌*◌, Bool, true, false, ◌==◌, ◌||◌, ◌&&◌, List, [], ◌∷◌, length, take, drop, Option, Some, None, option_map, is_none, if◌then◌else◌}
-use Rattle.std.specs.Str.{bytes_eq}
+-- Which bytes are a directive: a backquote, its word directly behind it, and its parts, with separators between them.
+use Rattle.std.specs.Prelude.{◌≡◌, ℕ, ◌*◌, List, [], ◌∷◌, ◌++◌, Some, ◌⊎◌}
 use lib.Chars.{codes}
 use Rattle.v_lex.specs.declared.bytes.ByteClass.TheVariants as class
 use Rattle.v_lex.specs.declared.directive.DirectiveWord.{DirectiveWord}
 use Rattle.v_lex.specs.declared.directive.DirectiveWord.TheVariants as word
 use Rattle.v_lex.specs.declared.directive.Directive.{Directive}
 use Rattle.v_lex.specs.declared.directive.Directive.TheVariants as directive
-use Rattle.v_lex.specs.declared.directive.Piece.{Piece}
-use Rattle.v_lex.specs.Bytes.{is_separator, is_name_start, run}
-use Rattle.v_syntax.specs.Words.{keyword_of, reserved_of}
-use Rattle.v_lex.specs.DirectiveWords.{directive_of}
-use Rattle.v_lex.specs.Numbers.{◌>>=◌}
+use Rattle.v_lex.specs.DirectiveWords.{directive_spelling}
+use Rattle.v_lex.specs.Spelling.{AllIn, IsName}
+use Rattle.v_lex.specs.Gaps.{Stops, IsGap}
 use Rattle.v_lex.specs.Times.{magnitude_of, unit_of}
-use Rattle.v_lex.specs.Comments.{begins, comment_at, directive_of_parts}
 
--- The longest run of bytes of a name behind separators, which may be empty, with the number of bytes up to its end.
-abbrev pub word_behind : ℕ → List ℕ → ℕ × List ℕ
-word_behind separators rest = (separators + run class.Name rest, take (run class.Name rest) rest)
+-- What is left of the line has no token, only separators and comments. A comment that goes on past the line's end leaves
+-- nothing of the line.
+pub data IsBlankLine : List ℕ → Type 0 where
+  Ends : IsBlankLine []
+  Feeds : (rest : List ℕ) → IsBlankLine (10 ∷ rest)
+  Goes : (gap rest : List ℕ) → IsGap gap rest → AllIn class.Line gap → IsBlankLine rest → IsBlankLine (gap ++ rest)
+  Passes : (gap rest : List ℕ) → IsGap gap rest → (AllIn class.Line gap → ⊥) → IsBlankLine (gap ++ rest)
 
-unfoldable pub word_after : List ℕ → ℕ × List ℕ
-word_after text = word_behind (run class.Separator text) (drop (run class.Separator text) text)
+-- separators and a name
+abbrev pub NamePart : List ℕ → List ℕ → List ℕ → Type 0
+NamePart name parts behind = (gap : List ℕ) × (parts ≡ gap ++ name) × AllIn class.Separator gap × IsName name × Stops class.Name behind
 
-abbrev pub is_name : List ℕ → Bool
-is_name [] = false
-is_name (b ∷ bs) = is_name_start b && is_none (keyword_of (b ∷ bs)) && is_none (reserved_of (b ∷ bs))
+-- separators, and `none` or `wire`
+abbrev pub NetTypePart : List ℕ → List ℕ → Type 0
+NetTypePart parts behind = (gap name : List ℕ) × (parts ≡ gap ++ name) × AllIn class.Separator gap × ((name ≡ codes "none") ⊎ (name ≡ codes "wire")) × Stops class.Name behind
 
--- the name behind separators, if a name stands there
-unfoldable pub name_after : List ℕ → Option (ℕ × List ℕ)
-name_after text = if is_name (word_after text).1 then Some (word_after text) else None
+-- separators and 1, 10 or 100, separators and a unit: a time in femtoseconds
+pub record TimePart (time : ℕ) (parts : List ℕ) : Type 0 where
+  pub before : List ℕ
+  pub digits : List ℕ
+  pub between : List ℕ
+  pub unit : List ℕ
+  pub magnitude : ℕ
+  pub femtoseconds : ℕ
+  pub is : parts ≡ before ++ (digits ++ (between ++ unit))
+  pub separated : AllIn class.Separator before
+  pub parted : AllIn class.Separator between
+  pub counted : magnitude_of digits ≡ Some magnitude
+  pub measured : unit_of unit ≡ Some femtoseconds
+  pub total : time ≡ magnitude * femtoseconds
 
--- how many bytes the separator or the comment at the front has, if one stands there
-abbrev pub first_gap : ℕ → List ℕ → Option ℕ
-first_gap b text = if is_separator b then Some 1 else option_map (λ p. p.size) (comment_at text)
+-- a time unit, separators and /, and a time precision
+pub record ScalePart (unit precision : ℕ) (parts behind : List ℕ) : Type 0 where
+  pub first : List ℕ
+  pub gap : List ℕ
+  pub second : List ℕ
+  pub is : parts ≡ first ++ (gap ++ (47 ∷ second))
+  pub unit_time : TimePart unit first
+  pub separated : AllIn class.Separator gap
+  pub precision_time : TimePart precision second
+  pub ends : Stops class.Name behind
 
-unfoldable pub gap_size : List ℕ → Option ℕ
-gap_size [] = None
-gap_size (b ∷ bs) = first_gap b (b ∷ bs)
+-- the parts behind the word of a directive
+abbrev pub Parts : Directive → DirectiveWord → List ℕ → List ℕ → Type 0
+Parts (directive.TimeScale u p) word.TimeScale parts behind = ScalePart u p parts behind
+Parts (directive.Define name) word.Define parts behind = NamePart name parts behind × IsBlankLine behind
+Parts (directive.Undef name) word.Undef parts behind = NamePart name parts behind
+Parts (directive.IfDef name) word.IfDef parts behind = NamePart name parts behind
+Parts (directive.IfNDef name) word.IfNDef parts behind = NamePart name parts behind
+Parts (directive.ElsIf name) word.ElsIf parts behind = NamePart name parts behind
+Parts directive.Else word.Else parts behind = parts ≡ []
+Parts directive.EndIf word.EndIf parts behind = parts ≡ []
+Parts directive.ResetAll word.ResetAll parts behind = parts ≡ []
+Parts directive.DefaultNetType word.DefaultNetType parts behind = NetTypePart parts behind
+Parts _ _ parts behind = ⊥
 
--- A gap that goes on past the line's end leaves nothing of the line.
-abbrev pub blank_behind : (List ℕ → Bool) → List ℕ → Option ℕ → Bool
-blank_behind is_blank text (Some n) = if run class.Line (take n text) == n then is_blank (drop n text) else true
-blank_behind is_blank text None = false
+-- a directive with its parts
+pub record IsWhole (d : Directive) (bytes behind : List ℕ) : Type 0 where
+  pub word : DirectiveWord
+  pub parts : List ℕ
+  pub is : bytes ≡ 96 ∷ directive_spelling word ++ parts
+  pub ends : Stops class.Name (parts ++ behind)
+  pub has : Parts d word parts behind
 
--- What is left of the line has no token, only separators and comments; n is at least the text's number of bytes.
-unfoldable pub is_blank : ℕ → List ℕ → Bool
-is_blank zero text = true
-is_blank (suc n) [] = true
-is_blank (suc n) (b ∷ bs) = if b == 10 then true else blank_behind (is_blank n) (b ∷ bs) (gap_size (b ∷ bs))
+-- A backquote and the word behind it, where no directive stands with its parts: only the word belongs to it.
+pub record IsBare (name bytes behind : List ℕ) : Type 0 where
+  pub is : bytes ≡ 96 ∷ name
+  pub named : AllIn class.Name name
+  pub ends : Stops class.Name behind
+  pub lacks : (d : Directive) (front rest : List ℕ) → bytes ++ behind ≡ front ++ rest → IsWhole d front rest → ⊥
 
--- 1, 10 or 100 and a unit behind separators: the bytes up to its end, and femtoseconds
-abbrev pub time_of : ℕ → List ℕ → ℕ × List ℕ → Option (ℕ × ℕ)
-time_of size digits unit = do
-  magnitude ← magnitude_of digits
-  femtoseconds ← unit_of unit.1
-  Some (size + unit.0, magnitude * femtoseconds)
+abbrev pub IsUnnamed : List ℕ → Type 0
+IsUnnamed name = (name ≡ codes "ifdef") ⊎ (name ≡ codes "ifndef")
 
-abbrev pub time_behind : ℕ → List ℕ → Option (ℕ × ℕ)
-time_behind separators rest = time_of (separators + run class.Digit rest) (take (run class.Digit rest) rest) (word_after (drop (run class.Digit rest) rest))
+-- the bytes are the directive; without its parts it is broken, but a conditional without a name is opened
+abbrev pub IsDirective : Directive → List ℕ → List ℕ → Type 0
+IsDirective directive.Broken bytes behind = (name : List ℕ) × IsBare name bytes behind × (IsUnnamed name → ⊥)
+IsDirective directive.Unnamed bytes behind = (name : List ℕ) × IsBare name bytes behind × IsUnnamed name
+IsDirective d bytes behind = IsWhole d bytes behind
 
-unfoldable pub time_after : List ℕ → Option (ℕ × ℕ)
-time_after text = time_behind (run class.Separator text) (drop (run class.Separator text) text)
+-- the words of the directives that part a conditional
+abbrev pub IsOfConditional : DirectiveWord → Type 0
+IsOfConditional word.IfDef = Unit {0}
+IsOfConditional word.IfNDef = Unit {0}
+IsOfConditional word.ElsIf = Unit {0}
+IsOfConditional word.Else = Unit {0}
+IsOfConditional word.EndIf = Unit {0}
+IsOfConditional _ = ⊥
 
--- the bytes up to a / behind separators and with it
-unfoldable pub slash_after : List ℕ → Option ℕ
-slash_after text = if begins (drop (run class.Separator text) text) (codes "/") then Some (run class.Separator text + 1) else None
-
--- a unit, /, and a precision: the bytes up to their end, and the directive
-unfoldable pub scale_after : List ℕ → Option (ℕ × Directive)
-scale_after text = do
-  unit ← time_after text
-  slash ← slash_after (drop unit.0 text)
-  precision ← time_after (drop (unit.0 + slash) text)
-  Some (unit.0 + slash + precision.0, directive.TimeScale unit.1 precision.1)
-
-abbrev pub scale_or_broken : ℕ → Option (ℕ × Directive) → Piece
-scale_or_broken size (Some d) = directive_of_parts (size + d.0) d.1
-scale_or_broken size None = directive_of_parts size directive.Broken
-
--- the directives that have a name and nothing else
-abbrev pub with_name : DirectiveWord → List ℕ → Directive
-with_name word.Undef name = directive.Undef name
-with_name word.IfDef name = directive.IfDef name
-with_name word.IfNDef name = directive.IfNDef name
-with_name word.ElsIf name = directive.ElsIf name
-with_name _ name = directive.Broken
-
-abbrev pub without_name : DirectiveWord → Directive
-without_name word.IfDef = directive.Unnamed
-without_name word.IfNDef = directive.Unnamed
-without_name _ = directive.Broken
-
-abbrev pub named_or_broken : ℕ → DirectiveWord → Option (ℕ × List ℕ) → Piece
-named_or_broken size w (Some a) = directive_of_parts (size + a.0) (with_name w a.1)
-named_or_broken size w None = directive_of_parts size (without_name w)
-
--- Behind the name nothing stands on the line.
-abbrev pub define_or_broken : ℕ → List ℕ → Option (ℕ × List ℕ) → Piece
-define_or_broken size after (Some a) = if is_blank (length (drop a.0 after)) (drop a.0 after) then directive_of_parts (size + a.0) (directive.Define a.1) else directive_of_parts size directive.Broken
-define_or_broken size after None = directive_of_parts size directive.Broken
-
-abbrev pub net_type_or_broken : ℕ → ℕ × List ℕ → Piece
-net_type_or_broken size a = if bytes_eq a.1 (codes "none") || bytes_eq a.1 (codes "wire") then directive_of_parts (size + a.0) directive.DefaultNetType else directive_of_parts size directive.Broken
-
--- A directive whose word has this size, before these bytes. Where it is broken, only its word belongs to it.
-unfoldable pub directive_with : ℕ → List ℕ → Option DirectiveWord → Piece
-directive_with size after None = directive_of_parts size directive.Broken
-directive_with size after (Some word.TimeScale) = scale_or_broken size (scale_after after)
-directive_with size after (Some word.Define) = define_or_broken size after (name_after after)
-directive_with size after (Some word.DefaultNetType) = net_type_or_broken size (word_after after)
-directive_with size after (Some word.Else) = directive_of_parts size directive.Else
-directive_with size after (Some word.EndIf) = directive_of_parts size directive.EndIf
-directive_with size after (Some word.ResetAll) = directive_of_parts size directive.ResetAll
-directive_with size after (Some w) = named_or_broken size w (name_after after)
-
--- the directive behind a backquote
-unfoldable pub directive_at : List ℕ → Piece
-directive_at after = directive_with (1 + run class.Name after) (drop (run class.Name after) after) (directive_of (take (run class.Name after) after))
-
--- The directives of conditionals are seen in a part that isn't taken, too.
-abbrev pub is_conditional : Option DirectiveWord → Bool
-is_conditional (Some word.IfDef) = true
-is_conditional (Some word.IfNDef) = true
-is_conditional (Some word.ElsIf) = true
-is_conditional (Some word.Else) = true
-is_conditional (Some word.EndIf) = true
-is_conditional _ = false
+-- A backquote and the whole word of a directive of conditionals stand there.
+abbrev pub BeginsConditional : List ℕ → Type 0
+BeginsConditional text = (w : DirectiveWord) × (after : List ℕ) × IsOfConditional w × (text ≡ 96 ∷ (directive_spelling w ++ after)) × Stops class.Name after

@@ -1,4 +1,4 @@
--- What was found before a place, and with what is found from there on.
+-- A means of proof: what was found before a place, and with what is found from there on.
 use Rattle.std.specs.Prelude.{ℕ, List, [], ◌++◌, Option, None}
 use Rattle.v_syntax.specs.declared.token.Token.{Token}
 use Rattle.v_lex.specs.declared.directive.BrokenRule.{BrokenRule}

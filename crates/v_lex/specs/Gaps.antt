@@ -33,7 +33,7 @@ abbrev pub IsOpenComment : List ℕ → List ℕ → Type 0
 IsOpenComment bytes behind = (inside : List ℕ) × (bytes ≡ 47 ∷ 42 ∷ inside) × IsOpen inside × (behind ≡ [])
 
 abbrev pub IsGap : List ℕ → List ℕ → Type 0
-IsGap bytes behind = IsSeparator bytes ⊎ IsComment bytes behind ⊎ IsOpenComment bytes behind
+IsGap bytes behind = IsSeparator bytes ⊎ (IsComment bytes behind ⊎ IsOpenComment bytes behind)
 
 -- // or /* stands there
 abbrev pub BeginsComment : List ℕ → Type 0

@@ -9,6 +9,7 @@ pub mod Lexing
 pub mod Row
 pub mod Numbers
 pub mod Comments
+pub mod DirectiveScan
 pub mod Pieces
 pub mod Scan
 pub mod Faults

@@ -21,7 +21,7 @@ use Rattle.v_lex.specs.Digits.{base_of}
 use Rattle.v_lex.specs.DirectiveWords.{directive_of}
 use Rattle.v_lex.specs.Numbers.{◌>>=◌, decimal_of, vector_of, size_of}
 use Rattle.v_lex.specs.Comments.{gap, token_of, broken, begins, comment_at}
-use Rattle.v_lex.specs.Directives.{directive_at, is_conditional}
+use Rattle.v_lex.specs.DirectiveScan.{directive_at, is_conditional}
 
 -- ---- texts
 

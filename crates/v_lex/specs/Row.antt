@@ -1,18 +1,15 @@
 -- A Verilog text as a row of parts: tokens, separators, comments, directives, what is skipped, and broken rules.
-use Rattle.std.specs.Prelude.{◌≡◌, ℕ, ◌+◌, Bool, true, false, List, [], ◌∷◌, ◌++◌, length, take, Some, unwrap_or, IsTrue, IsFalse, ◌⊎◌}
+use Rattle.std.specs.Prelude.{◌≡◌, ℕ, ◌+◌, Bool, true, false, List, [], ◌∷◌, ◌++◌, length, Some, unwrap_or, IsFalse, ◌⊎◌}
 use Rattle.v_syntax.specs.declared.token.Token.{Token}
 use Rattle.v_lex.specs.declared.bytes.ByteClass.TheVariants as class
-use Rattle.v_lex.specs.declared.directive.Directive.{Directive}
 use Rattle.v_lex.specs.declared.directive.LexRule.{LexRule}
 use Rattle.v_lex.specs.declared.directive.LexRule.TheVariants as rule
 use Rattle.v_lex.specs.declared.directive.Content.{Content}
 use Rattle.v_lex.specs.declared.directive.Content.TheVariants as content
-use Rattle.v_lex.specs.Bytes.{is_separator, run}
+use Rattle.v_lex.specs.Bytes.{is_separator}
 use Rattle.v_lex.specs.Spelling.{AllIn, Form, SystemName, Number, HasForm, IsLongest, IsQuoted, Spells}
 use Rattle.v_lex.specs.Gaps.{IsSeparator, IsComment, IsOpenComment, BeginsComment}
-use Rattle.v_lex.specs.Comments.{directive_of_parts}
-use Rattle.v_lex.specs.Directives.{directive_at, is_conditional}
-use Rattle.v_lex.specs.DirectiveWords.{directive_of}
+use Rattle.v_lex.specs.Directives.{IsDirective, BeginsConditional}
 use Rattle.v_lex.specs.Lexing.{State, Scan, Lexed, is_taken, left_open, with_content, after_content, earliest, start, nanosecond}
 
 -- ---- broken rules
@@ -42,16 +39,6 @@ Breaks rule.BadByte bytes behind = IsStray bytes behind ⊎ IsNoToken SystemName
 Breaks rule.BadNumber bytes behind = IsNoToken Number bytes behind
 Breaks rule.UnclosedText bytes behind = IsOpenText bytes behind
 Breaks rule.Directive bytes behind = ⊥
-
--- ---- directives
-
--- a backquote, and the directive that its word and its parts are
-abbrev pub IsDirective : Directive → List ℕ → List ℕ → Type 0
-IsDirective d bytes behind = (after : List ℕ) × (bytes ++ behind ≡ 96 ∷ after) × (directive_at after ≡ directive_of_parts (length bytes) d)
-
--- A backquote and the word of a directive of conditionals stand there.
-abbrev pub BeginsConditional : List ℕ → Type 0
-BeginsConditional text = (after : List ℕ) × (text ≡ 96 ∷ after) × IsTrue (is_conditional (directive_of (take (run class.Name after) after)))
 
 -- ---- what stands at a place
 

@@ -79,14 +79,14 @@ pub record IsLongest (form : Form) (bytes behind : List ℕ) : Type 0 where
 -- ---- numbers
 
 -- how many digits stand there, _ apart
-unfoldable pub places : List ℕ → ℕ
-places [] = 0
-places (b ∷ bs) = if b == 95 then places bs else suc (places bs)
+unfoldable pub digit_count : List ℕ → ℕ
+digit_count [] = 0
+digit_count (b ∷ bs) = if b == 95 then digit_count bs else suc (digit_count bs)
 
 -- the number that decimal digits write: each counts by its place
 unfoldable pub decimal : List ℕ → ℕ
 decimal [] = 0
-decimal (b ∷ bs) = if b == 95 then decimal bs else (b - 48) * 10 ^ places bs + decimal bs
+decimal (b ∷ bs) = if b == 95 then decimal bs else (b - 48) * 10 ^ digit_count bs + decimal bs
 
 -- The size of a number: 1 to 128, and 32 where none is written.
 abbrev pub SizeOf : List ℕ → ℕ → Type 0

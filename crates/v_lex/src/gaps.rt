@@ -2,7 +2,7 @@
 
 ghost use Rattle.std.specs.Prelude.{◌≡◌, ◌≤◌, ◌<◌, ◌+◌, length, Option, IfSome, drop};
 ghost use Rattle.v_lex.specs.Comments.{comment_end, comment_at, block_comment_to};
-ghost use Rattle.v_lex.specs.Directives.{gap_size, is_blank};
+ghost use Rattle.v_lex.specs.DirectiveScan.{gap_size, is_blank};
 
 use crate::bytes::{ByteClass, is_separator};
 use crate::directive::{Content, LexRule, Piece};
@@ -62,7 +62,7 @@ pub fn comment_at(text: &[u8]) -> Option<Piece>
 }
 
 /// How many bytes the separator or the comment at the front has.
-#[tactic(auto, unfolding(crate::specs::Directives::gap_size))]
+#[tactic(auto, unfolding(crate::specs::DirectiveScan::gap_size))]
 fn gap_size(text: &[u8]) -> Option<usize>
     ensures is { result ≡ gap_size text.now }
     ensures some { IfSome result (λ n. 1 ≤ n) }
