@@ -7,7 +7,8 @@ use Rattle.std.proofs.lemmas.Bool.{cond-true, cond-false, eq-eqb, ne_eqb}
 use Rattle.v_lex.specs.declared.bytes.ByteClass.TheVariants as class
 use Rattle.v_lex.specs.Bytes.{run}
 use lib.Chars.{codes}
-use Rattle.v_lex.specs.Pieces.{comment_end, is_blank, blank_behind, gap_size}
+use Rattle.v_lex.specs.Comments.{comment_end}
+use Rattle.v_lex.specs.DirectiveScan.{is_blank, blank_behind, gap_size}
 
 comment_end_step : (text : List ℕ) → 0 < length text → comment_end text ≡ cond (starts_with nat_eq text (codes "*/")) (Some 2) (option_map suc (comment_end (drop 1 text)))
 unfolding comment_end

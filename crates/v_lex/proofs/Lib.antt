@@ -4,3 +4,13 @@ pub mod NameLaws
 pub mod NumberLaws
 pub mod RunLaws
 pub mod ScanLaws
+pub mod Splits
+pub mod FormKinds
+pub mod WrittenNumbers
+pub mod WordLaws
+pub mod CommentLaws
+pub mod TokenFronts
+pub mod TakenFronts
+pub mod DirectiveFronts
+pub mod PieceFronts
+pub mod RowLaws

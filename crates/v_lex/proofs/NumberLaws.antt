@@ -4,7 +4,8 @@ use Rattle.std.specs.Prelude.{option_map}
 use Rattle.std.proofs.lemmas.List.{drop_more, drop_all, take-take, take_all}
 use Rattle.std.proofs.lemmas.Bool.{cond-true, cond-false, cond_both, lt-ltb, le-ltb}
 use Rattle.four_value.specs.declared.Digit.{Digit}
-use Rattle.v_lex.specs.Numbers.{decimal_step, decimal_from, decimal_of, digits_of, digits_below, ◌>>=◌}
+use Rattle.v_lex.specs.Numbers.{decimal_step, decimal_from, decimal_of, digits_below, ◌>>=◌}
+use Rattle.v_lex.specs.Digits.{digits_of}
 
 pub decimal_grows : (n : ℕ) (bs : List ℕ) → n ≤ decimal_from n bs
 unfolding decimal_from

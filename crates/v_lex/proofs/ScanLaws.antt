@@ -11,8 +11,8 @@ use Rattle.v_lex.specs.declared.directive.Piece.{Piece}
 use Rattle.v_lex.specs.declared.directive.LexRule.{LexRule}
 use Rattle.v_lex.specs.declared.directive.LexRule.TheVariants as rule
 use Rattle.v_lex.specs.Pieces.{piece_at}
-use Rattle.v_lex.specs.Lexing.{State, Scan, is_taken, is_allowed, broken_at, earlier, earliest, left_open, with_token, with_fault, with_content, after_content, scan_from, scan_of, faults_of, lexed, start, nanosecond}
-use Rattle.v_lex.specs.Faults.{fault_at, fault_of, IsFault}
+use Rattle.v_lex.specs.Lexing.{State, Scan, is_taken, is_allowed, broken_at, earlier, earliest, left_open, with_token, with_fault, with_content, after_content, start, nanosecond}
+use Rattle.v_lex.specs.Scan.{scan_from, scan_of, faults_of, lexed}
 use Rattle.v_lex.specs.Found.{Sum, nothing, found_with, end_of}
 
 -- ---- the first of the broken rules
@@ -106,7 +106,7 @@ drop_suc : (n b : ℕ) (bs : List ℕ) → 1 ≤ n → drop (n - 1) bs ≡ drop 
 drop_suc zero b bs h = absurd (omega arith)
 drop_suc (suc n) b bs h = let e : suc n - 1 ≡ n = omega arith in rw e refl
 
-scan_step : (s : State) (p : ℕ) (text : List ℕ) (q : Piece) → 0 < length text → q ≡ piece_at (is_taken s.conditionals) text → 1 ≤ q.size → scan_from s p 0 text ≡ with_content s p q.content (scan_from (after_content s p q.content) (p + q.size) 0 (drop q.size text))
+pub scan_step : (s : State) (p : ℕ) (text : List ℕ) (q : Piece) → 0 < length text → q ≡ piece_at (is_taken s.conditionals) text → 1 ≤ q.size → scan_from s p 0 text ≡ with_content s p q.content (scan_from (after_content s p q.content) (p + q.size) 0 (drop q.size text))
 unfolding scan_from
 scan_step s p [] q h e k = absurd (omega arith)
 scan_step s p (b ∷ bs) q h e k =
@@ -197,15 +197,6 @@ is_lexed f s text h e =
     let t : f.tokens ≡ (scan_of text).tokens = sym (append-nil f.tokens) ∙ ap (λ (x : Sum). x.tokens) h in
     let p : f.places ≡ (scan_of text).places = sym (append-nil f.places) ∙ ap (λ (x : Sum). x.places) h in
     rw (t, p, e) refl
-
-fault_at_is : (r : LexRule) (p : ℕ) (first : Option BrokenRule) → first ≡ Some (record { rule = r; place = p }) → IsFault (fault_at r p) first
-fault_at_is rule.BadByte p first h = h
-fault_at_is rule.BadNumber p first h = h
-fault_at_is rule.UnclosedText p first h = h
-fault_at_is rule.Directive p first h = h
-
-pub fault_is : (b : BrokenRule) (first : Option BrokenRule) → first ≡ Some b → IsFault (fault_of b) first
-fault_is b first h = fault_at_is b.rule b.place first h
 
 pub last_end : (s : State) (p : ℕ) (text : List ℕ) (whole : State) → length text ≤ p → (scan_from s p 0 (drop p text)).last ≡ whole → s ≡ whole
 unfolding scan_from

@@ -1,8 +1,9 @@
 -- The answer for a broken rule.
-use Rattle.std.specs.Prelude.{◌≡◌, ℕ, Option, Some}
+use Rattle.std.specs.Prelude.{ℕ, List}
 use Rattle.v_lex.specs.declared.directive.BrokenRule.{BrokenRule}
 use Rattle.v_lex.specs.declared.directive.LexRule.{LexRule}
 use Rattle.v_lex.specs.declared.directive.LexRule.TheVariants as rule
+use Rattle.v_lex.specs.Row.{BreaksFirst}
 use Rattle.v_lex.specs.declared.fault.LexFault.{LexFault}
 use Rattle.v_lex.specs.declared.fault.LexFault.TheVariants as fault
 
@@ -15,10 +16,10 @@ fault_at rule.Directive p = fault.Directive p
 abbrev pub fault_of : BrokenRule → LexFault
 fault_of b = fault_at b.rule b.place
 
--- The answer is the first broken rule, or memory ran out.
-abbrev pub IsFault : LexFault → Option BrokenRule → Type 0
-IsFault fault.OutOfMemory first = Unit {0}
-IsFault (fault.BadByte p) first = first ≡ Some (record { rule = rule.BadByte; place = p })
-IsFault (fault.BadNumber p) first = first ≡ Some (record { rule = rule.BadNumber; place = p })
-IsFault (fault.UnclosedText p) first = first ≡ Some (record { rule = rule.UnclosedText; place = p })
-IsFault (fault.Directive p) first = first ≡ Some (record { rule = rule.Directive; place = p })
+-- The answer is the first rule that the text breaks, or memory ran out.
+abbrev pub IsFault : LexFault → List ℕ → Type 0
+IsFault fault.OutOfMemory text = Unit {0}
+IsFault (fault.BadByte p) text = BreaksFirst text rule.BadByte p
+IsFault (fault.BadNumber p) text = BreaksFirst text rule.BadNumber p
+IsFault (fault.UnclosedText p) text = BreaksFirst text rule.UnclosedText p
+IsFault (fault.Directive p) text = BreaksFirst text rule.Directive p

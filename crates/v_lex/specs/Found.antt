@@ -1,8 +1,9 @@
--- What was found before a place, and with what is found from there on.
+-- A means of proof: what was found before a place, and with what is found from there on.
 use Rattle.std.specs.Prelude.{ℕ, List, [], ◌++◌, Option, None}
 use Rattle.v_syntax.specs.declared.token.Token.{Token}
 use Rattle.v_lex.specs.declared.directive.BrokenRule.{BrokenRule}
-use Rattle.v_lex.specs.Lexing.{Scan, State, earlier, earliest, scan_from}
+use Rattle.v_lex.specs.Lexing.{Scan, State, earlier, earliest}
+use Rattle.v_lex.specs.Scan.{scan_from}
 use Rattle.v_lex.specs.declared.scanner.Found.{Found}
 
 -- tokens, places, and the first broken rule

@@ -1,5 +1,5 @@
--- The tokens of a text, their places, and the rules that it breaks.
-use Rattle.std.specs.Prelude.{ℕ, zero, suc, ◌+◌, ◌-◌, min, Bool, true, false, not, ◌&&◌, nat_le, List, [], ◌∷◌, ◌++◌, length, take, map, Option, Some, None, unwrap_or, if◌then◌else◌}
+-- What directives set, and what the parts of a text tell: tokens, their places, and the rules that are broken.
+use Rattle.std.specs.Prelude.{ℕ, ◌-◌, min, Bool, true, false, not, ◌&&◌, nat_le, List, [], ◌∷◌, ◌++◌, length, take, map, Option, Some, None, if◌then◌else◌}
 use Rattle.std.specs.List.{slice_get}
 use Rattle.std.specs.Str.{bytes_eq}
 use lib.Chars.{codes}
@@ -12,7 +12,6 @@ use Rattle.v_lex.specs.declared.directive.BrokenRule.{BrokenRule}
 use Rattle.v_lex.specs.declared.directive.Content.{Content}
 use Rattle.v_lex.specs.declared.directive.Content.TheVariants as content
 use Rattle.v_lex.specs.declared.directive.Conditional.{Conditional}
-use Rattle.v_lex.specs.Pieces.{piece_at}
 
 -- what the directives before a place have set
 pub record State : Type 0 where
@@ -148,19 +147,6 @@ after_content s place (content.Broken r) = s
 unfoldable pub left_open : List Conditional → List BrokenRule
 left_open cs = map (λ c. broken_at rule.Directive c.place) cs
 
--- A text from a place on, whose first bytes may still belong to the piece before it.
-unfoldable pub scan_from : State → ℕ → ℕ → List ℕ → Scan
-scan_from s place inside [] = record { tokens = []; places = []; faults = left_open s.conditionals; last = s }
-scan_from s place (suc inside) (b ∷ bs) = scan_from s (place + 1) inside bs
-scan_from s place zero (b ∷ bs) = let p = piece_at (is_taken s.conditionals) (b ∷ bs) in with_content s place p.content (scan_from (after_content s place p.content) (place + 1) (p.size - 1) bs)
-
-unfoldable pub scan_of : List ℕ → Scan
-scan_of text = scan_from start 0 0 text
-
--- the rules that a text breaks
-unfoldable pub faults_of : List ℕ → List BrokenRule
-faults_of text = (scan_of text).faults
-
 -- of two broken rules the one at the lesser place; at one place the first
 abbrev pub earlier : Option BrokenRule → Option BrokenRule → Option BrokenRule
 earlier None g = g
@@ -181,6 +167,3 @@ pub record Lexed : Type 0 where
   pub unit : ℕ
   -- the least precision, in femtoseconds; 1 ns where no directive sets one
   pub step : ℕ
-
-unfoldable pub lexed : List ℕ → Lexed
-lexed text = record { tokens = (scan_of text).tokens; places = (scan_of text).places ++ length text ∷ []; unit = (scan_of text).last.unit; step = unwrap_or (scan_of text).last.step nanosecond }

@@ -1,4 +1,4 @@
--- A set of names as a test of a name.
+-- A means of proof: a set of names as a test of a name.
 use Rattle.std.specs.Prelude.{ℕ, List, Bool}
 use Rattle.std.specs.Ordering.{nat_cmp}
 use Rattle.std.specs.Cmp.Lexicographic.{slice_cmp}

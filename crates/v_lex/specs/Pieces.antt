@@ -1,66 +1,29 @@
--- What stands at a place of a text: a separator, a comment, a token, a directive, or a broken rule.
-use Rattle.std.specs.Prelude.{ℕ, zero, suc, ◌+◌, ◌*◌, Bool, true, false, nat_eq, ◌==◌, ◌||◌, ◌&&◌, List, [], ◌∷◌, length, take, drop, Option, Some, None, option_map, is_none, if◌then◌else◌}
-use Rattle.std.specs.List.{starts_with}
-use Rattle.std.specs.Str.{bytes_eq}
+-- A means of proof: what stands at a place of a text, as the code finds it. `Row` says what it means.
+use Rattle.std.specs.Prelude.{ℕ, ◌+◌, Bool, true, false, ◌==◌, ◌||◌, List, [], ◌∷◌, length, take, drop, Option, Some, None, if◌then◌else◌}
 use lib.Chars.{codes}
 use Rattle.four_value.specs.declared.Digit.{Digit}
 use Rattle.four_value.specs.Vector.{vector}
-use Rattle.v_lex.specs.declared.base.Base.{Base}
-use Rattle.v_lex.specs.declared.bytes.ByteClass.TheVariants as class
 use Rattle.v_syntax.specs.declared.word.Keyword.{Keyword}
 use Rattle.v_syntax.specs.declared.word.ReservedWord.{ReservedWord}
 use Rattle.v_syntax.specs.declared.word.SystemTask.{SystemTask}
 use Rattle.v_syntax.specs.declared.mark.Mark.{Mark}
 use Rattle.v_syntax.specs.declared.token.Token.{Token}
 use Rattle.v_syntax.specs.declared.token.Token.TheVariants as token
-use Rattle.v_lex.specs.declared.directive.DirectiveWord.{DirectiveWord}
-use Rattle.v_lex.specs.declared.directive.DirectiveWord.TheVariants as word
-use Rattle.v_lex.specs.declared.directive.Directive.{Directive}
-use Rattle.v_lex.specs.declared.directive.Directive.TheVariants as directive
-use Rattle.v_lex.specs.declared.directive.LexRule.{LexRule}
-use Rattle.v_lex.specs.declared.directive.LexRule.TheVariants as rule
-use Rattle.v_lex.specs.declared.directive.Content.{Content}
-use Rattle.v_lex.specs.declared.directive.Content.TheVariants as content
-use Rattle.v_lex.specs.declared.directive.Piece.{Piece}
-use Rattle.v_lex.specs.Bytes.{is_separator, is_digit, is_name_start, run}
 use Rattle.v_syntax.specs.Words.{keyword_of, reserved_of, task_of}
 use Rattle.v_syntax.specs.Marks.{mark_at, mark_spelling}
+use Rattle.v_lex.specs.declared.base.Base.{Base}
+use Rattle.v_lex.specs.declared.bytes.ByteClass.TheVariants as class
+use Rattle.v_lex.specs.declared.directive.DirectiveWord.{DirectiveWord}
+use Rattle.v_lex.specs.declared.directive.LexRule.TheVariants as rule
+use Rattle.v_lex.specs.declared.directive.Piece.{Piece}
+use Rattle.v_lex.specs.Bytes.{is_separator, is_digit, is_name_start, run}
+use Rattle.v_lex.specs.Digits.{base_of}
 use Rattle.v_lex.specs.DirectiveWords.{directive_of}
-use Rattle.v_lex.specs.Numbers.{◌>>=◌, base_of, decimal_of, vector_of, size_of}
+use Rattle.v_lex.specs.Numbers.{◌>>=◌, decimal_of, vector_of, size_of}
+use Rattle.v_lex.specs.Comments.{gap, token_of, broken, begins, comment_at}
+use Rattle.v_lex.specs.DirectiveScan.{directive_at, is_conditional}
 
-abbrev pub piece : ℕ → Content → Piece
-piece n c = record { size = n; content = c }
-
-abbrev pub gap : ℕ → Piece
-gap n = piece n content.Gap
-
-abbrev pub token_of : ℕ → Token → Piece
-token_of n t = piece n (content.Token t)
-
-abbrev pub broken : ℕ → LexRule → Piece
-broken n r = piece n (content.Broken r)
-
-abbrev pub directive_of_parts : ℕ → Directive → Piece
-directive_of_parts n d = piece n (content.Directive d)
-
-abbrev pub begins : List ℕ → List ℕ → Bool
-begins text front = starts_with nat_eq text front
-
--- ---- comments and texts
-
--- how many bytes stand up to the first */ and with it, if there is one
-unfoldable pub comment_end : List ℕ → Option ℕ
-comment_end [] = None
-comment_end (b ∷ bs) = if begins (b ∷ bs) (codes "*/") then Some 2 else option_map suc (comment_end bs)
-
--- A comment from /* on reaches to the end of the text where it isn't closed.
-abbrev pub block_comment_to : List ℕ → Option ℕ → Piece
-block_comment_to text (Some n) = gap (2 + n)
-block_comment_to text None = broken (length text) rule.UnclosedText
-
--- the comment that stands at the front of the text, if one does
-unfoldable pub comment_at : List ℕ → Option Piece
-comment_at text = if begins text (codes "//") then Some (gap (2 + run class.Line (drop 2 text))) else (if begins text (codes "/*") then Some (block_comment_to text (comment_end (drop 2 text))) else None)
+-- ---- texts
 
 -- how many bytes stand between a quote and the next quote on its line
 abbrev pub text_len : List ℕ → Option ℕ
@@ -140,118 +103,6 @@ mark_or_bad None = broken 1 rule.BadByte
 unfoldable pub mark_piece : List ℕ → Piece
 mark_piece text = mark_or_bad (mark_at text)
 
--- ---- directives
-
--- The longest run of bytes of a name behind separators, which may be empty, with the number of bytes up to its end.
-abbrev pub word_behind : ℕ → List ℕ → ℕ × List ℕ
-word_behind separators rest = (separators + run class.Name rest, take (run class.Name rest) rest)
-
-unfoldable pub word_after : List ℕ → ℕ × List ℕ
-word_after text = word_behind (run class.Separator text) (drop (run class.Separator text) text)
-
-abbrev pub is_name : List ℕ → Bool
-is_name [] = false
-is_name (b ∷ bs) = is_name_start b && is_none (keyword_of (b ∷ bs)) && is_none (reserved_of (b ∷ bs))
-
--- the name behind separators, if a name stands there
-unfoldable pub name_after : List ℕ → Option (ℕ × List ℕ)
-name_after text = if is_name (word_after text).1 then Some (word_after text) else None
-
--- how many bytes the separator or the comment at the front has, if one stands there
-abbrev pub first_gap : ℕ → List ℕ → Option ℕ
-first_gap b text = if is_separator b then Some 1 else option_map (λ p. p.size) (comment_at text)
-
-unfoldable pub gap_size : List ℕ → Option ℕ
-gap_size [] = None
-gap_size (b ∷ bs) = first_gap b (b ∷ bs)
-
--- A gap that goes on past the line's end leaves nothing of the line.
-abbrev pub blank_behind : (List ℕ → Bool) → List ℕ → Option ℕ → Bool
-blank_behind is_blank text (Some n) = if run class.Line (take n text) == n then is_blank (drop n text) else true
-blank_behind is_blank text None = false
-
--- What is left of the line has no token, only separators and comments; n is at least the text's number of bytes.
-unfoldable pub is_blank : ℕ → List ℕ → Bool
-is_blank zero text = true
-is_blank (suc n) [] = true
-is_blank (suc n) (b ∷ bs) = if b == 10 then true else blank_behind (is_blank n) (b ∷ bs) (gap_size (b ∷ bs))
-
--- femtoseconds of a unit of time
-abbrev pub unit_of : List ℕ → Option ℕ
-unit_of word = if bytes_eq word (codes "s") then Some 1000000000000000 else (if bytes_eq word (codes "ms") then Some 1000000000000 else (if bytes_eq word (codes "us") then Some 1000000000 else (if bytes_eq word (codes "ns") then Some 1000000 else (if bytes_eq word (codes "ps") then Some 1000 else (if bytes_eq word (codes "fs") then Some 1 else None)))))
-
-abbrev pub magnitude_of : List ℕ → Option ℕ
-magnitude_of digits = if bytes_eq digits (codes "1") then Some 1 else (if bytes_eq digits (codes "10") then Some 10 else (if bytes_eq digits (codes "100") then Some 100 else None))
-
--- 1, 10 or 100 and a unit behind separators: the bytes up to its end, and femtoseconds
-abbrev pub time_of : ℕ → List ℕ → ℕ × List ℕ → Option (ℕ × ℕ)
-time_of size digits unit = do
-  magnitude ← magnitude_of digits
-  femtoseconds ← unit_of unit.1
-  Some (size + unit.0, magnitude * femtoseconds)
-
-abbrev pub time_behind : ℕ → List ℕ → Option (ℕ × ℕ)
-time_behind separators rest = time_of (separators + run class.Digit rest) (take (run class.Digit rest) rest) (word_after (drop (run class.Digit rest) rest))
-
-unfoldable pub time_after : List ℕ → Option (ℕ × ℕ)
-time_after text = time_behind (run class.Separator text) (drop (run class.Separator text) text)
-
--- the bytes up to a / behind separators and with it
-unfoldable pub slash_after : List ℕ → Option ℕ
-slash_after text = if begins (drop (run class.Separator text) text) (codes "/") then Some (run class.Separator text + 1) else None
-
--- a unit, /, and a precision: the bytes up to their end, and the directive
-unfoldable pub scale_after : List ℕ → Option (ℕ × Directive)
-scale_after text = do
-  unit ← time_after text
-  slash ← slash_after (drop unit.0 text)
-  precision ← time_after (drop (unit.0 + slash) text)
-  Some (unit.0 + slash + precision.0, directive.TimeScale unit.1 precision.1)
-
-abbrev pub scale_or_broken : ℕ → Option (ℕ × Directive) → Piece
-scale_or_broken size (Some d) = directive_of_parts (size + d.0) d.1
-scale_or_broken size None = directive_of_parts size directive.Broken
-
--- the directives that have a name and nothing else
-abbrev pub with_name : DirectiveWord → List ℕ → Directive
-with_name word.Undef name = directive.Undef name
-with_name word.IfDef name = directive.IfDef name
-with_name word.IfNDef name = directive.IfNDef name
-with_name word.ElsIf name = directive.ElsIf name
-with_name _ name = directive.Broken
-
-abbrev pub without_name : DirectiveWord → Directive
-without_name word.IfDef = directive.Unnamed
-without_name word.IfNDef = directive.Unnamed
-without_name _ = directive.Broken
-
-abbrev pub named_or_broken : ℕ → DirectiveWord → Option (ℕ × List ℕ) → Piece
-named_or_broken size w (Some a) = directive_of_parts (size + a.0) (with_name w a.1)
-named_or_broken size w None = directive_of_parts size (without_name w)
-
--- Behind the name nothing stands on the line.
-abbrev pub define_or_broken : ℕ → List ℕ → Option (ℕ × List ℕ) → Piece
-define_or_broken size after (Some a) = if is_blank (length (drop a.0 after)) (drop a.0 after) then directive_of_parts (size + a.0) (directive.Define a.1) else directive_of_parts size directive.Broken
-define_or_broken size after None = directive_of_parts size directive.Broken
-
-abbrev pub net_type_or_broken : ℕ → ℕ × List ℕ → Piece
-net_type_or_broken size a = if bytes_eq a.1 (codes "none") || bytes_eq a.1 (codes "wire") then directive_of_parts (size + a.0) directive.DefaultNetType else directive_of_parts size directive.Broken
-
--- A directive whose word has this size, before these bytes. Where it is broken, only its word belongs to it.
-unfoldable pub directive_with : ℕ → List ℕ → Option DirectiveWord → Piece
-directive_with size after None = directive_of_parts size directive.Broken
-directive_with size after (Some word.TimeScale) = scale_or_broken size (scale_after after)
-directive_with size after (Some word.Define) = define_or_broken size after (name_after after)
-directive_with size after (Some word.DefaultNetType) = net_type_or_broken size (word_after after)
-directive_with size after (Some word.Else) = directive_of_parts size directive.Else
-directive_with size after (Some word.EndIf) = directive_of_parts size directive.EndIf
-directive_with size after (Some word.ResetAll) = directive_of_parts size directive.ResetAll
-directive_with size after (Some w) = named_or_broken size w (name_after after)
-
--- the directive behind a backquote
-unfoldable pub directive_at : List ℕ → Piece
-directive_at after = directive_with (1 + run class.Name after) (drop (run class.Name after) after) (directive_of (take (run class.Name after) after))
-
 -- ---- the piece at a place
 
 abbrev pub comment_or : Piece → Option Piece → Piece
@@ -261,15 +112,6 @@ comment_or other None = other
 -- a token, a directive or a byte that begins none; b is the first byte
 abbrev pub token_from : ℕ → List ℕ → List ℕ → Piece
 token_from b after text = if b == 34 then text_at after else (if b == 96 then directive_at after else (if is_digit b || (b == 39) then number_at text else (if is_name_start b then word_at text else (if b == 36 then task_at text else mark_piece text))))
-
--- Of a part that isn't taken only comments, closed texts and the directives of conditionals are seen.
-abbrev pub is_conditional : Option DirectiveWord → Bool
-is_conditional (Some word.IfDef) = true
-is_conditional (Some word.IfNDef) = true
-is_conditional (Some word.ElsIf) = true
-is_conditional (Some word.Else) = true
-is_conditional (Some word.EndIf) = true
-is_conditional _ = false
 
 abbrev pub closed_text_or_byte : Option ℕ → Piece
 closed_text_or_byte (Some n) = gap (2 + n)

@@ -1,4 +1,4 @@
--- What the code keeps of the directives, as a state of the definitions.
+-- A means of proof: what the code keeps of the directives, as a state of the definitions.
 use Rattle.v_lex.specs.Lexing as lexing
 use Rattle.v_lex.specs.declared.state.State.{State}
 use Rattle.v_lex.specs.Names.{has_name}

@@ -1,7 +1,7 @@
 //! The base of a number.
 
 ghost use Rattle.std.specs.Prelude.{◌≡◌, Option};
-ghost use Rattle.v_lex.specs.Numbers.{base_of, bits_of};
+ghost use Rattle.v_lex.specs.Digits.{base_of, bits_of};
 
 /// The base of a number that names one (IEEE 1364-2005, clause 3.5.1).
 #[derive(Clone, Copy, Debug, PartialEq, Eq)]

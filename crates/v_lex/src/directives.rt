@@ -2,7 +2,9 @@
 
 ghost use Rattle.std.specs.Prelude.{◌≡◌, ◌≤◌, ◌<◌, ◌+◌, ◌*◌, ◌^◌, ℕ, List, length, Option, IfSome, IfOk, option_map};
 ghost use Rattle.std.specs.Str.{bytes_eq};
-ghost use Rattle.v_lex.specs.Pieces.{word_after, is_name, name_after, unit_of, magnitude_of, time_after, slash_after, scale_after, scale_or_broken, with_name, without_name, named_or_broken, define_or_broken, net_type_or_broken, directive_with, directive_at, directive_of_parts};
+ghost use Rattle.v_lex.specs.Times.{magnitude_of, unit_of};
+ghost use Rattle.v_lex.specs.DirectiveScan.{word_after, is_name, name_after, time_after, slash_after, scale_after, scale_or_broken, with_name, without_name, named_or_broken, define_or_broken, net_type_or_broken, directive_with, directive_at};
+ghost use Rattle.v_lex.specs.Comments.{directive_of_parts};
 
 use crate::bytes::{ByteClass, is_name_start};
 use crate::directive::{Content, Directive, DirectiveWord, Piece};
@@ -13,7 +15,7 @@ use port_io::{Name, NoMemory};
 use std::alloc::Global;
 
 /// The bytes up to the end of the word behind separators, and the word.
-#[tactic(auto, unfolding(crate::specs::Pieces::word_after))]
+#[tactic(auto, unfolding(crate::specs::DirectiveScan::word_after))]
 fn word_after(text: &[u8]) -> (usize, &[u8])
     ensures is { (result.0, result.1.now) ≡ word_after text.now }
     ensures within { result.0 ≤ length text.now }
@@ -37,7 +39,7 @@ fn is_name(word: &[u8]) -> bool
 }
 
 /// The bytes up to the end of the name behind separators, and the name.
-#[tactic(auto, unfolding(crate::specs::Pieces::name_after))]
+#[tactic(auto, unfolding(crate::specs::DirectiveScan::name_after))]
 fn name_after(text: &[u8]) -> Option<(usize, &[u8])>
     ensures is { option_map (λ a. (a.0, a.1.now)) result ≡ name_after text.now }
     ensures within { IfSome result (λ a. a.0 ≤ length text.now) }
@@ -100,7 +102,7 @@ fn magnitude_of(digits: &[u8]) -> Option<u64>
 }
 
 /// The bytes up to the end of a time behind separators, and its femtoseconds.
-#[tactic(auto, unfolding(crate::specs::Pieces::time_after))]
+#[tactic(auto, unfolding(crate::specs::DirectiveScan::time_after))]
 fn time_after(text: &[u8]) -> Option<(usize, u64)>
     ensures is { result ≡ time_after text.now }
     ensures within { IfSome result (λ t. t.0 ≤ length text.now) }
@@ -115,7 +117,7 @@ fn time_after(text: &[u8]) -> Option<(usize, u64)>
 }
 
 /// The bytes up to a `/` behind separators and with it.
-#[tactic(auto, unfolding(crate::specs::Pieces::slash_after))]
+#[tactic(auto, unfolding(crate::specs::DirectiveScan::slash_after))]
 fn slash_after(text: &[u8]) -> Option<usize>
     ensures is { result ≡ slash_after text.now }
     ensures within { IfSome result (λ n. n ≤ length text.now) }
@@ -130,7 +132,7 @@ fn slash_after(text: &[u8]) -> Option<usize>
 }
 
 /// The bytes up to the end of a unit, `/` and a precision, and the directive.
-#[tactic(auto, unfolding(crate::specs::Pieces::scale_after))]
+#[tactic(auto, unfolding(crate::specs::DirectiveScan::scale_after))]
 fn scale_after(text: &[u8]) -> Option<(usize, Directive)>
     ensures is { result ≡ scale_after text.now }
     ensures within { IfSome result (λ d. d.0 ≤ length text.now) }
@@ -233,7 +235,7 @@ fn net_type(size: usize, after: &[u8]) -> Piece
 }
 
 /// A directive whose word has this size, before these bytes.
-#[tactic(auto, unfolding(crate::specs::Pieces::directive_with))]
+#[tactic(auto, unfolding(crate::specs::DirectiveScan::directive_with))]
 fn directive_with(
     alloc: Global,
     size: usize,
@@ -261,7 +263,7 @@ fn directive_with(
 }
 
 /// The directive behind a backquote (IEEE 1364-2005, clause 19).
-#[tactic(auto, unfolding(crate::specs::Pieces::directive_at))]
+#[tactic(auto, unfolding(crate::specs::DirectiveScan::directive_at))]
 pub fn directive_at(alloc: Global, after: &[u8]) -> Result<Piece, NoMemory>
     requires { length after.now < 2 ^ 60 }
     ensures is { IfOk result (λ p. p ≡ directive_at after.now) }

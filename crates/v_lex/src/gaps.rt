@@ -1,7 +1,8 @@
 //! Separators and comments.
 
 ghost use Rattle.std.specs.Prelude.{◌≡◌, ◌≤◌, ◌<◌, ◌+◌, length, Option, IfSome, drop};
-ghost use Rattle.v_lex.specs.Pieces.{comment_end, comment_at, block_comment_to, gap_size, is_blank};
+ghost use Rattle.v_lex.specs.Comments.{comment_end, comment_at, block_comment_to};
+ghost use Rattle.v_lex.specs.DirectiveScan.{gap_size, is_blank};
 
 use crate::bytes::{ByteClass, is_separator};
 use crate::directive::{Content, LexRule, Piece};
@@ -41,7 +42,7 @@ fn block_comment(text: &[u8]) -> Piece
 }
 
 /// The comment at the front of the text (IEEE 1364-2005, clause 3.3).
-#[tactic(auto, unfolding(crate::specs::Pieces::comment_at))]
+#[tactic(auto, unfolding(crate::specs::Comments::comment_at))]
 pub fn comment_at(text: &[u8]) -> Option<Piece>
     ensures is { result ≡ comment_at text.now }
     ensures some { IfSome result (λ p. 1 ≤ p.size) }
@@ -61,7 +62,7 @@ pub fn comment_at(text: &[u8]) -> Option<Piece>
 }
 
 /// How many bytes the separator or the comment at the front has.
-#[tactic(auto, unfolding(crate::specs::Pieces::gap_size))]
+#[tactic(auto, unfolding(crate::specs::DirectiveScan::gap_size))]
 fn gap_size(text: &[u8]) -> Option<usize>
     ensures is { result ≡ gap_size text.now }
     ensures some { IfSome result (λ n. 1 ≤ n) }

@@ -10,6 +10,7 @@ mod directive;
 mod directives;
 mod fault;
 mod gaps;
+mod laws;
 mod marks;
 mod names;
 mod numbers;
@@ -22,5 +23,6 @@ mod tokens;
 mod words;
 
 pub use fault::LexFault;
+pub use laws::one_row;
 pub use scanner::lex;
 pub use tokens::Tokens;

@@ -3,7 +3,8 @@
 ghost use Rattle.std.specs.Prelude.{◌≡◌, ◌≤◌, ◌<◌, ◌+◌, ◌^◌, ◌++◌, length, take, drop, Option, IfSome, SomeIff, option_map, ◌==◌};
 ghost use Rattle.std.specs.List.{list_all};
 ghost use Rattle.v_lex.specs.Bytes.{is_in};
-ghost use Rattle.v_lex.specs.Numbers.{decimal_step, decimal_of, unknown_of, hexadecimal_of, digits_of, digits_below, fill_of, begins_with_digit, lone_unknown, decimal_vector, vector_in, vector_of, size_of, bits_of};
+ghost use Rattle.v_lex.specs.Numbers.{decimal_step, decimal_of, digits_below, begins_with_digit, lone_unknown, decimal_vector, vector_in, vector_of, size_of};
+ghost use Rattle.v_lex.specs.Digits.{unknown_of, hexadecimal_of, digits_of, fill_of, bits_of};
 ghost use Rattle.v_lex.specs.Pieces.{base_at, number_or_bad, plain_value, based_value, number_at};
 
 use crate::base::Base;
@@ -86,7 +87,7 @@ fn hexadecimal_of(byte: u8) -> u8
 }
 
 /// The bits of one written digit.
-#[tactic(auto, unfolding(crate::specs::Numbers::digits_of))]
+#[tactic(auto, unfolding(crate::specs::Digits::digits_of))]
 fn digits_of(bits: u8, byte: u8) -> Option<Bits>
     requires some { 1 ≤ bits }
     requires few { bits ≤ 4 }

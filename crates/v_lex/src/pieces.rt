@@ -1,7 +1,9 @@
 //! What stands at a place of a text.
 
 ghost use Rattle.std.specs.Prelude.{◌≡◌, ◌≤◌, ◌<◌, ◌+◌, ◌^◌, ◌∷◌, ℕ, List, length, drop, IfOk};
-ghost use Rattle.v_lex.specs.Pieces.{word_token, word_at, task_at, mark_piece, text_len, closed_text_or_byte, is_conditional, skipped_from, token_from, piece_at, gap};
+ghost use Rattle.v_lex.specs.Pieces.{word_token, word_at, task_at, mark_piece, text_len, closed_text_or_byte, skipped_from, token_from, piece_at};
+ghost use Rattle.v_lex.specs.DirectiveScan.{is_conditional};
+ghost use Rattle.v_lex.specs.Comments.{gap};
 
 use crate::bytes::{ByteClass, is_digit, is_name_start, is_separator};
 use crate::directive::{Content, DirectiveWord, LexRule, Piece};

@@ -1,7 +1,9 @@
 //! The whole text, piece by piece.
 
 ghost use Rattle.std.specs.Prelude.{◌≡◌, ◌≤◌, ◌<◌, ◌+◌, ◌^◌, List, [], length, Option, None, IfOk, IfErr, OnOk};
-ghost use Rattle.v_lex.specs.Lexing.{Scan, State, earlier, earliest, left_open, with_content, with_token, with_fault, after_content, scan_of, faults_of, lexed};
+ghost use Rattle.v_lex.specs.Lexing.{Scan, State, earlier, earliest, left_open, with_content, with_token, with_fault, after_content};
+ghost use Rattle.v_lex.specs.Row.{Reads};
+ghost use Rattle.v_lex.specs.Scan.{scan_of};
 ghost use Rattle.v_lex.specs.Faults.{IsFault};
 ghost use Rattle.v_lex.specs.Found.{found_with, nothing, of_found, end_of};
 ghost use Rattle.v_lex.specs.States.{state_of};
@@ -126,9 +128,9 @@ fn scan(alloc: Global, text: &[u8]) -> Result<(Found, State), NoMemory>
 pub fn lex(alloc: Global, text: &[u8]) -> Result<Tokens, LexFault>
     requires { length text.now ≤ 1048576 }
     // No rule is broken, and these are the text's tokens and places.
-    ensures tokens { IfOk result (λ tokens. (faults_of text.now ≡ []) × (tokens ≡ lexed text.now)) }
+    ensures tokens { IfOk result (λ tokens. Reads text.now tokens) }
     // Otherwise it is the first broken rule.
-    ensures refused { IfErr result (λ fault. IsFault fault (earliest (faults_of text.now))) }
+    ensures refused { IfErr result (λ fault. IsFault fault text.now) }
 {
     let (found, state) = scan(alloc, text)?;
     if let Some(broken) = earlier(found.first, first_open(&state.conditionals)) {

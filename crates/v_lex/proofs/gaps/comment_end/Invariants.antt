@@ -1,6 +1,6 @@
 use Rattle.std.proofs.Common.{◌≡◌, ◌+◌, drop, ℕ}
 use Rattle.std.specs.Prelude.{option_map}
-use Rattle.v_lex.specs.Pieces.{comment_end}
+use Rattle.v_lex.specs.Comments.{comment_end}
 use Rattle.v_lex.proofs.gaps.comment_end.Given as goal
 
 abbrev pub invariant-loop-i : goal.invariant-loop-i

@@ -1,7 +1,7 @@
 use Rattle.std.proofs.Common.{arith, ◌≡◌, ◌<◌, ◌-◌, ◌+◌, suc, [], length, ap, sym, ◌∙◌, Some, None, take}
 use Rattle.std.proofs.lemmas.List.{nil_from_length}
 use Rattle.std.proofs.lemmas.Bool.{eqb-true, eqb-false}
-use Rattle.v_lex.specs.Pieces.{is_blank, gap_size}
+use Rattle.v_lex.specs.DirectiveScan.{is_blank, gap_size}
 use Rattle.v_lex.specs.declared.bytes.ByteClass.TheVariants as class
 use Rattle.v_lex.specs.Bytes.{run}
 use Rattle.v_lex.proofs.GapLaws.{blank_nil, blank_zero, blank_at_end, blank_wrong, blank_past, blank_goes_on}

@@ -1,5 +1,5 @@
 use Rattle.std.proofs.Common.{◌≡◌, ◌-◌, length}
-use Rattle.v_lex.specs.Pieces.{is_blank}
+use Rattle.v_lex.specs.DirectiveScan.{is_blank}
 use Rattle.v_lex.proofs.gaps.is_blank.Given as goal
 
 abbrev pub invariant-loop : goal.invariant-loop

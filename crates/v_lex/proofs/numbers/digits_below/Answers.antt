@@ -1,5 +1,5 @@
 use Rattle.std.proofs.Common.{◌≡◌, ◌≤◌, None, Some, length, get_or, sym, ◌∙◌, arith, eq-eqb, ne_eqb}
-use Rattle.v_lex.specs.Numbers.{digits_of}
+use Rattle.v_lex.specs.Digits.{digits_of}
 use Rattle.v_lex.proofs.NumberLaws.{digits_skip, digits_wrong, digits_more, digits_all}
 use Rattle.v_lex.proofs.numbers.digits_below.Goals as goal
 

@@ -1,5 +1,6 @@
 use Rattle.std.proofs.Common.{◌≡◌, drop, ap, sym, refl, ◌∙◌, arith}
-use Rattle.v_lex.specs.Lexing.{scan_of, is_taken}
+use Rattle.v_lex.specs.Lexing.{is_taken}
+use Rattle.v_lex.specs.Scan.{scan_of}
 use Rattle.v_lex.specs.Pieces.{piece_at}
 use Rattle.v_lex.specs.Found.{found_with, nothing, of_found}
 use Rattle.v_lex.specs.States.{state_of}

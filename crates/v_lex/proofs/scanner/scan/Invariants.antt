@@ -1,5 +1,5 @@
 use Rattle.std.proofs.Common.{◌≡◌, ◌≤◌, ◌-◌, length, drop}
-use Rattle.v_lex.specs.Lexing.{scan_from, scan_of}
+use Rattle.v_lex.specs.Scan.{scan_from, scan_of}
 use Rattle.v_lex.specs.Found.{found_with, nothing, of_found}
 use Rattle.v_lex.specs.States.{state_of}
 use Rattle.v_lex.proofs.scanner.scan.Given as goal
