@@ -13,6 +13,3 @@ mod targets;
 pub use front::{after, behind, next, place, syntax_error, too_deep};
 pub use read_error::ReadError;
 pub use reader::{expression, one_expression, one_target, target};
-
-#[cfg(test)]
-mod tests;

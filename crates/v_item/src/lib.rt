@@ -10,6 +10,3 @@ mod processes;
 
 pub use items::{item, starts_item};
 pub use parts::{identifiers, maybe_range, port_head, starts_direction, value};
-
-#[cfg(test)]
-mod tests;

@@ -8,10 +8,3 @@ mod parser;
 
 pub use fault::ParseFault;
 pub use parser::{one_source, parse};
-
-#[cfg(test)]
-mod height_rows;
-#[cfg(test)]
-mod tests;
-#[cfg(test)]
-mod text_rows;
