@@ -50,6 +50,11 @@ pub record IsLoaded (k : ListKernel) : Type 0 where
   pub due : AreFitting k.due.items (widths_of k.signals.items)
   pub later : AreFitting k.later.items (widths_of k.signals.items)
 
+-- it still holds its design, and each signal has the width that it had
+pub record Stays (before after : ListKernel) : Type 0 where
+  pub loaded : IsLoaded after
+  pub widths : widths_of after.signals.items ≡ widths_of before.signals.items
+
 -- what is told of an event that is done
 pub record TellsIt (before : Content) (e : Event) (told : Moved) (after : Content) : Type 0 where
   pub tells : told ≡ record { change = e.told; fired = fired_of e.fired }

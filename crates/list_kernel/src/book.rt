@@ -1,4 +1,4 @@
-// The registered keys, and the counts.
+//! The registered keys, and the counts.
 ghost use Rattle.std.specs.Prelude.{◌≡◌, ℕ, ◌<◌, ◌≤◌, ◌||◌, ◌&&◌, ◌++◌, ◌∷◌, [], IsTrue, not, Option, true, false, length, OnOk, OnErr, IfOk, replicate, IsErr, if◌then◌else◌};
 ghost use Rattle.gpi.specs.Keys.{has, no_keys, is_time, least, same_key, holds, among, fired_of, raised, lesser, IsWith, IsWithout};
 ghost use Rattle.gpi.specs.Events.{edge_keys, if_has};
@@ -11,6 +11,7 @@ use gpi::{Counts, Fired, Key, Report};
 use port_io::NoMemory;
 use std::alloc::{AllocError, Global};
 
+/// Which keys of a signal are registered.
 #[derive(Clone, Copy)]
 pub struct Watch {
     pub rise: bool,
@@ -18,6 +19,7 @@ pub struct Watch {
     pub change: bool,
 }
 
+/// The registered keys, and the counts.
 #[derive(Drop)]
 pub struct Book {
     pub watches: Vec<Watch>,
@@ -28,18 +30,14 @@ pub struct Book {
     pub counts: Counts,
 }
 
+/// Whether the time is in the list.
 fn contains(times: &[u64], t: u64) -> bool
     ensures { result ≡ holds t times.now }
 {
-    let mut found = false;
-    let mut at = times.len();
-    'back: while at > 0 {
-        at -= 1;
-        found = t == times[at] || found;
-    }
-    found
+    times.contains(&t)
 }
 
+/// The least of the times.
 fn least_of(times: &[u64]) -> Option<u64>
     ensures { result ≡ least times.now }
 {
@@ -52,6 +50,7 @@ fn least_of(times: &[u64]) -> Option<u64>
     found
 }
 
+/// The lesser of a time and another, if there is one.
 fn lesser(t: u64, other: Option<u64>) -> u64
     ensures { Option.Some result ≡ lesser t other }
 {
@@ -61,6 +60,7 @@ fn lesser(t: u64, other: Option<u64>) -> u64
     }
 }
 
+/// Adds a time at the end.
 fn push_time(times: &mut Vec<u64>, t: u64) -> Result<(), NoMemory>
     ensures ok { OnOk result (times.new.items ≡ times.old.items ++ t ∷ []) }
     ensures err { OnErr result (times.new.items ≡ times.old.items) }
@@ -69,6 +69,7 @@ fn push_time(times: &mut Vec<u64>, t: u64) -> Result<(), NoMemory>
     Ok(())
 }
 
+/// Takes a time out, wherever it stands.
 fn remove_time(times: &mut Vec<u64>, t: u64)
     ensures { times.new.items ≡ without t times.old.items }
 {
@@ -82,6 +83,7 @@ fn remove_time(times: &mut Vec<u64>, t: u64)
     }
 }
 
+/// Watches of so many signals, none of them set.
 fn unwatched(alloc: Global, signals: usize) -> Result<Vec<Watch>, AllocError>
     ensures { IfOk result (λ watches. watches.items ≡ replicate signals no_watch) }
 {
@@ -99,7 +101,7 @@ fn unwatched(alloc: Global, signals: usize) -> Result<Vec<Watch>, AllocError>
 }
 
 impl Book {
-    // A book of no signals.
+    /// A book of no signals.
     pub fn new(alloc: Global) -> Book
         ensures keys { keys_of result ≡ no_keys }
         ensures counts { result.counts ≡ no_counts }
@@ -118,6 +120,7 @@ impl Book {
         }
     }
 
+    /// A book of so many signals, without a key.
     pub fn with_signals(alloc: Global, signals: usize) -> Result<Book, AllocError>
         ensures keys { IfOk result (λ book. keys_of book ≡ no_keys) }
         ensures counts { IfOk result (λ book. book.counts ≡ no_counts) }
@@ -138,6 +141,7 @@ impl Book {
         })
     }
 
+    /// Whether the key is registered.
     pub fn has(&self, key: Key) -> bool
         requires { IsPlaced (length self.now.watches.items) key }
         ensures { result ≡ has key (keys_of self.now) }
@@ -153,13 +157,14 @@ impl Book {
         }
     }
 
+    /// The least registered time.
     pub fn least(&self) -> Option<u64>
         ensures { result ≡ least (keys_of self.now).times }
     {
         least_of(&self.times)
     }
 
-    // A key that is no time is registered, or isn't any more.
+    /// A key that is no time is registered, or isn't any more.
     fn set(&mut self, key: Key, on: bool)
         requires placed { IsPlaced (length self.old.watches.items) key }
         requires other { is_time key ≡ false }
@@ -178,7 +183,7 @@ impl Book {
         }
     }
 
-    // The key isn't registered any more.
+    /// The key isn't registered any more.
     fn off(&mut self, key: Key)
         requires { IsPlaced (length self.old.watches.items) key }
         ensures is { IsWithout (key ∷ []) (keys_of self.old) (keys_of self.new) }
@@ -191,7 +196,7 @@ impl Book {
         }
     }
 
-    // The key is registered.
+    /// The key is registered.
     fn on(&mut self, key: Key) -> Result<(), NoMemory>
         requires { IsPlaced (length self.old.watches.items) key }
         ensures is { OnOk result (IsWith key (keys_of self.old) (keys_of self.new)) }
@@ -201,10 +206,7 @@ impl Book {
         ensures signals { length self.new.watches.items ≡ length self.old.watches.items }
     {
         match key {
-            Key::At(t) => match push_time(&mut self.times, t) {
-                Ok(()) => Ok(()),
-                Err(e) => Err(e),
-            },
+            Key::At(t) => push_time(&mut self.times, t),
             _ => {
                 self.set(key, true);
                 Ok(())
@@ -212,6 +214,7 @@ impl Book {
         }
     }
 
+    /// Registers the key, and counts it.
     pub fn add(&mut self, key: Key) -> Result<(), NoMemory>
         requires { IsPlaced (length self.old.watches.items) key }
         ensures is { OnOk result (IsWith key (keys_of self.old) (keys_of self.new)) }
@@ -229,6 +232,7 @@ impl Book {
         }
     }
 
+    /// Removes the key, and counts it.
     pub fn remove(&mut self, key: Key)
         requires { IsPlaced (length self.old.watches.items) key }
         ensures is { IsWithout (key ∷ []) (keys_of self.old) (keys_of self.new) }
@@ -239,7 +243,7 @@ impl Book {
         self.counts.removed = self.counts.removed.saturating_add(1);
     }
 
-    // Fires the key.
+    /// Fires the key.
     pub fn fire(&mut self, key: Key)
         requires { IsPlaced (length self.old.watches.items) key }
         ensures { Fires (key ∷ []) self.old self.new }
@@ -248,7 +252,7 @@ impl Book {
         self.counts.fired = self.counts.fired.saturating_add(1);
     }
 
-    // Fires the key, if it is registered.
+    /// Fires the key, if it is registered.
     pub fn take(&mut self, key: Key) -> Option<Key>
         requires { IsPlaced (length self.old.watches.items) key }
         ensures fired { option_list result ≡ if_has key (keys_of self.old) }
@@ -262,6 +266,7 @@ impl Book {
         }
     }
 
+    /// Fires the key of the edge that a change of one bit is, if it is registered.
     fn take_level(&mut self, report: &Report) -> Option<Key>
         requires { report.now.sig.0 < length self.old.watches.items }
         ensures fired { option_list result ≡ level_part report.now (keys_of self.old) }
@@ -279,7 +284,7 @@ impl Book {
         }
     }
 
-    // Fires the edge keys of a change.
+    /// Fires the edge keys of a change.
     pub fn change(&mut self, report: &Report) -> Fired
         requires { report.now.sig.0 < length self.old.watches.items }
         ensures fired { result ≡ fired_of (edge_keys report.now (keys_of self.old)) }
@@ -291,6 +296,7 @@ impl Book {
     }
 }
 
+/// These keys, in order.
 pub fn in_order(first: Option<Key>, second: Option<Key>) -> Fired
     ensures { result ≡ fired_of (option_list first ++ option_list second) }
 {

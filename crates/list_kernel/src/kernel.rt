@@ -1,4 +1,4 @@
-// The plain simulator.
+//! The plain simulator.
 ghost use Rattle.std.specs.Prelude.{◌≡◌, ℕ, ◌<◌, ◌≤◌, ◌+◌, ◌++◌, ◌∷◌, [], true, false, length, OnOk, OnErr, IfOk, IsTrue, MatchOption, vec_capacity, None, List, slice_get};
 ghost use Rattle.gpi.specs.Design.{procs_of, proc_of, start_map, starters};
 ghost use Rattle.gpi.specs.Soundness.{IsSoundFlat, AreProcesses, are_wakes, are_wide};
@@ -8,7 +8,7 @@ ghost use Rattle.gpi.specs.Keys.{has, fired_of, holds};
 ghost use Rattle.gpi.specs.Events.{event, put, value_at, report_case, due_case, active_case, later_case, settle_case, end_case, tells, edge_keys};
 ghost use Rattle.gpi.specs.Content.{Content, opening, no_design, Does, IsRunning};
 ghost use Rattle.list_kernel.specs.Lists.{own_of, is_empty};
-ghost use Rattle.list_kernel.specs.Kernel.{content_of, IsLoaded, TellsIt, Answered, ran, with_run, ended, from_time, from_end, from_settle, from_later, from_active, from_due, from_reports};
+ghost use Rattle.list_kernel.specs.Kernel.{content_of, IsLoaded, Stays, TellsIt, Answered, ran, with_run, ended, from_time, from_end, from_settle, from_later, from_active, from_due, from_reports};
 
 use crate::book::{Book, Watch, in_order};
 use crate::run::activate;
@@ -22,6 +22,7 @@ use port_io::{NoMemory, Sequence};
 use std::alloc::Global;
 use std::mem::swap;
 
+/// A simulator of one design over plain lists; none before the first `load`.
 #[derive(Drop)]
 pub struct ListKernel {
     processes: Vec<Process>,
@@ -37,14 +38,13 @@ pub struct ListKernel {
 }
 
 impl ListKernel {
-    // Writes a signal.
+    /// Writes a signal.
     #[tactic(auto, using(gpi::proofs::Widths::widths, crate::proofs::Loaded::loaded))]
     fn put(&mut self, sig: SigId, bits: Bits) -> Moved
         requires loaded { IsLoaded self.old }
         requires sig { sig.0 < length self.old.signals.items }
         requires width { length bits ≡ length (value_at (content_of self.old).state sig) }
-        ensures loaded { IsLoaded self.new }
-        ensures widths { widths_of self.new.signals.items ≡ widths_of self.old.signals.items }
+        ensures stays { Stays self.old self.new }
         ensures is { let c = content_of self.old in TellsIt c (put c.procs c.state c.keys sig bits) result (content_of self.new) }
     {
         let before = self.signals[sig.0 as usize];
@@ -68,12 +68,11 @@ impl ListKernel {
         }
     }
 
-    // A report is told.
+    /// A report is told.
     fn tell(&mut self, report: &Report) -> Moved
         requires loaded { IsLoaded self.old }
         requires sig { report.now.sig.0 < length self.old.signals.items }
-        ensures loaded { IsLoaded self.new }
-        ensures widths { widths_of self.new.signals.items ≡ widths_of self.old.signals.items }
+        ensures stays { Stays self.old self.new }
         ensures is { let c = content_of self.old in
             TellsIt c (record { state = record c.state { region = Region.Active }; told = tells report.now; fired = edge_keys report.now c.keys }) result (content_of self.new) }
     {
@@ -88,13 +87,12 @@ impl ListKernel {
         }
     }
 
-    // An update is applied.
+    /// An update is applied.
     fn apply(&mut self, update: &Update) -> Moved
         requires loaded { IsLoaded self.old }
         requires sig { update.now.sig.0 < length self.old.signals.items }
         requires inside { update.now.low + length update.now.bits ≤ length (value_at (content_of self.old).state update.now.sig) }
-        ensures loaded { IsLoaded self.new }
-        ensures widths { widths_of self.new.signals.items ≡ widths_of self.old.signals.items }
+        ensures stays { Stays self.old self.new }
         ensures is { let c = content_of self.old in
             TellsIt c (put c.procs (record c.state { region = Region.Active }) c.keys update.now.sig
             (with_part (value_at c.state update.now.sig) update.now.low update.now.bits)) result (content_of self.new) }
@@ -104,41 +102,34 @@ impl ListKernel {
         self.put(update.sig, bits)
     }
 
-    // 1: a report is told.
+    /// 1: a report is told.
     fn report_first(&mut self) -> Option<Moved>
         requires { IsLoaded self.old }
-        ensures loaded { IsLoaded self.new }
-        ensures widths { widths_of self.new.signals.items ≡ widths_of self.old.signals.items }
+        ensures stays { Stays self.old self.new }
         ensures is { Answered (content_of self.old) (report_case (content_of self.old).state (content_of self.old).keys (content_of self.old).state.reports) result (content_of self.new) }
         ensures none { result ≡ None → self.new.reports.items ≡ [] }
     {
-        match take_first(&mut self.reports) {
-            Some(report) => Some(self.tell(&report)),
-            None => None,
-        }
+        let report = take_first(&mut self.reports)?;
+        Some(self.tell(&report))
     }
 
-    // 2: a due update is applied.
+    /// 2: a due update is applied.
     fn due_first(&mut self) -> Option<Moved>
         requires { IsLoaded self.old }
-        ensures loaded { IsLoaded self.new }
-        ensures widths { widths_of self.new.signals.items ≡ widths_of self.old.signals.items }
+        ensures stays { Stays self.old self.new }
         ensures is { let c = content_of self.old in Answered c (due_case c.procs c.state c.keys c.state.due) result (content_of self.new) }
         ensures none { result ≡ None → self.new.due.items ≡ [] }
         ensures quiet { self.old.reports.items ≡ [] → self.new.reports.items ≡ [] }
     {
-        match take_first(&mut self.due) {
-            Some(update) => Some(self.apply(&update)),
-            None => None,
-        }
+        let update = take_first(&mut self.due)?;
+        Some(self.apply(&update))
     }
 
-    // 4: later updates become due.
+    /// 4: later updates become due.
     fn later_first(&mut self) -> Option<Moved>
         requires loaded { IsLoaded self.old }
         requires none { self.old.due.items ≡ [] }
-        ensures loaded { IsLoaded self.new }
-        ensures widths { widths_of self.new.signals.items ≡ widths_of self.old.signals.items }
+        ensures stays { Stays self.old self.new }
         ensures is { let c = content_of self.old in Answered c (later_case c.procs c.state c.keys) result (content_of self.new) }
     {
         match take_first(&mut self.later) {
@@ -150,12 +141,11 @@ impl ListKernel {
         }
     }
 
-    // 3: a process is run.
+    /// 3: a process is run.
     fn run_first(&mut self) -> Result<Option<Moved>, NoMemory>
         requires loaded { IsLoaded self.old }
         requires quiet { self.old.reports.items ≡ [] }
-        ensures loaded { IsLoaded self.new }
-        ensures widths { widths_of self.new.signals.items ≡ widths_of self.old.signals.items }
+        ensures stays { Stays self.old self.new }
         ensures is { let c = content_of self.old in IfOk result (λ answer. Answered c (active_case c.procs c.state c.state.active) answer (content_of self.new)) }
         ensures kept { OnErr result (content_of self.new ≡ content_of self.old) }
         ensures due { self.new.due.items ≡ self.old.due.items }
@@ -178,12 +168,11 @@ impl ListKernel {
         }
     }
 
-    // Runs the body of a process, with the map as it was kept in `before`.
+    /// Runs the body of a process, with the map as it was kept in `before`.
     fn run_body(&mut self, p: u32) -> Result<(), NoMemory>
         requires loaded { IsLoaded self.old }
         requires below { p < length self.old.processes.items }
-        ensures loaded { IsLoaded self.new }
-        ensures widths { widths_of self.new.signals.items ≡ widths_of self.old.signals.items }
+        ensures stays { Stays self.old self.new }
         ensures before { self.new.before.items ≡ self.old.signals.items }
         ensures procs { self.new.processes.items ≡ self.old.processes.items }
         ensures book { self.new.book ≡ self.old.book }
@@ -200,7 +189,7 @@ impl ListKernel {
         )
     }
 
-    // Tells the changes of an activation of a process that is no longer in the active list, and wakes what waits for them.
+    /// Tells the changes of an activation of a process that is no longer in the active list, and wakes what waits for them.
     fn end_activation(&mut self, p: u32)
         requires loaded { IsLoaded self.old }
         requires quiet { self.old.reports.items ≡ [] }
@@ -222,11 +211,10 @@ impl ListKernel {
         self.region = Region::Active;
     }
 
-    // The cases of an event, from 6 on.
+    /// The cases of an event, from 6 on.
     fn from_end(&mut self) -> Option<Moved>
         requires { IsLoaded self.old }
-        ensures loaded { IsLoaded self.new }
-        ensures widths { widths_of self.new.signals.items ≡ widths_of self.old.signals.items }
+        ensures stays { Stays self.old self.new }
         ensures is { Answered (content_of self.old) (from_end (content_of self.old)) result (content_of self.new) }
     {
         match self.end() {
@@ -235,11 +223,10 @@ impl ListKernel {
         }
     }
 
-    // From 5 on.
+    /// From 5 on.
     fn from_settle(&mut self) -> Option<Moved>
         requires { IsLoaded self.old }
-        ensures loaded { IsLoaded self.new }
-        ensures widths { widths_of self.new.signals.items ≡ widths_of self.old.signals.items }
+        ensures stays { Stays self.old self.new }
         ensures is { Answered (content_of self.old) (from_settle (content_of self.old)) result (content_of self.new) }
     {
         match self.settle() {
@@ -248,12 +235,11 @@ impl ListKernel {
         }
     }
 
-    // From 4 on.
+    /// From 4 on.
     fn from_later(&mut self) -> Option<Moved>
         requires loaded { IsLoaded self.old }
         requires none { self.old.due.items ≡ [] }
-        ensures loaded { IsLoaded self.new }
-        ensures widths { widths_of self.new.signals.items ≡ widths_of self.old.signals.items }
+        ensures stays { Stays self.old self.new }
         ensures is { Answered (content_of self.old) (from_later (content_of self.old)) result (content_of self.new) }
     {
         match self.later_first() {
@@ -262,13 +248,12 @@ impl ListKernel {
         }
     }
 
-    // From 3 on.
+    /// From 3 on.
     fn from_active(&mut self) -> Result<Option<Moved>, NoMemory>
         requires loaded { IsLoaded self.old }
         requires quiet { self.old.reports.items ≡ [] }
         requires none { self.old.due.items ≡ [] }
-        ensures loaded { IsLoaded self.new }
-        ensures widths { widths_of self.new.signals.items ≡ widths_of self.old.signals.items }
+        ensures stays { Stays self.old self.new }
         ensures is { IfOk result (λ answer. Answered (content_of self.old) (from_active (content_of self.old)) answer (content_of self.new)) }
         ensures kept { OnErr result (content_of self.new ≡ content_of self.old) }
         ensures cause { OnErr result (IsRunning (content_of self.old).state) }
@@ -280,12 +265,11 @@ impl ListKernel {
         }
     }
 
-    // From 2 on.
+    /// From 2 on.
     fn from_due(&mut self) -> Result<Option<Moved>, NoMemory>
         requires loaded { IsLoaded self.old }
         requires quiet { self.old.reports.items ≡ [] }
-        ensures loaded { IsLoaded self.new }
-        ensures widths { widths_of self.new.signals.items ≡ widths_of self.old.signals.items }
+        ensures stays { Stays self.old self.new }
         ensures is { IfOk result (λ answer. Answered (content_of self.old) (from_due (content_of self.old)) answer (content_of self.new)) }
         ensures kept { OnErr result (content_of self.new ≡ content_of self.old) }
         ensures cause { OnErr result (IsRunning (content_of self.old).state) }
@@ -296,11 +280,10 @@ impl ListKernel {
         }
     }
 
-    // All cases.
+    /// All cases.
     fn one_event(&mut self) -> Result<Option<Moved>, NoMemory>
         requires { IsLoaded self.old }
-        ensures loaded { IsLoaded self.new }
-        ensures widths { widths_of self.new.signals.items ≡ widths_of self.old.signals.items }
+        ensures stays { Stays self.old self.new }
         ensures is { IfOk result (λ answer. Answered (content_of self.old) (from_reports (content_of self.old)) answer (content_of self.new)) }
         ensures kept { OnErr result (content_of self.new ≡ content_of self.old) }
         ensures cause { OnErr result (IsRunning (content_of self.old).state) }
@@ -311,11 +294,10 @@ impl ListKernel {
         }
     }
 
-    // 7: time moves on.
+    /// 7: time moves on.
     fn move_time(&mut self) -> Option<Moved>
         requires { IsLoaded self.old }
-        ensures loaded { IsLoaded self.new }
-        ensures widths { widths_of self.new.signals.items ≡ widths_of self.old.signals.items }
+        ensures stays { Stays self.old self.new }
         ensures is { Answered (content_of self.old) (from_time (content_of self.old)) result (content_of self.new) }
     {
         let t = self.book.least()?;
@@ -329,11 +311,10 @@ impl ListKernel {
         })
     }
 
-    // 6: ReadOnly fires.
+    /// 6: ReadOnly fires.
     fn end(&mut self) -> Option<Moved>
         requires { IsLoaded self.old }
-        ensures loaded { IsLoaded self.new }
-        ensures widths { widths_of self.new.signals.items ≡ widths_of self.old.signals.items }
+        ensures stays { Stays self.old self.new }
         ensures is { Answered (content_of self.old) (end_case (content_of self.old).state (content_of self.old).keys) result (content_of self.new) }
     {
         if self.region == Region::End || !self.book.has(Key::ReadOnly) {
@@ -347,11 +328,10 @@ impl ListKernel {
         })
     }
 
-    // 5: ReadWrite fires.
+    /// 5: ReadWrite fires.
     fn settle(&mut self) -> Option<Moved>
         requires { IsLoaded self.old }
-        ensures loaded { IsLoaded self.new }
-        ensures widths { widths_of self.new.signals.items ≡ widths_of self.old.signals.items }
+        ensures stays { Stays self.old self.new }
         ensures is { Answered (content_of self.old) (settle_case (content_of self.old).state (content_of self.old).keys) result (content_of self.new) }
     {
         if self.region == Region::End || !self.book.has(Key::ReadWrite) {
@@ -408,10 +388,7 @@ impl Gpi for ListKernel {
 
     #[tactic(auto, using(crate::proofs::Placed::asked_placed))]
     fn register(&mut self, key: Key) -> Result<(), NoMemory> {
-        match self.book.add(key) {
-            Ok(()) => Ok(()),
-            Err(e) => Err(e),
-        }
+        self.book.add(key)
     }
 
     #[tactic(auto, using(crate::proofs::Placed::has_placed))]
@@ -440,6 +417,7 @@ impl Gpi for ListKernel {
     }
 }
 
+/// Whether the list has nothing.
 fn empty<T>(list: &Vec<T>) -> bool
     ensures { result ≡ is_empty list.now.items }
 {
@@ -447,6 +425,7 @@ fn empty<T>(list: &Vec<T>) -> bool
 }
 
 impl ListKernel {
+    /// A simulator without a design. It takes no memory.
     pub fn new(alloc: Global) -> ListKernel
         ensures { content_of result ≡ no_design }
     {
@@ -465,7 +444,7 @@ impl ListKernel {
     }
 }
 
-// A kernel in the opening state of the design.
+/// A kernel in the opening state of the design.
 fn opened(alloc: Global, flat: &Flat) -> Result<ListKernel, NoMemory>
     requires { IsSoundFlat flat.now }
     ensures { IfOk result (λ kernel. (content_of kernel ≡ opening flat.now) × IsLoaded kernel) }
@@ -490,6 +469,7 @@ fn opened(alloc: Global, flat: &Flat) -> Result<ListKernel, NoMemory>
     })
 }
 
+/// Copies of the processes, which mean the same.
 fn copy_processes(alloc: Global, processes: &Sequence<Process>) -> Result<Vec<Process>, NoMemory>
     ensures procs { IfOk result (λ copies. procs_of copies.items ≡ procs_of processes.now) }
     ensures count { IfOk result (λ copies. length copies.items ≡ length processes.now) }
@@ -503,6 +483,7 @@ fn copy_processes(alloc: Global, processes: &Sequence<Process>) -> Result<Vec<Pr
     Ok(copies)
 }
 
+/// A copy of a process, which means the same.
 fn copy_process(alloc: Global, process: &Process) -> Result<Process, NoMemory>
     ensures { IfOk result (λ copy. (proc_of copy ≡ proc_of process.now) × (copy.wakes ≡ process.now.wakes) × ((ws : List ℕ) → IsSound process.now.body ws → IsSound copy.body ws)) }
 {
@@ -515,6 +496,7 @@ fn copy_process(alloc: Global, process: &Process) -> Result<Process, NoMemory>
     })
 }
 
+/// A copy of the wakes.
 #[tactic(auto, using(crate::proofs::Opening::wakes))]
 fn copy_wakes(alloc: Global, wakes: &Sequence<Wake>) -> Result<Sequence<Wake>, NoMemory>
     ensures { IfOk result (λ copies. copies ≡ wakes.now) }
@@ -526,6 +508,7 @@ fn copy_wakes(alloc: Global, wakes: &Sequence<Wake>) -> Result<Sequence<Wake>, N
     Ok(copies)
 }
 
+/// The opening map: each signal has its opening digit everywhere.
 #[tactic(auto, using(crate::proofs::Opening::wide))]
 fn start_signals(alloc: Global, signals: &Sequence<Signal>) -> Result<Vec<Bits>, NoMemory>
     requires { IsTrue (are_wide signals.now) }
@@ -539,6 +522,7 @@ fn start_signals(alloc: Global, signals: &Sequence<Signal>) -> Result<Vec<Bits>,
     Ok(map)
 }
 
+/// The processes that are active from the start.
 fn start_active(alloc: Global, processes: &[Process]) -> Result<Vec<u32>, NoMemory>
     requires { length processes.now ≤ 65536 }
     ensures { IfOk result (λ active. (active.items ≡ starters 0 (procs_of processes.now)) × (length processes.now ≤ vec_capacity active)) }
@@ -555,7 +539,7 @@ fn start_active(alloc: Global, processes: &[Process]) -> Result<Vec<u32>, NoMemo
     Ok(active)
 }
 
-// An `always` isn't woken by its own activation.
+/// An `always` isn't woken by its own activation.
 fn own(process: &Process, p: u32) -> Option<u32>
     ensures { result ≡ own_of process.now.kind p }
 {
@@ -565,7 +549,7 @@ fn own(process: &Process, p: u32) -> Option<u32>
     }
 }
 
-// Takes the first element.
+/// Takes the first element.
 fn take_first<T>(list: &mut Vec<T>) -> Option<T>
     ensures is { MatchOption result
         ((list.old.items ≡ []) × (list.new.items ≡ []))
@@ -578,6 +562,7 @@ fn take_first<T>(list: &mut Vec<T>) -> Option<T>
     Some(list.remove(0))
 }
 
+/// No key.
 fn nothing() -> Fired
     ensures { result ≡ fired_of [] }
 {

@@ -1,4 +1,4 @@
-// Activations.
+//! Activations.
 ghost use Rattle.std.specs.Prelude.{◌≡◌, ℕ, ◌≤◌, length, [], OnOk, OnErr, ◌++◌};
 ghost use Rattle.gpi.specs.Terms.{widths_of};
 ghost use Rattle.gpi.specs.Targets.{AreFitting};
@@ -8,8 +8,8 @@ use four_value::Bits;
 use gpi::{Act, Update};
 use port_io::NoMemory;
 
-// One activation: the map that it leaves, and its updates appended; `before` becomes the map as it was. Without memory the
-// map and the updates are as before.
+/// One activation: the map that it leaves, and its updates appended; `before` becomes the map as it was. Without memory the
+/// map and the updates are as before.
 pub fn activate(
     act: &Act,
     signals: &mut Vec<Bits>,

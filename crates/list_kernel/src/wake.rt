@@ -1,4 +1,4 @@
-// Changes, and the processes that they wake.
+//! Changes, and the processes that they wake.
 ghost use Rattle.std.specs.Prelude.{◌≡◌, ◌≤◌, ◌<◌, ◌+◌, ◌++◌, ◌^◌, length, [], ◌∷◌, vec_capacity, vec_len, ℕ, false, not, ◌&&◌};
 ghost use Rattle.four_value.specs.Vector.{same_digits, digit_at};
 ghost use Rattle.gpi.specs.Design.{procs_of};
@@ -10,25 +10,21 @@ use four_value::{Bits, Digit, Edge, edge};
 use gpi::{Process, Report, SigId, Wake, WakeEdge};
 use port_io::Sequence;
 
-// Whether both are the same vector.
+/// Whether both are the same vector.
 pub fn are_same(a: Bits, b: Bits) -> bool
     ensures { result ≡ same_digits a b }
 {
     a.is_same(b)
 }
 
+/// Whether the number is in the list.
 pub fn holds(list: &[u32], n: u32) -> bool
     ensures { result ≡ holds n list.now }
 {
-    let mut found = false;
-    let mut at = list.len();
-    'back: while at > 0 {
-        at -= 1;
-        found = n == list[at] || found;
-    }
-    found
+    list.contains(&n)
 }
 
+/// Whether an edge is one that is waited for.
 fn fits(wanted: WakeEdge, got: Edge) -> bool
     ensures { result ≡ edge_fits wanted got }
 {
@@ -41,6 +37,7 @@ fn fits(wanted: WakeEdge, got: Edge) -> bool
     }
 }
 
+/// The least significant digit, which alone makes edges.
 pub fn low_digit(bits: Bits) -> Digit
     ensures { result ≡ digit_at bits 0 }
 {
@@ -48,6 +45,7 @@ pub fn low_digit(bits: Bits) -> Digit
     bits.digit(0)
 }
 
+/// Whether a wake waits for this change.
 fn meets(wake: &Wake, report: &Report) -> bool
     ensures { result ≡ meets wake.now report.now }
 {
@@ -58,31 +56,32 @@ fn meets(wake: &Wake, report: &Report) -> bool
         )
 }
 
+/// Whether a wake waits for one of the changes.
+#[tactic(auto, using(crate::proofs::Wakes::walks))]
 fn meets_any(wake: &Wake, reports: &[Report]) -> bool
     ensures { result ≡ meets_any wake.now reports.now }
 {
-    let mut found = false;
-    let mut at = reports.len();
-    'back: while at > 0 {
-        at -= 1;
-        found = meets(wake, &reports[at]) || found;
+    for report in reports {
+        if meets(wake, report) {
+            return true;
+        }
     }
-    found
+    false
 }
 
+/// Whether one of the wakes waits for one of the changes.
 fn waits(wakes: &Sequence<Wake>, reports: &[Report]) -> bool
     ensures { result ≡ waits wakes.now reports.now }
 {
-    let mut found = false;
-    let mut at = wakes.len();
-    'back: while at > 0 {
-        at -= 1;
-        found = meets_any(wakes.get(at), reports) || found;
+    for at in 0..wakes.len() {
+        if meets_any(wakes.get(at), reports) {
+            return true;
+        }
     }
-    found
+    false
 }
 
-// The changes between two maps.
+/// The changes between two maps.
 pub fn tell_changes(before: &[Bits], signals: &[Bits], reports: &mut Vec<Report>)
     requires same { length before.now ≡ length signals.now }
     requires few { length before.now ≤ 65536 }
@@ -108,7 +107,7 @@ pub fn tell_changes(before: &[Bits], signals: &[Bits], reports: &mut Vec<Report>
     }
 }
 
-// Puts a process at the end of the active list; there are `count` processes.
+/// Puts a process at the end of the active list; there are `count` processes.
 #[tactic(auto, using(crate::proofs::Lists::pushes))]
 fn add_active(active: &mut Vec<u32>, n: u32, count: usize)
     requires inside { n < count }
@@ -124,16 +123,34 @@ fn add_active(active: &mut Vec<u32>, n: u32, count: usize)
     active.push(n).unwrap();
 }
 
-// Whether the changes wake this process.
+/// Whether the changes wake this process: it waits for one of them, and isn't barred.
+#[tactic(auto, using(crate::proofs::Wakes::turned))]
 fn is_woken(process: &Process, n: u32, reports: &[Report], own: Option<u32>, active: &[u32]) -> bool
     ensures { result ≡ (not (holds n (barred own active.now)) && waits process.now.wakes reports.now) }
 {
-    !is_barred(own, active, n) && waits(&process.wakes, reports)
+    waits(&process.wakes, reports) && !is_barred(own, active, n)
 }
 
-// Puts the processes that the changes wake at the end of the active list.
-#[tactic(auto, using(crate::proofs::Lists::steps))]
+/// Puts the processes that the changes wake at the end of the active list.
 pub fn wake(processes: &[Process], reports: &[Report], active: &mut Vec<u32>, own: Option<u32>)
+    requires few { length processes.now ≤ 65536 }
+    requires below { AreBelow (length processes.now) active.old.items }
+    requires distinct { AreDistinct active.old.items }
+    requires room { length processes.now ≤ vec_capacity active.old }
+    ensures is { active.new.items ≡ active.old.items ++ woken 0 (procs_of processes.now) reports.now (barred own active.old.items) }
+    ensures below { AreBelow (length processes.now) active.new.items }
+    ensures distinct { AreDistinct active.new.items }
+    ensures room { vec_capacity active.old ≤ vec_capacity active.new }
+{
+    if reports.is_empty() {
+        return;
+    }
+    wake_each(processes, reports, active, own);
+}
+
+/// The same, process by process.
+#[tactic(auto, using(crate::proofs::Lists::steps))]
+fn wake_each(processes: &[Process], reports: &[Report], active: &mut Vec<u32>, own: Option<u32>)
     requires few { length processes.now ≤ 65536 }
     requires below { AreBelow (length processes.now) active.old.items }
     requires distinct { AreDistinct active.old.items }
@@ -153,6 +170,7 @@ pub fn wake(processes: &[Process], reports: &[Report], active: &mut Vec<u32>, ow
     }
 }
 
+/// Whether a process is active, or is the one that isn't to wake itself.
 fn is_barred(own: Option<u32>, active: &[u32], n: u32) -> bool
     ensures { result ≡ holds n (barred own active.now) }
 {

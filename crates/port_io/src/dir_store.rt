@@ -3,38 +3,48 @@ ghost use Rattle.std.specs.Prelude.{◌≡◌, ℕ, ◌≤◌, None, length, tak
 ghost use Rattle.port_io.specs.ReadingLaws.{same_faults, raised_faults};
 ghost use Rattle.port_io.specs.Reading.{GivesFirst, FailsFirst, GivesNamed, FailsNamed, FolderGives, FolderMisses};
 
-use crate::{Folder, Source, Store, StoreFault};
+use crate::{CurrentFolder, Folder, Source, Store, StoreFault};
 use std::alloc::Global;
 use std::marker::Model;
+use std::rt::Files;
 
 /// How many bytes one call of the system reads at most.
 const CHUNK: usize = 4096;
 
 /// The files of a folder, of which nothing is told: contracts see the folder and the count of faults.
 #[derive(Drop)]
-pub struct DirStore<'a, D: Folder> {
-    folder: &'a D,
+pub struct DirStore<D: Folder> {
+    folder: D,
     faults: u64,
 }
 
-impl<'a, D: Folder> Model for DirStore<'a, D> {
+impl<D: Folder> Model for DirStore<D> {
     ghost use Rattle.port_io.specs.Reading.{OverFolder};
 
     ghost Value = { OverFolder D };
 
-    ghost view = { λ store. record { folder = store.folder.now; faults = store.faults } };
+    ghost view = { λ store. record { folder = store.folder; faults = store.faults } };
 }
 
-impl<'a, D: Folder> DirStore<'a, D> {
+impl<'a, R: Files> DirStore<CurrentFolder<'a, R>> {
+    /// A store over the current folder of `rt` that never failed. It takes no memory.
+    pub fn new(rt: &'a R) -> Self
+        ensures { result.faults ≡ 0 }
+    {
+        DirStore::over(CurrentFolder::new(rt))
+    }
+}
+
+impl<D: Folder> DirStore<D> {
     /// A store over the folder that never failed. It takes no memory.
-    pub fn new(folder: &'a D) -> Self
-        ensures { result ≡ record { folder = folder.now; faults = 0 } }
+    pub fn over(folder: D) -> Self
+        ensures { result ≡ record { folder = folder; faults = 0 } }
     {
         DirStore { folder, faults: 0 }
     }
 }
 
-impl<'a, D: Folder> Store for DirStore<'a, D> {
+impl<D: Folder> Store for DirStore<D> {
     ghost files = { λ _. None };
 
     ghost faults = { λ store. store.faults };
@@ -55,7 +65,7 @@ impl<'a, D: Folder> Store for DirStore<'a, D> {
 
     /// A read that is interrupted is a failure as any other.
     fn read_file(&mut self, alloc: Global, name: &str, most: usize) -> Result<Vec<u8>, StoreFault> {
-        let read = read_named(alloc, self.folder, name, most);
+        let read = read_named(alloc, &self.folder, name, most);
         if let Err(StoreFault::Failed) = &read {
             self.faults = self.faults.saturating_add(1);
         }

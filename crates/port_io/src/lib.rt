@@ -28,5 +28,5 @@ pub use outlet::Outlet;
 pub use ports::{NoMemory, Sink, SinkFault, Store, StoreFault};
 pub use pos::{Pos, line_of};
 pub use sequence::Sequence;
-pub use source::{Folder, Source};
+pub use source::{CurrentFolder, Folder, Source};
 pub use write_sink::WriteSink;

@@ -68,7 +68,19 @@ pub trait Folder {
 }
 
 /// The current folder of the system, of whose files nothing is told.
-impl<R: Files> Folder for R {
+#[derive(Drop)]
+pub struct CurrentFolder<'a, R: Files> {
+    files: &'a R,
+}
+
+impl<'a, R: Files> CurrentFolder<'a, R> {
+    /// The current folder of that system. It takes no memory.
+    pub(crate) fn new(files: &'a R) -> Self {
+        CurrentFolder { files }
+    }
+}
+
+impl<'a, R: Files> Folder for CurrentFolder<'a, R> {
     type File = R::File;
 
     ghost opens = { λ _ _ _. Unit {0} };
@@ -76,6 +88,6 @@ impl<R: Files> Folder for R {
     ghost lacks = { λ _ _. Unit {0} };
 
     fn open_named(&self, name: &str) -> Option<R::File> {
-        fs::open(self, name).ok()
+        fs::open(self.files, name).ok()
     }
 }
