@@ -1,0 +1,5 @@
+pub mod Holds
+pub mod Widths
+pub mod Driven
+pub mod DrivenItems
+pub mod Rows

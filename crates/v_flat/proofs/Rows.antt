@@ -1,0 +1,321 @@
+-- Each design is computed.
+use Rattle.std.proofs.Common.{refl}
+use Rattle.std.specs.Fmt.{digits}
+use Rattle.v_syntax.specs.ExpressionTrees.{first_at}
+use Rattle.v_flat.specs.Design.{walk}
+use Rattle.v_flat.specs.Rows.{Is_a_memory_and_an_instance, Is_widths_of_operators, Is_a_rising_range, Is_words_of_a_memory, Is_a_braced_target_with_an_index, Is_nonblocking_updates, Is_casez_with_a_default_in_front, Is_case_of_unknown_digits, Is_loops_inside_loops, Is_contexts_of_sums, Is_values_of_parameters, Is_an_override_before_the_parameters, Is_an_unknown_condition, Is_a_port_in_two_declarations, Is_events_and_labels, Is_casex_and_all_that_is_read, Is_loops_over_words, Is_selects_of_words, Is_overrides_and_parts_of_ports, Is_parameters_of_a_header, Is_the_order_of_ports, Is_drives_side_by_side, Is_statements_of_every_form, Is_two_modules_that_nobody_instantiates, Is_modules_that_instantiate_one_another, Is_only_a_module_inside_itself, Is_a_top_that_is_not_there, Is_an_instance_of_no_module, Is_an_instance_of_no_module_in_a_child, Is_no_module_before_what_it_is_given, Is_a_module_inside_itself, Is_a_module_inside_itself_through_another, Is_a_module_inside_itself_before_its_ports, Is_two_modules_of_a_name, Is_a_parameter_of_a_nets_name, Is_a_port_declared_again_with_other_bounds, Is_a_port_declared_again_as_a_memory, Is_a_subtree_is_walked_at_its_item, Is_an_undeclared_name, Is_an_undeclared_second_name_of_a_for, Is_declarations_before_items, Is_a_lost_width_asks_nothing, Is_the_word_of_an_undeclared_index, Is_the_digit_of_an_undeclared_index, Is_a_port_without_direction, Is_an_input_that_is_a_register, Is_a_port_connected_twice, Is_an_override_of_a_localparam, Is_a_range_of_a_net, Is_a_parameter_with_an_unknown_digit, Is_a_driven_digit_at_an_index, Is_a_parameter_before_its_declaration, Is_a_part_against_a_rising_range, Is_a_part_of_a_memory, Is_two_selects_of_a_vector, Is_a_replication_of_nothing, Is_an_event_on_a_memory, Is_a_port_of_129_digits, Is_a_wide_part_of_a_comparison, Is_the_whole_is_too_wide_before_its_part, Is_a_part_of_201_digits, Is_two_assignments_of_a_net, Is_digits_driven_twice, Is_a_net_twice_in_a_braced_target, Is_an_assignment_of_an_input, Is_an_output_joined_to_a_driven_net, Is_a_net_in_a_procedure, Is_a_register_in_an_assignment, Is_the_variable_of_a_loop_as_a_target, Is_a_for_of_two_names, Is_an_output_joined_to_a_sum, Is_a_loop_of_4097_turns, Is_a_loop_of_4096_turns, Is_a_loop_that_cant_end, Is_a_long_loop_before_what_it_holds, Is_one_signal_too_many, Is_a_memory_of_all_indices, Is_one_signal_too_many_in_a_child, All_rows}
+
+a_memory_and_an_instance : Is_a_memory_and_an_instance
+unfolding walk digits first_at
+a_memory_and_an_instance = refl
+
+widths_of_operators : Is_widths_of_operators
+unfolding walk digits first_at
+widths_of_operators = refl
+
+a_rising_range : Is_a_rising_range
+unfolding walk digits first_at
+a_rising_range = refl
+
+words_of_a_memory : Is_words_of_a_memory
+unfolding walk digits first_at
+words_of_a_memory = refl
+
+a_braced_target_with_an_index : Is_a_braced_target_with_an_index
+unfolding walk digits first_at
+a_braced_target_with_an_index = refl
+
+nonblocking_updates : Is_nonblocking_updates
+unfolding walk digits first_at
+nonblocking_updates = refl
+
+casez_with_a_default_in_front : Is_casez_with_a_default_in_front
+unfolding walk digits first_at
+casez_with_a_default_in_front = refl
+
+case_of_unknown_digits : Is_case_of_unknown_digits
+unfolding walk digits first_at
+case_of_unknown_digits = refl
+
+loops_inside_loops : Is_loops_inside_loops
+unfolding walk digits first_at
+loops_inside_loops = refl
+
+contexts_of_sums : Is_contexts_of_sums
+unfolding walk digits first_at
+contexts_of_sums = refl
+
+values_of_parameters : Is_values_of_parameters
+unfolding walk digits first_at
+values_of_parameters = refl
+
+an_override_before_the_parameters : Is_an_override_before_the_parameters
+unfolding walk digits first_at
+an_override_before_the_parameters = refl
+
+an_unknown_condition : Is_an_unknown_condition
+unfolding walk digits first_at
+an_unknown_condition = refl
+
+a_port_in_two_declarations : Is_a_port_in_two_declarations
+unfolding walk digits first_at
+a_port_in_two_declarations = refl
+
+events_and_labels : Is_events_and_labels
+unfolding walk digits first_at
+events_and_labels = refl
+
+casex_and_all_that_is_read : Is_casex_and_all_that_is_read
+unfolding walk digits first_at
+casex_and_all_that_is_read = refl
+
+loops_over_words : Is_loops_over_words
+unfolding walk digits first_at
+loops_over_words = refl
+
+selects_of_words : Is_selects_of_words
+unfolding walk digits first_at
+selects_of_words = refl
+
+overrides_and_parts_of_ports : Is_overrides_and_parts_of_ports
+unfolding walk digits first_at
+overrides_and_parts_of_ports = refl
+
+parameters_of_a_header : Is_parameters_of_a_header
+unfolding walk digits first_at
+parameters_of_a_header = refl
+
+the_order_of_ports : Is_the_order_of_ports
+unfolding walk digits first_at
+the_order_of_ports = refl
+
+drives_side_by_side : Is_drives_side_by_side
+unfolding walk digits first_at
+drives_side_by_side = refl
+
+statements_of_every_form : Is_statements_of_every_form
+unfolding walk digits first_at
+statements_of_every_form = refl
+
+two_modules_that_nobody_instantiates : Is_two_modules_that_nobody_instantiates
+unfolding walk digits first_at
+two_modules_that_nobody_instantiates = refl
+
+modules_that_instantiate_one_another : Is_modules_that_instantiate_one_another
+unfolding walk digits first_at
+modules_that_instantiate_one_another = refl
+
+only_a_module_inside_itself : Is_only_a_module_inside_itself
+unfolding walk digits first_at
+only_a_module_inside_itself = refl
+
+a_top_that_is_not_there : Is_a_top_that_is_not_there
+unfolding walk digits first_at
+a_top_that_is_not_there = refl
+
+an_instance_of_no_module : Is_an_instance_of_no_module
+unfolding walk digits first_at
+an_instance_of_no_module = refl
+
+an_instance_of_no_module_in_a_child : Is_an_instance_of_no_module_in_a_child
+unfolding walk digits first_at
+an_instance_of_no_module_in_a_child = refl
+
+no_module_before_what_it_is_given : Is_no_module_before_what_it_is_given
+unfolding walk digits first_at
+no_module_before_what_it_is_given = refl
+
+a_module_inside_itself : Is_a_module_inside_itself
+unfolding walk digits first_at
+a_module_inside_itself = refl
+
+a_module_inside_itself_through_another : Is_a_module_inside_itself_through_another
+unfolding walk digits first_at
+a_module_inside_itself_through_another = refl
+
+a_module_inside_itself_before_its_ports : Is_a_module_inside_itself_before_its_ports
+unfolding walk digits first_at
+a_module_inside_itself_before_its_ports = refl
+
+two_modules_of_a_name : Is_two_modules_of_a_name
+unfolding walk digits first_at
+two_modules_of_a_name = refl
+
+a_parameter_of_a_nets_name : Is_a_parameter_of_a_nets_name
+unfolding walk digits first_at
+a_parameter_of_a_nets_name = refl
+
+a_port_declared_again_with_other_bounds : Is_a_port_declared_again_with_other_bounds
+unfolding walk digits first_at
+a_port_declared_again_with_other_bounds = refl
+
+a_port_declared_again_as_a_memory : Is_a_port_declared_again_as_a_memory
+unfolding walk digits first_at
+a_port_declared_again_as_a_memory = refl
+
+a_subtree_is_walked_at_its_item : Is_a_subtree_is_walked_at_its_item
+unfolding walk digits first_at
+a_subtree_is_walked_at_its_item = refl
+
+an_undeclared_name : Is_an_undeclared_name
+unfolding walk digits first_at
+an_undeclared_name = refl
+
+an_undeclared_second_name_of_a_for : Is_an_undeclared_second_name_of_a_for
+unfolding walk digits first_at
+an_undeclared_second_name_of_a_for = refl
+
+declarations_before_items : Is_declarations_before_items
+unfolding walk digits first_at
+declarations_before_items = refl
+
+a_lost_width_asks_nothing : Is_a_lost_width_asks_nothing
+unfolding walk digits first_at
+a_lost_width_asks_nothing = refl
+
+the_word_of_an_undeclared_index : Is_the_word_of_an_undeclared_index
+unfolding walk digits first_at
+the_word_of_an_undeclared_index = refl
+
+the_digit_of_an_undeclared_index : Is_the_digit_of_an_undeclared_index
+unfolding walk digits first_at
+the_digit_of_an_undeclared_index = refl
+
+a_port_without_direction : Is_a_port_without_direction
+unfolding walk digits first_at
+a_port_without_direction = refl
+
+an_input_that_is_a_register : Is_an_input_that_is_a_register
+unfolding walk digits first_at
+an_input_that_is_a_register = refl
+
+a_port_connected_twice : Is_a_port_connected_twice
+unfolding walk digits first_at
+a_port_connected_twice = refl
+
+an_override_of_a_localparam : Is_an_override_of_a_localparam
+unfolding walk digits first_at
+an_override_of_a_localparam = refl
+
+a_range_of_a_net : Is_a_range_of_a_net
+unfolding walk digits first_at
+a_range_of_a_net = refl
+
+a_parameter_with_an_unknown_digit : Is_a_parameter_with_an_unknown_digit
+unfolding walk digits first_at
+a_parameter_with_an_unknown_digit = refl
+
+a_driven_digit_at_an_index : Is_a_driven_digit_at_an_index
+unfolding walk digits first_at
+a_driven_digit_at_an_index = refl
+
+a_parameter_before_its_declaration : Is_a_parameter_before_its_declaration
+unfolding walk digits first_at
+a_parameter_before_its_declaration = refl
+
+a_part_against_a_rising_range : Is_a_part_against_a_rising_range
+unfolding walk digits first_at
+a_part_against_a_rising_range = refl
+
+a_part_of_a_memory : Is_a_part_of_a_memory
+unfolding walk digits first_at
+a_part_of_a_memory = refl
+
+two_selects_of_a_vector : Is_two_selects_of_a_vector
+unfolding walk digits first_at
+two_selects_of_a_vector = refl
+
+a_replication_of_nothing : Is_a_replication_of_nothing
+unfolding walk digits first_at
+a_replication_of_nothing = refl
+
+an_event_on_a_memory : Is_an_event_on_a_memory
+unfolding walk digits first_at
+an_event_on_a_memory = refl
+
+a_port_of_129_digits : Is_a_port_of_129_digits
+unfolding walk digits first_at
+a_port_of_129_digits = refl
+
+a_wide_part_of_a_comparison : Is_a_wide_part_of_a_comparison
+unfolding walk digits first_at
+a_wide_part_of_a_comparison = refl
+
+the_whole_is_too_wide_before_its_part : Is_the_whole_is_too_wide_before_its_part
+unfolding walk digits first_at
+the_whole_is_too_wide_before_its_part = refl
+
+a_part_of_201_digits : Is_a_part_of_201_digits
+unfolding walk digits first_at
+a_part_of_201_digits = refl
+
+two_assignments_of_a_net : Is_two_assignments_of_a_net
+unfolding walk digits first_at
+two_assignments_of_a_net = refl
+
+digits_driven_twice : Is_digits_driven_twice
+unfolding walk digits first_at
+digits_driven_twice = refl
+
+a_net_twice_in_a_braced_target : Is_a_net_twice_in_a_braced_target
+unfolding walk digits first_at
+a_net_twice_in_a_braced_target = refl
+
+an_assignment_of_an_input : Is_an_assignment_of_an_input
+unfolding walk digits first_at
+an_assignment_of_an_input = refl
+
+an_output_joined_to_a_driven_net : Is_an_output_joined_to_a_driven_net
+unfolding walk digits first_at
+an_output_joined_to_a_driven_net = refl
+
+a_net_in_a_procedure : Is_a_net_in_a_procedure
+unfolding walk digits first_at
+a_net_in_a_procedure = refl
+
+a_register_in_an_assignment : Is_a_register_in_an_assignment
+unfolding walk digits first_at
+a_register_in_an_assignment = refl
+
+the_variable_of_a_loop_as_a_target : Is_the_variable_of_a_loop_as_a_target
+unfolding walk digits first_at
+the_variable_of_a_loop_as_a_target = refl
+
+a_for_of_two_names : Is_a_for_of_two_names
+unfolding walk digits first_at
+a_for_of_two_names = refl
+
+an_output_joined_to_a_sum : Is_an_output_joined_to_a_sum
+unfolding walk digits first_at
+an_output_joined_to_a_sum = refl
+
+a_loop_of_4097_turns : Is_a_loop_of_4097_turns
+unfolding walk digits first_at
+a_loop_of_4097_turns = refl
+
+a_loop_of_4096_turns : Is_a_loop_of_4096_turns
+unfolding walk digits first_at
+a_loop_of_4096_turns = refl
+
+a_loop_that_cant_end : Is_a_loop_that_cant_end
+unfolding walk digits first_at
+a_loop_that_cant_end = refl
+
+a_long_loop_before_what_it_holds : Is_a_long_loop_before_what_it_holds
+unfolding walk digits first_at
+a_long_loop_before_what_it_holds = refl
+
+one_signal_too_many : Is_one_signal_too_many
+unfolding walk digits first_at
+one_signal_too_many = refl
+
+a_memory_of_all_indices : Is_a_memory_of_all_indices
+unfolding walk digits first_at
+a_memory_of_all_indices = refl
+
+one_signal_too_many_in_a_child : Is_one_signal_too_many_in_a_child
+unfolding walk digits first_at
+one_signal_too_many_in_a_child = refl
+
+pub all_rows : All_rows
+all_rows = (a_memory_and_an_instance, widths_of_operators, a_rising_range, words_of_a_memory, a_braced_target_with_an_index, nonblocking_updates, casez_with_a_default_in_front, case_of_unknown_digits, loops_inside_loops, contexts_of_sums, values_of_parameters, an_override_before_the_parameters, an_unknown_condition, a_port_in_two_declarations, events_and_labels, casex_and_all_that_is_read, loops_over_words, selects_of_words, overrides_and_parts_of_ports, parameters_of_a_header, the_order_of_ports, drives_side_by_side, statements_of_every_form, two_modules_that_nobody_instantiates, modules_that_instantiate_one_another, only_a_module_inside_itself, a_top_that_is_not_there, an_instance_of_no_module, an_instance_of_no_module_in_a_child, no_module_before_what_it_is_given, a_module_inside_itself, a_module_inside_itself_through_another, a_module_inside_itself_before_its_ports, two_modules_of_a_name, a_parameter_of_a_nets_name, a_port_declared_again_with_other_bounds, a_port_declared_again_as_a_memory, a_subtree_is_walked_at_its_item, an_undeclared_name, an_undeclared_second_name_of_a_for, declarations_before_items, a_lost_width_asks_nothing, the_word_of_an_undeclared_index, the_digit_of_an_undeclared_index, a_port_without_direction, an_input_that_is_a_register, a_port_connected_twice, an_override_of_a_localparam, a_range_of_a_net, a_parameter_with_an_unknown_digit, a_driven_digit_at_an_index, a_parameter_before_its_declaration, a_part_against_a_rising_range, a_part_of_a_memory, two_selects_of_a_vector, a_replication_of_nothing, an_event_on_a_memory, a_port_of_129_digits, a_wide_part_of_a_comparison, the_whole_is_too_wide_before_its_part, a_part_of_201_digits, two_assignments_of_a_net, digits_driven_twice, a_net_twice_in_a_braced_target, an_assignment_of_an_input, an_output_joined_to_a_driven_net, a_net_in_a_procedure, a_register_in_an_assignment, the_variable_of_a_loop_as_a_target, a_for_of_two_names, an_output_joined_to_a_sum, a_loop_of_4097_turns, a_loop_of_4096_turns, a_loop_that_cant_end, a_long_loop_before_what_it_holds, one_signal_too_many, a_memory_of_all_indices, one_signal_too_many_in_a_child)

@@ -1,0 +1,12 @@
+pub mod Objects
+pub mod Expressions
+pub mod Checks
+pub mod Targets
+pub mod Statements
+pub mod Headers
+pub mod Declarations
+pub mod Paths
+pub mod Design
+pub mod Laws
+pub mod Shown
+pub mod Rows
