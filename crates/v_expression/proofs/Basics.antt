@@ -13,67 +13,11 @@ use Rattle.v_syntax.specs.SameMarks.{mark_number, same_mark}
 use Rattle.v_syntax.specs.ExpressionTrees.{Tree, Number, Named, Bracketed, Unary, Binary, Conditional, Concatenation, Replication, Trees, none, more, SelectsTree, Whole, One, OfWord, SelectTree, Bit, Part, IndexedPart, TargetTree, NamedTarget, JoinedTarget, TargetTrees, no_target, more_targets, height, selects_height, target_height}
 use Rattle.v_syntax.specs.ExpressionOperators.{unary_operator, binary_operator, level_of}
 use Rattle.v_syntax.specs.ExpressionSpans.{IsMark, Spans, SelectsSpan, SelectSpans, AllSpan, OthersSpan, TargetSpans, TargetsSpan, OtherTargetsSpan}
-use Rattle.v_expression.specs.Stops.{is_mark, after, behind, syntax_at, deep_at}
+use Rattle.v_phrase.specs.Stops.{is_mark, after, behind, syntax_at, deep_at}
 use Rattle.v_expression.specs.Follows.{level_or_zero}
 use Rattle.v_expression.specs.Reading.{Readers, down_from, prefix_of, infix_of, from_level}
 
 -- ---- marks
-
-numbered : (m : Mark) → slice_get marks (mark_number m) ≡ Some m
-numbered mark.CaseEqual = refl
-numbered _ = refl
-
-some_same : {A : Type 0} (x y : A) → Some x ≡ Some y → x ≡ y
-some_same x y h = cc
-
-same_mark_is : (m k : Mark) → same_mark m k ≡ true → m ≡ k
-same_mark_is m k h =
-    let e : mark_number m ≡ mark_number k = grind arith in
-    some_same m k (sym (numbered m) ∙ ap (slice_get marks) e ∙ numbered k)
-
-is_mark_is : (m : Mark) (t : Token) → is_mark m t ≡ true → t ≡ token.Mark m
-is_mark_is m (token.Mark k) h = ap token.Mark (same_mark_is k m h)
-is_mark_is m (token.Name n) h = cc
-is_mark_is m (token.Keyword w) h = cc
-is_mark_is m (token.Reserved w) h = cc
-is_mark_is m (token.SystemTask t) h = cc
-is_mark_is m (token.Number ds) h = cc
-is_mark_is m (token.Text t) h = cc
-
--- the mark stands here, or it doesn't
-pub after_case : (m : Mark) (ts : List Token) → ((us : List Token) × (ts ≡ token.Mark m ∷ us) × (after m ts ≡ Ok us)) ⊎ (after m ts ≡ syntax_at ts)
-unfolding after
-after_case m [] = inr refl
-after_case m (t ∷ ts) = go (is_mark m t) refl
-  where
-    go : (b : Bool) → is_mark m t ≡ b → ((us : List Token) × (t ∷ ts ≡ token.Mark m ∷ us) × ((if is_mark m t then Ok ts else syntax_at (t ∷ ts)) ≡ Ok us)) ⊎ ((if is_mark m t then Ok ts else syntax_at (t ∷ ts)) ≡ syntax_at (t ∷ ts))
-    go true h = inl (ts, ap (λ z. z ∷ ts) (is_mark_is m t h), rw h refl)
-    go false h = inr (rw h refl)
-
-pub behind_case : (m : Mark) (ts : List Token) → ((us : List Token) × (ts ≡ token.Mark m ∷ us) × (behind m ts ≡ Some us)) ⊎ (behind m ts ≡ None)
-unfolding behind
-behind_case m [] = inr refl
-behind_case m (t ∷ ts) = go (is_mark m t) refl
-  where
-    go : (b : Bool) → is_mark m t ≡ b → ((us : List Token) × (t ∷ ts ≡ token.Mark m ∷ us) × ((if is_mark m t then Some ts else None) ≡ Some us)) ⊎ ((if is_mark m t then Some ts else None) ≡ None)
-    go true h = inl (ts, ap (λ z. z ∷ ts) (is_mark_is m t h), rw h refl)
-    go false h = inr (rw h refl)
-
-same_mark_self : (m : Mark) → same_mark m m ≡ true
-same_mark_self m = grind arith
-
-pub after_mark : (m : Mark) (ts us : List Token) → IsMark m ts us → after m ts ≡ Ok us
-unfolding after
-after_mark m ts us h = rw (h, same_mark_self m) refl
-
-pub behind_mark : (m : Mark) (ts us : List Token) → IsMark m ts us → behind m ts ≡ Some us
-unfolding behind
-behind_mark m ts us h = rw (h, same_mark_self m) refl
-
--- another mark
-pub behind_other : (m k : Mark) (ts us : List Token) → IsMark m ts us → same_mark m k ≡ false → behind k ts ≡ None
-unfolding behind
-behind_other m k ts us h e = rw (h, e) refl
 
 pub infix_mark : (t : Token) (op : BinaryOperator) → infix_of t ≡ Some op → (m : Mark) × (t ≡ token.Mark m) × (binary_operator m ≡ Some op)
 infix_mark (token.Mark m) op h = (m, refl, h)
@@ -121,9 +65,6 @@ from_level_some min op h = grind arith
 
 pub from_level_none : (min : ℕ) (op : BinaryOperator) → level_of op < min → from_level min (Some op) ≡ None
 from_level_none min op h = grind arith
-
-pub at_most_or_more : (a b : ℕ) → (a ≤ b) ⊎ (b < a)
-at_most_or_more a b = grind arith
 
 -- ---- heights
 

@@ -8,24 +8,11 @@ use Rattle.v_syntax.specs.declared.expression.BinaryOperator.{BinaryOperator}
 use Rattle.v_syntax.specs.ExpressionTrees.{Tree, Bracketed, Replication, SelectTree, Bit, Part, IndexedPart, TargetTree, height}
 use Rattle.v_syntax.specs.ExpressionOperators.{level_of}
 use Rattle.v_syntax.specs.ExpressionSpans.{place}
-use Rattle.v_expression.specs.Stops.{Stop, Syntax, TooDeep, ◌>>=◌, after, behind}
+use Rattle.v_phrase.specs.Stops.{Stop, Syntax, TooDeep, ◌>>=◌, after, behind}
+use Rattle.v_phrase.proofs.Extends.{Extends, same, extends_then}
 use Rattle.v_expression.specs.Reading.{Readers, down, down_from, last_of, range_by, range_of, bound_by, bound_of, select_of, further_by, further_of, selects_by, selects_of, named_of, bracketed_of, others_by, others_of, parts_of, replication_of, concatenation_of, inside_by, inside_of, braced_of, primary_of, prefix_of, infix_of, prefixed_of, unary_by, unary_of, from_level, operand_of, step_by, steps_of, climb_of, branches_of, choose_by, choose_of, whole_of, other_targets_by, other_targets_of, target_parts_of, joined_of, named_target_of, any_target_of, below}
-use Rattle.v_expression.proofs.Basics.{at_most_or_more, height_positive, down_fits, down_high}
-
-abbrev pub Extends : {A : Type 0} → Result A Stop → Result A Stop → Type 0
-Extends (Err (TooDeep n)) r = Unit {0}
-Extends (Err (Syntax n)) r = r ≡ Err (Syntax n)
-Extends (Ok x) r = r ≡ Ok x
-
-pub same : {A : Type 0} → (m : Result A Stop) → Extends m m
-same (Ok x) = refl
-same (Err (Syntax n)) = refl
-same (Err (TooDeep n)) = tt
-
-pub extends_then : {A B : Type 0} → (f g : A → Result B Stop) → ((x : A) → Extends (f x) (g x)) → (m p : Result A Stop) → Extends m p → Extends (m >>= f) (p >>= g)
-extends_then f g next (Ok x) p e = rw e (next x)
-extends_then f g next (Err (Syntax n)) p e = rw e
-extends_then f g next (Err (TooDeep n)) p e = tt
+use Rattle.v_phrase.proofs.Suffixes.{at_most_or_more}
+use Rattle.v_expression.proofs.Basics.{height_positive, down_fits, down_high}
 
 pub record AreKept (sub sup : Readers) : Type 0 where
   pub expression : (ts : List Token) → Extends (sub.expression ts) (sup.expression ts)

@@ -11,3 +11,5 @@ pub mod Far
 pub mod Shorter
 pub mod Laws
 pub mod Starts
+pub mod Levels
+pub mod Phrases

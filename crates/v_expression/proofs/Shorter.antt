@@ -8,49 +8,14 @@ use Rattle.v_syntax.specs.ExpressionOperators.{level_of, level}
 use Rattle.v_syntax.specs.ExpressionSpans.{IsMark, place, Spans, SelectsSpan, SelectSpans, AllSpan, OthersSpan, TargetSpans, TargetsSpan, OtherTargetsSpan}
 use Rattle.v_syntax.specs.ExpressionFronts.{ItemsSpan, TargetItemsSpan, WordSpans, NoWord, Word, BoundSpans, NoBound, Left, Base, Begins, Missing, Entire, CutFirst, CutBracketed, CutUnary, CutBinary, CutConditional, CutChoice, CutSelect, CutConcatenation, CutReplication, OpenReplication, TargetBegins, MissingTarget, EntireTarget, CutTargetSelect, CutJoinedTarget}
 use Rattle.std.proofs.lemmas.List.{length-append}
-use Rattle.v_expression.proofs.Basics.{at_most_or_more, height_positive, target_height_positive, level_from_2, level_below_12}
+use Rattle.v_phrase.proofs.Suffixes.{at_most_or_more}
+use Rattle.v_expression.proofs.Basics.{height_positive, target_height_positive, level_from_2, level_below_12}
+use Rattle.v_phrase.proofs.Suffixes.{IsSuffix, suffix_cons, suffix_self, suffix_trans, suffix_within, suffix_same, first_cut}
 use Rattle.v_expression.proofs.Claims.{SelectsBegin, EntireSelects, CutSelects, SelectBegins, NoSelect, SomeSelect, OthersBegin, NoOther, SomeOther, PartsBegin, OtherTargetsBegin, NoOtherTarget, SomeOtherTarget, TargetPartsBegin, bound_more, begins_more, begins_looser, target_begins_more}
-
--- ---- what is left of a text
-
-abbrev pub IsSuffix : List Token → List Token → Type 0
-IsSuffix mid here = (xs : List Token) × (here ≡ xs ++ mid)
 
 abbrev pub either : {A B C : Type 0} → A ⊎ B → (A → C) → (B → C) → C
 either (inl a) f g = f a
 either (inr b) f g = g b
-
-pub suffix_self : (ts : List Token) → IsSuffix ts ts
-suffix_self ts = ([], refl)
-
-pub suffix_cons : (t : Token) (here us mid : List Token) → here ≡ t ∷ us → IsSuffix mid us → IsSuffix mid here
-suffix_cons t here us mid p (xs, q) = (t ∷ xs, p ∙ ap (λ z. t ∷ z) q)
-
-pub suffix_trans : (a b c : List Token) → IsSuffix a b → IsSuffix b c → IsSuffix a c
-suffix_trans a b c (xs, p) (ys, q) = (ys ++ xs, q ∙ ap (λ z. ys ++ z) p ∙ sym (append_assoc ys xs a))
-
-cons_parts : (x y : Token) (xs ys : List Token) → x ∷ xs ≡ y ∷ ys → xs ≡ ys
-cons_parts x y xs ys h = cc
-
--- the mark at the front, or something behind it
-pub first_cut : (t : Token) (here us mid : List Token) → here ≡ t ∷ us → IsSuffix mid here → (here ≡ mid) ⊎ IsSuffix mid us
-first_cut t here us mid p ([], q) = inl q
-first_cut t here us mid p (x ∷ xs, q) = inr (xs, cons_parts t x us (xs ++ mid) (sym p ∙ q))
-
-append_long : (xs ys : List Token) → length ys ≤ length (xs ++ ys)
-append_long xs ys = omega (arith, length-append xs ys)
-
-within : (xs ys us mid : List Token) → xs ++ us ≡ ys ++ mid → length mid ≤ length us → IsSuffix mid us
-within [] ys us mid e h = (ys, e)
-within (x ∷ xs) [] us mid e h = absurd (let l : suc (length (xs ++ us)) ≡ length mid = ap length e in omega (arith, append_long xs us))
-within (x ∷ xs) (y ∷ ys) us mid e h = within xs ys us mid (cons_parts x y (xs ++ us) (ys ++ mid) e) h
-
-pub suffix_within : (here us mid : List Token) → IsSuffix us here → IsSuffix mid here → length mid ≤ length us → IsSuffix mid us
-suffix_within here us mid (xs, p) (ys, q) h = within xs ys us mid (sym p ∙ q) h
-
-pub suffix_same : (rest mid : List Token) → IsSuffix mid rest → length rest ≤ length mid → rest ≡ mid
-suffix_same rest mid ([], p) h = p
-suffix_same rest mid (x ∷ xs, p) h = absurd (let l : length rest ≡ suc (length (xs ++ mid)) = ap length p in omega (arith, append_long xs mid))
 
 -- before a mark, or behind it
 pub behind_cut : (t : Token) (here us vs mid : List Token) → IsSuffix us here → us ≡ t ∷ vs → IsSuffix mid here → (length us ≤ length mid) ⊎ IsSuffix mid vs

@@ -1,7 +1,5 @@
-pub mod Stops
 pub mod Reading
 pub mod Measures
 pub mod Lists
 pub mod Follows
-pub mod Refusals
 pub mod Starts

@@ -1,7 +1,7 @@
 -- One list of trees behind another.
 use Rattle.std.specs.Prelude.{Ok}
 use Rattle.v_syntax.specs.ExpressionTrees.{Tree, Trees, none, more, TargetTree, TargetTrees, no_target, more_targets}
-use Rattle.v_expression.specs.Stops.{Answer, ◌>>=◌}
+use Rattle.v_phrase.specs.Stops.{Answer, ◌>>=◌}
 
 abbrev pub joined : Trees → Trees → Trees
 joined none es = es

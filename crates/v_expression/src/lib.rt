@@ -1,18 +1,14 @@
 //! Reading Verilog expressions and the targets of assignments.
+//!
+//! [`expression`] reads an expression at the front of some tokens, and [`target`] the target of an assignment. Each keeps the
+//! height of what it read beside it, so that no tree is measured twice.
 #![tactic(auto)]
 
-mod front;
 mod measured;
 mod operators;
 mod primaries;
-mod read_error;
 mod reader;
 mod selects;
 mod targets;
 
-pub use front::{after, behind, next, place, syntax_error, too_deep};
-pub use read_error::ReadError;
-pub use reader::{expression, one_expression, one_target, target};
-
-#[cfg(test)]
-mod tests;
+pub use reader::{ExpressionPhrase, expression, one_expression, one_target, target};

@@ -3,16 +3,15 @@
 ghost use Rattle.std.specs.Prelude.{◌≡◌, ◌+◌, ◌<◌, ◌≤◌, length, IfOk, Option};
 ghost use Rattle.v_syntax.specs.ExpressionTrees.{view, height};
 ghost use Rattle.v_syntax.specs.ExpressionOperators;
-ghost use Rattle.v_expression.specs.Stops.{Gives};
+ghost use Rattle.v_phrase.specs.Stops.{Gives};
 ghost use Rattle.v_expression.specs.Reading;
 ghost use Rattle.v_expression.specs.Reading.{below, layer, prefix_of, infix_of, from_level, whole_of, choose_of, branches_of, climb_of, steps_of, operand_of, unary_of, prefixed_of};
 ghost use Rattle.v_expression.specs.Measures.{IsMeasured};
 
-use crate::front::{after, behind, next, place, syntax_error, too_deep};
 use crate::measured::{Measured, binary, conditional, unary};
 use crate::primaries::primary_at;
-use crate::read_error::ReadError;
 use std::alloc::Global;
+use v_phrase::{ReadError, after, behind, next, place, syntax_error, too_deep};
 use v_syntax::{BinaryOperator, Mark, Token, UnaryOperator};
 
 /// How many levels are left below a node here.
@@ -170,7 +169,7 @@ fn operand_at<'a>(
     ensures height { IfOk result (λ x. IsMeasured (room + 1) x.0) }
 {
     let below = down_from(total, room, &left, here)?;
-    let (right, rest) = climb_at(alloc, total, below, level(operator) + 1, behind)?;
+    let (right, rest) = climb_at(alloc, total, below, level_behind(operator), behind)?;
     Ok((binary(alloc, operator, left, right)?, rest))
 }
 
@@ -250,6 +249,13 @@ fn level(operator: BinaryOperator) -> usize
         BinaryOperator::Add | BinaryOperator::Subtract => 10,
         BinaryOperator::Multiply | BinaryOperator::Divide | BinaryOperator::Remainder => 11,
     }
+}
+
+/// The least level of what stands to the right of an operator: those of one level group to the left.
+fn level_behind(operator: BinaryOperator) -> usize
+    ensures is { result ≡ ExpressionOperators.level_of operator + 1 }
+{
+    level(operator) + 1
 }
 
 /// The operator that a token before an operand is.

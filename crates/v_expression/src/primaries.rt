@@ -2,20 +2,19 @@
 
 ghost use Rattle.std.specs.Prelude.{◌≡◌, ◌+◌, ◌<◌, ◌≤◌, IfOk};
 ghost use Rattle.v_syntax.specs.ExpressionTrees.{view, views, height, trees_height};
-ghost use Rattle.v_expression.specs.Stops.{Gives};
+ghost use Rattle.v_phrase.specs.Stops.{Gives};
 ghost use Rattle.v_expression.specs.Reading;
 ghost use Rattle.v_expression.specs.Reading.{below, layer, primary_of, named_of, bracketed_of, braced_of, inside_of, replication_of, concatenation_of, parts_of};
 ghost use Rattle.v_expression.specs.Measures.{IsMeasured, IsMeasuredParts};
 
-use crate::front::{after, behind, next, place, syntax_error};
 use crate::measured::{
     Measured, MeasuredParts, bracketed, concatenation, named, number, replication,
 };
 use crate::operators::{down, expression_at};
-use crate::read_error::ReadError;
 use crate::selects::selects_at;
 use port_io::Name;
 use std::alloc::Global;
+use v_phrase::{ReadError, after, behind, next, place, syntax_error};
 use v_syntax::{Mark, Token};
 
 /// A primary with so many levels below its own.

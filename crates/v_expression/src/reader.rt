@@ -5,15 +5,15 @@ ghost use Rattle.v_syntax.specs.declared.token.Token.{Token};
 ghost use Rattle.v_syntax.specs.ExpressionTrees.{Tree, TargetTree, view, view_target, height, target_height};
 ghost use Rattle.v_syntax.specs.ExpressionSpans.{Spans, TargetSpans};
 ghost use Rattle.v_syntax.specs.ExpressionFronts.{Begins, TargetBegins};
-ghost use Rattle.v_expression.specs.Stops.{Gives};
+ghost use Rattle.v_phrase.specs.Stops.{Gives};
 ghost use Rattle.v_expression.specs.Reading.{expression_of, target_of};
 ghost use Rattle.v_expression.specs.Follows.{follow};
-ghost use Rattle.v_expression.specs.Refusals.{IsRefusal, IsRead};
+ghost use Rattle.v_phrase.specs.Refusals.{IsRefusal, IsRead};
 
 use crate::operators::expression_at;
-use crate::read_error::ReadError;
 use crate::targets::target_at;
 use std::alloc::Global;
+use v_phrase::{Element, ReadError};
 use v_syntax::{Expression, Target, Token};
 
 /// Reads an expression (IEEE 1364-2005, annex A.8.3) at the front of the tokens, which are the last of a text of `total`
@@ -36,6 +36,29 @@ pub fn expression(
     read_expression(alloc, total, room, tokens)
 }
 
+/// The phrase [`expression`].
+pub enum ExpressionPhrase {}
+
+impl Element for ExpressionPhrase {
+    type Value = Expression;
+
+    ghost Tree = { Tree };
+
+    ghost tree = { view };
+
+    ghost reading = { expression_of };
+
+    fn read<'a>(
+        alloc: Global,
+        total: usize,
+        room: usize,
+        tokens: &'a [Token],
+    ) -> Result<(Expression, &'a [Token]), ReadError> {
+        read_expression(alloc, total, room, tokens)
+    }
+}
+
+/// The same, by what its reader gives alone.
 fn read_expression(
     alloc: Global,
     total: usize,

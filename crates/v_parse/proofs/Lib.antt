@@ -1,3 +1,8 @@
+pub mod ItemSteps
+pub mod ItemRules
+pub mod ItemLaws
+pub mod ItemCallers
+pub mod ItemLowest
 pub mod ModuleLaws
 pub mod Lowest
 pub mod SourceLaws

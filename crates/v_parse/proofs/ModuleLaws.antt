@@ -10,26 +10,27 @@ use Rattle.v_syntax.specs.Statements.{identifier}
 use Rattle.v_syntax.specs.Items.{item, value}
 use Rattle.v_syntax.specs.Sources.{headed, with_head, module_tree}
 use Rattle.v_syntax.specs.Sources as rule
-use Rattle.v_phrase.specs.Readers.{starts_mark, starts_word}
+use Rattle.v_phrase.specs.Readers.{starts_mark, starts_word, identifier_of}
+use Rattle.v_phrase.specs.Readers as read
 use Rattle.v_phrase.specs.Kinds.{Kinds, any_kind, a_mark, a_word, a_name, either_of, without, Tells}
 use Rattle.v_phrase.proofs.KindLaws.{tells_mark, tells_word}
 use Rattle.v_phrase.proofs.Laws.{Laws}
 use Rattle.v_phrase.proofs.Tokens.{nothing_laws, mark_laws, word_laws, tells_meaning}
-use Rattle.v_phrase.proofs.Meanings.{of_direction, direction_tells}
+use Rattle.v_phrase.proofs.Meanings.{of_direction, direction_tells, identifier_laws}
 use Rattle.v_phrase.proofs.Both.{both_laws, apply_laws, keep_laws, skip_laws}
 use Rattle.v_phrase.proofs.Maybe.{maybe_laws}
 use Rattle.v_phrase.proofs.Many.{many_laws}
 use Rattle.v_phrase.proofs.Lists.{ends_list}
 use Rattle.v_phrase.proofs.Either.{either_second}
 use Rattle.v_phrase.proofs.Branches.{no_else}
-use Rattle.v_phrase.proofs.Change.{narrow}
-use Rattle.v_phrase.proofs.Expressions.{ends_expression}
-use Rattle.v_statement.proofs.Parts.{identifier_laws}
-use Rattle.v_item.specs.Firsts.{starts_item, starts_direction}
-use Rattle.v_item.proofs.Rules.{maybe_range_laws, value_laws, port_head_laws, identifiers_laws}
-use Rattle.v_item.proofs.ItemLaws.{of_item, tells_item, item_laws, item_missing}
+use Rattle.v_phrase.proofs.Change.{narrow, reread}
+use Rattle.v_expression.proofs.Phrases.{ends_expression}
+use Rattle.v_parse.specs.ItemFirsts.{starts_item, starts_direction}
+use Rattle.v_parse.proofs.ItemRules.{maybe_range_laws, value_laws, port_head_laws, identifiers_laws}
+use Rattle.v_parse.proofs.ItemLaws.{of_item, tells_item, item_laws, item_missing}
+use Rattle.v_parse.proofs.ItemSteps.{module_steps}
 use Rattle.v_parse.specs.Firsts.{starts_ports}
-use Rattle.v_parse.specs.Reading.{parameter_head_of, first_parameter_of, next_parameter_of, parameter_list_of, header_parameters_of, first_port_of, next_port_of, declared_ports_of, ports_of, port_list_of, items_of, module_of, modules_of}
+use Rattle.v_parse.specs.Reading.{parameter_head_of, first_parameter_of, next_parameter_of, parameter_list_of, header_parameters_of, first_port_of, next_port_of, declared_ports_of, ports_of, port_list_of, items_of, module_name_of, module_body_of, module_of, modules_of}
 
 module _ (end n : ℕ) where
   identifier_missing : (identifier end).missing
@@ -119,11 +120,13 @@ module _ (end n : ℕ) where
   items_laws = many_laws n starts_item tells_item (item_laws end n) (record { ready = inl (item_missing end n) }) refl
 
   module_laws : Laws n (λ m. rule.module_definition end (suc m)) (a_word word.Module) false any_kind (λ m. module_of end m)
-  unfolding module_of
+  unfolding module_name_of module_body_of module_of
   module_laws =
-      keep_laws n (apply_laws n (keep_laws n (apply_laws n (apply_laws n (apply_laws n (keep_laws n (nothing_laws module_tree n) (word_laws word.Module n) refl) (identifier_laws end n) refl)
+      reread (keep_laws n (apply_laws n (keep_laws n (apply_laws n (apply_laws n (apply_laws n (keep_laws n (nothing_laws module_tree n) (word_laws word.Module n) refl) (identifier_laws end n) refl)
       (maybe_laws n (starts_mark mark.Hash) (tells_mark mark.Hash) header_parameters_laws (record { ready = inl (((tt, tt), ((((tt, (tt, (tt, tt))), identifier_missing), value_missing), tt)), tt) })) refl)
-      (maybe_laws n (starts_mark mark.OpenParenthesis) (tells_mark mark.OpenParenthesis) port_list_laws (record { ready = inl ((tt, tt), tt) })) refl) (mark_laws mark.Semicolon n) refl) items_laws refl) (word_laws word.EndModule n) refl
+      (maybe_laws n (starts_mark mark.OpenParenthesis) (tells_mark mark.OpenParenthesis) port_list_laws (record { ready = inl ((tt, tt), tt) })) refl) (mark_laws mark.Semicolon n) refl) items_laws refl) (word_laws word.EndModule n) refl) (λ m. module_of end m)
+      (λ m here. module_steps (read.word_of word.Module) (identifier_of end) (read.maybe (starts_mark mark.Hash) (header_parameters_of end m)) (read.maybe (starts_mark mark.OpenParenthesis) (port_list_of end m)) (read.sign mark.Semicolon)
+      (items_of end m) (read.word_of word.EndModule) here)
 
   -- the modules of a text
   pub source_laws : Laws n (λ m. rule.source end (suc m)) (a_word word.Module) true (without any_kind (a_word word.Module)) (λ m. modules_of end m)

@@ -4,7 +4,7 @@ use Rattle.std.specs.Prelude.{IfOk, IfErr}
 use Rattle.v_syntax.specs.declared.token.Token.{Token}
 use Rattle.v_syntax.specs.SourceTrees.{ModuleTree}
 use Rattle.v_syntax.specs.Refusal.{IsSource, IsSyntaxAt, IsTooDeepAt, height_limit}
-use Rattle.v_expression.specs.Stops.{Stop, Syntax, TooDeep}
+use Rattle.v_phrase.specs.Stops.{Stop, Syntax, TooDeep}
 use Rattle.v_parse.specs.declared.fault.ParseFault.{ParseFault}
 use Rattle.v_parse.specs.declared.fault.ParseFault.TheVariants as faults
 use Rattle.v_parse.specs.Reading.{source_of}

@@ -6,7 +6,7 @@ use Rattle.v_syntax.specs.Phrases.{Phrase}
 use Rattle.v_syntax.specs.SourceTrees.{ModuleTree}
 use Rattle.v_syntax.specs.Sources.{source}
 use Rattle.v_syntax.specs.Refusal.{IsSource, Reaches, IsRefused, IsSyntaxAt, IsTooDeepAt}
-use Rattle.v_expression.specs.Stops.{Stop, Syntax, TooDeep}
+use Rattle.v_phrase.specs.Stops.{Stop, Syntax, TooDeep}
 use Rattle.v_phrase.specs.Readers.{to_the_end}
 use Rattle.v_phrase.specs.Kinds.{any_kind, a_word, without}
 use Rattle.v_phrase.proofs.Laws.{left, Laws}

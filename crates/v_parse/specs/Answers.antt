@@ -3,7 +3,7 @@ use Rattle.std.specs.Prelude.{◌≡◌, ℕ, ◌-◌, List, length, Result, Ok,
 use Rattle.v_syntax.specs.declared.token.Token.{Token}
 use Rattle.v_syntax.specs.SourceTrees.{ModuleTree}
 use Rattle.v_syntax.specs.Refusal.{IsSyntaxAt, IsTooDeepAt}
-use Rattle.v_expression.specs.Stops.{Stop, Syntax, TooDeep}
+use Rattle.v_phrase.specs.Stops.{Stop, Syntax, TooDeep}
 use Rattle.v_parse.specs.declared.fault.ParseFault.{ParseFault}
 use Rattle.v_parse.specs.declared.fault.ParseFault.TheVariants as faults
 

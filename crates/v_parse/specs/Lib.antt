@@ -1,3 +1,5 @@
+pub mod Answers
+pub mod ItemFirsts
+pub mod ItemReading
 pub mod Firsts
 pub mod Reading
-pub mod Answers

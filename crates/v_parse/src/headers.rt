@@ -1,21 +1,23 @@
 //! The parameters and ports of a module's header.
 
 ghost use Rattle.std.specs.Prelude.{◌≡◌, ◌<◌, map, option_map};
-ghost use Rattle.v_syntax.specs.SourceTrees.{view_parameter_head, view_header_parameter, view_head, view_header_port, view_ports};
+ghost use Rattle.v_syntax.specs.SourceTrees.{view_parameter_head, HeaderParameterTree, view_header_parameter, view_head, HeaderPortTree, view_header_port, view_ports};
 ghost use Rattle.v_syntax.specs.declared.mark.Mark.TheVariants as mark;
 ghost use Rattle.v_syntax.specs.declared.word.Keyword.TheVariants as word;
-ghost use Rattle.v_expression.specs.Stops.{Gives};
+ghost use Rattle.v_phrase.specs.Stops.{Gives};
 ghost use Rattle.v_phrase.specs.Readers;
 ghost use Rattle.v_phrase.specs.Readers.{maybe};
-ghost use Rattle.v_item.specs.Firsts;
-ghost use Rattle.v_item.specs.Reading.{port_head_of};
+ghost use Rattle.v_parse.specs.ItemFirsts as item_firsts;
+ghost use Rattle.v_parse.specs.ItemReading.{port_head_of};
 ghost use Rattle.v_parse.specs.Firsts as firsts;
 ghost use Rattle.v_parse.specs.Reading.{parameter_head_of, first_parameter_of, next_parameter_of, parameter_list_of, header_parameters_of, first_port_of, next_port_of, declared_ports_of, ports_of, port_list_of};
 
+use crate::parts::{maybe_range, port_head, starts_direction, value};
 use std::alloc::Global;
-use v_expression::{ReadError, next};
-use v_item::{identifiers, maybe_range, port_head, starts_direction, value};
-use v_statement::{after_mark, after_word, identifier, starts_mark, starts_word};
+use v_phrase::{
+    Element, IdentifierPhrase, ReadError, after, after_word, identifier, listed, next, others,
+    starts_mark, starts_word,
+};
 use v_syntax::{
     HeaderParameter, HeaderPort, HeaderPorts, Keyword, Mark, ParameterHead, PortHead, Token,
 };
@@ -90,6 +92,29 @@ fn next_parameter(
     Ok((HeaderParameter { head, name, value }, rest))
 }
 
+/// The phrase [`next_parameter`].
+enum NextParameter {}
+
+impl Element for NextParameter {
+    type Value = HeaderParameter;
+
+    ghost Tree = { HeaderParameterTree };
+
+    ghost tree = { view_header_parameter };
+
+    ghost reading = { next_parameter_of };
+
+    fn read<'a>(
+        alloc: Global,
+        total: usize,
+        room: usize,
+        tokens: &'a [Token],
+    ) -> Result<(HeaderParameter, &'a [Token]), ReadError> {
+        next_parameter(alloc, total, room, tokens)
+    }
+}
+
+/// `first {, next}`
 #[tactic(auto, unfolding(crate::specs::Reading::parameter_list_of))]
 fn parameter_list(
     alloc: Global,
@@ -100,20 +125,8 @@ fn parameter_list(
     requires { room < 1000 }
     ensures { Gives (λ x. (map view_header_parameter x.0.items, x.1.now)) result (parameter_list_of total room tokens.now) }
 {
-    let (first, behind) = first_parameter(alloc, total, room, tokens)?;
-    let mut all = Vec::new(alloc);
-    all.push(first)?;
-    let mut rest = behind;
-    for _ in 0..behind.len() {
-        if !starts_mark(Mark::Comma, rest) {
-            break;
-        }
-        let behind = after_mark(Mark::Comma, rest)?;
-        let (another, others) = next_parameter(alloc, total, room, behind)?;
-        all.push(another)?;
-        rest = others;
-    }
-    Ok((all, rest))
+    let (first, rest) = first_parameter(alloc, total, room, tokens)?;
+    others::<NextParameter>(alloc, total, room, first, rest)
 }
 
 /// `# ( first {, next} )` (IEEE 1364-2005, annex A.1.3)
@@ -127,10 +140,10 @@ fn header_parameters(
     requires { room < 1000 }
     ensures { Gives (λ x. (map view_header_parameter x.0.items, x.1.now)) result (header_parameters_of total room tokens.now) }
 {
-    let rest = after_mark(Mark::Hash, tokens)?;
-    let rest = after_mark(Mark::OpenParenthesis, rest)?;
+    let rest = after(Mark::Hash, tokens)?;
+    let rest = after(Mark::OpenParenthesis, rest)?;
     let (all, rest) = parameter_list(alloc, total, room, rest)?;
-    let rest = after_mark(Mark::CloseParenthesis, rest)?;
+    let rest = after(Mark::CloseParenthesis, rest)?;
     Ok((all, rest))
 }
 
@@ -161,7 +174,7 @@ fn maybe_port_head(
     tokens: &[Token],
 ) -> Result<(Option<PortHead>, &[Token]), ReadError>
     requires { room < 1000 }
-    ensures { Gives (λ x. (option_map view_head x.0, x.1.now)) result (maybe Firsts.starts_direction (port_head_of total room) tokens.now) }
+    ensures { Gives (λ x. (option_map view_head x.0, x.1.now)) result (maybe item_firsts.starts_direction (port_head_of total room) tokens.now) }
 {
     if !starts_direction(tokens) {
         return Ok((None, tokens));
@@ -170,6 +183,7 @@ fn maybe_port_head(
     Ok((Some(head), rest))
 }
 
+/// A direction, `[wire | reg]`, `[range]` and a name
 #[tactic(auto, unfolding(crate::specs::Reading::first_port_of))]
 fn first_port(
     alloc: Global,
@@ -186,6 +200,7 @@ fn first_port(
     Ok((HeaderPort { head, name }, rest))
 }
 
+/// The same, or a name alone
 #[tactic(auto, unfolding(crate::specs::Reading::next_port_of))]
 fn next_port(
     alloc: Global,
@@ -201,6 +216,28 @@ fn next_port(
     Ok((HeaderPort { head, name }, rest))
 }
 
+/// The phrase [`next_port`].
+enum NextPort {}
+
+impl Element for NextPort {
+    type Value = HeaderPort;
+
+    ghost Tree = { HeaderPortTree };
+
+    ghost tree = { view_header_port };
+
+    ghost reading = { next_port_of };
+
+    fn read<'a>(
+        alloc: Global,
+        total: usize,
+        room: usize,
+        tokens: &'a [Token],
+    ) -> Result<(HeaderPort, &'a [Token]), ReadError> {
+        next_port(alloc, total, room, tokens)
+    }
+}
+
 /// Ports of which the first has a direction.
 #[tactic(auto, unfolding(crate::specs::Reading::declared_ports_of))]
 fn declared_ports(
@@ -212,20 +249,8 @@ fn declared_ports(
     requires { room < 1000 }
     ensures { Gives (λ x. (map view_header_port x.0.items, x.1.now)) result (declared_ports_of total room tokens.now) }
 {
-    let (first, behind) = first_port(alloc, total, room, tokens)?;
-    let mut all = Vec::new(alloc);
-    all.push(first)?;
-    let mut rest = behind;
-    for _ in 0..behind.len() {
-        if !starts_mark(Mark::Comma, rest) {
-            break;
-        }
-        let behind = after_mark(Mark::Comma, rest)?;
-        let (another, others) = next_port(alloc, total, room, behind)?;
-        all.push(another)?;
-        rest = others;
-    }
-    Ok((all, rest))
+    let (first, rest) = first_port(alloc, total, room, tokens)?;
+    others::<NextPort>(alloc, total, room, first, rest)
 }
 
 /// Declared ports or names (annex A.1.3)
@@ -243,7 +268,7 @@ fn ports(
         let (all, rest) = declared_ports(alloc, total, room, tokens)?;
         return Ok((HeaderPorts::Declared(all), rest));
     }
-    let (names, rest) = identifiers(alloc, total, tokens)?;
+    let (names, rest) = listed::<IdentifierPhrase>(alloc, total, room, tokens)?;
     Ok((HeaderPorts::Named(names), rest))
 }
 
@@ -268,13 +293,13 @@ fn port_list(
     requires { room < 1000 }
     ensures { Gives (λ x. (option_map view_ports x.0, x.1.now)) result (port_list_of total room tokens.now) }
 {
-    let rest = after_mark(Mark::OpenParenthesis, tokens)?;
+    let rest = after(Mark::OpenParenthesis, tokens)?;
     if !starts_ports(rest) {
-        let rest = after_mark(Mark::CloseParenthesis, rest)?;
+        let rest = after(Mark::CloseParenthesis, rest)?;
         return Ok((None, rest));
     }
     let (ports, rest) = ports(alloc, total, room, rest)?;
-    let rest = after_mark(Mark::CloseParenthesis, rest)?;
+    let rest = after(Mark::CloseParenthesis, rest)?;
     Ok((Some(ports), rest))
 }
 

@@ -3,16 +3,16 @@
 ghost use Rattle.std.specs.Prelude.{◌≡◌, ◌<◌, map, option_map};
 ghost use Rattle.v_syntax.specs.SourceTrees.{view_header_parameter, view_ports, view_item, view_module};
 ghost use Rattle.v_syntax.specs.Sources.{module_tree};
-ghost use Rattle.v_expression.specs.Stops.{Gives};
-ghost use Rattle.v_parse.specs.Reading.{items_of, module_of, modules_of};
+ghost use Rattle.v_phrase.specs.Stops.{Gives};
+ghost use Rattle.v_parse.specs.Reading.{items_of, module_name_of, module_body_of, module_of, modules_of};
 
 use crate::headers::{maybe_parameters, maybe_ports};
+use crate::items::{item, starts_item};
 use std::alloc::Global;
-use v_expression::ReadError;
-use v_item::{item, starts_item};
-use v_statement::{after_mark, after_word, identifier, starts_word};
+use v_phrase::{ReadError, after, after_word, identifier, starts_word};
 use v_syntax::{HeaderParameter, HeaderPorts, Identifier, Item, Keyword, Mark, Module, Token};
 
+/// All items that stand here.
 #[tactic(auto, unfolding(crate::specs::Reading::items_of))]
 fn items(
     alloc: Global,
@@ -62,6 +62,36 @@ fn module_with(
     }
 }
 
+/// `module name`
+#[tactic(auto, unfolding(crate::specs::Reading::module_name_of))]
+fn module_name(
+    alloc: Global,
+    total: usize,
+    tokens: &[Token],
+) -> Result<(Identifier, &[Token]), ReadError>
+    ensures { Gives (λ x. (x.0, x.1.now)) result (module_name_of total tokens.now) }
+{
+    let rest = after_word(Keyword::Module, tokens)?;
+    identifier(alloc, total, rest)
+}
+
+/// `; {item} endmodule`
+#[tactic(auto, unfolding(crate::specs::Reading::module_body_of))]
+fn module_body(
+    alloc: Global,
+    total: usize,
+    room: usize,
+    tokens: &[Token],
+) -> Result<(Vec<Item>, &[Token]), ReadError>
+    requires { room < 1000 }
+    ensures { Gives (λ x. (map view_item x.0.items, x.1.now)) result (module_body_of total room tokens.now) }
+{
+    let rest = after(Mark::Semicolon, tokens)?;
+    let (items, rest) = items(alloc, total, room, rest)?;
+    let rest = after_word(Keyword::EndModule, rest)?;
+    Ok((items, rest))
+}
+
 /// `module name [# ( parameters )] [( [ports] )] ; {item} endmodule` (IEEE 1364-2005, clause 12.1 and annex A.1.2)
 #[tactic(auto, unfolding(crate::specs::Reading::module_of))]
 fn module(
@@ -73,13 +103,10 @@ fn module(
     requires { room < 1000 }
     ensures { Gives (λ x. (view_module x.0, x.1.now)) result (module_of total room tokens.now) }
 {
-    let rest = after_word(Keyword::Module, tokens)?;
-    let (name, rest) = identifier(alloc, total, rest)?;
+    let (name, rest) = module_name(alloc, total, tokens)?;
     let (parameters, rest) = maybe_parameters(alloc, total, room, rest)?;
     let (ports, rest) = maybe_ports(alloc, total, room, rest)?;
-    let rest = after_mark(Mark::Semicolon, rest)?;
-    let (items, rest) = items(alloc, total, room, rest)?;
-    let rest = after_word(Keyword::EndModule, rest)?;
+    let (items, rest) = module_body(alloc, total, room, rest)?;
     Ok((module_with(alloc, name, parameters, ports, items), rest))
 }
 

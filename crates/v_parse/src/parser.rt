@@ -4,15 +4,15 @@ ghost use Rattle.std.specs.Prelude.{◌≡◌, ◌-◌, ◌<◌, ◌^◌, ℕ, L
 ghost use Rattle.v_syntax.specs.declared.token.Token.{Token};
 ghost use Rattle.v_syntax.specs.SourceTrees.{ModuleTree, view};
 ghost use Rattle.v_syntax.specs.Refusal.{IsSource, height_limit};
-ghost use Rattle.v_expression.specs.Stops.{Gives};
+ghost use Rattle.v_phrase.specs.Stops.{Gives};
 ghost use Rattle.v_parse.specs.Reading.{source_of};
 ghost use Rattle.v_parse.specs.Answers.{IsFault, IsRead, Tells};
 
 use crate::ParseFault;
 use crate::modules::modules;
 use std::alloc::Global;
-use v_expression::{ReadError, next, syntax_error};
 use v_lex::Tokens;
+use v_phrase::{ReadError, next, syntax_error};
 use v_syntax::{Source, Token};
 
 /// The levels below a tree of the greatest height.
@@ -38,6 +38,7 @@ fn number_of(text: &[Token], left: usize) -> u32
     text.len().saturating_sub(left) as u32
 }
 
+/// [`parse`], by where its reader stops.
 fn read(alloc: Global, text: &[Token]) -> Result<Source, ParseFault>
     requires { length text.now < 2 ^ 32 }
     ensures { Tells view text.now result (source_of 63 text.now) }

@@ -3,11 +3,11 @@ use Rattle.std.proofs.Common.{◌≡◌, ℕ, ◌≤◌, ◌<◌, Bool, true, �
 use Rattle.v_syntax.specs.declared.token.Token.{Token}
 use Rattle.v_syntax.specs.Phrases.{Phrase}
 use Rattle.v_syntax.specs.Phrases as phrase
-use Rattle.v_expression.specs.Stops.{Stop, TooDeep, Answer, ◌>>=◌}
-use Rattle.v_expression.proofs.Basics.{at_most_or_more}
-use Rattle.v_expression.proofs.Kept.{Extends, extends_then}
-use Rattle.v_expression.proofs.Forward.{Passes, passes_more, passes_then}
-use Rattle.v_expression.proofs.Shorter.{IsSuffix, suffix_trans, suffix_within}
+use Rattle.v_phrase.specs.Stops.{Stop, TooDeep, Answer, ◌>>=◌}
+use Rattle.v_phrase.proofs.Suffixes.{at_most_or_more}
+use Rattle.v_phrase.proofs.Extends.{Extends, extends_then}
+use Rattle.v_phrase.proofs.Passes.{Passes, passes_more, passes_then}
+use Rattle.v_phrase.proofs.Suffixes.{IsSuffix, suffix_trans, suffix_within}
 use Rattle.v_phrase.specs.Readers.{Reader}
 use Rattle.v_phrase.specs.Readers as read
 use Rattle.v_phrase.specs.Kinds.{Kind, kind_at, Kinds, first_of, last_of, Within}

@@ -3,10 +3,10 @@ use Rattle.std.proofs.Common.{◌≡◌, ℕ, ◌+◌, ◌≤◌, Bool, true, Li
 use Rattle.std.specs.Prelude.{IfOk, IfErr}
 use Rattle.v_syntax.specs.declared.token.Token.{Token}
 use Rattle.v_syntax.specs.Phrases.{Phrase}
-use Rattle.v_expression.specs.declared.read_error.ReadError.{ReadError}
-use Rattle.v_expression.specs.declared.read_error.ReadError.TheVariants as errors
-use Rattle.v_expression.specs.Stops.{Syntax, TooDeep, Gives, Fails}
-use Rattle.v_expression.specs.Refusals.{IsRefusal, IsRead}
+use Rattle.v_phrase.specs.declared.read_error.ReadError.{ReadError}
+use Rattle.v_phrase.specs.declared.read_error.ReadError.TheVariants as errors
+use Rattle.v_phrase.specs.Stops.{Syntax, TooDeep, Gives, Fails}
+use Rattle.v_phrase.specs.Refusals.{IsRefusal, IsRead}
 use Rattle.v_phrase.specs.Readers.{Reader}
 use Rattle.v_phrase.specs.Kinds.{kind_at, Kinds}
 use Rattle.v_phrase.proofs.Laws.{Laws, ok_same, err_ok}

@@ -2,7 +2,7 @@
 use Rattle.std.proofs.Common.{◌≡◌, ℕ, zero, suc, ◌≤◌, Bool, true, List, sym, ◌∙◌, arith, inl, inr}
 use Rattle.v_syntax.specs.declared.token.Token.{Token}
 use Rattle.v_syntax.specs.Phrases.{Phrase}
-use Rattle.v_expression.proofs.Kept.{Extends}
+use Rattle.v_phrase.proofs.Extends.{Extends}
 use Rattle.v_phrase.specs.Readers.{Reader}
 use Rattle.v_phrase.specs.Kinds.{Kind, kind_at, Kinds, Within, SameKinds}
 use Rattle.v_phrase.proofs.KindLaws.{within, same_kinds}

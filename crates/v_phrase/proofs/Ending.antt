@@ -3,10 +3,10 @@ use Rattle.std.proofs.Common.{◌≡◌, ℕ, suc, ◌+◌, ◌-◌, ◌≤◌, 
 use Rattle.std.proofs.lemmas.List.{take-append-drop, length-drop, length-append}
 use Rattle.v_syntax.specs.declared.token.Token.{Token}
 use Rattle.v_syntax.specs.Phrases.{Phrase}
-use Rattle.v_expression.specs.Stops.{Stop, Syntax, TooDeep, Answer, ◌>>=◌}
-use Rattle.v_expression.proofs.Kept.{Extends}
-use Rattle.v_expression.proofs.Forward.{Passes}
-use Rattle.v_expression.proofs.Shorter.{IsSuffix}
+use Rattle.v_phrase.specs.Stops.{Stop, Syntax, TooDeep, Answer, ◌>>=◌}
+use Rattle.v_phrase.proofs.Extends.{Extends}
+use Rattle.v_phrase.proofs.Passes.{Passes}
+use Rattle.v_phrase.proofs.Suffixes.{IsSuffix}
 use Rattle.v_phrase.specs.Readers.{Reader, at_the_end, to_the_end}
 use Rattle.v_phrase.specs.Kinds.{AtEnd, Kinds}
 use Rattle.v_phrase.proofs.Laws.{left, Goes, Reached, Laws}

@@ -11,7 +11,7 @@ use Rattle.v_syntax.specs.Marks.{marks}
 use Rattle.v_syntax.specs.Words.{keywords}
 use Rattle.v_syntax.specs.SameMarks.{mark_number, same_mark}
 use Rattle.v_syntax.specs.SameWords.{word_number, same_word}
-use Rattle.v_expression.specs.Stops.{is_mark}
+use Rattle.v_phrase.specs.Stops.{is_mark}
 use Rattle.v_phrase.specs.Readers.{is_word, starts_with}
 use Rattle.v_phrase.specs.Kinds.{Kind, AtEnd, AtName, AtKeyword, AtReserved, AtTask, AtNumber, AtText, AtMark, Kinds, a_mark, a_word, first_of, last_of, every, implies, same_truth, Within, SameKinds, Tells}
 

@@ -2,10 +2,10 @@
 use Rattle.std.proofs.Common.{◌≡◌, ℕ, ◌≤◌, ◌<◌, Bool, true, List, length, Ok, Err, ap, ◌⊎◌}
 use Rattle.v_syntax.specs.declared.token.Token.{Token}
 use Rattle.v_syntax.specs.Phrases.{Phrase}
-use Rattle.v_expression.specs.Stops.{Stop, Syntax, TooDeep, Answer, deep_at}
-use Rattle.v_expression.proofs.Kept.{Extends}
-use Rattle.v_expression.proofs.Forward.{Passes}
-use Rattle.v_expression.proofs.Shorter.{IsSuffix}
+use Rattle.v_phrase.specs.Stops.{Stop, Syntax, TooDeep, Answer, deep_at}
+use Rattle.v_phrase.proofs.Extends.{Extends}
+use Rattle.v_phrase.proofs.Passes.{Passes}
+use Rattle.v_phrase.proofs.Suffixes.{IsSuffix}
 use Rattle.v_phrase.specs.Readers.{Reader}
 use Rattle.v_phrase.specs.Kinds.{kind_at, Kinds}
 

@@ -1,4 +1,8 @@
 pub mod KindLaws
+pub mod Marks
+pub mod Extends
+pub mod Passes
+pub mod Suffixes
 pub mod Laws
 pub mod Both
 pub mod Tokens
@@ -11,7 +15,6 @@ pub mod OneOf
 pub mod Either
 pub mod Levels
 pub mod Ending
-pub mod Expressions
 pub mod Branches
 pub mod Meanings
 pub mod Lists

@@ -31,6 +31,7 @@ separated_laws n {sq = sq} {t = t} test tells ql l a b h =
 
 pub listed_laws : {A : Type 0} (n : ℕ) {P : ℕ → Phrase Token A} {s t : Kinds} {p : ℕ → Reader A} → Laws n P s false t p → (P n).missing → Within (a_mark mark.Comma) t
     → Laws n (λ m. rule.listed (P m)) s false (ends_list (a_mark mark.Comma) t) (λ m. read.listed (p m))
+unfolding read.listed
 listed_laws n {s = s} {t = t} l b h =
     both_by ◌∷◌ n l (many_laws n (starts_mark mark.Comma) (tells_mark mark.Comma) (both_by (λ x y. y) n (mark_laws mark.Comma n) l (λ k i. refl)) (record { ready = inl (tt, b) }) h) (within (a_mark mark.Comma) t h)
 

@@ -2,9 +2,9 @@
 use Rattle.std.proofs.Common.{◌≡◌, ℕ, zero, suc, ◌+◌, ◌-◌, ◌<◌, ◌≤◌, arith, Bool, true, false, List, [], ◌∷◌, ◌++◌, map, Result, Ok, Err, refl, ap, sym, ◌∙◌, subst, append_assoc}
 use Rattle.v_syntax.specs.declared.token.Token.{Token}
 use Rattle.v_syntax.specs.declared.mark.Mark.TheVariants as mark
-use Rattle.v_expression.specs.declared.read_error.ReadError.{ReadError}
-use Rattle.v_expression.specs.declared.read_error.ReadError.TheVariants as errors
-use Rattle.v_expression.specs.Stops.{Stop, Answer, ◌>>=◌, Fails}
+use Rattle.v_phrase.specs.declared.read_error.ReadError.{ReadError}
+use Rattle.v_phrase.specs.declared.read_error.ReadError.TheVariants as errors
+use Rattle.v_phrase.specs.Stops.{Stop, Answer, ◌>>=◌, Fails, after}
 use Rattle.v_phrase.specs.Readers.{Reader, many_by, with_front, ◌▹◌, starts_mark, sign}
 
 pub fails_same : {A : Type 0} (e : ReadError) (a b : Result A Stop) → a ≡ b → Fails e a → Fails e b
@@ -92,15 +92,25 @@ module _ {X A : Type 0} (view : X → A) (p : Reader A) (old : List X) (m c : �
   pub listed_empty : m ≤ c → with_front (map view old) (many_by (starts_mark mark.Comma) (sign mark.Comma ▹ p) (m - c) ts) ≡ Ok (map view old, ts)
   listed_empty h = items_empty view (starts_mark mark.Comma) (sign mark.Comma ▹ p) old m c ts h
 
-  module _ (l : c < m) (b : Bool) (eb : b ≡ starts_mark mark.Comma ts) (h : b ≡ true) (us : List Token) (es : sign mark.Comma ts ≡ Ok (tt, us)) where
-    pub listed_more : (new : List X) (x : X) (rest : List Token) → new ≡ old ++ (x ∷ []) → p us ≡ Ok (view x, rest)
-        → with_front (map view new) (many_by (starts_mark mark.Comma) (sign mark.Comma ▹ p) (m - (c + 1)) rest)
-        ≡ with_front (map view old) (many_by (starts_mark mark.Comma) (sign mark.Comma ▹ p) (m - c) ts)
-    listed_more new x rest en e = others_more view (starts_mark mark.Comma) (sign mark.Comma) p old m c ts us tt es new x rest l (sym eb ∙ h) en e
+  module _ (l : c < m) (b : Bool) (eb : b ≡ starts_mark mark.Comma ts) (h : b ≡ true) where
+    pub comma_fail : (e : ReadError) (whole : Answer (List A))
+        → with_front (map view old) (many_by (starts_mark mark.Comma) (sign mark.Comma ▹ p) (m - c) ts) ≡ whole → Fails e (after mark.Comma ts) → Fails e whole
+    comma_fail e whole w f =
+        items_fail view (starts_mark mark.Comma) (sign mark.Comma ▹ p) old m c ts e whole l (sym eb ∙ h) w
+        (fails_then e (sign mark.Comma ts) (λ x. p x.1 >>= λ y. Ok (y.0, y.1)) (fails_then e (after mark.Comma ts) (λ us. Ok (tt, us)) f))
 
-    pub listed_fail : (e : ReadError) (whole : Answer (List A))
-        → with_front (map view old) (many_by (starts_mark mark.Comma) (sign mark.Comma ▹ p) (m - c) ts) ≡ whole → Fails e (p us) → Fails e whole
-    listed_fail e whole w f = others_fail view (starts_mark mark.Comma) (sign mark.Comma) p old m c ts us tt es e whole l (sym eb ∙ h) w f
+    module _ (us : List Token) (es : after mark.Comma ts ≡ Ok us) where
+      sign_read : sign mark.Comma ts ≡ Ok (tt, us)
+      sign_read = rw es refl
+
+      pub listed_more : (new : List X) (x : X) (rest : List Token) → new ≡ old ++ (x ∷ []) → p us ≡ Ok (view x, rest)
+          → with_front (map view new) (many_by (starts_mark mark.Comma) (sign mark.Comma ▹ p) (m - (c + 1)) rest)
+          ≡ with_front (map view old) (many_by (starts_mark mark.Comma) (sign mark.Comma ▹ p) (m - c) ts)
+      listed_more new x rest en e = others_more view (starts_mark mark.Comma) (sign mark.Comma) p old m c ts us tt sign_read new x rest l (sym eb ∙ h) en e
+
+      pub listed_fail : (e : ReadError) (whole : Answer (List A))
+          → with_front (map view old) (many_by (starts_mark mark.Comma) (sign mark.Comma ▹ p) (m - c) ts) ≡ whole → Fails e (p us) → Fails e whole
+      listed_fail e whole w f = others_fail view (starts_mark mark.Comma) (sign mark.Comma) p old m c ts us tt sign_read e whole l (sym eb ∙ h) w f
 
 -- ---- where the code's values are their own trees: behind a separator
 module _ {S A : Type 0} (starts : List Token → Bool) (s : Reader S) (p : Reader A) (old : List A) (m c : ℕ) (ts : List Token) where

@@ -3,10 +3,10 @@ use Rattle.std.proofs.Common.{◌≡◌, ℕ, ◌≤◌, ◌<◌, Bool, true, fa
 use Rattle.v_syntax.specs.declared.token.Token.{Token}
 use Rattle.v_syntax.specs.Phrases.{Phrase}
 use Rattle.v_syntax.specs.Phrases as phrase
-use Rattle.v_expression.specs.Stops.{Stop, TooDeep, Answer, ◌>>=◌}
-use Rattle.v_expression.proofs.Kept.{Extends, extends_then}
-use Rattle.v_expression.proofs.Forward.{Passes, passes_more, passes_then}
-use Rattle.v_expression.proofs.Shorter.{IsSuffix}
+use Rattle.v_phrase.specs.Stops.{Stop, TooDeep, Answer, ◌>>=◌}
+use Rattle.v_phrase.proofs.Extends.{Extends, extends_then}
+use Rattle.v_phrase.proofs.Passes.{Passes, passes_more, passes_then}
+use Rattle.v_phrase.proofs.Suffixes.{IsSuffix}
 use Rattle.v_phrase.specs.Readers.{Reader}
 use Rattle.v_phrase.specs.Readers as read
 use Rattle.v_phrase.specs.Kinds.{kind_at, Kinds, without, Tells}

@@ -6,11 +6,13 @@ use Rattle.v_syntax.specs.declared.mark.Mark.TheVariants as mark
 use Rattle.v_syntax.specs.declared.word.Keyword.TheVariants as word
 use Rattle.v_syntax.specs.TokenMeanings.{name_of, number_of, text_of, task_of, assignment_kind, case_kind, direction_of, port_kind, parameter_kind, edge_of, event_separator}
 use Rattle.v_syntax.specs.Phrases as phrase
-use Rattle.v_phrase.specs.Readers.{is_some}
+use Rattle.v_syntax.specs.Statements.{named_at, identifier}
+use Rattle.v_phrase.specs.Readers.{is_some, identifier_of}
 use Rattle.v_phrase.specs.Readers as read
 use Rattle.v_phrase.specs.Kinds.{AtKeyword, AtMark, kind_of, Kinds, any_kind, a_name, a_number, a_text, a_task}
 use Rattle.v_phrase.proofs.Laws.{Laws}
-use Rattle.v_phrase.proofs.Tokens.{meant_laws}
+use Rattle.v_phrase.proofs.Tokens.{nothing_laws, place_in_laws, meant_laws}
+use Rattle.v_phrase.proofs.Both.{apply_laws}
 
 abbrev pub of_assignment_kind : Kinds
 of_assignment_kind (AtMark mark.Assign) = true
@@ -133,3 +135,7 @@ edge_laws n = meant_laws edge_of of_edge edge_tells n
 
 pub separator_laws : (n : ℕ) → Laws n (λ m. phrase.token_of event_separator) of_event_separator false any_kind (λ m. read.token_of event_separator)
 separator_laws n = meant_laws event_separator of_event_separator separator_tells n
+
+pub identifier_laws : (end n : ℕ) → Laws n (λ m. identifier end) a_name false any_kind (λ m. identifier_of end)
+unfolding identifier_of
+identifier_laws end n = apply_laws n (apply_laws n (nothing_laws named_at n) (place_in_laws end n) refl) (name_laws n) refl

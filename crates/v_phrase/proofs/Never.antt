@@ -3,7 +3,7 @@ use Rattle.std.proofs.Common.{◌≡◌, ℕ, Bool, false, List, length, Ok, ref
 use Rattle.v_syntax.specs.declared.token.Token.{Token}
 use Rattle.v_syntax.specs.Phrases.{Phrase}
 use Rattle.v_syntax.specs.Phrases as phrase
-use Rattle.v_expression.specs.Stops.{Syntax, TooDeep, syntax_at, deep_at}
+use Rattle.v_phrase.specs.Stops.{Syntax, TooDeep, syntax_at, deep_at}
 use Rattle.v_phrase.specs.Readers.{Reader}
 use Rattle.v_phrase.specs.Kinds.{Kinds}
 use Rattle.v_phrase.proofs.Laws.{Spells, Laws, err_ok}

@@ -3,9 +3,9 @@ use Rattle.std.proofs.Common.{◌≡◌, ℕ, ◌≤◌, true, false, List, leng
 use Rattle.v_syntax.specs.declared.token.Token.{Token}
 use Rattle.v_syntax.specs.Phrases.{Phrase}
 use Rattle.v_syntax.specs.Phrases as phrase
-use Rattle.v_expression.specs.Stops.{Stop, Syntax, TooDeep, deep_at, syntax_at}
-use Rattle.v_expression.proofs.Kept.{Extends}
-use Rattle.v_expression.proofs.Forward.{Passes, passes_more}
+use Rattle.v_phrase.specs.Stops.{Stop, Syntax, TooDeep, deep_at, syntax_at}
+use Rattle.v_phrase.proofs.Extends.{Extends}
+use Rattle.v_phrase.proofs.Passes.{Passes, passes_more}
 use Rattle.v_phrase.specs.Readers.{Reader}
 use Rattle.v_phrase.specs.Readers as read
 use Rattle.v_phrase.specs.Kinds.{Kind, kind_at, Kinds}

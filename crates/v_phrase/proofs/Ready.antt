@@ -3,7 +3,7 @@ use Rattle.std.proofs.Common.{◌≡◌, ℕ, Bool, true, List, length, Err, ref
 use Rattle.v_syntax.specs.declared.token.Token.{Token}
 use Rattle.v_syntax.specs.Phrases.{Phrase}
 use Rattle.v_syntax.specs.Phrases as phrase
-use Rattle.v_expression.specs.Stops.{Stop, TooDeep, deep_at}
+use Rattle.v_phrase.specs.Stops.{Stop, TooDeep, deep_at}
 use Rattle.v_phrase.specs.Readers.{Reader}
 use Rattle.v_phrase.specs.Readers as read
 use Rattle.v_phrase.specs.Kinds.{kind_at, Kinds}

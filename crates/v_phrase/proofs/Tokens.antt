@@ -1,19 +1,21 @@
 -- Phrases of at most one token.
-use Rattle.std.proofs.Common.{◌≡◌, ℕ, suc, ◌-◌, ◌≤◌, Bool, true, false, List, [], ◌∷◌, length, Option, Some, None, Ok, Err, refl, sym, ap, ◌∙◌, arith, ◌⊎◌, inl, inr}
+use Rattle.std.proofs.Common.{◌≡◌, ℕ, suc, ◌-◌, ◌≤◌, Bool, true, false, List, [], ◌∷◌, length, Option, Some, None, Ok, Err, refl, sym, ap, ◌∙◌, arith, ◌⊎◌, inl, inr, if◌then◌else◌}
 use Rattle.v_syntax.specs.declared.token.Token.{Token}
 use Rattle.v_syntax.specs.declared.token.Token.TheVariants as token
 use Rattle.v_syntax.specs.declared.mark.Mark.{Mark}
 use Rattle.v_syntax.specs.declared.word.Keyword.{Keyword}
 use Rattle.v_syntax.specs.Phrases.{Phrase}
 use Rattle.v_syntax.specs.Phrases as phrase
-use Rattle.v_expression.specs.Stops.{Stop, Syntax, TooDeep, Answer, is_mark, syntax_at}
-use Rattle.v_expression.proofs.Kept.{same}
-use Rattle.v_expression.proofs.Forward.{Passes, passes_more}
-use Rattle.v_expression.proofs.Shorter.{IsSuffix, suffix_self, suffix_cons, suffix_same, first_cut}
+use Rattle.v_phrase.specs.Stops.{Stop, Syntax, TooDeep, Answer, ◌>>=◌, is_mark, after, syntax_at}
+use Rattle.v_phrase.proofs.Extends.{same}
+use Rattle.v_phrase.proofs.Passes.{Passes, passes_more}
+use Rattle.v_phrase.proofs.Suffixes.{IsSuffix, suffix_self, suffix_cons, suffix_same, first_cut}
 use Rattle.v_phrase.specs.Readers.{Reader, is_word, is_some, meant, starts_with}
 use Rattle.v_phrase.specs.Readers as read
 use Rattle.v_phrase.specs.Kinds.{AtEnd, kind_at, kind_of, Kinds, no_kind, any_kind, a_mark, a_word, Tells}
-use Rattle.v_phrase.proofs.KindLaws.{same_mark_is, same_mark_self, same_word_is, same_word_self, tells_mark, tells_word, true_or_false}
+use Rattle.v_phrase.proofs.KindLaws.{same_mark_self, same_word_is, same_word_self, tells_mark, tells_word, true_or_false}
+use Rattle.v_phrase.proofs.Marks.{is_mark_is}
+use Rattle.v_phrase.proofs.Change.{reread}
 use Rattle.v_phrase.proofs.Laws.{left, Starts, Laws, ok_same, ok_err, err_ok, left_same, length_same}
 
 -- what is spelled by nothing
@@ -180,15 +182,6 @@ module _ (t : Token) (is : Token → Bool) (s : Kinds) (self : is t ≡ true) (o
 is_mark_self : (m : Mark) → is_mark m (token.Mark m) ≡ true
 is_mark_self m = same_mark_self m
 
-is_mark_only : (m : Mark) (t : Token) → is_mark m t ≡ true → t ≡ token.Mark m
-is_mark_only m (token.Mark k) h = ap token.Mark (same_mark_is k m h)
-is_mark_only m (token.Name n) h = cc
-is_mark_only m (token.Keyword w) h = cc
-is_mark_only m (token.Reserved w) h = cc
-is_mark_only m (token.SystemTask t) h = cc
-is_mark_only m (token.Number ds) h = cc
-is_mark_only m (token.Text t) h = cc
-
 is_word_only : (k : Keyword) (t : Token) → is_word k t ≡ true → t ≡ token.Keyword k
 is_word_only k (token.Keyword w) h = ap token.Keyword (same_word_is w k h)
 is_word_only k (token.Name n) h = cc
@@ -198,8 +191,17 @@ is_word_only k (token.SystemTask t) h = cc
 is_word_only k (token.Number ds) h = cc
 is_word_only k (token.Text t) h = cc
 
-pub mark_laws : (m : Mark) (n : ℕ) → Laws n (λ k. phrase.exactly (token.Mark m)) (a_mark m) false any_kind (λ k. read.exactly (is_mark m))
-mark_laws m n = token_laws (token.Mark m) (is_mark m) (a_mark m) (same_mark_self m) (is_mark_only m) (tells_mark m) n
+sign_same : (m : Mark) (here : List Token) → read.exactly (is_mark m) here ≡ read.sign m here
+unfolding after
+sign_same m [] = refl
+sign_same m (t ∷ ts) = go (true_or_false (is_mark m t))
+  where
+    go : (is_mark m t ≡ true) ⊎ (is_mark m t ≡ false) → read.exactly (is_mark m) (t ∷ ts) ≡ read.sign m (t ∷ ts)
+    go (inl h) = rw h refl
+    go (inr h) = rw h refl
+
+pub mark_laws : (m : Mark) (n : ℕ) → Laws n (λ k. phrase.exactly (token.Mark m)) (a_mark m) false any_kind (λ k. read.sign m)
+mark_laws m n = reread (token_laws (token.Mark m) (is_mark m) (a_mark m) (same_mark_self m) (is_mark_is m) (tells_mark m) n) (λ k. read.sign m) (λ k here. sign_same m here)
 
 pub word_laws : (w : Keyword) (n : ℕ) → Laws n (λ k. phrase.exactly (token.Keyword w)) (a_word w) false any_kind (λ k. read.exactly (is_word w))
 word_laws w n = token_laws (token.Keyword w) (is_word w) (a_word w) (same_word_self w) (is_word_only w) (tells_word w) n
@@ -320,7 +322,7 @@ word_here k (token.Text t ∷ us) h = absurd (let e : false ≡ true = h in cc)
 
 pub mark_here : (m : Mark) (here : List Token) → a_mark m (kind_at here) ≡ true → (us : List Token) × (here ≡ token.Mark m ∷ us)
 mark_here m [] h = absurd (let e : false ≡ true = h in cc)
-mark_here m (token.Mark k ∷ us) h = (us, cons_here (token.Mark m) us (token.Mark k) (is_mark_only m (token.Mark k) h))
+mark_here m (token.Mark k ∷ us) h = (us, cons_here (token.Mark m) us (token.Mark k) (is_mark_is m (token.Mark k) h))
 mark_here m (token.Name n ∷ us) h = absurd (let e : false ≡ true = h in cc)
 mark_here m (token.Keyword w ∷ us) h = absurd (let e : false ≡ true = h in cc)
 mark_here m (token.Reserved w ∷ us) h = absurd (let e : false ≡ true = h in cc)

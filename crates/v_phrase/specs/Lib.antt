@@ -1,2 +1,4 @@
+pub mod Stops
+pub mod Refusals
 pub mod Readers
 pub mod Kinds

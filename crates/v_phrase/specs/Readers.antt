@@ -1,4 +1,4 @@
--- Readers of phrases, put together as the phrases are. A reader gives what stands at the front of some tokens with the
+-- A means of proof: readers of phrases, put together as the phrases are. A reader gives what stands at the front of some tokens with the
 -- tokens behind it, or where reading stops. Of an alternative the first token decides.
 use Rattle.std.specs.Prelude.{ℕ, zero, suc, Bool, true, false, List, [], ◌∷◌, ◌++◌, length, Option, Some, None, Result, Ok, if◌then◌else◌}
 use Rattle.v_syntax.specs.declared.token.Token.{Token}
@@ -9,7 +9,10 @@ use Rattle.v_syntax.specs.declared.word.Keyword.{Keyword}
 use Rattle.v_syntax.specs.declared.word.Keyword.TheVariants as word
 use Rattle.v_syntax.specs.SameWords.{same_word}
 use Rattle.v_syntax.specs.ExpressionSpans.{place}
-use Rattle.v_expression.specs.Stops.{Stop, Answer, ◌>>=◌, syntax_at, deep_at, is_mark}
+use Rattle.v_syntax.specs.declared.statement.Identifier.{Identifier}
+use Rattle.v_syntax.specs.TokenMeanings.{name_of}
+use Rattle.v_syntax.specs.Statements.{named_at}
+use Rattle.v_phrase.specs.Stops.{Stop, Answer, ◌>>=◌, syntax_at, deep_at, is_mark, after}
 
 abbrev pub Reader : Type 0 → Type 0
 Reader A = List Token → Answer A
@@ -130,13 +133,17 @@ abbrev pub starts_word : Keyword → List Token → Bool
 starts_word k = starts_with (is_word k)
 
 abbrev pub sign : Mark → Reader (Unit {0})
-sign m = exactly (is_mark m)
+sign m ts = after m ts >>= λ us. Ok (tt, us)
 
 abbrev pub word_of : Keyword → Reader (Unit {0})
 word_of k = exactly (is_word k)
 
+-- a name with the number of its token, in a text of so many tokens
+unfoldable pub identifier_of : ℕ → Reader Identifier
+identifier_of end = nothing named_at ⊛ place_in end ⊛ token_of name_of
+
 -- one or more, with commas between
-abbrev pub listed : {A : Type 0} → Reader A → Reader (List A)
+unfoldable pub listed : {A : Type 0} → Reader A → Reader (List A)
 listed p = separated (starts_mark mark.Comma) (sign mark.Comma) p
 
 -- ---- the whole text

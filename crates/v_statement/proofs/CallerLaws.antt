@@ -6,9 +6,9 @@ use Rattle.v_syntax.specs.declared.statement.StatementPlace.{StatementPlace}
 use Rattle.v_syntax.specs.declared.word.Keyword.TheVariants as word
 use Rattle.v_syntax.specs.StatementTrees.{StatementTree}
 use Rattle.v_syntax.specs.Statements.{IsClosed, statement}
-use Rattle.v_expression.specs.declared.read_error.ReadError.{ReadError}
-use Rattle.v_expression.specs.Stops.{Gives}
-use Rattle.v_expression.specs.Refusals.{IsRefusal, IsRead}
+use Rattle.v_phrase.specs.declared.read_error.ReadError.{ReadError}
+use Rattle.v_phrase.specs.Stops.{Gives}
+use Rattle.v_phrase.specs.Refusals.{IsRefusal, IsRead}
 use Rattle.v_phrase.specs.Readers.{starts_word}
 use Rattle.v_phrase.proofs.KindLaws.{tells_word}
 use Rattle.v_phrase.proofs.Callers as laws

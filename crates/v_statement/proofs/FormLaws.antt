@@ -11,21 +11,22 @@ use Rattle.v_syntax.specs.Phrases.{Phrase, nothing, ◌◃◌}
 use Rattle.v_syntax.specs.StatementTrees.{StatementTree, Null, Delay}
 use Rattle.v_syntax.specs.Statements.{sign, IsClosed, block_tree, delayed_tree, assignment_tree, case_tree, task_tree, delay, block, delayed_block, assignment, case_statement, task_enable, inside}
 use Rattle.v_syntax.specs.Statements as rule
-use Rattle.v_expression.specs.Stops.{syntax_at}
-use Rattle.v_phrase.specs.Readers.{Reader}
+use Rattle.v_phrase.specs.Stops.{syntax_at}
+use Rattle.v_phrase.specs.Readers.{Reader, maybe, starts_mark, word_of}
 use Rattle.v_phrase.specs.Kinds.{Kind, Kinds, no_kind, any_kind, a_mark, a_word, Within}
 use Rattle.v_phrase.proofs.KindLaws.{within}
 use Rattle.v_phrase.proofs.Laws.{Spells, Laws, Ready}
 use Rattle.v_phrase.proofs.Tokens.{nothing_laws, mark_laws}
 use Rattle.v_phrase.proofs.Meanings.{of_case_kind}
 use Rattle.v_phrase.proofs.Both.{keep_laws}
-use Rattle.v_phrase.proofs.Change.{widen, widen_spells}
+use Rattle.v_phrase.proofs.Change.{reread, widen, widen_spells}
 use Rattle.v_phrase.proofs.Never.{never_laws}
 use Rattle.v_phrase.proofs.Branches.{ended, closed_laws}
-use Rattle.v_phrase.proofs.Expressions.{of_target}
-use Rattle.v_statement.specs.Reading.{block_at, null_of}
+use Rattle.v_expression.proofs.Phrases.{of_target}
+use Rattle.v_statement.specs.Reading.{label_of, maybe_label_of, block_head_of, statements_of, delay_below_of, maybe_delay_of, last_delay_of, block_end_of, block_of, null_of}
 use Rattle.v_statement.specs.Reading as read
 use Rattle.v_statement.proofs.Parts.{assignment_laws, task_enable_laws, delay_laws}
+use Rattle.v_statement.proofs.Steps.{plain_steps, delayed_steps}
 use Rattle.v_statement.proofs.Rules.{form_at, of_statement, block_laws, delayed_block_laws, conditional_spells, conditional_laws, case_laws, for_spells, for_laws}
 
 -- ---- forms
@@ -126,9 +127,9 @@ block_closed : (s : Phrase Token StatementTree) (x : StatementTree) (here rest :
 unfolding IsClosed
 block_closed s z here rest (x4, u4, m4, (x3, ss, m3, (x2, l, m2, (x1, u1, m1, (e1, g1), h1, e2), h2, e3), h3, e4), h4, e5) = let q : block_tree l ss ≡ z = cc in subst IsClosed q tt
 
-delayed_closed : (end : ℕ) (s : Phrase Token StatementTree) (x : StatementTree) (here rest : List Token) → (delayed_block end s).whole x here rest → IsClosed x
+delayed_closed : (end n : ℕ) (s : Phrase Token StatementTree) (x : StatementTree) (here rest : List Token) → (delayed_block end n s).whole x here rest → IsClosed x
 unfolding IsClosed
-delayed_closed end s z here rest (x5, u5, m5, (x4, d, m4, (x3, ss, m3, (x2, l, m2, (x1, u1, m1, (e1, g1), h1, e2), h2, e3), h3, e4), h4, e5), h5, e6) = let q : delayed_tree l ss d ≡ z = cc in subst IsClosed q tt
+delayed_closed end n s z here rest (x5, u5, m5, (x4, d, m4, (x3, ss, m3, (x2, l, m2, (x1, u1, m1, (e1, g1), h1, e2), h2, e3), h3, e4), h4, e5), h5, e6) = let q : delayed_tree l ss d ≡ z = cc in subst IsClosed q tt
 
 -- ---- readers: where a form has no place it reads nothing
 
@@ -144,7 +145,7 @@ delay_by end WholeInitial ts = read.delay_of end ts
 
 abbrev pub form_by : ℕ → StatementPlace → ℕ → Reader StatementTree → StatementForm → Reader StatementTree
 form_by end p m s form.Null = null_of
-form_by end p m s form.Block = block_at end p s
+form_by end p m s form.Block = block_of end m p s
 form_by end p m s form.Assignment = read.assignment_of end m
 form_by end p m s form.If = read.conditional_of end m s
 form_by end p m s form.Case = read.case_of end m s
@@ -155,16 +156,20 @@ form_by end p m s form.Delay = delay_by end p
 -- ---- forms that differ by their place
 
 block_form : (end n : ℕ) (p : StatementPlace) {S : ℕ → Phrase Token StatementTree} {s : ℕ → Reader StatementTree} → Laws n (λ m. ended (S m)) (of_statement (inside p)) false any_kind s → Spells n S (of_statement (inside p)) false
-    → Ready n S (of_statement (inside p)) s → ((S 0).missing → ⊥) → ((m : ℕ) → (S (suc m)).missing) → Laws n (λ m. rule.block_at end p (S m)) (of_form p form.Block) false any_kind (λ m. block_at end p (s m))
-unfolding block_at read.delayed_block_of
-block_form end n InAlways el q ready cut able = widen (block_laws end n InAlways el q ready cut able refl) (of_form InAlways form.Block) refl
-block_form end n InInitial el q ready cut able = widen (block_laws end n InInitial el q ready cut able refl) (of_form InInitial form.Block) refl
-block_form end n WholeInitial el q ready cut able = widen (delayed_block_laws end n InInitial el q ready cut able refl refl) (of_form WholeInitial form.Block) refl
+    → Ready n S (of_statement (inside p)) s → ((S 0).missing → ⊥) → ((m : ℕ) → (S (suc m)).missing) → Laws n (λ m. rule.block_at end p m (S m)) (of_form p form.Block) false any_kind (λ m. block_of end m p (s m))
+unfolding maybe_label_of block_head_of maybe_delay_of last_delay_of block_end_of block_of
+block_form end n InAlways {s = s} el q ready cut able =
+    widen (reread (block_laws end n InAlways el q ready cut able refl) (λ m. block_of end m InAlways (s m)) (λ m here. plain_steps (word_of word.Begin) (maybe (starts_mark mark.Colon) label_of) (statements_of InAlways (s m)) (word_of word.End) here)) (of_form InAlways form.Block) refl
+block_form end n InInitial {s = s} el q ready cut able =
+    widen (reread (block_laws end n InInitial el q ready cut able refl) (λ m. block_of end m InInitial (s m)) (λ m here. plain_steps (word_of word.Begin) (maybe (starts_mark mark.Colon) label_of) (statements_of InInitial (s m)) (word_of word.End) here)) (of_form InInitial form.Block) refl
+block_form end n WholeInitial {s = s} el q ready cut able =
+    widen (reread (delayed_block_laws end n InInitial el q ready cut able refl refl) (λ m. block_of end m WholeInitial (s m))
+    (λ m here. delayed_steps (word_of word.Begin) (maybe (starts_mark mark.Colon) label_of) (statements_of InInitial (s m)) (maybe (starts_mark mark.Hash) (delay_below_of end m)) (word_of word.End) here)) (of_form WholeInitial form.Block) refl
 
-block_at_closed : (end : ℕ) (p : StatementPlace) (s : Phrase Token StatementTree) (x : StatementTree) (here rest : List Token) → (rule.block_at end p s).whole x here rest → IsClosed x
-block_at_closed end InAlways s x here rest w = block_closed s x here rest w
-block_at_closed end InInitial s x here rest w = block_closed s x here rest w
-block_at_closed end WholeInitial s x here rest w = delayed_closed end s x here rest w
+block_at_closed : (end : ℕ) (p : StatementPlace) (m : ℕ) (s : Phrase Token StatementTree) (x : StatementTree) (here rest : List Token) → (rule.block_at end p m s).whole x here rest → IsClosed x
+block_at_closed end InAlways m s x here rest w = block_closed s x here rest w
+block_at_closed end InInitial m s x here rest w = block_closed s x here rest w
+block_at_closed end WholeInitial m s x here rest w = delayed_closed end m s x here rest w
 
 task_form_laws : (end n : ℕ) (p : StatementPlace) → Laws n (λ m. rule.task_at end p m) (of_form p form.TaskEnable) false any_kind (λ m. task_by end p m)
 task_form_laws end n InAlways = never_laws n (of_form InAlways form.TaskEnable) any_kind
@@ -218,7 +223,7 @@ module _ (end n : ℕ) (p : StatementPlace) {S : ℕ → Phrase Token StatementT
 
   pub form_laws : (i : StatementForm) → Laws n (λ m. ended (F i m)) (of_form p i) false any_kind (R i)
   form_laws form.Null = closed_laws null_laws (λ m x here rest w. null_closed x here rest w)
-  form_laws form.Block = closed_laws (block_form end n p el q ready cut able) (λ m x here rest w. block_at_closed end p (S m) x here rest w)
+  form_laws form.Block = closed_laws (block_form end n p el q ready cut able) (λ m x here rest w. block_at_closed end p m (S m) x here rest w)
   form_laws form.Assignment = closed_laws assigned (λ m x here rest w. assignment_closed end m x here rest w)
   form_laws form.If = widen (conditional_laws end n (inside p) el q ready cut able) (of_form p form.If) (if_in p)
   form_laws form.Case = closed_laws cased (λ m x here rest w. case_closed end m (S m) x here rest w)

@@ -1,6 +1,7 @@
 pub mod Lower
 pub mod Rows
 pub mod Parts
+pub mod Steps
 pub mod Rules
 pub mod FormLaws
 pub mod Opens

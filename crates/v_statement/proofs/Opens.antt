@@ -18,7 +18,7 @@ use Rattle.v_phrase.proofs.KindLaws.{within}
 use Rattle.v_phrase.proofs.Laws.{Goes}
 use Rattle.v_phrase.proofs.Tokens.{word_here, mark_here, meant_here}
 use Rattle.v_phrase.proofs.Meanings.{of_case_kind, case_tells, task_tells}
-use Rattle.v_phrase.proofs.Expressions.{of_target, target_front}
+use Rattle.v_expression.proofs.Phrases.{of_target, target_front}
 use Rattle.v_statement.proofs.Rules.{form_at, of_statement}
 use Rattle.v_statement.proofs.FormLaws.{is_form, is_form_self, of_form, no_task, no_delay}
 
@@ -37,7 +37,7 @@ module _ (end : ℕ) where
   null_opens : (p : StatementPlace) (here : List Token) → a_mark mark.Semicolon (kind_at here) ≡ true → Opening end p form.Null here
   null_opens p here h = let (us, e) = mark_here mark.Semicolon here h in (us, inr (Null, here, (refl, refl), inr e), less _ here us e)
 
-  begins : (p : StatementPlace) (here us : List Token) → here ≡ token.Keyword word.Begin ∷ us → (rule.block_at end p (statement end 2 (inside p))).front here us
+  begins : (p : StatementPlace) (here us : List Token) → here ≡ token.Keyword word.Begin ∷ us → (rule.block_at end p 2 (statement end 2 (inside p))).front here us
   begins InAlways here us e = inl (inl (inl (inr (block_tree, here, (refl, refl), inr e), tt), tt), tt)
   begins InInitial here us e = inl (inl (inl (inr (block_tree, here, (refl, refl), inr e), tt), tt), tt)
   begins WholeInitial here us e = inl (inl (inl (inl (inr (delayed_tree, here, (refl, refl), inr e), tt), tt), tt), tt)

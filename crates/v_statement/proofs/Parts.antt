@@ -1,34 +1,32 @@
 -- The laws of what statements are made of.
-use Rattle.std.proofs.Common.{◌≡◌, ℕ, Bool, true, false, ◌||◌, [], ◌∷◌, refl, arith, inl}
+use Rattle.std.proofs.Common.{◌≡◌, ℕ, zero, suc, Bool, true, false, ◌||◌, List, [], ◌∷◌, length, refl, ap, arith, inl, inr}
+use Rattle.v_syntax.specs.declared.token.Token.{Token}
 use Rattle.v_syntax.specs.declared.token.Token.TheVariants as token
 use Rattle.v_syntax.specs.declared.mark.Mark.TheVariants as mark
 use Rattle.v_syntax.specs.StatementTrees.{Value, Text, VariableTree, Variable, Delay}
 use Rattle.v_syntax.specs.TokenMeanings.{assignment_kind}
 use Rattle.v_expression.specs.Starts.{mark_begins_expression}
-use Rattle.v_syntax.specs.Statements.{listed, named_at, assignment_tree, task_tree, identifier, label, delay, assignment, argument, arguments, task_enable, variable_assignment, expression}
+use Rattle.v_syntax.specs.Statements.{listed, assignment_tree, task_tree, label, delay, delay_below, assignment, argument, arguments, task_enable, variable_assignment, expression}
 use Rattle.v_expression.specs.Starts.{starts_expression}
 use Rattle.v_expression.specs.Reading.{expression_of, target_of}
-use Rattle.v_phrase.specs.Readers.{Reader, down, starts_mark}
+use Rattle.v_phrase.specs.Readers.{Reader, down, starts_mark, identifier_of}
 use Rattle.v_phrase.specs.Readers as read
-use Rattle.v_phrase.specs.Kinds.{Kinds, any_kind, a_mark, a_name, a_text, a_task, either_of, Tells}
+use Rattle.v_phrase.specs.Kinds.{Kinds, kind_at, any_kind, a_mark, a_name, a_text, a_task, either_of, Tells}
 use Rattle.v_phrase.proofs.KindLaws.{tells_mark}
-use Rattle.v_phrase.proofs.Laws.{Laws, Ready}
-use Rattle.v_phrase.proofs.Tokens.{nothing_laws, place_in_laws, mark_laws}
-use Rattle.v_phrase.proofs.Meanings.{name_laws, number_laws, text_laws, task_laws, assignment_kind_laws}
+use Rattle.v_phrase.proofs.Laws.{Goes, Laws, Ready}
+use Rattle.v_phrase.proofs.Tokens.{nothing_laws, place_in_laws, mark_laws, mark_here}
+use Rattle.v_phrase.proofs.Meanings.{identifier_laws, name_laws, number_laws, text_laws, task_laws, assignment_kind_laws}
 use Rattle.v_phrase.proofs.Both.{apply_laws, keep_laws, skip_laws}
 use Rattle.v_phrase.proofs.Ready.{ready_behind}
 use Rattle.v_phrase.proofs.Maybe.{maybe_laws}
 use Rattle.v_phrase.proofs.Lists.{ends_list, listed_laws}
 use Rattle.v_phrase.proofs.Either.{either_first}
-use Rattle.v_phrase.proofs.Change.{narrow}
-use Rattle.v_phrase.proofs.Levels.{down_laws}
-use Rattle.v_phrase.proofs.Expressions.{of_expression, ends_expression, of_target, tells_expression, expression_phrase_laws, expression_ready, target_phrase_laws}
+use Rattle.v_phrase.proofs.Change.{narrow, raise}
+use Rattle.v_phrase.proofs.Never.{never_deep}
+use Rattle.v_phrase.proofs.Levels.{down_laws, down_ready}
+use Rattle.v_expression.proofs.Phrases.{of_expression, ends_expression, of_target, tells_expression, expression_phrase_laws, expression_ready, target_phrase_laws}
 use Rattle.v_statement.specs.Firsts.{starts_argument}
-use Rattle.v_statement.specs.Reading.{identifier_of, label_of, delay_of, assignment_of, value_below, argument_of, argument_list_of, arguments_of, task_of_room}
-
-pub identifier_laws : (end n : ℕ) → Laws n (λ m. identifier end) a_name false any_kind (λ m. identifier_of end)
-unfolding identifier_of
-identifier_laws end n = apply_laws n (apply_laws n (nothing_laws named_at n) (place_in_laws end n) refl) (name_laws n) refl
+use Rattle.v_statement.specs.Reading.{label_of, delay_of, delay_below_of, assignment_of, value_below, argument_of, arguments_of, task_of_room}
 
 pub label_laws : (n : ℕ) → Laws n (λ m. label) (a_mark mark.Colon) false any_kind (λ m. label_of)
 unfolding label_of
@@ -38,6 +36,20 @@ pub delay_laws : (end n : ℕ) → Laws n (λ m. delay end) (a_mark mark.Hash) f
 unfolding delay_of
 delay_laws end n =
     keep_laws n (apply_laws n (apply_laws n (keep_laws n (nothing_laws Delay n) (mark_laws mark.Hash n) refl) (place_in_laws end n) refl) (number_laws n) refl) (mark_laws mark.Semicolon n) refl
+
+-- a delay one level down
+module _ (end : ℕ) where
+  pub delay_below_laws : (n : ℕ) → Laws n (λ m. delay_below end m) (a_mark mark.Hash) false any_kind (λ m. delay_below_of end m)
+  unfolding delay_below_of
+  delay_below_laws zero = never_deep 0 (λ m. delay_below end m) (a_mark mark.Hash) any_kind false (λ m. delay_below_of end m) (λ here. refl) (λ x here rest w. w) (λ here rest f. f) (λ k. k)
+  delay_below_laws (suc n) = raise (delay_laws end n)
+
+  delay_goes : (here : List Token) → a_mark mark.Hash (kind_at here) ≡ true → Goes 0 (λ m. delay_below end m) here (length here)
+  delay_goes here h = let (us, e) = mark_here mark.Hash here h in (1, omega arith, us, inl (inl (inl (inr (Delay, here, (refl, refl), inr e), tt), tt), tt), (let l : length here ≡ suc (length us) = ap length e in omega arith))
+
+  pub delay_below_ready : (n : ℕ) → Ready n (λ m. delay_below end m) (a_mark mark.Hash) (λ m. delay_below_of end m)
+  unfolding delay_below_of
+  delay_below_ready n = down_ready n (λ m. delay_below end m) (a_mark mark.Hash) (λ m. delay_below_of end m) (λ here. refl) (λ m. ((((tt, tt), tt), tt), tt)) delay_goes
 
 -- ---- assignments
 
@@ -86,8 +98,7 @@ module _ (end n : ℕ) where
   tells_argument (token.Number ds ∷ ts) = refl
   tells_argument (token.Text t ∷ ts) = refl
 
-  argument_list_laws : Laws n (λ m. listed (argument end m)) of_argument false (ends_list (a_mark mark.Comma) ends_expression) (λ m. argument_list_of end m)
-  unfolding argument_list_of
+  argument_list_laws : Laws n (λ m. listed (argument end m)) of_argument false (ends_list (a_mark mark.Comma) ends_expression) (λ m. read.listed (argument_of end m))
   argument_list_laws = listed_laws n argument_laws (true, (tt, tt)) refl
 
   arguments_laws : Laws n (λ m. arguments end m) (a_mark mark.OpenParenthesis) false any_kind (λ m. arguments_of end m)

@@ -28,13 +28,14 @@ use Rattle.v_phrase.proofs.Maybe.{maybe_laws}
 use Rattle.v_phrase.proofs.Many.{many_spells, many_laws}
 use Rattle.v_phrase.proofs.Lists.{ends_list, some_laws, listed_laws, listed_spells}
 use Rattle.v_phrase.proofs.Either.{either_spells, either_second}
-use Rattle.v_phrase.proofs.Change.{rewhole}
+use Rattle.v_phrase.proofs.Change.{reread, rewhole}
 use Rattle.v_phrase.proofs.Levels.{down_laws}
 use Rattle.v_phrase.proofs.Branches.{Ends, ended, ended_branches, branches_laws, plain_laws, plain_spells, no_else}
-use Rattle.v_phrase.proofs.Expressions.{of_expression, ends_expression, expression_phrase_laws}
+use Rattle.v_expression.proofs.Phrases.{of_expression, ends_expression, expression_phrase_laws}
 use Rattle.v_statement.specs.Firsts.{task_form, mark_form, word_form, form_of, starts_statement, starts_case}
-use Rattle.v_statement.specs.Reading.{label_of, delay_of, statements_of, block_of, branches_of, conditional_of, labels_of, match_of, default_of, case_item_of, case_items_of, case_of, variable_of, header_of, for_of}
-use Rattle.v_statement.proofs.Parts.{label_laws, delay_laws, variable_by, variable_laws, or_false}
+use Rattle.v_statement.specs.Reading.{label_of, delay_below_of, statements_of, condition_of, conditional_of, default_of, matched_of, choices_of, case_item_tree, case_item_of, case_items_of, case_head_of, case_of, variable_of, header_of, for_head_of, for_of}
+use Rattle.v_statement.proofs.Parts.{label_laws, delay_below_laws, delay_below_ready, variable_by, variable_laws, or_false}
+use Rattle.v_statement.proofs.Steps.{conditional_steps, case_steps, matched_same, match_steps, default_steps, item_steps}
 
 -- the form of a statement that begins there
 abbrev pub form_at : StatementPlace → Kind → Option StatementForm
@@ -111,17 +112,17 @@ module _ (end n : ℕ) (p : StatementPlace) {S : ℕ → Phrase Token StatementT
   unfolding statements_of
   statements_laws = many_laws n (starts_statement p) (tells_statement p) plain ready (not_else p)
 
-  pub block_laws : Within (a_word word.End) (λ k. without any_kind (a_mark mark.Colon) k && without no_else (of_statement p) k) → Laws n (λ m. block (S m)) (a_word word.Begin) false any_kind (λ m. block_of p (s m))
-  unfolding block_of
+  pub block_laws : Within (a_word word.End) (λ k. without any_kind (a_mark mark.Colon) k && without no_else (of_statement p) k) → Laws n (λ m. block (S m)) (a_word word.Begin) false any_kind
+      (λ m. read.both (λ x y. x) (read.both (λ f x. f x) (read.both (λ f x. f x) (read.both (λ x y. x) (read.nothing block_tree) (read.word_of word.Begin)) (read.maybe (starts_mark mark.Colon) label_of)) (statements_of p (s m))) (read.word_of word.End))
   block_laws h = keep_laws n (apply_laws n block_front statements_laws (no_colon p)) (word_laws word.End n) h
 
   pub delayed_block_laws : Within (a_mark mark.Hash) (λ k. without any_kind (a_mark mark.Colon) k && without no_else (of_statement p) k)
       → Within (a_word word.End) (λ k. (without any_kind (a_mark mark.Colon) k && without no_else (of_statement p) k) && without any_kind (a_mark mark.Hash) k)
-      → Laws n (λ m. delayed_block end (S m)) (a_word word.Begin) false any_kind
-      (λ m. read.both (λ x y. x) (read.both (λ f x. f x) (read.both (λ f x. f x) (read.both (λ f x. f x) (read.both (λ x y. x) (read.nothing delayed_tree) (read.word_of word.Begin)) (read.maybe (starts_mark mark.Colon) label_of)) (statements_of p (s m))) (read.maybe (starts_mark mark.Hash) (delay_of end))) (read.word_of word.End))
+      → Laws n (λ m. delayed_block end m (S m)) (a_word word.Begin) false any_kind
+      (λ m. read.both (λ x y. x) (read.both (λ f x. f x) (read.both (λ f x. f x) (read.both (λ f x. f x) (read.both (λ x y. x) (read.nothing delayed_tree) (read.word_of word.Begin)) (read.maybe (starts_mark mark.Colon) label_of)) (statements_of p (s m))) (read.maybe (starts_mark mark.Hash) (delay_below_of end m))) (read.word_of word.End))
   delayed_block_laws h k =
       keep_laws n (apply_laws n (apply_laws n (apply_laws n (keep_laws n (nothing_laws delayed_tree n) (word_laws word.Begin n) refl) (maybe_laws n (starts_mark mark.Colon) (tells_mark mark.Colon) (label_laws n) (record { ready = inl (tt, tt) })) refl)
-      statements_laws (no_colon p)) (maybe_laws n (starts_mark mark.Hash) (tells_mark mark.Hash) (delay_laws end n) (record { ready = inl ((((tt, tt), tt), tt), tt) })) h) (word_laws word.End n) k
+      statements_laws (no_colon p)) (maybe_laws n (starts_mark mark.Hash) (tells_mark mark.Hash) (delay_below_laws end n) (delay_below_ready end n)) h) (word_laws word.End n) k
 
   -- ---- conditionals
 
@@ -149,38 +150,42 @@ module _ (end n : ℕ) (p : StatementPlace) {S : ℕ → Phrase Token StatementT
   conditional_body = rewhole (both_by if_tree n condition_laws (branches_laws n el) (λ k i. refl)) (λ m z here rest. (conditional end m (S m)).whole z here rest × Ends z rest) to_end from_end
 
   pub conditional_laws : Laws n (λ m. ended (conditional end m (S m))) (a_word word.If) false any_kind (λ m. conditional_of end m (s m))
-  unfolding conditional_of branches_of
-  conditional_laws = down_laws n (λ m. ended (conditional end m (S m))) (a_word word.If) any_kind _ (λ m. conditional_of end m (s m)) (λ here. refl) (λ room here. refl) (λ k. omega (arith, k.0.0.1)) (λ m. ((((tt, tt), omega arith), tt), able m)) conditional_body.spells (λ k. conditional_body)
+  unfolding conditional_of condition_of
+  conditional_laws = down_laws n (λ m. ended (conditional end m (S m))) (a_word word.If) any_kind (λ m. read.both if_tree (condition_by end m) (read.branches (s m))) (λ m. conditional_of end m (s m)) (λ here. refl)
+      (λ room here. sym (conditional_steps (condition_by end (suc room)) (s (suc room)) here)) (λ k. omega (arith, k.0.0.1)) (λ m. ((((tt, tt), omega arith), tt), able m)) conditional_body.spells (λ k. conditional_body)
 
   -- ---- cases
 
   labels_laws : (expression end n).missing → Laws n (λ m. listed (expression end m)) of_expression false (ends_list (a_mark mark.Comma) ends_expression) (λ m. read.listed (down m (expression_of end)))
   labels_laws k = listed_laws n (expression_phrase_laws end n) k refl
 
-  match_laws : (expression end n).missing → Within (of_statement p) any_kind → Laws n (λ m. match_item end m (S m)) of_expression false no_else
-      (λ m. read.both (λ f x. f x) (read.both (λ x y. x) (read.both (λ f x. f x) (read.nothing Match) (read.listed (down m (expression_of end)))) (read.sign mark.Colon)) (s m))
-  match_laws k h = apply_laws n (keep_laws n (apply_laws n (nothing_laws Match n) (labels_laws k) refl) (mark_laws mark.Colon n) refl) plain h
+  match_laws : (expression end n).missing → Within (of_statement p) any_kind → Laws n (λ m. match_item end m (S m)) of_expression false no_else (λ m. read.both case_item_tree (read.both (λ f x. f x) (read.nothing Some) (matched_of end m)) (s m))
+  match_laws k h =
+      reread (apply_laws n (keep_laws n (apply_laws n (nothing_laws Match n) (labels_laws k) refl) (mark_laws mark.Colon n) refl) plain h)
+      (λ m. read.both case_item_tree (read.both (λ f x. f x) (read.nothing Some) (matched_of end m)) (s m))
+      (λ m here. match_steps (read.listed (down m (expression_of end))) (read.sign mark.Colon) (s m) (matched_of end m) here (matched_same end m here))
 
   match_spells : Spells n (λ m. match_item end m (S m)) of_expression false
   match_spells = both_spells (λ f x. f x) n (both_spells (λ x y. x) n (both_spells (λ f x. f x) n (nothing_laws Match n).spells (listed_spells n (expression_phrase_laws end n).spells)) (mark_laws mark.Colon n).spells) q
 
-  default_laws : Laws n (λ m. default_item (S m)) (a_word word.Default) false no_else (λ m. default_of (s m))
+  default_laws : Laws n (λ m. default_item (S m)) (a_word word.Default) false no_else (λ m. read.both case_item_tree (read.both (λ x y. x) (read.nothing None) default_of) (s m))
   unfolding default_of
-  default_laws = apply_laws n (keep_laws n (keep_laws n (nothing_laws Default n) (word_laws word.Default n) refl) (maybe_laws n (starts_mark mark.Colon) (tells_mark mark.Colon) (mark_laws mark.Colon n) (record { ready = inl tt })) refl) plain (no_colon p)
+  default_laws =
+      reread (apply_laws n (keep_laws n (keep_laws n (nothing_laws Default n) (word_laws word.Default n) refl) (maybe_laws n (starts_mark mark.Colon) (tells_mark mark.Colon) (mark_laws mark.Colon n) (record { ready = inl tt })) refl) plain (no_colon p))
+      (λ m. read.both case_item_tree (read.both (λ x y. x) (read.nothing None) default_of) (s m)) (λ m here. default_steps (read.word_of word.Default) (read.maybe (starts_mark mark.Colon) (read.sign mark.Colon)) (s m) here)
 
-  abbrev case_item_by : ℕ → Reader CaseTree
-  case_item_by m = read.either (starts_word word.Default) (default_of (s m)) (read.both (λ f x. f x) (read.both (λ x y. x) (read.both (λ f x. f x) (read.nothing Match) (read.listed (down m (expression_of end)))) (read.sign mark.Colon)) (s m))
-
-  case_item_laws : (expression end n).missing → (S n).missing → Within (of_statement p) any_kind → Laws n (λ m. case_item end m (S m)) of_case false no_else case_item_by
+  case_item_laws : (expression end n).missing → (S n).missing → Within (of_statement p) any_kind → Laws n (λ m. case_item end m (S m)) of_case false no_else (λ m. case_item_of end m (s m))
+  unfolding case_item_of choices_of
   case_item_laws k j h =
-      either_second n (match_laws k h) default_laws (starts_word word.Default) (tells_word word.Default) refl (record { ready = inl (((tt, tt), tt), j) }) (λ i. (((tt, (k, tt)), tt), j))
+      reread (either_second n (match_laws k h) default_laws (starts_word word.Default) (tells_word word.Default) refl (record { ready = inl (((tt, tt), tt), j) }) (λ i. (((tt, (k, tt)), tt), j)))
+      (λ m. case_item_of end m (s m)) (λ m here. item_steps (starts_word word.Default) (read.both (λ x y. x) (read.nothing None) default_of) (read.both (λ f x. f x) (read.nothing Some) (matched_of end m)) (s m) here)
 
   case_item_spells : Spells n (λ m. case_item end m (S m)) of_case false
   case_item_spells = either_spells n match_spells default_laws.spells
 
   abbrev case_by : ℕ → Reader StatementTree
   case_by m = read.both (λ x y. x) (read.both (λ f x. f x) (read.both (λ x y. x) (read.both (λ f x. f x) (read.both (λ x y. x) (read.both (λ f x. f x) (read.nothing case_tree) (read.token_of case_kind)) (read.sign mark.OpenParenthesis)) (down m (expression_of end))) (read.sign mark.CloseParenthesis))
-      (read.some starts_case (case_item_by m))) (read.word_of word.EndCase)
+      (case_items_of end m (s m))) (read.word_of word.EndCase)
 
   abbrev case_head : ℕ → Phrase Token (List CaseTree → StatementTree)
   case_head m = nothing case_tree ⊛ token_of case_kind ◃ sign mark.OpenParenthesis ⊛ expression end m ◃ sign mark.CloseParenthesis
@@ -188,16 +193,20 @@ module _ (end n : ℕ) (p : StatementPlace) {S : ℕ → Phrase Token StatementT
   case_head_laws : Laws n case_head of_case_kind false any_kind (λ m. read.both (λ x y. x) (read.both (λ f x. f x) (read.both (λ x y. x) (read.both (λ f x. f x) (read.nothing case_tree) (read.token_of case_kind)) (read.sign mark.OpenParenthesis)) (down m (expression_of end))) (read.sign mark.CloseParenthesis))
   case_head_laws = keep_laws n (apply_laws n (keep_laws n (apply_laws n (nothing_laws case_tree n) (case_kind_laws n) refl) (mark_laws mark.OpenParenthesis n) refl) (expression_phrase_laws end n) refl) (mark_laws mark.CloseParenthesis n) refl
 
+  case_items_laws : (expression end n).missing → (S n).missing → Within (of_statement p) any_kind → Laws n (λ m. phrase.some (case_item end m (S m))) of_case false (ends_list of_case no_else) (λ m. case_items_of end m (s m))
+  unfolding case_items_of
+  case_items_laws k j h = some_laws n starts_case tells_case (case_item_laws k j h) (record { ready = inl (false, (((tt, (k, tt)), tt), j)) }) refl
+
   case_body : (expression end n).missing → (S n).missing → Within (of_statement p) any_kind → Laws n (λ m. case_statement end m (S m)) of_case_kind false any_kind case_by
-  case_body k j h =
-      keep_laws n (apply_laws n case_head_laws (some_laws n starts_case tells_case (case_item_laws k j h) (record { ready = inl (false, (((tt, (k, tt)), tt), j)) }) refl) refl) (word_laws word.EndCase n) refl
+  case_body k j h = keep_laws n (apply_laws n case_head_laws (case_items_laws k j h) refl) (word_laws word.EndCase n) refl
 
   case_spells : Spells n (λ m. case_statement end m (S m)) of_case_kind false
   case_spells = both_spells (λ x y. x) n (both_spells (λ f x. f x) n case_head_laws.spells (both_spells ◌∷◌ n case_item_spells (many_spells n case_item_spells))) (word_laws word.EndCase n).spells
 
   pub case_laws : Within (of_statement p) any_kind → Laws n (λ m. case_statement end m (S m)) of_case_kind false any_kind (λ m. case_of end m (s m))
-  unfolding case_of case_items_of case_item_of match_of labels_of
-  case_laws h = down_laws n (λ m. case_statement end m (S m)) of_case_kind any_kind case_by (λ m. case_of end m (s m)) (λ here. refl) (λ room here. refl) (λ k. omega (arith, k.0.0.0.1))
+  unfolding case_of case_head_of
+  case_laws h = down_laws n (λ m. case_statement end m (S m)) of_case_kind any_kind case_by (λ m. case_of end m (s m)) (λ here. refl)
+      (λ room here. sym (case_steps (read.token_of case_kind) (read.sign mark.OpenParenthesis) (expression_of end room) (read.sign mark.CloseParenthesis) (case_items_of end (suc room) (s (suc room))) (read.word_of word.EndCase) here)) (λ k. omega (arith, k.0.0.0.1))
       (λ m. ((((((((tt, tt), tt), omega arith), tt)), ((false, (((tt, (omega arith, tt)), tt), able m)), tt))), tt)) case_spells (λ k. case_body k.0.0.0.1 (of_items k.0.1.0) h)
     where
       of_items : (case_item end n (S n)).missing → (S n).missing
@@ -235,6 +244,6 @@ module _ (end n : ℕ) (p : StatementPlace) {S : ℕ → Phrase Token StatementT
   for_body = rewhole (both_by for_tree n for_front_laws el (λ k i. refl)) (λ m z here rest. (for_statement end m (S m)).whole z here rest × Ends z rest) for_to_end for_from_end
 
   pub for_laws : Laws n (λ m. ended (for_statement end m (S m))) (a_word word.For) false any_kind (λ m. for_of end m (s m))
-  unfolding for_of header_of variable_of
+  unfolding for_of for_head_of header_of variable_of
   for_laws = down_laws n (λ m. ended (for_statement end m (S m))) (a_word word.For) any_kind (λ m. read.both for_tree (for_front_by m) (s m)) (λ m. for_of end m (s m)) (λ here. refl) (λ room here. refl)
       (λ k. omega (arith, k.0.1.0.0.0.1)) (λ m. ((((tt, tt), tt), (((((((tt, tt), (((tt, ((tt, tt), tt)), tt), omega arith)), tt), omega arith), tt), (((tt, ((tt, tt), tt)), tt), omega arith)), tt)), able m)) for_body.spells (λ k. for_body)

@@ -20,15 +20,15 @@ use Rattle.v_phrase.proofs.Levels.{down_ready}
 use Rattle.v_phrase.proofs.Never.{never_spells, never_deep}
 use Rattle.v_phrase.proofs.Branches.{Ends, ended, plain_laws, no_else}
 use Rattle.v_statement.specs.Firsts.{form_of}
-use Rattle.v_statement.specs.Reading.{assignment_of, conditional_of, case_of, for_of, statement_of_form, lower}
+use Rattle.v_statement.specs.Reading.{assignment_of, condition_of, conditional_of, case_head_of, case_of, for_head_of, for_of, statement_of_form, lower}
 use Rattle.v_statement.proofs.Rules.{form_at, of_statement, form_told}
 use Rattle.v_statement.proofs.FormLaws.{is_form_only, is_form_self, is_form, of_form, no_task, no_delay, task_by, delay_by, form_by, form_spells, form_laws}
 use Rattle.v_statement.proofs.Opens.{form_opens, statement_opens}
 
-block_missing : (end : ℕ) (p : StatementPlace) (s : Phrase Token StatementTree) → (rule.block_at end p s).missing
-block_missing end InAlways s = ((((tt, tt), tt), tt), tt)
-block_missing end InInitial s = ((((tt, tt), tt), tt), tt)
-block_missing end WholeInitial s = (((((tt, tt), tt), tt), tt), tt)
+block_missing : (end : ℕ) (p : StatementPlace) (m : ℕ) (s : Phrase Token StatementTree) → (rule.block_at end p m s).missing
+block_missing end InAlways m s = ((((tt, tt), tt), tt), tt)
+block_missing end InInitial m s = ((((tt, tt), tt), tt), tt)
+block_missing end WholeInitial m s = (((((tt, tt), tt), tt), tt), tt)
 
 task_ready : (end n : ℕ) (p : StatementPlace) → Ready n (λ m. ended (rule.task_at end p m)) (of_form p form.TaskEnable) (λ m. task_by end p m)
 task_ready end n InAlways = record { ready = inr (λ here h. absurd (no_task (kind_at here) h)) }
@@ -104,9 +104,9 @@ module _ (end : ℕ) where
     goes i here h = let (us, f, l) = form_opens end p i here h in (2, omega arith, us, f, l)
 
     form_ready : (i : StatementForm) → Ready n (λ m. ended (F i m)) (of_form p i) (R i)
-    unfolding assignment_of conditional_of case_of for_of
+    unfolding assignment_of condition_of conditional_of case_head_of case_of for_head_of for_of
     form_ready form.Null = record { ready = inl (tt, tt) }
-    form_ready form.Block = record { ready = inl (block_missing end p (St (inside p) n)) }
+    form_ready form.Block = record { ready = inl (block_missing end p n (St (inside p) n)) }
     form_ready form.Assignment = down_ready n (λ m. ended (F form.Assignment m)) (of_form p form.Assignment) (R form.Assignment) (λ here. refl) (λ m. ((((tt, omega arith), tt), omega arith), tt)) (goes form.Assignment)
     form_ready form.If = down_ready n (λ m. ended (F form.If m)) (of_form p form.If) (R form.If) (λ here. refl) (λ m. ((((tt, tt), omega arith), tt), able (inside p) m)) (goes form.If)
     form_ready form.Case = down_ready n (λ m. ended (F form.Case m)) (of_form p form.Case) (R form.Case) (λ here. refl)

@@ -4,8 +4,8 @@ ghost use Rattle.std.specs.Prelude.{◌≡◌};
 ghost use Rattle.v_statement.specs.Firsts;
 ghost use Rattle.v_statement.specs.Firsts.{form_of, mark_form, word_form};
 
-use crate::lists::begins_expression;
-use v_expression::next;
+use crate::expressions::begins_expression;
+use v_phrase::next;
 use v_syntax::{Keyword, Mark, StatementForm, StatementPlace, Token};
 
 /// The form of the statement that begins with the first token, if one does.
@@ -24,6 +24,7 @@ pub fn form(place: StatementPlace, tokens: &[Token]) -> Option<StatementForm>
     }
 }
 
+/// The form of a statement that begins with this mark, if one does.
 fn form_of_mark(place: StatementPlace, mark: Mark) -> Option<StatementForm>
     ensures { result ≡ mark_form place mark }
 {
@@ -35,6 +36,7 @@ fn form_of_mark(place: StatementPlace, mark: Mark) -> Option<StatementForm>
     }
 }
 
+/// The form of a statement that begins with this word, if one does.
 fn form_of_word(word: Keyword) -> Option<StatementForm>
     ensures { result ≡ word_form word }
 {

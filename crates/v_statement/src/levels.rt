@@ -1,13 +1,13 @@
 //! The levels that are left below a statement.
 
 ghost use Rattle.std.specs.Prelude.{◌≡◌, ◌+◌, IfOk};
-ghost use Rattle.v_expression.specs.Stops.{Gives};
+ghost use Rattle.v_phrase.specs.Stops.{Gives};
 ghost use Rattle.v_statement.specs.Reading.{levels, lower, statement_of};
 
-use v_expression::{ReadError, too_deep};
+use v_phrase::{ReadError, too_deep};
 use v_syntax::{StatementPlace, Token};
 
-/// How many levels are left below what begins here and needs one.
+/// How many levels are left below what begins here and needs one. Without one it is too deep.
 #[tactic(auto, unfolding(crate::specs::Reading::levels))]
 pub fn below(room: usize, here: &[Token]) -> Result<usize, ReadError>
     ensures gives { Gives (λ r. r) result (levels room here.now) }

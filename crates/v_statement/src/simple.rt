@@ -3,21 +3,22 @@
 ghost use Rattle.std.specs.Prelude.{◌≡◌, ◌<◌};
 ghost use Rattle.v_syntax.specs.ExpressionTrees;
 ghost use Rattle.v_syntax.specs.StatementTrees.{view, view_variable, view_header};
-ghost use Rattle.v_expression.specs.Stops.{Gives};
-ghost use Rattle.v_statement.specs.Reading.{delay_of, assignment_of, variable_of, header_of, value_below, null_of};
+ghost use Rattle.v_phrase.specs.Stops.{Gives};
+ghost use Rattle.v_statement.specs.Reading.{delay_of, assignment_of, variable_of, header_of, null_of};
 
-use crate::front::{after_mark, assignment_kind, identifier};
+use crate::kinds::assignment_kind;
 use crate::levels::below;
 use std::alloc::Global;
-use v_expression::{ReadError, expression, next, place, syntax_error, target};
-use v_syntax::{Expression, ForHeader, Mark, Statement, Token, VariableAssignment};
+use v_expression::{expression, target};
+use v_phrase::{ReadError, after, identifier, next, place, syntax_error};
+use v_syntax::{ForHeader, Mark, Statement, Token, VariableAssignment};
 
 /// `;`
 #[tactic(auto, unfolding(crate::specs::Reading::null_of))]
 pub fn null_statement(tokens: &[Token]) -> Result<(Statement, &[Token]), ReadError>
     ensures { Gives (λ x. (view x.0, x.1.now)) result (null_of tokens.now) }
 {
-    Ok((Statement::Null, after_mark(Mark::Semicolon, tokens)?))
+    Ok((Statement::Null, after(Mark::Semicolon, tokens)?))
 }
 
 /// `# number ;` (IEEE 1364-2005, clause 9.7.1)
@@ -25,11 +26,11 @@ pub fn null_statement(tokens: &[Token]) -> Result<(Statement, &[Token]), ReadErr
 pub fn delay(total: usize, tokens: &[Token]) -> Result<(Statement, &[Token]), ReadError>
     ensures { Gives (λ x. (view x.0, x.1.now)) result (delay_of total tokens.now) }
 {
-    let here = after_mark(Mark::Hash, tokens)?;
+    let here = after(Mark::Hash, tokens)?;
     let Some((Token::Number(delay), behind)) = next(here) else {
         return Err(syntax_error(here));
     };
-    let rest = after_mark(Mark::Semicolon, behind)?;
+    let rest = after(Mark::Semicolon, behind)?;
     let at = place(total, here);
     Ok((Statement::Delay { at, delay: *delay }, rest))
 }
@@ -49,7 +50,7 @@ pub fn assignment(
     let (target, rest) = target(alloc, total, room, tokens)?;
     let (kind, rest) = assignment_kind(rest)?;
     let (value, rest) = expression(alloc, total, room, rest)?;
-    let rest = after_mark(Mark::Semicolon, rest)?;
+    let rest = after(Mark::Semicolon, rest)?;
     Ok((
         Statement::Assignment {
             kind,
@@ -58,21 +59,6 @@ pub fn assignment(
         },
         rest,
     ))
-}
-
-/// An expression one level down.
-#[tactic(auto, unfolding(crate::specs::Reading::value_below, crate::specs::Reading::levels))]
-pub fn expression_below(
-    alloc: Global,
-    total: usize,
-    room: usize,
-    tokens: &[Token],
-) -> Result<(Expression, &[Token]), ReadError>
-    requires { room < 1000 }
-    ensures { Gives (λ x. (ExpressionTrees.view x.0, x.1.now)) result (value_below total room tokens.now) }
-{
-    let room = below(room, tokens)?;
-    expression(alloc, total, room, tokens)
 }
 
 /// `name = expression`
@@ -87,7 +73,7 @@ fn variable_assignment(
     ensures { Gives (λ x. (view_variable x.0, x.1.now)) result (variable_of total room tokens.now) }
 {
     let (name, rest) = identifier(alloc, total, tokens)?;
-    let rest = after_mark(Mark::Assign, rest)?;
+    let rest = after(Mark::Assign, rest)?;
     let (value, rest) = expression(alloc, total, room, rest)?;
     Ok((VariableAssignment { name, value }, rest))
 }
@@ -103,13 +89,13 @@ pub fn for_header(
     requires { room < 1000 }
     ensures { Gives (λ x. (view_header x.0, x.1.now)) result (header_of total room tokens.now) }
 {
-    let rest = after_mark(Mark::OpenParenthesis, tokens)?;
+    let rest = after(Mark::OpenParenthesis, tokens)?;
     let (initial, rest) = variable_assignment(alloc, total, room, rest)?;
-    let rest = after_mark(Mark::Semicolon, rest)?;
+    let rest = after(Mark::Semicolon, rest)?;
     let (condition, rest) = expression(alloc, total, room, rest)?;
-    let rest = after_mark(Mark::Semicolon, rest)?;
+    let rest = after(Mark::Semicolon, rest)?;
     let (step, rest) = variable_assignment(alloc, total, room, rest)?;
-    let rest = after_mark(Mark::CloseParenthesis, rest)?;
+    let rest = after(Mark::CloseParenthesis, rest)?;
     Ok((
         ForHeader {
             initial,

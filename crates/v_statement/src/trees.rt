@@ -2,23 +2,27 @@
 
 ghost use Rattle.std.specs.Prelude.{◌≡◌, map, option_map, IfOk};
 ghost use Rattle.v_syntax.specs.ExpressionTrees;
-ghost use Rattle.v_syntax.specs.StatementTrees.{view, view_case, view_header, statement_trees, case_trees, Block, Case, For};
-ghost use Rattle.v_syntax.specs.Statements.{if_tree};
+ghost use Rattle.v_syntax.specs.StatementTrees.{view, view_case, view_header, statement_trees, Block};
+ghost use Rattle.v_syntax.specs.Statements.{if_tree, for_tree};
 ghost use Rattle.v_syntax.specs.Statements as rules;
+ghost use Rattle.v_statement.specs.Reading.{case_item_tree, case_with};
 
 use port_io::Name;
 use std::alloc::{AllocError, AllocFailed, Global};
 use v_syntax::{CaseItem, CaseKind, Expression, ForHeader, Statement};
 
+/// A block of its label and its statements.
 pub fn block(label: Option<Name>, statements: Vec<Statement>) -> Statement
     ensures { view result ≡ Block label (statement_trees (map view statements.items)) }
 {
     Statement::Block { label, statements }
 }
 
-pub fn case_statement(kind: CaseKind, selector: Expression, items: Vec<CaseItem>) -> Statement
-    ensures { view result ≡ Case kind (ExpressionTrees.view selector) (case_trees (map view_case items.items)) }
+/// A case statement of its first parts and its items.
+pub fn case_statement(head: (CaseKind, Expression), items: Vec<CaseItem>) -> Statement
+    ensures { view result ≡ case_with (head.0, ExpressionTrees.view head.1) (map view_case items.items) }
 {
+    let (kind, selector) = head;
     Statement::Case {
         kind,
         selector,
@@ -26,14 +30,25 @@ pub fn case_statement(kind: CaseKind, selector: Expression, items: Vec<CaseItem>
     }
 }
 
+/// An item of a case statement, with its expressions or as `default`.
+pub fn case_item(labels: Option<Vec<Expression>>, statement: Statement) -> CaseItem
+    ensures { view_case result ≡ case_item_tree (option_map (λ v. map ExpressionTrees.view v.items) labels) (view statement) }
+{
+    match labels {
+        Some(labels) => CaseItem::Match { labels, statement },
+        None => CaseItem::Default { statement },
+    }
+}
+
+/// A loop of its first parts and its body.
 pub fn for_statement(
     alloc: Global,
-    at: usize,
-    header: ForHeader,
+    head: (usize, ForHeader),
     body: Statement,
 ) -> Result<Statement, AllocFailed<Statement>>
-    ensures { IfOk result (λ s. view s ≡ For at (view_header header) (view body)) }
+    ensures { IfOk result (λ s. view s ≡ for_tree (head.0, view_header head.1) (view body)) }
 {
+    let (at, header) = head;
     let body = Box::new(alloc, body)?;
     Ok(Statement::For { at, header, body })
 }

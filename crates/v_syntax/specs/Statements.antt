@@ -103,8 +103,13 @@ with_delay ss (Some d) = ss ++ (d ∷ [])
 abbrev pub delayed_tree : Option (List ℕ) → List StatementTree → Option StatementTree → StatementTree
 delayed_tree l ss d = Block l (statement_trees (with_delay ss d))
 
-abbrev pub delayed_block : ℕ → Phrase Token StatementTree → Phrase Token StatementTree
-delayed_block end s = nothing delayed_tree ◃ word_of word.Begin ⊛ maybe label ⊛ many s ⊛ maybe (delay end) ◃ word_of word.End
+-- it is a statement one level down; n bounds the heights there
+abbrev pub delay_below : ℕ → ℕ → Phrase Token StatementTree
+delay_below end zero = never
+delay_below end (suc n) = delay end
+
+abbrev pub delayed_block : ℕ → ℕ → Phrase Token StatementTree → Phrase Token StatementTree
+delayed_block end n s = nothing delayed_tree ◃ word_of word.Begin ⊛ maybe label ⊛ many s ⊛ maybe (delay_below end n) ◃ word_of word.End
 
 abbrev pub assignment_tree : TargetTree → AssignmentKind → Tree → StatementTree
 assignment_tree t k e = Assignment k t e
@@ -185,9 +190,9 @@ inside InAlways = InAlways
 inside InInitial = InInitial
 inside WholeInitial = InInitial
 
-abbrev pub block_at : ℕ → StatementPlace → Phrase Token StatementTree → Phrase Token StatementTree
-block_at end WholeInitial s = delayed_block end s
-block_at end _ s = block s
+abbrev pub block_at : ℕ → StatementPlace → ℕ → Phrase Token StatementTree → Phrase Token StatementTree
+block_at end WholeInitial n s = delayed_block end n s
+block_at end _ n s = block s
 
 abbrev pub task_at : ℕ → StatementPlace → ℕ → Phrase Token StatementTree
 task_at end InAlways n = never
@@ -197,10 +202,10 @@ abbrev pub delay_at : ℕ → StatementPlace → Phrase Token StatementTree
 delay_at end WholeInitial = delay end
 delay_at end _ = never
 
--- a statement of a form; n bounds its expressions' heights, and s is a statement one level down
+-- a statement of a form; n bounds the heights of its parts, and s is a statement one level down
 abbrev pub statement_of_form : ℕ → StatementPlace → ℕ → Phrase Token StatementTree → StatementForm → Phrase Token StatementTree
 statement_of_form end place n s form.Null = nothing Null ◃ sign mark.Semicolon
-statement_of_form end place n s form.Block = block_at end place s
+statement_of_form end place n s form.Block = block_at end place n s
 statement_of_form end place n s form.Assignment = assignment end n
 statement_of_form end place n s form.If = conditional end n s
 statement_of_form end place n s form.Case = case_statement end n s

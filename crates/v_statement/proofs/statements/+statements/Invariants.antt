@@ -5,21 +5,6 @@ use Rattle.v_statement.specs.Firsts.{starts_statement, starts_case}
 use Rattle.v_statement.specs.Reading.{lower, statements_of, case_item_of, case_items_of}
 use Rattle.v_statement.proofs.statements.+statements.Given as goal
 
-abbrev pub decreases-case_items_at : goal.decreases-case_items_at
-decreases-case_items_at l = l.room * 20 + 9
-
-abbrev pub decreases-case_item_at : goal.decreases-case_item_at
-decreases-case_item_at l = l.room * 20 + 8
-
-abbrev pub decreases-match_at : goal.decreases-match_at
-decreases-match_at l = l.room * 20 + 7
-
-abbrev pub decreases-default_at : goal.decreases-default_at
-decreases-default_at l = l.room * 20 + 7
-
-abbrev pub decreases-branches_at : goal.decreases-branches_at
-decreases-branches_at l = l.room * 20 + 7
-
 abbrev pub decreases-statement_at : goal.decreases-statement_at
 decreases-statement_at l = l.room * 20 + 11
 
@@ -35,11 +20,14 @@ decreases-case_at l = l.room * 20 + 10
 abbrev pub decreases-for_at : goal.decreases-for_at
 decreases-for_at l = l.room * 20 + 10
 
-abbrev pub decreases-plain_block_at : goal.decreases-plain_block_at
-decreases-plain_block_at l = l.room * 20 + 9
+abbrev pub decreases-case_items_at : goal.decreases-case_items_at
+decreases-case_items_at l = l.room * 20 + 9
 
-abbrev pub decreases-delayed_block_at : goal.decreases-delayed_block_at
-decreases-delayed_block_at l = l.room * 20 + 9
+abbrev pub decreases-case_item_at : goal.decreases-case_item_at
+decreases-case_item_at l = l.room * 20 + 8
+
+abbrev pub decreases-otherwise_at : goal.decreases-otherwise_at
+decreases-otherwise_at l = l.room * 20 + 7
 
 abbrev pub decreases-statements_at : goal.decreases-statements_at
 decreases-statements_at l = l.room * 20 + 5
@@ -55,5 +43,5 @@ invariant-statements_at-loop l =
 abbrev pub invariant-case_items_at-loop : goal.invariant-case_items_at-loop
 invariant-case_items_at-loop l =
     let s = lower l.total l.room l.place in
-    with_front (map view_case l.all.items) (many_by starts_case (case_item_of l.total l.below s) (l.end - l.counter) l.rest)
-    ≡ case_items_of l.total l.below s l.fn.tokens
+    with_front (map view_case l.all.items) (many_by starts_case (case_item_of l.total l.room s) (l.end - l.counter) l.rest)
+    ≡ case_items_of l.total l.room s l.fn.tokens

@@ -1,4 +1,0 @@
-pub mod Rules
-pub mod ItemLaws
-pub mod Lowest
-pub mod CallerLaws
