@@ -1,3 +1,5 @@
+//! What a change of a digit is.
+
 /// What a change of a digit is to an event control (clause 9.7.2).
 #[derive(Clone, Copy, Debug, PartialEq, Eq)]
 pub enum Edge {

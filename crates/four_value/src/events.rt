@@ -1,3 +1,4 @@
+//! The edge from one digit to another.
 ghost use Rattle.std.specs.Prelude.{◌≡◌};
 ghost use Rattle.four_value.specs.Vector.{edge_of};
 

@@ -16,8 +16,6 @@ pub use vector::Bits;
 
 mod edges;
 mod events;
-#[cfg(test)]
-mod tests;
 mod vector;
 
 /// One of the four values of a net or a variable (clause 4.1).
@@ -45,7 +43,7 @@ impl Digit {
         }
     }
 
-    // Whether the plane of values has a bit for this digit.
+    /// Whether the plane of values has a bit for this digit.
     fn value_bit(self) -> bool
         ensures { from_bool result ≡ value_bit self }
     {
@@ -55,7 +53,7 @@ impl Digit {
         }
     }
 
-    // Whether the plane of unknown digits has a bit for this digit.
+    /// Whether the plane of unknown digits has a bit for this digit.
     fn unknown_bit(self) -> bool
         ensures { from_bool result ≡ unknown_bit self }
     {
@@ -65,7 +63,7 @@ impl Digit {
         }
     }
 
-    // The ASCII byte that stands for this digit in a text.
+    /// The ASCII byte that stands for this digit in a text.
     fn byte(self) -> u8
         ensures { result ≡ digit_byte self }
     {

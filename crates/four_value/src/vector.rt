@@ -1,3 +1,4 @@
+//! Vectors of digits.
 ghost use Rattle.std.specs.Prelude.{◌≡◌, ◌≢◌, ℕ, ◌-◌, ◌^◌, ◌<◌, ◌≤◌, length, replicate, slice_set, IfSome};
 ghost use Rattle.std.specs.Int.{bit_at, from_bool};
 ghost use Rattle.four_value.specs.Vector.{vector, number, digit_at};
@@ -132,7 +133,7 @@ impl Bits {
     }
 }
 
-// The bits of places 0 to `width` - 1.
+/// The bits of places 0 to `width` - 1.
 fn low_mask(width: u8) -> u128
     requires low { 1 ≤ width }
     requires high { width ≤ 128 }
@@ -141,7 +142,7 @@ fn low_mask(width: u8) -> u128
     u128::MAX >> (128 - width)
 }
 
-// The plane with the bit of place `i` set or cleared.
+/// The plane with the bit of place `i` set or cleared.
 fn with_bit(plane: u128, i: u8, on: bool) -> u128
     requires { i < 128 }
     ensures at { bit_at result i ≡ from_bool on }
@@ -152,7 +153,7 @@ fn with_bit(plane: u128, i: u8, on: bool) -> u128
     if on { plane | bit } else { plane & !bit }
 }
 
-// The digit whose bits in the two planes are these.
+/// The digit whose bits in the two planes are these.
 fn digit_of_bits(value: u128, unknown: u128) -> Digit
     ensures { result ≡ digit_of value unknown }
 {

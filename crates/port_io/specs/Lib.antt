@@ -7,5 +7,8 @@ pub mod Name
 pub mod Memory
 pub mod MemoryView
 pub mod Steps
+pub mod Reading
+pub mod ReadingLaws
 pub mod Written
+pub mod WrittenLaws
 pub mod Pos

@@ -30,6 +30,12 @@ pub record SinkBreaks (before : Lines) (piece : List ℕ) (after : Lines) : Type
 pub gives_file_of : (before : Files) (name : List ℕ) (most : ℕ) (bytes : List ℕ) (after : Files) → StoreGives before name most bytes after → GivesFile (Some (file_of before.files)) name most bytes
 gives_file_of before name most bytes after given = given.found
 
+pub gives_same_of : (before : Files) (name : List ℕ) (most : ℕ) (bytes : List ℕ) (after : Files) → StoreGives before name most bytes after → Some (file_of after.files) ≡ Some (file_of before.files)
+gives_same_of before name most bytes after given = ap (λ (store : Files). Some (file_of store.files)) given.counted
+
+pub misses_same_of : (before : Files) (name : List ℕ) (after : Files) → StoreMisses before name after → Some (file_of after.files) ≡ Some (file_of before.files)
+misses_same_of before name after missed = ap (λ (store : Files). Some (file_of store.files)) missed.counted
+
 pub takes_told_of : (before : Lines) (piece : List ℕ) (after : Lines) → SinkTakes before piece after → Appends (Some before.bytes) (Some after.bytes) piece
 takes_told_of before piece after taken = ap (λ (lines : Lines). lines.bytes) taken.counted
 

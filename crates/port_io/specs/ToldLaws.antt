@@ -31,7 +31,7 @@ appends_then (Some old) (Some mid) None first second p q = q
 appends_then (Some old) (Some mid) (Some new) first second p q = rw (← append_assoc) (cc)
 
 -- known bytes that stay
-appends_none : (known : Option (List ℕ)) → Appends known known []
+pub appends_none : (known : Option (List ℕ)) → Appends known known []
 appends_none None = tt
 appends_none (Some bytes) = sym (append-nil bytes)
 

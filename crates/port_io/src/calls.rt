@@ -1,4 +1,4 @@
-// The calls of a store or a sink in memory, some of which fail.
+//! The calls of a store or a sink in memory, some of which fail.
 ghost use Rattle.std.specs.Prelude.{◌≡◌, ◌≤◌, [], ◌∷◌, ◌++◌, OnOk, OnErr};
 ghost use Rattle.port_io.specs.Ports.{next_count};
 ghost use Rattle.port_io.specs.Memory.{fails_at};
@@ -6,7 +6,7 @@ ghost use Rattle.port_io.specs.Memory.{fails_at};
 use crate::NoMemory;
 use std::alloc::Global;
 
-// How many calls there were, the numbers of those that fail, and how many did.
+/// How many calls there were, the numbers of those that fail, and how many did.
 #[derive(Drop)]
 pub(crate) struct Calls {
     made: u64,
@@ -27,7 +27,7 @@ impl Calls {
         }
     }
 
-    // Lets the call of that number fail.
+    /// Lets the call of that number fail.
     pub(crate) fn fail_at(&mut self, call: u64) -> Result<(), NoMemory>
         ensures made { self.new.made ≡ self.old.made }
         ensures added { OnOk result (self.new.failing.items ≡ self.old.failing.items ++ call ∷ []) }
@@ -38,7 +38,7 @@ impl Calls {
         Ok(())
     }
 
-    // Counts a call, and says whether it is one that fails.
+    /// Counts a call, and says whether it is one that fails.
     pub(crate) fn begin(&mut self) -> bool
         ensures made { self.new.made ≡ next_count self.old.made }
         ensures fails { result ≡ fails_at self.old.failing.items self.old.made }
@@ -50,7 +50,7 @@ impl Calls {
         self.failing.iter().any(|failing| *failing == call)
     }
 
-    // Counts a fault.
+    /// Counts a fault.
     pub(crate) fn fail(&mut self)
         ensures made { self.new.made ≡ self.old.made }
         ensures failing { self.new.failing.items ≡ self.old.failing.items }

@@ -1,4 +1,4 @@
-// A sink in memory, whose calls fail where they are told to.
+//! A sink in memory, whose calls fail where they are told to.
 ghost use Rattle.std.specs.Prelude.{◌≡◌, ℕ, ◌∷◌, [], ◌++◌, ◌≤◌, Some, List, Option, OnOk, OnErr, IsErrOf};
 ghost use Rattle.port_io.specs.Ports.{next_count, IsRaised, AppendsPart};
 ghost use Rattle.port_io.specs.Steps.{SinkTakes, SinkBreaks, takes_told_of, breaks_told_of, takes_count_of, breaks_count_of};

@@ -1,17 +1,17 @@
-// A store in memory, whose calls fail where they are told to.
+//! A store in memory, whose calls fail where they are told to.
 ghost use Rattle.std.specs.Prelude.{◌≡◌, ℕ, ◌∷◌, [], ◌++◌, ◌≤◌, Some, List, Option, take, length, OnOk, OnErr, IfOk, IsErrOf};
 ghost use Rattle.std.specs.Option.{option_copied, option_map};
 ghost use Rattle.std.specs.Str.{bytes_eq};
 ghost use Rattle.port_io.specs.Ports.{next_count, IsRaised};
 ghost use Rattle.port_io.specs.Memory.{file_of};
-ghost use Rattle.port_io.specs.Steps.{StoreGives, StoreMisses, gives_file_of, gives_count_of, misses_count_of};
+ghost use Rattle.port_io.specs.Steps.{StoreGives, StoreMisses, gives_file_of, gives_same_of, misses_same_of, gives_count_of, misses_count_of};
 
 use crate::calls::Calls;
 use crate::{Name, NoMemory, Store, StoreFault};
 use std::alloc::{AllocError, Global};
 use std::marker::Model;
 
-// A file in memory.
+/// A file in memory.
 #[derive(Drop)]
 struct StoredFile {
     name: Name,
@@ -33,7 +33,7 @@ impl StoredFile {
         self.name.bytes() == name
     }
 
-    // The first `most` bytes of the file, or all of them where it has fewer.
+    /// The first `most` bytes of the file, or all of them where it has fewer.
     fn first_bytes(&self, alloc: Global, most: usize) -> Result<Vec<u8>, AllocError>
         ensures { IfOk result (λ bytes. bytes.items ≡ take most self.now.bytes) }
     {
@@ -106,6 +106,10 @@ impl Store for MemStore {
 
     ghost gives_file = { gives_file_of };
 
+    ghost gives_same = { gives_same_of };
+
+    ghost misses_same = { misses_same_of };
+
     ghost gives_count = { gives_count_of };
 
     ghost misses_count = { misses_count_of };
@@ -135,7 +139,7 @@ impl Store for MemStore {
     }
 }
 
-// The newest file of that name.
+/// The newest file of that name.
 fn find_file<'a>(files: &'a [StoredFile], name: &[u8]) -> Option<&'a StoredFile>
     ensures { option_map (λ file. file.bytes) (option_copied result) ≡ file_of files.now name.now }
 {

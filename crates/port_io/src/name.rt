@@ -1,4 +1,4 @@
-// A small text.
+//! A small text.
 ghost use Rattle.std.specs.Prelude.{◌≡◌, [], IfOk};
 
 use crate::NoMemory;

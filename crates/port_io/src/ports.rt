@@ -1,4 +1,4 @@
-// A store and a sink, by what they tell and by what each call does.
+//! A store and a sink, by what they tell and by what each call does.
 ghost use Rattle.std.specs.Prelude.{◌≡◌, ℕ, ◌≤◌, List, Option, length, IfOk, OnOk, OnErr, IsErrOf};
 ghost use Rattle.std.specs.Io.KnownBytes.{Appends};
 ghost use Rattle.port_io.specs.Ports.{IsRaised, GivesFile, AppendsPart};
@@ -123,6 +123,14 @@ pub trait Store {
     /// What is given is the first `most` bytes of the file, where the store tells its files.
     ghost gives_file: { (before : Self) (name : List ℕ) (most : ℕ) (bytes : List ℕ) (after : Self)
         → gives before name most bytes after → GivesFile (files before) name most bytes };
+
+    /// A read that gives leaves the files that the store tells as they were.
+    ghost gives_same: { (before : Self) (name : List ℕ) (most : ℕ) (bytes : List ℕ) (after : Self)
+        → gives before name most bytes after → files after ≡ files before };
+
+    /// A read that misses leaves the files that the store tells as they were.
+    ghost misses_same: { (before : Self) (name : List ℕ) (after : Self)
+        → misses before name after → files after ≡ files before };
 
     /// The count of faults does not fall in a read that gives.
     ghost gives_count: { (before : Self) (name : List ℕ) (most : ℕ) (bytes : List ℕ) (after : Self)

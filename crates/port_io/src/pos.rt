@@ -1,4 +1,4 @@
-// The line and the column of a place in a text.
+//! The line and the column of a place in a text.
 ghost use Rattle.std.specs.Prelude.{◌≡◌, ◌≤◌, ◌<◌, length};
 ghost use Rattle.port_io.specs.Pos.{pos_of};
 

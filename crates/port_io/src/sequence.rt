@@ -1,4 +1,4 @@
-// Values in order.
+//! Values in order.
 ghost use Rattle.std.specs.Prelude.{◌≡◌, ◌<◌, ◌++◌, ◌∷◌, [], length, OnOk, OnErr, Some, slice_get, IsTrue, ◌↔◌};
 
 use crate::NoMemory;

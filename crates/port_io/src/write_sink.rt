@@ -1,51 +1,49 @@
-// A sink over any writer.
-ghost use Rattle.std.specs.Prelude.{◌≡◌, ℕ, ◌≤◌, List, Option, OnOk, OnErr, IfErr};
-ghost use Rattle.std.specs.Io.KnownBytes.{Appends};
+//! A sink over any writer.
+ghost use Rattle.std.specs.Prelude.{◌≡◌, List, ℕ, OnOk, OnErr, IfErr};
 ghost use Rattle.port_io.specs.CountLaws.{same_count, raised_count};
-ghost use Rattle.port_io.specs.Ports.{AppendsPart};
-ghost use Rattle.port_io.specs.Written.{WriterTakes, WriterBreaks};
+ghost use Rattle.port_io.specs.Written.{TakesWhole, BreaksWhole, WriterTakes, WriterBreaks};
+ghost use Rattle.port_io.specs.WrittenLaws.{whole_told, broken_told};
 
-use crate::{Sink, SinkFault};
+use crate::{Outlet, Sink, SinkFault};
 use std::alloc::Global;
-use std::io::Write;
 use std::marker::Model;
 
 /// Puts its bytes into a writer, and tells what the writer tells.
 #[derive(Drop)]
-pub struct WriteSink<W: Write> {
+pub struct WriteSink<W: Outlet> {
     writer: W,
     faults: u64,
 }
 
-impl<W: Write> Model for WriteSink<W> {
+impl<W: Outlet> Model for WriteSink<W> {
     ghost use Rattle.port_io.specs.Written.{Written};
 
-    ghost Value = { Written };
+    ghost Value = { Written W };
 
-    ghost view = { λ sink. record { told = W.contents sink.writer; faults = sink.faults } };
+    ghost view = { λ sink. record { writer = sink.writer; faults = sink.faults } };
 }
 
-impl<W: Write> WriteSink<W> {
+impl<W: Outlet> WriteSink<W> {
     /// A sink over the writer that never failed. It takes no memory.
     pub fn new(writer: W) -> Self
-        ensures { result ≡ record { told = W.contents writer; faults = 0 } }
+        ensures { result ≡ record { writer = writer; faults = 0 } }
     {
         WriteSink { writer, faults: 0 }
     }
 }
 
-impl<W: Write> Sink for WriteSink<W> {
-    ghost told = { λ sink. sink.told };
+impl<W: Outlet> Sink for WriteSink<W> {
+    ghost told = { λ sink. W.told sink.writer };
 
     ghost faults = { λ sink. sink.faults };
 
-    ghost takes = { WriterTakes };
+    ghost takes = { WriterTakes W.takes W.fails };
 
-    ghost breaks = { WriterBreaks };
+    ghost breaks = { WriterBreaks W.takes W.fails };
 
-    ghost takes_told = { λ before piece after taken. taken.appended };
+    ghost takes_told = { λ before piece after taken. whole_told W.takes W.told W.takes_told before.writer piece after.writer taken.whole };
 
-    ghost breaks_told = { λ before piece after broken. broken.appended };
+    ghost breaks_told = { λ before piece after broken. broken_told W.takes W.told W.takes_told W.fails W.fails_told before.writer piece after.writer broken.broken };
 
     ghost takes_count = { λ before piece after taken. same_count before.faults after.faults taken.counted };
 
@@ -61,20 +59,22 @@ impl<W: Write> Sink for WriteSink<W> {
     }
 }
 
-// Writes all the bytes, by as many writes as it takes, or says that one of them failed or took
-// nothing. No write is tried again.
-fn write_whole<W: Write>(writer: &mut W, bytes: &[u8]) -> Result<(), SinkFault>
-    ensures whole { OnOk result (Appends (W.contents writer.old) (W.contents writer.new) bytes.now) }
-    ensures part { OnErr result (AppendsPart (W.contents writer.old) (W.contents writer.new) bytes.now) }
+/// Writes all the bytes, by as many writes as it takes, or says that one of them failed or took
+/// nothing. No write is tried again.
+fn write_whole<W: Outlet>(writer: &mut W, bytes: &[u8]) -> Result<(), SinkFault>
+    ensures whole { OnOk result (TakesWhole W.takes writer.old bytes.now writer.new) }
+    ensures broken { OnErr result (BreaksWhole W.takes W.fails writer.old bytes.now writer.new) }
     ensures fault { IfErr result (λ fault. fault ≡ SinkFault.Failed) }
 {
     let mut rest = bytes;
     while !rest.is_empty() {
-        match writer.write(rest) {
-            Ok(0) => return Err(SinkFault::Failed),
-            Ok(count) => rest = &rest[count..],
-            Err(_) => return Err(SinkFault::Failed),
+        let Some(count) = writer.write_once(rest) else {
+            return Err(SinkFault::Failed);
+        };
+        if count == 0 {
+            return Err(SinkFault::Failed);
         }
+        rest = &rest[count..];
     }
     Ok(())
 }

@@ -1,3 +1,4 @@
+//! Sums, differences, products, quotients and remainders (IEEE 1364-2005, clause 5.1.5).
 ghost use Rattle.std.specs.Prelude.{◌≡◌, ◌<◌, ◌^◌, length, IfSome};
 ghost use Rattle.four_value.specs.Vector as meaning;
 ghost use Rattle.four_value.specs.Vector.{number, both};
@@ -5,8 +6,8 @@ ghost use Rattle.four_value.specs.Vector.{number, both};
 use super::Bits;
 use crate::Digit;
 
-// Arithmetic operators on unsigned numbers of one width (clause 5.1.5), modulo 2^width. Where a digit of either operand
-// is x or z, the whole result is x.
+/// Arithmetic operators on unsigned numbers of one width (clause 5.1.5), modulo 2^width. Where a digit of either operand
+/// is x or z, the whole result is x.
 impl Bits {
     /// Binary `+`, modulo 2^width.
     #[tactic(auto, using(crate::proofs::Numbers::vector_wrap))]
@@ -71,7 +72,7 @@ impl Bits {
         }
     }
 
-    // The numbers of both vectors, where both are known.
+    /// The numbers of both vectors, where both are known.
     pub(super) fn numbers(self, other: Bits) -> Option<(u128, u128)>
         ensures is { result ≡ both (number self) (number other) }
         ensures fits { IfSome result (λ p. (p.0 < 2 ^ length self) × (p.1 < 2 ^ length other)) }

@@ -1,9 +1,10 @@
+//! Operators digit by digit (clause 5.1.10), and the digits of `?:` under an unknown condition.
 ghost use Rattle.std.specs.Prelude.{◌≡◌, map, length};
 ghost use Rattle.four_value.specs.Vector.{map2, and_digit, or_digit, xor_digit, not_digit, merge_digit};
 
 use super::{Bits, low_mask};
 
-// Operators that go digit by digit, each by a table of the standard, on all digits of both planes at once.
+/// Operators that go digit by digit, each by a table of the standard, on all digits of both planes at once.
 impl Bits {
     /// `&` (clause 5.1.10, the table of binary AND): 0 where one digit is 0, 1 where both are 1, else x.
     pub fn and(self, other: Bits) -> Bits

@@ -1,10 +1,11 @@
+//! Comparisons (clauses 5.1.7 and 5.1.8), and whether two vectors are the same.
 ghost use Rattle.std.specs.Prelude.{◌≡◌, length, IsTrue, ◌↔◌};
 ghost use Rattle.four_value.specs.Vector.{less, equal, case_equal};
 
 use super::Bits;
 use crate::Digit;
 
-// Relational and equality operators, on vectors of one width. The digit is the comparison's value: 0, 1 or x.
+/// Relational and equality operators, on vectors of one width. The digit is the comparison's value: 0, 1 or x.
 impl Bits {
     /// `<` of two unsigned numbers (clause 5.1.7); x where a digit of either is x or z.
     pub fn lt(self, other: Bits) -> Digit

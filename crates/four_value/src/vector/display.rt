@@ -1,3 +1,4 @@
+//! The digits of a vector as a text.
 ghost use Rattle.std.specs.Prelude.{◌≡◌};
 ghost use Rattle.four_value.specs.Vector as meaning;
 

@@ -1,9 +1,10 @@
+//! Concatenations, parts and other widths (clauses 5.1.14, 5.2.1 and 5.6).
 ghost use Rattle.std.specs.Prelude.{◌≡◌, ◌≤◌, ◌+◌, ◌++◌, length};
 ghost use Rattle.four_value.specs.Vector as meaning;
 
 use super::{Bits, low_mask};
 
-// Vectors put together, taken apart, and brought to another width.
+/// Vectors put together, taken apart, and brought to another width.
 impl Bits {
     /// `{self, low}` (clause 5.1.14): the digits of `self` stand above those of `low`.
     #[tactic(auto, using(crate::proofs::Parts::long_view))]

@@ -1,10 +1,11 @@
+//! Reductions to one digit (clause 5.1.11).
 ghost use Rattle.std.specs.Prelude.{◌≡◌};
 ghost use Rattle.four_value.specs.Vector.{reduce, and_digit, or_digit, xor_digit};
 
 use super::{Bits, low_mask};
 use crate::Digit;
 
-// The unary reduction operators (clause 5.1.11): a table of a bitwise operator, folded over all digits.
+/// The unary reduction operators (clause 5.1.11): a table of a bitwise operator, folded over all digits.
 impl Bits {
     /// Unary `&`: 0 if a digit is 0, else x if one is x or z, else 1.
     pub fn reduce_and(self) -> Digit

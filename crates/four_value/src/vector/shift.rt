@@ -1,11 +1,12 @@
+//! Shifts (clause 5.1.12).
 ghost use Rattle.std.specs.Prelude.{◌≡◌, ◌<◌, length};
 ghost use Rattle.four_value.specs.Vector as meaning;
 
 use super::{Bits, low_mask};
 use crate::Digit;
 
-// Shift operators (clause 5.1.12). The count is an unsigned number of any width; where a digit of it is x or z, the whole
-// result is x. Vacated places get 0, also for `<<<` and `>>>`, since every vector here is unsigned.
+/// Shift operators (clause 5.1.12). The count is an unsigned number of any width; where a digit of it is x or z, the whole
+/// result is x. Vacated places get 0, also for `<<<` and `>>>`, since every vector here is unsigned.
 impl Bits {
     /// `<<` and `<<<`: each digit moves up by the count; those that pass the highest place are lost.
     #[tactic(auto, using(crate::proofs::Parts::past_shifts))]
