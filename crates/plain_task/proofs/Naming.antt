@@ -5,12 +5,13 @@ use Rattle.gpi.specs.Keys.{has, among, same_key}
 use Rattle.gpi.specs.declared.types.Counts.{Counts}
 use Rattle.gpi.specs.declared.types.Key.{Key}
 use Rattle.rig_model.specs.Counts.{count_keys, counts_after, raised_times}
-use Rattle.rig_model.specs.Keys.{AreKeys, Rekeyed, AreCounted, Reprimed, without, without_all}
+use Rattle.rig_model.specs.Keys.{AreKeys, AreKeysBut, AreOut, Rekeyed, AreCounted, Reprimed, without_all}
 use Rattle.rig_model.specs.Rig.{leaves, keys_of, named}
 use Rattle.rig_model.specs.Serve.{all_waiting}
 use Rattle.rig_model.specs.declared.tree.Waiting.{Waiting}
-use Rattle.rig_model.proofs.KeyLaws.{same_is, same_sym, among-append, among-without, held_gone, fired_gone}
-use Rattle.rig_model.proofs.CountLaws.{count_none, among-more, counts_more, counts_less, counts_without}
+use Rattle.rig_model.proofs.KeyLaws.{same_is, among-append, fired_gone}
+use Rattle.rig_model.proofs.KernelLaws.{among_kept}
+use Rattle.rig_model.proofs.CountLaws.{count_none, among-more, counts_more, counts_less}
 use Rattle.plain_task.specs.Left.{counts_left}
 
 pub named_waited : (k : Key) (waiting : List Waiting) (held : List Key) → among k (keys_of waiting) ≡ true → true ≡ among k (named waiting held)
@@ -89,93 +90,40 @@ named_more waiting w held =
 
 -- ---- what fired
 
--- no key that fired is named once it is served, so none is registered again
+-- no key that fired is named once it is served, and each registered key is named on: so nothing is registered or removed
 pub not_again : (before : Content) (fired : List Key) (waiting : List Waiting) (held : List Key)
-    → Reprimed before before fired (named (all_waiting fired waiting) (without_all fired held))
-not_again before fired waiting held = record {
+    → AreKeysBut before.keys (fired ++ held) (named waiting held) → AreOut before.keys fired
+    → Reprimed before before fired (named waiting held) (named (all_waiting fired waiting) (without_all fired held))
+not_again before fired waiting held b out = record {
   procs = refl;
   state = refl;
-  keys = λ k. sym (decided k (among k fired) refl);
-  counts = rw none refl;
+  keys = λ k. sym (same k (has k before.keys) (among k fired) refl refl);
+  counts = rw (no_primed, no_removed) refl;
 }
   where
-    or_no : (b : Bool) → (b || false) ≡ b
-    or_no true = refl
-    or_no false = refl
+    unfired : (k : Key) (f : Bool) → among k fired ≡ f → has k before.keys ≡ true → among k fired ≡ false
+    unfired k true f h = absurd (let z : true ≡ false = sym h ∙ out k f in cc)
+    unfired k false f h = f
 
-    decided : (k : Key) (b : Bool) → among k fired ≡ b → (has k before.keys || (among k fired && among k (named (all_waiting fired waiting) (without_all fired held)))) ≡ has k before.keys
-    decided k true e = rw (fired_gone k fired waiting held e, e) (or_no (has k before.keys))
-    decided k false e = rw e (or_no (has k before.keys))
+    stays : (k : Key) → has k before.keys ≡ true → among k (named (all_waiting fired waiting) (without_all fired held)) ≡ true
+    stays k h = among_kept k fired waiting held ∙ rw (b.within k h, unfired k (among k fired) refl h) refl
 
-    none : count_keys (λ k. among k (named (all_waiting fired waiting) (without_all fired held))) fired ≡ 0
-    none = count_none (λ k. among k (named (all_waiting fired waiting) (without_all fired held))) fired (λ k e. fired_gone k fired waiting held e)
+    no : (c : Bool) → (c && false) ≡ false
+    no true = refl
+    no false = refl
 
--- ---- a key that the runner lets go
+    same : (k : Key) (h f : Bool) → has k before.keys ≡ h → among k fired ≡ f
+        → (among k (named (all_waiting fired waiting) (without_all fired held)) && (has k before.keys || among k fired)) ≡ has k before.keys
+    same k true f h e = rw (stays k h, h) refl
+    same k false true h e = rw (fired_gone k fired waiting held e, h) refl
+    same k false false h e = rw (h, e) (no (among k (named (all_waiting fired waiting) (without_all fired held))))
 
--- the keys that are named once the runner holds a key no more
-pub named_without : (k key : Key) (waiting : List Waiting) (held : List Key) → among key held ≡ true
-    → among k (named waiting (without key held)) ≡ (among k (named waiting held) && (among key (named waiting (without key held)) || not (same_key k key)))
-named_without k key waiting held there = decided (same_key k key) refl
-  where
-    gone : among key (named waiting (without key held)) ≡ among key (keys_of waiting)
-    gone = among-append key (keys_of waiting) (without key held) ∙ rw (held_gone key held) (no (among key (keys_of waiting)))
-      where
-        no : (b : Bool) → (b || false) ≡ b
-        no true = refl
-        no false = refl
+    no_primed : count_keys (λ k. among k (named (all_waiting fired waiting) (without_all fired held))) fired ≡ 0
+    no_primed = count_none (λ k. among k (named (all_waiting fired waiting) (without_all fired held))) fired (λ k e. fired_gone k fired waiting held e)
 
-    decided : (s : Bool) → same_key k key ≡ s → among k (named waiting (without key held)) ≡ (among k (named waiting held) && (among key (named waiting (without key held)) || not (same_key k key)))
-    decided true s =
-        let own : k ≡ key = same_is k key s in
-        let was : among k (named waiting held) ≡ true = among-append k (keys_of waiting) held ∙ rw (own, there) (or_yes (among key (keys_of waiting))) in
-        rw (was, s) (ap (λ (j : Key). among j (named waiting (without key held))) own ∙ no (among key (named waiting (without key held))))
-      where
-        or_yes : (b : Bool) → (b || true) ≡ true
-        or_yes true = refl
-        or_yes false = refl
+    none : (k : Key) (h : Bool) → has k before.keys ≡ h → (has k before.keys && not (among k (named (all_waiting fired waiting) (without_all fired held)))) ≡ false
+    none k true h = rw (h, stays k h) refl
+    none k false h = rw h refl
 
-        no : (b : Bool) → b ≡ (b || false)
-        no true = refl
-        no false = refl
-    decided false s =
-        let other : same_key key k ≡ false = same_sym key k ∙ s in
-        among-append k (keys_of waiting) (without key held)
-        ∙ ap (λ (b : Bool). among k (keys_of waiting) || b) (among-without k key held ∙ rw other (yes (among k held)))
-        ∙ sym (among-append k (keys_of waiting) held)
-        ∙ sym (rw s (all (among k (named waiting held)) (among key (named waiting (without key held)))))
-      where
-        yes : (b : Bool) → (b && true) ≡ b
-        yes true = refl
-        yes false = refl
-
-        all : (a b : Bool) → (a && (b || true)) ≡ a
-        all true true = refl
-        all true false = refl
-        all false b = refl
-
--- a key that is held is named
-pub held_named : (key : Key) (waiting : List Waiting) (held : List Key) → among key held ≡ true → among key (named waiting held) ≡ true
-held_named key waiting held h = among-append key (keys_of waiting) held ∙ rw h (yes (among key (keys_of waiting)))
-  where
-    yes : (b : Bool) → (b || true) ≡ true
-    yes true = refl
-    yes false = refl
-
--- the runner lets a key go
-module _ (before after : Content) (key : Key) (waiting : List Waiting) (held new : List Key) (n : Bool) (there : among key held ≡ true)
-    (new_is : new ≡ named waiting (without key held)) (n_is : n ≡ among key new) where
-  left_is : (k : Key) → among k new ≡ (among k (named waiting held) && (among key new || not (same_key k key)))
-  left_is k = rw new_is (named_without k key waiting held there)
-
-  pub rekeyed_without : AreKeys before.keys (named waiting held) → after.procs ≡ before.procs → after.state ≡ before.state
-      → ((k : Key) → has k after.keys ≡ (has k before.keys && (n || not (same_key k key)))) → Rekeyed before after new
-  rekeyed_without a p s h = record {
-    procs = p;
-    state = s;
-    keys = λ k. h k ∙ ap (λ (b : Bool). b && (n || not (same_key k key))) (a k) ∙ ap (λ (b : Bool). among k (named waiting held) && (b || not (same_key k key))) n_is ∙ sym (left_is k);
-  }
-
-  pub counted_without : after.counts ≡ record before.counts { removed = raised_times (if n then 0 else 1) before.counts.removed } → AreCounted before after (named waiting held) new
-  counted_without c =
-      c ∙ ap (λ (b : Bool). let x : Counts = record before.counts { removed = raised_times (if b then 0 else 1) before.counts.removed } in x) n_is
-      ∙ sym (counts_without key (named waiting held) new before.counts (held_named key waiting held there) left_is)
+    no_removed : count_keys (λ k. has k before.keys && not (among k (named (all_waiting fired waiting) (without_all fired held)))) (named waiting held) ≡ 0
+    no_removed = count_none (λ k. has k before.keys && not (among k (named (all_waiting fired waiting) (without_all fired held)))) (named waiting held) (λ k m. none k (has k before.keys) refl)

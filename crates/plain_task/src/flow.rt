@@ -1,13 +1,14 @@
-// A task as its function's statements and a place among them.
+//! A task as its function's statements and a place among them.
 ghost use Rattle.std.specs.Prelude.{◌≡◌, ◌≤◌, ◌<◌, ◌∷◌, [], ◌+◌, ◌-◌, ◌^◌, length, IfOk, IfSome, MatchOption, drop};
 ghost use Rattle.rig_model.specs.Sound.{Knows};
 ghost use Rattle.rig_model.specs.Task.{do_statement};
 
 use gpi::SigId;
 use port_io::{Name, NoMemory, Sequence};
+use py_syntax::{FaultKind, LogLevel};
 use rig_model::{
-    Fault, FaultKind, Flow, FlowMaker, Form, Function, Given, Level, Look, Statement, TaskNo,
-    TestFile, Trig, TrigId, Turned, Value,
+    Fault, Flow, FlowMaker, Form, Function, Given, Look, Statement, TaskNo, TestFile, Trig, TrigId,
+    Turned, Value,
 };
 use std::alloc::Global;
 
@@ -37,7 +38,7 @@ fn plain_fault(kind: FaultKind) -> Fault
 impl<'a> TreeFlow<'a> {
     ghost use Rattle.plain_task.specs.Flow.{flow_meaning, KnowsStatement, StepsTo};
 
-    // The next statement, if one is left.
+    /// The next statement, if one is left.
     fn first(&self) -> Option<&'a Statement>
         ensures within { IfSome result (λ _. self.now.at + 1 < 2 ^ 64) }
         ensures first { MatchOption result (drop self.now.at self.now.body.now ≡ [])
@@ -50,7 +51,7 @@ impl<'a> TreeFlow<'a> {
         }
     }
 
-    // The value of the signal is compared with the number.
+    /// The value of the signal is compared with the number.
     fn check<V: Look>(&mut self, sig: SigId, number: u8, view: &V) -> Option<Turned>
         requires ready { V.is_ready view.now }
         requires known { KnowsStatement (V.view view.now) (Statement.Assert sig number) }
@@ -70,7 +71,7 @@ impl<'a> TreeFlow<'a> {
         Some(Turned::Raised(plain_fault(kind)))
     }
 
-    // What a statement wants that was taken off.
+    /// What a statement wants that was taken off.
     fn run<V: Look>(
         &mut self,
         alloc: Global,
@@ -110,13 +111,13 @@ impl<'a> TreeFlow<'a> {
                 give_way: true,
             }),
             Statement::Info { text } => Some(Turned::Log {
-                level: Level::Info,
+                level: LogLevel::Info,
                 text: Name::of(alloc, text.bytes())?,
             }),
         })
     }
 
-    // One step, which wants something or nothing.
+    /// One step, which wants something or nothing.
     fn step<V: Look>(
         &mut self,
         alloc: Global,

@@ -8,6 +8,3 @@ mod wait;
 
 pub use flow::{TreeFlow, TreeMaker};
 pub use wait::WaitList;
-
-#[cfg(test)]
-mod tests;

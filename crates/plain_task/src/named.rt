@@ -1,4 +1,4 @@
-// Which keys are named by waiting tasks, and which are held.
+//! Which keys are named by waiting tasks, and which are held.
 ghost use Rattle.std.specs.Prelude.{◌≡◌, ◌≤◌, ◌∷◌, [], drop, length};
 ghost use Rattle.gpi.specs.Keys.{among, same_key};
 ghost use Rattle.rig_model.specs.Rig.{leaves, keys_of};
@@ -6,14 +6,14 @@ ghost use Rattle.rig_model.specs.Rig.{leaves, keys_of};
 use gpi::Key;
 use rig_model::{Tree, Waiting};
 
-// Whether the two are one key.
+/// Whether the two are one key.
 pub fn is_same(key: Key, other: Key) -> bool
     ensures { result ≡ same_key key other }
 {
     key == other
 }
 
-// The key of a tree, which is one leaf.
+/// The key of a tree, which is one leaf.
 pub fn leaf_key(tree: Tree) -> Key
     ensures { leaves tree ≡ result ∷ [] }
 {
@@ -21,7 +21,7 @@ pub fn leaf_key(tree: Tree) -> Key
     key
 }
 
-// Whether a task that stands at this place or behind it waits for the key.
+/// Whether a task that stands at this place or behind it waits for the key.
 pub fn is_waited(waiting: &Vec<Waiting>, from: usize, key: Key) -> bool
     requires { from ≤ length waiting.now.items }
     ensures { result ≡ among key (keys_of (drop from waiting.now.items)) }
@@ -36,7 +36,7 @@ pub fn is_waited(waiting: &Vec<Waiting>, from: usize, key: Key) -> bool
     found
 }
 
-// Whether the key is held at this place or behind it.
+/// Whether the key is held at this place or behind it.
 pub fn is_held(held: &Vec<Key>, from: usize, key: Key) -> bool
     requires { from ≤ length held.now.items }
     ensures { result ≡ among key (drop from held.now.items) }

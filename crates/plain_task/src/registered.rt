@@ -1,4 +1,4 @@
-// Keys that are registered and removed, each once.
+//! Keys that are registered and removed, each once.
 ghost use Rattle.std.specs.Prelude.{◌≡◌, ◌||◌, ◌&&◌, Bool, not, true, length, OnOk, OnErr, if◌then◌else◌};
 ghost use Rattle.gpi.specs.Content.{IsAsked};
 ghost use Rattle.gpi.specs.Keys.{has, same_key};
@@ -8,8 +8,8 @@ ghost use Rattle.rig_model.specs.Counts.{raised_times};
 use gpi::{Gpi, Key};
 use port_io::NoMemory;
 
-// Registers a key, unless it is named already and so is registered. Its one error is the want of memory, and then nothing
-// has changed.
+/// Registers a key, unless it is named already and so is registered. Its one error is the want of memory, and then nothing
+/// has changed.
 pub fn register_unless<K: Gpi>(kernel: &mut K, named: bool, key: Key) -> Result<(), NoMemory>
     requires loaded { K.is_loaded kernel.old }
     requires asked { IsAsked (length (K.content kernel.old).state.signals) (K.content kernel.old).state key }
@@ -28,7 +28,7 @@ pub fn register_unless<K: Gpi>(kernel: &mut K, named: bool, key: Key) -> Result<
     kernel.register(key)
 }
 
-// Removes a registered key, unless it is still named.
+/// Removes a registered key, unless it is still named.
 pub fn remove_unless<K: Gpi>(kernel: &mut K, named: bool, key: Key)
     requires loaded { K.is_loaded kernel.old }
     requires there { has key (K.content kernel.old).keys ≡ true }

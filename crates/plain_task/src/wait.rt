@@ -1,4 +1,4 @@
-// The waiting tasks as a list.
+//! The waiting tasks as a list.
 ghost use Rattle.std.specs.Prelude.{◌≡◌, ◌≤◌, ◌+◌, ◌++◌, [], length};
 ghost use Rattle.gpi.specs.Keys.{among};
 ghost use Rattle.rig_model.specs.Keys.{AreKeys, Rekeyed, AreCounted, key_list, without, without_all};
@@ -34,7 +34,7 @@ impl WaitList {
         }
     }
 
-    // Whether a task waits for the key, or the runner holds it.
+    /// Whether a task waits for the key, or the runner holds it.
     fn names(&self, key: Key) -> bool
         ensures { result ≡ among key (named self.now.waiting.items self.now.held.items) }
     {
@@ -42,7 +42,7 @@ impl WaitList {
         waited || is_held(&self.held, 0, key)
     }
 
-    // The tasks that wait for the key go into the ring.
+    /// The tasks that wait for the key go into the ring.
     fn wake(&mut self, fired: Key, ready: &mut Ready)
         requires { length ready.old.entries + length self.old.waiting.items ≤ ready.old.room }
         ensures waiting { self.new.waiting.items ≡ still_waiting (key fired) self.old.waiting.items }
@@ -63,7 +63,7 @@ impl WaitList {
         }
     }
 
-    // The runner holds the key no more.
+    /// The runner holds the key no more.
     fn let_go(&mut self, fired: Key)
         ensures held { self.new.held.items ≡ without fired self.old.held.items }
         ensures waiting { self.new.waiting ≡ self.old.waiting }
@@ -78,7 +78,7 @@ impl WaitList {
         }
     }
 
-    // Serves one key that fired.
+    /// Serves one key that fired.
     fn serve(&mut self, fired: Key, ready: &mut Ready)
         requires { length ready.old.entries + length self.old.waiting.items ≤ ready.old.room }
         ensures waiting { self.new.waiting.items ≡ still_waiting (key fired) self.old.waiting.items }
@@ -90,7 +90,7 @@ impl WaitList {
         self.let_go(fired);
     }
 
-    // Serves a key that fired, if there is one.
+    /// Serves a key that fired, if there is one.
     fn serve_one(&mut self, fired: Option<Key>, ready: &mut Ready)
         requires { length ready.old.entries + length self.old.waiting.items ≤ ready.old.room }
         ensures waiting { self.new.waiting.items ≡ all_waiting (key_list fired) self.old.waiting.items }
@@ -104,7 +104,7 @@ impl WaitList {
         }
     }
 
-    // The keys of the waiting tasks are removed, but for those that the runner holds.
+    /// The keys of the waiting tasks are removed, but for those that the runner holds.
     fn remove_waited<K: Gpi>(&self, kernel: &mut K)
         requires loaded { K.is_loaded kernel.old }
         requires keys { AreKeys (K.content kernel.old).keys (named self.now.waiting.items self.now.held.items) }
@@ -122,7 +122,7 @@ impl WaitList {
         }
     }
 
-    // The keys that the runner holds are removed.
+    /// The keys that the runner holds are removed.
     fn remove_held<K: Gpi>(&self, kernel: &mut K)
         requires loaded { K.is_loaded kernel.old }
         requires keys { AreKeys (K.content kernel.old).keys self.now.held.items }

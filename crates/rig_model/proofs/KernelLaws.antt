@@ -1,28 +1,28 @@
 -- A simulator stands for a configuration, before and after each effect.
-use Rattle.std.proofs.Common.{◌≡◌, ℕ, ◌||◌, ◌&&◌, Bool, true, false, not, List, [], ◌∷◌, ◌++◌, refl, sym, ap, ◌∙◌, append_assoc, append-nil}
+use Rattle.std.proofs.Common.{◌≡◌, ℕ, ◌||◌, ◌&&◌, Bool, true, false, not, if◌then◌else◌, List, [], ◌∷◌, ◌++◌, refl, sym, ap, ◌∙◌, append_assoc, append-nil}
 use Rattle.std.specs.Prelude.{filter}
 use Rattle.four_value.specs.declared.Digit.{Digit}
 use Rattle.gpi.specs.Content.{Content, Does}
 use Rattle.gpi.specs.Content as content
 use Rattle.gpi.specs.Design.{Proc}
 use Rattle.gpi.specs.Events.{Event, event, put}
-use Rattle.gpi.specs.Keys.{has, among, same_key, set_of, raised, raised_by}
+use Rattle.gpi.specs.Keys.{Keys, has, among, same_key, set_of, raised, raised_by}
 use Rattle.gpi.specs.State.{State}
 use Rattle.gpi.specs.declared.types.Counts.{Counts}
 use Rattle.gpi.specs.declared.types.Key.{Key}
 use Rattle.gpi.specs.declared.types.SigId.{SigId}
 use Rattle.gpi.proofs.SameKeys.{event_same, put_same}
-use Rattle.rig_model.specs.Counts.{counts_after, primed_keys, removed_keys, counted}
+use Rattle.rig_model.specs.Counts.{count_keys, counts_after, primed_keys, raised_times, removed_keys, counted}
 use Rattle.rig_model.specs.Kernel.{ahead, StandsAhead, StandsFor}
-use Rattle.rig_model.specs.Keys.{Rekeyed, AreCounted}
+use Rattle.rig_model.specs.Keys.{AreKeys, AreKeysBut, AreOut, Registers, Rekeyed, AreCounted, Reprimed, without, without_all}
 use Rattle.rig_model.specs.declared.file.TestCase.{TestCase}
 use Rattle.rig_model.specs.Run.{opening}
 use Rattle.rig_model.specs.Rig.{Rig, Setup, procs, awaited, named, keys_of, staged_key, event_of}
 use Rattle.rig_model.specs.Serve as serve
 use Rattle.rig_model.specs.Serve.{still_waiting, woken, all_waiting, all_woken, serve_keys, served, put_of, written_digits, after_put, deposited}
 use Rattle.rig_model.specs.declared.tree.Waiting.{Waiting}
-use Rattle.rig_model.proofs.CountLaws.{count_none}
-use Rattle.rig_model.proofs.KeyLaws.{no_keys_are, same_sym, has_set, among-append, among-filter, among-still}
+use Rattle.rig_model.proofs.CountLaws.{among-more, count_none, counts_more}
+use Rattle.rig_model.proofs.KeyLaws.{no_keys_are, same_sym, has_set, among-append, among-filter, among-still, among-without, served_gone}
 
 -- a simulator that was just handed the design stands for the configuration in which a run begins
 pub opening_stands : (setup : Setup) (case : TestCase) → StandsFor setup (content.opening setup.flat) (opening setup case).rig
@@ -81,6 +81,104 @@ among_all x (k ∷ ks) waiting =
     ∙ and_and (among x (keys_of waiting)) (same_key k x) (among x ks)
     ∙ ap (λ (b : Bool). among x (keys_of waiting) && not (b || among x ks)) (same_sym k x)
 
+-- the keys of a list that are left without several
+pub among_without_all : (x : Key) (ks held : List Key) → among x (without_all ks held) ≡ (among x held && not (among x ks))
+among_without_all x [] held = sym (yes (among x held))
+  where
+    yes : (b : Bool) → (b && true) ≡ b
+    yes true = refl
+    yes false = refl
+among_without_all x (k ∷ ks) held =
+    among_without_all x ks (without k held)
+    ∙ ap (λ (b : Bool). b && not (among x ks)) (among-without x k held)
+    ∙ and_and (among x held) (same_key k x) (among x ks)
+    ∙ ap (λ (b : Bool). among x held && not (b || among x ks)) (same_sym k x)
+
+-- the keys that are named once several are served
+pub among_kept : (x : Key) (ks : List Key) (waiting : List Waiting) (held : List Key)
+    → among x (named (all_waiting ks waiting) (without_all ks held)) ≡ (among x (named waiting held) && not (among x ks))
+among_kept x ks waiting held =
+    among-append x (keys_of (all_waiting ks waiting)) (without_all ks held)
+    ∙ rw (among_all x ks waiting, among_without_all x ks held) (both_and (among x (keys_of waiting)) (among x held) (among x ks))
+    ∙ ap (λ (b : Bool). b && not (among x ks)) (sym (among-append x (keys_of waiting) held))
+  where
+    both_and : (a h f : Bool) → ((a && not f) || (h && not f)) ≡ ((a || h) && not f)
+    both_and true true true = refl
+    both_and true true false = refl
+    both_and true false true = refl
+    both_and true false false = refl
+    both_and false h f = refl
+
+-- ---- keys that are named and not registered
+
+left_of : (a b : Bool) → (a && b) ≡ true → a ≡ true
+left_of true b h = refl
+left_of false b h = cc
+
+no_either : (a b : Bool) → (a || b) ≡ false → (a ≡ false) × (b ≡ false)
+no_either true b h = cc
+no_either false b h = (refl, h)
+
+module _ (k k1 : Content) (fired ks : List Key) (d : (x : Key) → has x k1.keys ≡ (has x k.keys && not (among x fired))) where
+  -- keys that fired aren't registered any more
+  pub out_fired : AreOut k1.keys fired
+  out_fired x m = d x ∙ rw m (no (has x k.keys))
+    where
+      no : (b : Bool) → (b && false) ≡ false
+      no true = refl
+      no false = refl
+
+  pub but_event : AreKeys k.keys ks → AreKeysBut k1.keys fired ks
+  but_event a = record {
+    within = λ x h. sym (a x) ∙ left_of (has x k.keys) (not (among x fired)) (sym (d x) ∙ h);
+    rest = λ x m h. fired_if (has x k.keys) (among x fired) (a x ∙ m) (sym (d x) ∙ h);
+  }
+    where
+      fired_if : (a f : Bool) → a ≡ true → (a && not f) ≡ false → f ≡ true
+      fired_if true true e h = refl
+      fired_if true false e h = cc
+      fired_if false f e h = cc
+
+  pub but_deposit : (held : List Key) → AreKeysBut k.keys held ks → AreKeysBut k1.keys (fired ++ held) ks
+  but_deposit held b = record {
+    within = λ x h. b.within x (left_of (has x k.keys) (not (among x fired)) (sym (d x) ∙ h));
+    rest = λ x m h. among-append x fired held ∙ either x (among x fired) refl m h;
+  }
+    where
+      unfired : (a : Bool) → (a && true) ≡ false → a ≡ false
+      unfired true h = h
+      unfired false h = refl
+
+      either : (x : Key) (f : Bool) → among x fired ≡ f → among x ks ≡ true → has x k1.keys ≡ false → (among x fired || among x held) ≡ true
+      either x true f m h = rw f refl
+      either x false f m h = rw f (b.rest x m (unfired (has x k.keys) (sym (d x ∙ ap (λ (g : Bool). has x k.keys && not g) f) ∙ h)))
+
+pub but_more : (keys : Keys) (a b ks : List Key) → AreKeysBut keys a ks → AreKeysBut keys (a ++ b) ks
+but_more keys a b ks p = record { within = p.within; rest = λ x m h. among-append x a b ∙ rw (p.rest x m h) refl }
+
+-- once keys are served that had fired
+pub but_served : (k k' : Content) (fired : List Key) (waiting : List Waiting) (held : List Key) → AreKeysBut k.keys (fired ++ held) (named waiting held)
+    → Reprimed k k' fired (named waiting held) (named (all_waiting fired waiting) (without_all fired held))
+    → AreKeysBut k'.keys (without_all fired held) (named (all_waiting fired waiting) (without_all fired held))
+but_served k k' fired waiting held b r = record {
+  within = λ x h. left_of (among x (named (all_waiting fired waiting) (without_all fired held))) (has x k.keys || among x fired) (sym (r.keys x) ∙ h);
+  rest = λ x m h.
+      let none : (has x k.keys ≡ false) × (among x fired ≡ false) = no_either (has x k.keys) (among x fired) (rw m at (sym (r.keys x) ∙ h)) in
+      let old : among x (named waiting held) ≡ true = left_of (among x (named waiting held)) (not (among x fired)) (sym (among_kept x fired waiting held) ∙ m) in
+      let one : (among x fired || among x held) ≡ true = sym (among-append x fired held) ∙ b.rest x old none.0 in
+      let there : among x held ≡ true = rw none.1 at one in
+      among_without_all x fired held ∙ rw (there, none.1) refl;
+}
+
+-- where a key isn't held it is registered exactly where it is named
+pub named_is : (keys : Keys) (held ks : List Key) (key : Key) → AreKeysBut keys held ks → among key held ≡ false → has key keys ≡ among key ks
+named_is keys held ks key b h = decided (has key keys) (among key ks) refl refl
+  where
+    decided : (r n : Bool) → has key keys ≡ r → among key ks ≡ n → has key keys ≡ among key ks
+    decided true n r e = r ∙ sym (b.within key r)
+    decided false true r e = absurd (let z : true ≡ false = sym (b.rest key e r) ∙ h in cc)
+    decided false false r e = r ∙ sym e
+
 -- ---- counts
 
 -- only keys that fired have left the set
@@ -110,6 +208,39 @@ raised_later (k ∷ ks) n = raised_later ks (raised n)
 raised_both : (xs ys : List Key) (n : ℕ) → raised_by xs (raised_by ys n) ≡ raised_by ys (raised_by xs n)
 raised_both [] ys n = refl
 raised_both (x ∷ xs) ys n = ap (raised_by xs) (sym (raised_later ys n)) ∙ raised_both xs ys (raised n)
+
+-- where no key that fired is named any more and each registered key is, what the simulator stands for stays
+pub reprimed_stands : (ahead : List Key) (setup : Setup) (k k' : Content) (fired old new : List Key) (c : Rig)
+    → ((x : Key) → among x fired ≡ true → among x new ≡ false) → ((x : Key) → has x k.keys ≡ true → among x new ≡ true)
+    → Reprimed k k' fired old new → StandsAhead ahead setup k c → StandsAhead ahead setup k' c
+reprimed_stands ahead setup k k' fired old new c gone stays r s = record {
+  procs_are = r.procs ∙ s.procs_are;
+  state_is = r.state ∙ s.state_is;
+  keys_are = λ x. r.keys x ∙ same x (has x k.keys) (among x fired) refl refl ∙ s.keys_are x;
+  counts_are = r.counts
+      ∙ ap (λ (n : ℕ). (let x : Counts = record k.counts { primed = raised_times n k.counts.primed; removed = raised_times (count_keys (λ x. has x k.keys && not (among x new)) old) k.counts.removed } in x)) no_primed
+      ∙ ap (λ (n : ℕ). (let x : Counts = record k.counts { removed = raised_times n k.counts.removed } in x)) no_removed
+      ∙ s.counts_are;
+}
+  where
+    and_no : (b : Bool) → (b && false) ≡ false
+    and_no true = refl
+    and_no false = refl
+
+    same : (x : Key) (h f : Bool) → has x k.keys ≡ h → among x fired ≡ f → (among x new && (has x k.keys || among x fired)) ≡ has x k.keys
+    same x true f h e = rw (stays x h, h) refl
+    same x false true h e = rw (gone x e, h) refl
+    same x false false h e = rw (h, e) (and_no (among x new))
+
+    no_primed : count_keys (λ x. among x new) fired ≡ 0
+    no_primed = count_none (λ x. among x new) fired gone
+
+    none : (x : Key) (h : Bool) → has x k.keys ≡ h → (has x k.keys && not (among x new)) ≡ false
+    none x true h = rw (h, stays x h) refl
+    none x false h = rw h refl
+
+    no_removed : count_keys (λ x. has x k.keys && not (among x new)) old ≡ 0
+    no_removed = count_none (λ x. has x k.keys && not (among x new)) old (λ x m. none x (has x k.keys) refl)
 
 -- ---- effects within the runner
 
@@ -261,3 +392,58 @@ module _ (setup : Setup) (k after : Content) (c : Rig) (e : Event) (fired : List
     counts_are = d.counts ∙ ap (ahead e.fired) s.counts_are ∙ ahead_both e.fired fired c.counts
         ∙ ap (ahead fired) (sym (gone_counts e.fired (awaited c) (awaited (serve_keys e.fired c.fired (record c { sim = e.state; fired = c.fired ++ e.fired }))) c.counts put_after));
   }
+
+-- ---- the two laws, with what serving keys does to the simulator
+
+-- no key that was served is awaited again
+served_keys_gone : (fired : List Key) (waiting : List Waiting) (held : List Key) → ((x : Key) → among x held ≡ true → among x fired ≡ false)
+    → (x : Key) → among x fired ≡ true → among x (named (all_waiting fired waiting) held) ≡ false
+served_keys_gone fired waiting held free x m =
+    among-append x (keys_of (all_waiting fired waiting)) held ∙ rw (served_gone x fired waiting m) (none (among x held) refl)
+  where
+    none : (b : Bool) → among x held ≡ b → among x held ≡ false
+    none true e = absurd (let z : true ≡ false = sym m ∙ free x e in cc)
+    none false e = e
+
+-- each registered key is named
+registered_named : (ahead : List Key) (setup : Setup) (k : Content) (c : Rig) → StandsAhead ahead setup k c → (x : Key) → has x k.keys ≡ true → among x (named c.waiting (staged_key c.staged)) ≡ true
+registered_named ahead setup k c s x h =
+    left_of (among x (named c.waiting (staged_key c.staged))) (not (among x c.fired)) (sym (among_awaited x c) ∙ sym (s.keys_are x) ∙ h)
+
+pub serving_stands : (setup : Setup) (k k' : Content) (c : Rig) (fired : List Key) → c.fired ≡ fired
+    → ((x : Key) → among x (staged_key c.staged) ≡ true → among x fired ≡ false)
+    → StandsAhead fired setup k c → Reprimed k k' fired (named c.waiting (staged_key c.staged)) (named (all_waiting fired c.waiting) (staged_key c.staged))
+    → StandsFor setup k' (served fired [] c).rig
+serving_stands setup k k' c fired own free s r =
+    let t : StandsFor setup k (served fired [] c).rig = served_stands setup k c fired own free s in
+    reprimed_stands [] setup k k' fired (named c.waiting (staged_key c.staged)) (named (all_waiting fired c.waiting) (staged_key c.staged)) (served fired [] c).rig
+    (served_keys_gone fired c.waiting (staged_key c.staged) free)
+    (λ x h. sym (ap (λ (d : Rig). among x (named d.waiting (staged_key d.staged))) (serve_keys_is fired [] c)) ∙ registered_named [] setup k (served fired [] c).rig t x h)
+    r t
+
+pub deposit_stands : (setup : Setup) (k mid k' : Content) (c : Rig) (e : Event) (fired : List Key) → c.fired ≡ fired
+    → ((x : Key) → among x (staged_key c.staged) ≡ true → among x e.fired ≡ false)
+    → StandsAhead fired setup k c → Does k e mid → Reprimed mid k' e.fired (named c.waiting (staged_key c.staged)) (named (all_waiting e.fired c.waiting) (staged_key c.staged))
+    → StandsAhead fired setup k' (after_put setup e c).rig
+deposit_stands setup k mid k' c e fired own free s d r =
+    let t : StandsAhead fired setup mid (after_put setup e c).rig = put_ahead setup k mid c e fired own free s d in
+    reprimed_stands fired setup mid k' e.fired (named c.waiting (staged_key c.staged)) (named (all_waiting e.fired c.waiting) (staged_key c.staged)) (after_put setup e c).rig
+    (served_keys_gone e.fired c.waiting (staged_key c.staged) free)
+    (λ x h. sym (ap (λ (q : Rig). among x (named q.waiting (staged_key q.staged))) (serve_keys_is e.fired c.fired (record c { sim = e.state; fired = c.fired ++ e.fired }))) ∙ registered_named fired setup mid (after_put setup e c).rig t x h)
+    r t
+
+-- ---- a key that the runner begins to hold
+
+pub all_but : (keys : Keys) (others ks : List Key) → AreKeys keys ks → AreKeysBut keys others ks
+all_but keys others ks a = record { within = λ x h. sym (a x) ∙ h; rest = λ x m h. absurd (let z : true ≡ false = sym m ∙ sym (a x) ∙ h in cc) }
+
+module _ (before after : Content) (key : Key) (ks : List Key) (a : AreKeys before.keys ks) (r : Registers before after key) where
+  pub registers_rekeyed : Rekeyed before after (ks ++ key ∷ [])
+  registers_rekeyed = record { procs = r.procs; state = r.state; keys = λ x. r.keys x ∙ ap (λ (b : Bool). same_key x key || b) (a x) ∙ sym (among-more x key ks [] ∙ ap (λ (l : List Key). same_key x key || among x l) (append-nil ks)) }
+
+  pub registers_counted : AreCounted before after ks (ks ++ key ∷ [])
+  registers_counted =
+      r.counts
+      ∙ ap (λ (b : Bool). let x : Counts = record before.counts { primed = raised_times (if b then 0 else 1) before.counts.primed } in x) (a key ∙ ap (among key) (sym (append-nil ks)))
+      ∙ sym (counts_more key ks [] before.counts)
+      ∙ ap (λ (l : List Key). counts_after [] l (ks ++ key ∷ []) before.counts) (append-nil ks)

@@ -9,7 +9,7 @@ use Rattle.rig_model.specs.declared.task.Given.{Given}
 use Rattle.rig_model.specs.declared.task.Given.TheVariants as given
 use Rattle.rig_model.specs.declared.task.Value.TheVariants as value
 use Rattle.rig_model.specs.declared.task.Fault.{Fault}
-use Rattle.rig_model.specs.declared.task.FaultKind.TheVariants.{OverflowError, RuntimeError}
+use Rattle.py_syntax.specs.declared.fault_kind.FaultKind.TheVariants.{OverflowError, RuntimeError}
 use Rattle.rig_model.specs.declared.task.Trig.{Trig}
 use Rattle.rig_model.specs.declared.task.Staged.{Staged}
 use Rattle.rig_model.specs.declared.task.Form.{Form}

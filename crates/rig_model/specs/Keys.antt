@@ -1,5 +1,5 @@
 -- Registered keys, told by lists.
-use Rattle.std.specs.Prelude.{◌≡◌, ℕ, ◌||◌, ◌&&◌, List, [], ◌∷◌, ◌++◌, filter, not, Option, None, Some}
+use Rattle.std.specs.Prelude.{◌≡◌, ℕ, true, false, ◌||◌, ◌&&◌, List, [], ◌∷◌, ◌++◌, filter, not, if◌then◌else◌, Option, None, Some}
 use Rattle.gpi.specs.declared.types.Fired.{Fired}
 use Rattle.gpi.specs.declared.types.Key.{Key}
 use Rattle.gpi.specs.Keys.{Keys, has, among, same_key}
@@ -43,9 +43,45 @@ abbrev pub without_all : List Key → List Key → List Key
 without_all [] keys = keys
 without_all (k ∷ ks) keys = without_all ks (without k keys)
 
--- of what a simulator holds only keys that fired and are in the list again were registered, and counted
-pub record Reprimed (before after : Content) (fired ks : List Key) : Type 0 where
+-- The registered keys are among those of a list, and each key of the list that isn't registered is one of these others.
+pub record AreKeysBut (keys : Keys) (others ks : List Key) : Type 0 where
+  pub within : (k : Key) → has k keys ≡ true → among k ks ≡ true
+  pub rest : (k : Key) → among k ks ≡ true → has k keys ≡ false → among k others ≡ true
+
+-- none of these keys is registered
+abbrev pub AreOut : Keys → List Key → Type 0
+AreOut keys ks = (k : Key) → among k ks ≡ true → has k keys ≡ false
+
+-- Keys that fired were served, which led from the first list of named keys to the second. Of what a simulator holds only the registered
+-- keys and the counts have changed: of the keys that are named then, those are registered that were before, and those that fired. The
+-- count of registrations has risen by the keys that are registered now and weren't before, and that of removals by those that were and aren't.
+pub record Reprimed (before after : Content) (fired old new : List Key) : Type 0 where
   pub procs : after.procs ≡ before.procs
   pub state : after.state ≡ before.state
-  pub keys : (k : Key) → has k after.keys ≡ (has k before.keys || (among k fired && among k ks))
-  pub counts : after.counts ≡ record before.counts { primed = raised_times (count_keys (λ k. among k ks) fired) before.counts.primed }
+  pub keys : (k : Key) → has k after.keys ≡ (among k new && (has k before.keys || among k fired))
+  pub counts : after.counts ≡ record before.counts {
+    primed = raised_times (count_keys (λ k. among k new) fired) before.counts.primed;
+    removed = raised_times (count_keys (λ k. has k before.keys && not (among k new)) old) before.counts.removed;
+  }
+
+-- Of what a simulator holds only the registered keys and the counts have changed: this key is registered besides, and is counted where it
+-- wasn't registered before.
+pub record Registers (before after : Content) (key : Key) : Type 0 where
+  pub procs : after.procs ≡ before.procs
+  pub state : after.state ≡ before.state
+  pub keys : (k : Key) → has k after.keys ≡ (same_key k key || has k before.keys)
+  pub counts : after.counts ≡ record before.counts { primed = raised_times (if has key before.keys then 0 else 1) before.counts.primed }
+
+-- Of what a simulator holds only the counts have changed.
+pub record KeepsKeys (before after : Content) : Type 0 where
+  pub procs : after.procs ≡ before.procs
+  pub state : after.state ≡ before.state
+  pub keys : (k : Key) → has k after.keys ≡ has k before.keys
+
+-- Of what a simulator holds only the registered keys and the counts have changed: this key isn't registered any more, and is counted so,
+-- unless it is among those that are named still.
+pub record Unregisters (before after : Content) (key : Key) (ks : List Key) : Type 0 where
+  pub procs : after.procs ≡ before.procs
+  pub state : after.state ≡ before.state
+  pub keys : (k : Key) → has k after.keys ≡ (has k before.keys && (among key ks || not (same_key k key)))
+  pub counts : after.counts ≡ record before.counts { removed = raised_times (if among key ks then 0 else 1) before.counts.removed }

@@ -6,18 +6,11 @@ use Rattle.four_value.specs.declared.Digit.TheVariants.{Zero, One, X, Z}
 use Rattle.gpi.specs.declared.design.Flat.{Flat}
 use Rattle.gpi.specs.declared.design.Signal.{Signal}
 use Rattle.gpi.specs.declared.types.SigId.{SigId}
-use Rattle.rig_model.specs.declared.task.FaultKind.{FaultKind}
-use Rattle.rig_model.specs.declared.task.FaultKind.TheVariants.{AssertionError, OverflowError, RuntimeError, ValueError}
-use Rattle.rig_model.specs.declared.task.Level.{Level}
-use Rattle.rig_model.specs.declared.task.Level.TheVariants as level
+use Rattle.py_syntax.specs.StatementTables.{fault_name}
+use Rattle.py_syntax.specs.declared.statement.LogLevel.{LogLevel}
+use Rattle.py_syntax.specs.declared.statement.LogLevel.TheVariants as level
 use Rattle.rig_model.specs.declared.task.Outcome.{Outcome}
 use Rattle.rig_model.specs.declared.task.Outcome.TheVariants.{Normal, Raised, Stalled}
-
-abbrev pub kind_name : FaultKind → List ℕ
-kind_name AssertionError = codes "AssertionError"
-kind_name OverflowError = codes "OverflowError"
-kind_name RuntimeError = codes "RuntimeError"
-kind_name ValueError = codes "ValueError"
 
 -- a kind of fault, and what the fault says, if it says anything
 abbrev pub with_text : List ℕ → List ℕ → List ℕ
@@ -27,17 +20,20 @@ with_text kind (byte ∷ bytes) = kind ++ codes ": " ++ byte ∷ bytes
 -- why a test failed
 abbrev pub reason_of : Outcome → List ℕ
 reason_of Normal = []
-reason_of (Raised fault) = with_text (kind_name fault.kind) fault.text
+reason_of (Raised fault) = with_text (fault_name fault.kind) fault.text
 reason_of Stalled = codes "Stalled"
 
-abbrev pub level_name : Level → List ℕ
-level_name level.Info = codes "INFO"
+-- a level as it stands in a line
+abbrev pub level_word : LogLevel → List ℕ
+level_word level.Info = codes "INFO"
+level_word level.Warning = codes "WARNING"
+level_word level.Error = codes "ERROR"
 
 abbrev pub test_line : ℕ → List ℕ → List ℕ
 test_line time name = decimal time ++ codes " TEST " ++ name ++ 10 ∷ []
 
-abbrev pub log_line : ℕ → Level → List ℕ → List ℕ
-log_line time l text = decimal time ++ codes " " ++ level_name l ++ codes " " ++ text ++ 10 ∷ []
+abbrev pub log_line : ℕ → LogLevel → List ℕ → List ℕ
+log_line time l text = decimal time ++ codes " " ++ level_word l ++ codes " " ++ text ++ 10 ∷ []
 
 abbrev pub pass_line : ℕ → List ℕ → List ℕ
 pass_line time name = decimal time ++ codes " PASS " ++ name ++ 10 ∷ []

@@ -5,13 +5,13 @@ use Rattle.four_value.specs.Vector.{number}
 use Rattle.gpi.specs.declared.types.SigId.{SigId}
 use Rattle.rig_model.specs.declared.task.TaskNo.{TaskNo}
 use Rattle.rig_model.specs.declared.task.Fault.{Fault}
-use Rattle.rig_model.specs.declared.task.FaultKind.{FaultKind}
-use Rattle.rig_model.specs.declared.task.FaultKind.TheVariants.{AssertionError, ValueError}
+use Rattle.py_syntax.specs.declared.fault_kind.FaultKind.{FaultKind}
+use Rattle.py_syntax.specs.declared.fault_kind.FaultKind.TheVariants.{AssertionError, ValueError}
 use Rattle.rig_model.specs.declared.task.Given.{Given}
 use Rattle.rig_model.specs.declared.task.Given.TheVariants as given
 use Rattle.rig_model.specs.declared.task.Value.TheVariants.{Absent}
 use Rattle.rig_model.specs.declared.task.Form.TheVariants.{Time}
-use Rattle.rig_model.specs.declared.task.Level.TheVariants as level
+use Rattle.py_syntax.specs.declared.statement.LogLevel.TheVariants as level
 use Rattle.rig_model.specs.declared.task.Turned.{Turned}
 use Rattle.rig_model.specs.declared.task.Turned.TheVariants as turned
 use Rattle.rig_model.specs.declared.file.Statement.{Statement}

@@ -1,4 +1,4 @@
-// What a tests file says.
+//! What a tests file says.
 use gpi::SigId;
 use port_io::{Name, Sequence};
 

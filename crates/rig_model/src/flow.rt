@@ -1,4 +1,4 @@
-// The part that runs tasks, by what a task is.
+//! The part that runs tasks, by what a task is.
 ghost use Rattle.std.specs.Prelude.{◌≡◌, ◌<◌, List, length, IfOk, Some};
 ghost use Rattle.rig_model.specs.Task.{Task, View, fresh, seen};
 ghost use Rattle.rig_model.specs.Sound.{Knows};

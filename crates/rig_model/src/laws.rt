@@ -1,4 +1,4 @@
-// What holds of all runs.
+//! What holds of all runs.
 ghost use Rattle.std.specs.Prelude.{◌≡◌, ◌≤◌, ◌++◌, ℕ, List, [], true, false};
 ghost use Rattle.gpi.specs.Content.{Content, Does};
 ghost use Rattle.gpi.specs.Content as content;
@@ -6,8 +6,9 @@ ghost use Rattle.gpi.specs.Events.{Event, event};
 ghost use Rattle.gpi.specs.Keys.{among};
 ghost use Rattle.gpi.specs.declared.types.Key.{Key};
 ghost use Rattle.rig_model.specs.Kernel.{StandsAhead, StandsFor};
-ghost use Rattle.rig_model.specs.Rig.{Rig, Setup, event_of, staged_key};
-ghost use Rattle.rig_model.specs.Serve.{served, after_put};
+ghost use Rattle.rig_model.specs.Keys.{Reprimed};
+ghost use Rattle.rig_model.specs.Rig.{Rig, Setup, event_of, named, staged_key};
+ghost use Rattle.rig_model.specs.Serve.{all_waiting, served, after_put};
 ghost use Rattle.rig_model.specs.Run.{Run, opening, IsRun, IsStart, step_cost, written};
 ghost use Rattle.rig_model.specs.declared.file.TestCase.{TestCase};
 
@@ -56,17 +57,21 @@ pub fn event_is_done()
         → StandsAhead e.fired setup after (record c { sim = e.state; fired = c.fired ++ e.fired }) }
 {}
 
-/// Where it has done a deposit while fired keys are still to be served, it stands for what the deposit and its wakes leave.
-/// The keys of a change are none that the runner holds.
+/// Where it has done a deposit while fired keys are still to be served, and the keys of the change are served at it, it stands for
+/// what the deposit and its wakes leave. The keys of a change are none that the runner holds.
 pub fn deposit_is_done()
-    ensures { (setup : Setup) (before after : Content) (c : Rig) (e : Event) (fired : List Key) → c.fired ≡ fired
+    ensures { (setup : Setup) (before mid after : Content) (c : Rig) (e : Event) (fired : List Key) → c.fired ≡ fired
         → ((k : Key) → among k (staged_key c.staged) ≡ true → among k e.fired ≡ false)
-        → StandsAhead fired setup before c → Does before e after → StandsAhead fired setup after (after_put setup e c).rig }
+        → StandsAhead fired setup before c → Does before e mid
+        → Reprimed mid after e.fired (named c.waiting (staged_key c.staged)) (named (all_waiting e.fired c.waiting) (staged_key c.staged))
+        → StandsAhead fired setup after (after_put setup e c).rig }
 {}
 
-/// Serving the fired keys asks nothing of it: it stands for what is left then. The runner holds none of them any more.
+/// Where the fired keys are served at it, it stands for what is left then. The runner holds none of them any more.
 pub fn serving_is_done()
-    ensures { (setup : Setup) (content : Content) (c : Rig) (fired : List Key) → c.fired ≡ fired
+    ensures { (setup : Setup) (before after : Content) (c : Rig) (fired : List Key) → c.fired ≡ fired
         → ((k : Key) → among k (staged_key c.staged) ≡ true → among k fired ≡ false)
-        → StandsAhead fired setup content c → StandsFor setup content (served fired [] c).rig }
+        → StandsAhead fired setup before c
+        → Reprimed before after fired (named c.waiting (staged_key c.staged)) (named (all_waiting fired c.waiting) (staged_key c.staged))
+        → StandsFor setup after (served fired [] c).rig }
 {}

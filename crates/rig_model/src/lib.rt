@@ -19,11 +19,5 @@ pub use laws::{
 };
 pub use ready::Ready;
 pub use steps::Steps;
-pub use task::{
-    Entry, Fault, FaultKind, Form, Given, Level, Outcome, Staged, TaskNo, Trig, TrigId, Turned,
-    Value,
-};
+pub use task::{Entry, Fault, Form, Given, Outcome, Staged, TaskNo, Trig, TrigId, Turned, Value};
 pub use tree::{Tree, Waiting};
-
-#[cfg(test)]
-mod tests;

@@ -1,4 +1,4 @@
-// The ring of ready tasks.
+//! The ring of ready tasks.
 ghost use Rattle.std.specs.Prelude.{◌≡◌, ◌≤◌, ◌<◌, ◌++◌, ◌∷◌, [], length, OnOk, OnErr, MatchOption, IfOk};
 
 use crate::{Entry, Given, TaskNo};

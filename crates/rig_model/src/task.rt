@@ -1,24 +1,12 @@
-// What tasks and the runner tell each other.
+//! What tasks and the runner tell each other.
 use gpi::SigId;
 use port_io::Name;
+use py_syntax::{FaultKind, LogLevel};
 
 /// A task (cocotb 1.8, "Coroutines and Tasks"), by its number from 0 in the test, in the order in which tasks are started.
 /// Task 0 is the test's own.
 #[derive(Clone, Copy, Debug, PartialEq, Eq)]
 pub struct TaskNo(pub u32);
-
-/// The kinds of faults, each named as Python or cocotb names it.
-#[derive(Clone, Copy, Debug, PartialEq, Eq)]
-pub enum FaultKind {
-    /// An `assert` whose condition is false (Python language reference, "The assert statement").
-    AssertionError,
-    /// A due time later than 2 ^ 62 steps.
-    OverflowError,
-    /// A limit of the runner that is reached: how many tasks may live at once, or be started in a test.
-    RuntimeError,
-    /// A value that isn't known where a number is needed: some bit of it is `x` or `z`.
-    ValueError,
-}
 
 /// A fault that was raised.
 #[derive(Drop)]
@@ -76,13 +64,6 @@ pub enum Given {
     Fault(Fault),
 }
 
-/// Levels of log lines, named as in Python's `logging`.
-#[derive(Clone, Copy, Debug, PartialEq, Eq)]
-pub enum Level {
-    /// `INFO`, of `log.info`.
-    Info,
-}
-
 /// What a task wants next.
 #[derive(Drop)]
 pub enum Turned {
@@ -94,7 +75,7 @@ pub enum Turned {
     /// this one goes on.
     Start { func: u32, give_way: bool },
     /// To write a log line. It is given `None`.
-    Log { level: Level, text: Name },
+    Log { level: LogLevel, text: Name },
     /// The task has returned.
     Done(Value),
     /// A fault of the task was not caught.

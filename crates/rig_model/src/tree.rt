@@ -1,4 +1,4 @@
-// What a task waits for.
+//! What a task waits for.
 use crate::{TaskNo, Trig};
 use gpi::Key;
 

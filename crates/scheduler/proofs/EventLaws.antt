@@ -18,15 +18,13 @@ use Rattle.gpi.specs.declared.types.Key.TheVariants.{ReadOnly, ReadWrite}
 use Rattle.gpi.specs.declared.types.SigId.{SigId}
 use Rattle.gpi.specs.declared.types.Told.{Told}
 use Rattle.port_io.specs.declared.ports.SinkFault.{SinkFault}
-use Rattle.rig_model.specs.Counts.{raised_times}
 use Rattle.rig_model.specs.Fires.{Fires, PutFires}
 use Rattle.rig_model.specs.Kernel.{StandsAhead, StandsFor}
-use Rattle.rig_model.specs.Keys.{Reprimed, keys_in, without_all}
+use Rattle.rig_model.specs.Keys.{AreKeysBut, AreOut, Reprimed, keys_in, without_all}
 use Rattle.rig_model.specs.Rig.{Rig, Setup, After, quiet, and_then, awaited, named, keys_of, staged_key, told_lines, procs}
 use Rattle.rig_model.specs.Serve.{all_waiting, all_woken, serve_keys, after_put, put_of, flushed, flushed_if, served, written_digits}
-use Rattle.rig_model.proofs.CountLaws.{count_none}
 use Rattle.rig_model.proofs.FireLaws.{told_back, put_fires, event_fires}
-use Rattle.rig_model.proofs.KernelLaws.{event_stands, put_stands, event_ahead, put_ahead, served_stands, serve_keys_is, among_all, among_awaited}
+use Rattle.rig_model.proofs.KernelLaws.{event_stands, put_stands, event_ahead, put_ahead, served_stands, serve_keys_is, among_all, among_awaited, among_kept, but_deposit, but_event, but_served, out_fired, reprimed_stands}
 use Rattle.rig_model.proofs.KeyLaws.{fired_gone, among-append, same_is, same_sym}
 use Rattle.rig_model.specs.Step.{evented}
 use Rattle.rig_model.specs.declared.task.Entry.{Entry}
@@ -36,27 +34,9 @@ use Rattle.scheduler.specs.Parts.{Parts, rig_amid, FitsContent}
 use Rattle.scheduler.specs.Puts.{PutsOn}
 use Rattle.scheduler.specs.Serves.{Serves, IsOpen, IsEvented}
 use Rattle.scheduler.proofs.PutLaws.{puts_on_none, puts_on_then}
-use Rattle.scheduler.proofs.StandLaws.{rig_between, awaited_held}
+use Rattle.scheduler.proofs.StandLaws.{rig_between, awaited_held, keys_named}
 
 -- ---- keys that fired are served
-
--- where no key that fired is named any more, what the simulator stands for stays
-pub reprimed_stands : (ahead : List Key) (setup : Setup) (k k' : Content) (fired ks : List Key) (c : Rig) → ((x : Key) → among x fired ≡ true → among x ks ≡ false)
-    → Reprimed k k' fired ks → StandsAhead ahead setup k c → StandsAhead ahead setup k' c
-reprimed_stands ahead setup k k' fired ks c gone r s = record {
-  procs_are = r.procs ∙ s.procs_are;
-  state_is = r.state ∙ s.state_is;
-  keys_are = λ x. r.keys x ∙ none x (among x fired) refl ∙ s.keys_are x;
-  counts_are = r.counts ∙ ap (λ (n : ℕ). (let new : Counts = record k.counts { primed = raised_times n k.counts.primed } in new)) (count_none (λ x. among x ks) fired gone) ∙ s.counts_are;
-}
-  where
-    or_none : (b : Bool) → (b || false) ≡ b
-    or_none true = refl
-    or_none false = refl
-
-    none : (x : Key) (b : Bool) → among x fired ≡ b → (has x k.keys || (among x fired && among x ks)) ≡ has x k.keys
-    none x true e = rw (e, gone x e) (or_none (has x k.keys))
-    none x false e = rw e (or_none (has x k.keys))
 
 -- the one key that the runner holds is that of the read-write phase
 pub held_free : (ws : List Staged) (fired : List Key) → among ReadWrite fired ≡ false → (x : Key) → among x (staged_key ws) ≡ true → among x fired ≡ false
@@ -90,6 +70,21 @@ key_stays ks (w ∷ ws) h = held_on ks h
 pub key_goes : (ks : List Key) (ws : List Staged) → ks ≡ ReadWrite ∷ [] → without_all ks (staged_key ws) ≡ []
 key_goes ks [] e = none_held ks
 key_goes ks (w ∷ ws) e = ap (λ (xs : List Key). without_all xs (ReadWrite ∷ [])) e
+
+-- where a write is left the runner has held the key of the read-write phase
+pub no_write : (ws : List Staged) (w : Staged) (rest : List Staged) → ws ≡ w ∷ rest → ws ≡ [] → ⊥
+no_write ws w rest e h = cc
+
+pub one_key : (ws all : List Staged) (w : Staged) (rest : List Staged) → ws ≡ w ∷ rest → (all ≡ [] → ws ≡ []) → staged_key all ≡ ReadWrite ∷ []
+one_key ws [] w rest e h = absurd (no_write ws w rest e (h refl))
+one_key ws (a ∷ more) w rest e h = refl
+
+pub out_of_one : (keys : Keys) → has ReadWrite keys ≡ false → AreOut keys (ReadWrite ∷ [])
+out_of_one keys h x m = ap (λ (y : Key). has y keys) (same_is x ReadWrite (only (same_key x ReadWrite) m)) ∙ h
+  where
+    only : (b : Bool) → (b || false) ≡ true → b ≡ true
+    only true q = refl
+    only false q = q
 
 -- ---- a staged write goes out
 
@@ -126,7 +121,8 @@ module _ (setup : Setup) (p : Parts) (k k1 k2 : Content) (write : Staged) (bits 
     (fired_is : fired ≡ fired_of (put k.procs k.state k.keys write.sig bits).fired)
     (done : Does k (put k.procs k.state k.keys write.sig bits) k1)
     (waiting_is : waiting' ≡ all_waiting (keys_in fired) p.waiting) (held_is : held' ≡ without_all (keys_in fired) held) (ready_is : ready' ≡ p.ready ++ all_woken (keys_in fired) p.waiting)
-    (r : Reprimed k1 k2 (keys_in fired) (named waiting' held')) where
+    (b : AreKeysBut k.keys held (named p.waiting held))
+    (r : Reprimed k1 k2 (keys_in fired) (named p.waiting held) (named waiting' held')) where
   abbrev e : Event
   e = put k.procs k.state k.keys write.sig bits
 
@@ -153,6 +149,37 @@ module _ (setup : Setup) (p : Parts) (k k1 k2 : Content) (write : Staged) (bits 
   gone x h = ap (λ (ws : List Waiting). among x (named ws held')) waiting_is ∙ ap (λ (hs : List Key). among x (named (all_waiting (keys_in fired) p.waiting) hs)) held_is
       ∙ fired_gone x (keys_in fired) p.waiting held h
 
+  -- the change's keys have left the registered ones
+  left : (x : Key) → has x k1.keys ≡ (has x k.keys && not (among x (keys_in fired)))
+  left x = done.keys x ∙ ap (λ (ks : List Key). has x k.keys && not (among x ks)) (sym keys_are)
+
+  -- each key that is registered then is named on
+  stays : (x : Key) → has x k1.keys ≡ true → among x (named waiting' held') ≡ true
+  stays x h =
+      ap (λ (ws : List Waiting). among x (named ws held')) waiting_is
+      ∙ ap (λ (hs : List Key). among x (named (all_waiting (keys_in fired) p.waiting) hs)) held_is
+      ∙ among_kept x (keys_in fired) p.waiting held
+      ∙ both (has x k.keys) (among x (keys_in fired)) (sym (left x) ∙ h) (λ n. b.within x n)
+    where
+      both : (a f : Bool) → (a && not f) ≡ true → (a ≡ true → among x (named p.waiting held) ≡ true) → (among x (named p.waiting held) && not f) ≡ true
+      both true false q n = rw (n refl) refl
+      both true true q n = cc
+      both false f q n = cc
+
+  -- what isn't registered then is held
+  pub put_but : AreKeysBut k2.keys held' (named waiting' held')
+  put_but = rw (waiting_is, held_is) (but_served k1 k2 (keys_in fired) p.waiting held (but_deposit k k1 (keys_in fired) (named p.waiting held) left held b) (rw (waiting_is, held_is) at r))
+
+  -- the read-write phase isn't registered then, where it wasn't before
+  pub put_out_key : has ReadWrite k.keys ≡ false → has ReadWrite k2.keys ≡ false
+  put_out_key h =
+      r.keys ReadWrite
+      ∙ rw (left ReadWrite, h, ap (among ReadWrite) keys_are ∙ fires.other) (no (among ReadWrite (named waiting' held')))
+    where
+      no : (a : Bool) → (a && false) ≡ false
+      no true = refl
+      no false = refl
+
   module _ (ahead : List Key) (counts : Counts) (s : StandsAhead ahead setup k (rig_amid p k.state ahead counts)) where
     abbrev c : Rig
     c = rig_amid p k.state ahead counts
@@ -161,7 +188,7 @@ module _ (setup : Setup) (p : Parts) (k k1 k2 : Content) (write : Staged) (bits 
     free = held_free p.staged e.fired fires.other
 
     stands : StandsAhead ahead setup k2 (after_put setup e c).rig
-    stands = reprimed_stands ahead setup k1 k2 (keys_in fired) (named waiting' held') (after_put setup e c).rig gone r (put_ahead setup k k1 c e ahead refl free s done)
+    stands = reprimed_stands ahead setup k1 k2 (keys_in fired) (named p.waiting held) (named waiting' held') (after_put setup e c).rig gone stays r (put_ahead setup k k1 c e ahead refl free s done)
 
     served_rig : serve_keys e.fired ahead (record c { sim = e.state; fired = ahead ++ e.fired }) ≡ rig_amid p' k2.state ahead counts
     served_rig =
@@ -184,6 +211,21 @@ module _ (setup : Setup) (p : Parts) (k k1 k2 : Content) (write : Staged) (bits 
     put_serves takes breaks told fault out fault' out' h q =
         subst (λ (x : Event). Serves takes breaks told setup ahead (after_put setup x c) p' k2 fault out fault' out') (put_is h)
         (record { rig_is = rig_is; stands = stands; puts = q })
+
+-- what the waiting part asks before the keys of a change are served
+module _ (k k1 : Content) (sig : SigId) (bits : List Digit) (fired : Fired) (fired_is : fired ≡ fired_of (put k.procs k.state k.keys sig bits).fired)
+    (done : Does k (put k.procs k.state k.keys sig bits) k1) where
+  same_fired : keys_in fired ≡ (put k.procs k.state k.keys sig bits).fired
+  same_fired = ap keys_in fired_is ∙ told_back (put k.procs k.state k.keys sig bits).fired (let f : PutFires k.state (put k.procs k.state k.keys sig bits) = put_fires k.procs k.state k.keys sig bits in f.few)
+
+  gone_then : (x : Key) → has x k1.keys ≡ (has x k.keys && not (among x (keys_in fired)))
+  gone_then x = done.keys x ∙ ap (λ (ks : List Key). has x k.keys && not (among x ks)) (sym same_fired)
+
+  pub change_but : (waiting : List Waiting) (held : List Key) → AreKeysBut k.keys held (named waiting held) → AreKeysBut k1.keys (keys_in fired ++ held) (named waiting held)
+  change_but waiting held b = but_deposit k k1 (keys_in fired) (named waiting held) gone_then held b
+
+  pub change_out : AreOut k1.keys (keys_in fired)
+  change_out = out_fired k k1 (keys_in fired) [] gone_then
 
 -- ---- the staged writes go out
 
@@ -329,6 +371,16 @@ module _ (setup : Setup) (p : Parts) (k k1 : Content) (held : List Key) (f : Fit
   pub event_alone : among ReadWrite (keys_in m.fired) ≡ true → keys_in m.fired ≡ ReadWrite ∷ []
   event_alone h = event_keys ∙ event_does.alone (sym (ap (among ReadWrite) event_keys) ∙ h)
 
+  event_left : (x : Key) → has x k1.keys ≡ (has x k.keys && not (among x (keys_in m.fired)))
+  event_left x = a.done.keys x ∙ ap (λ (ks : List Key). has x k.keys && not (among x ks)) (sym event_keys)
+
+  -- the keys that fired are those that are named and not registered
+  pub event_but : AreKeysBut k1.keys (keys_in m.fired) (named p.waiting held)
+  event_but = but_event k k1 (keys_in m.fired) (named p.waiting held) event_left (keys_named setup held k p f)
+
+  pub event_out : AreOut k1.keys (keys_in m.fired)
+  event_out = out_fired k k1 (keys_in m.fired) [] event_left
+
   no_end_key : has ReadOnly k.keys ≡ false
   no_end_key =
       f.stands.keys_are ReadOnly
@@ -364,7 +416,8 @@ module _ (setup : Setup) (p : Parts) (k k1 : Content) (held : List Key) (f : Fit
       (fl : Serves takes breaks told setup own_keys (flushed_if setup (among ReadWrite own_keys) (rig_amid p k1.state own_keys k.counts)) p2 k2 f1 o1 f2 o2)
       (free : (x : Key) → among x (staged_key p2.staged) ≡ true → among x own_keys ≡ false) (held2 held3 : List Key) (goes : without_all own_keys held2 ≡ staged_key p2.staged)
       (o : IsOpen setup k2 p2.waiting) (ready3 : List Entry) (waiting3 : List Waiting) (waiting_is : waiting3 ≡ all_waiting own_keys p2.waiting) (held_is : held3 ≡ without_all own_keys held2)
-      (ready_is : ready3 ≡ p2.ready ++ all_woken own_keys p2.waiting) (r : Reprimed k2 k3 own_keys (named waiting3 held3)) where
+      (ready_is : ready3 ≡ p2.ready ++ all_woken own_keys p2.waiting) (b : AreKeysBut k2.keys own_keys (named p2.waiting held2)) (out_is : AreOut k2.keys own_keys)
+      (r : Reprimed k2 k3 own_keys (named p2.waiting held2) (named waiting3 held3)) where
     abbrev flush_of : List Key → State → After
     flush_of ks st = flushed_if setup (among ReadWrite ks) (rig_amid p st ks k.counts)
 
@@ -378,8 +431,19 @@ module _ (setup : Setup) (p : Parts) (k k1 : Content) (held : List Key) (f : Fit
     served_gone x h = ap (λ (ws : List Waiting). among x (named ws held3)) waiting_is ∙ ap (λ (hs : List Key). among x (named (all_waiting own_keys p2.waiting) hs)) held_is
         ∙ fired_gone x own_keys p2.waiting held2 h
 
+    registered_stay : (x : Key) → has x k2.keys ≡ true → among x (named waiting3 held3) ≡ true
+    registered_stay x h =
+        ap (λ (ws : List Waiting). among x (named ws held3)) waiting_is
+        ∙ ap (λ (hs : List Key). among x (named (all_waiting own_keys p2.waiting) hs)) held_is
+        ∙ among_kept x own_keys p2.waiting held2
+        ∙ rw (b.within x h, unfired (among x own_keys) refl) refl
+      where
+        unfired : (q : Bool) → among x own_keys ≡ q → among x own_keys ≡ false
+        unfired true q = absurd (let z : true ≡ false = sym h ∙ out_is x q in cc)
+        unfired false q = q
+
     stands_after : StandsFor setup k3 (served own_keys [] mid).rig
-    stands_after = reprimed_stands [] setup k2 k3 own_keys (named waiting3 held3) (served own_keys [] mid).rig served_gone r
+    stands_after = reprimed_stands [] setup k2 k3 own_keys (named p2.waiting held2) (named waiting3 held3) (served own_keys [] mid).rig served_gone registered_stay r
         (served_stands setup k2 mid own_keys refl free (subst (λ (d : Rig). StandsAhead own_keys setup k2 d) fl.rig_is fl.stands))
 
     after_is : (served own_keys [] mid).rig ≡ rig_between p3 k3

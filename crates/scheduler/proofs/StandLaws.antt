@@ -14,11 +14,11 @@ use Rattle.gpi.specs.declared.types.SigId.{SigId}
 use Rattle.rig_model.specs.Counts.{counts_after, counted}
 use Rattle.rig_model.specs.Effect.{restaged, with_waiting, refusal, begun, awaits}
 use Rattle.rig_model.specs.Kernel.{StandsFor}
-use Rattle.rig_model.specs.Keys.{AreKeys, Rekeyed, AreCounted}
+use Rattle.rig_model.specs.Keys.{AreKeys, Registers, KeepsKeys, Rekeyed, AreCounted}
 use Rattle.rig_model.specs.Rig.{Rig, Setup, awaited, named, keys_of, staged_key, leaves}
 use Rattle.rig_model.specs.Run.{ended}
 use Rattle.rig_model.specs.Task.{Task}
-use Rattle.rig_model.proofs.KernelLaws.{awaited_named, effect_stands, same_stands}
+use Rattle.rig_model.proofs.KernelLaws.{awaited_named, effect_stands, same_stands, registers_rekeyed, registers_counted}
 use Rattle.rig_model.proofs.KeyLaws.{no_keys_are, among-append}
 use Rattle.rig_model.specs.declared.task.Entry.{Entry}
 use Rattle.rig_model.specs.declared.task.Staged.{Staged}
@@ -42,6 +42,11 @@ keys_named setup held k p f x =
     f.stands.keys_are x
     ∙ ap (among x) (awaited_named (rig_between p k) refl)
     ∙ ap (λ (h : List Key). among x (named p.waiting h)) (sym f.held_is)
+
+-- so they are where the same keys stay registered
+pub keys_kept : (k k' : Content) (waiting waiting' : List Waiting) (held held' : List Key) → AreKeys k.keys (named waiting held) → KeepsKeys k k' → waiting' ≡ waiting → held' ≡ held
+    → AreKeys k'.keys (named waiting' held')
+keys_kept k k' waiting waiting' held held' a s w h = rw (w, h) (λ x. s.keys x ∙ a x)
 
 -- the awaited keys are the named ones
 pub awaited_held : (held : List Key) (p : Parts) (sim : State) (counts : Counts) → held ≡ staged_key p.staged → awaited (rig_amid p sim [] counts) ≡ named p.waiting held
@@ -184,7 +189,22 @@ module _ (setup : Setup) (p : Parts) (k : Content) (held : List Key) (f : FitsCo
 
   -- the first write is staged
   module _ (first : (length p.staged == 0) ≡ true) (k' : Content) (waiting' : List Waiting) (held' : List Key) (same : waiting' ≡ p.waiting) (holds : held' ≡ held ++ ReadWrite ∷ [])
-      (r : Rekeyed k k' (named waiting' held')) (n : AreCounted k k' (named p.waiting held) (named waiting' held')) where
+      (g : Registers k k' ReadWrite) where
+    named_then : named p.waiting held ++ ReadWrite ∷ [] ≡ named waiting' held'
+    named_then =
+        append_assoc (keys_of p.waiting) held (ReadWrite ∷ [])
+        ∙ ap (λ (hs : List Key). keys_of p.waiting ++ hs) (sym holds)
+        ∙ ap (λ (ws : List Waiting). named ws held') (sym same)
+
+    r : Rekeyed k k' (named waiting' held')
+    r = subst (λ (ks : List Key). Rekeyed k k' ks) named_then (registers_rekeyed k k' ReadWrite (named p.waiting held) (keys_named setup held k p f) g)
+
+    n : AreCounted k k' (named p.waiting held) (named waiting' held')
+    n = subst (λ (ks : List Key). AreCounted k k' (named p.waiting held) ks) named_then (registers_counted k k' ReadWrite (named p.waiting held) (keys_named setup held k p f) g)
+
+    pub first_keys : AreKeys k'.keys (named waiting' held')
+    first_keys = r.keys
+
     own_is : held' ≡ staged_key staged'
     own_is = holds ∙ ap (λ (ks : List Key). ks ++ ReadWrite ∷ []) (f.held_is ∙ no_write p.staged first) ∙ sym written_key
 

@@ -5,7 +5,7 @@ use Rattle.rig_model.specs.Rig.{Rig}
 use Rattle.rig_model.specs.Task.{plain_fault}
 use Rattle.rig_model.specs.declared.file.Function.{Function}
 use Rattle.rig_model.specs.declared.task.Fault.{Fault}
-use Rattle.rig_model.specs.declared.task.FaultKind.TheVariants.{RuntimeError}
+use Rattle.py_syntax.specs.declared.fault_kind.FaultKind.TheVariants.{RuntimeError}
 use Rattle.rig_model.specs.declared.task.Given.TheVariants as given
 use Rattle.rig_model.specs.declared.task.TaskNo.{TaskNo}
 use Rattle.rig_model.specs.declared.task.Value.TheVariants as value

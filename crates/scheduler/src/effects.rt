@@ -1,4 +1,4 @@
-// What each thing that a task wants does.
+//! What each thing that a task wants does.
 ghost use Rattle.std.specs.Prelude.{◌≡◌, ◌≢◌, ◌<◌, ◌∷◌, [], length, ◌≤◌, IfOk, OnOk, OnErr, Some, None, IsSome, MatchOption, true};
 ghost use Rattle.gpi.specs.Content.{Content};
 ghost use Rattle.gpi.specs.declared.types.Key.TheVariants.{At};
@@ -9,7 +9,7 @@ ghost use Rattle.rig_model.specs.Rig.{named};
 ghost use Rattle.rig_model.specs.Sound.{IsSoundTurned, IsSoundForm};
 ghost use Rattle.rig_model.specs.Step.{task_at};
 ghost use Rattle.rig_model.specs.Task.{plain_fault};
-ghost use Rattle.rig_model.specs.declared.task.FaultKind.TheVariants.{OverflowError};
+ghost use Rattle.py_syntax.specs.declared.fault_kind.FaultKind.TheVariants.{OverflowError};
 ghost use Rattle.rig_model.specs.declared.task.Trig.{Trig};
 ghost use Rattle.rig_model.specs.declared.task.Value.{Value};
 ghost use Rattle.rig_model.specs.declared.tree.Tree.TheVariants.{Leaf};
@@ -21,9 +21,9 @@ use crate::turn::{Next, Turn};
 use crate::writes::stage;
 use gpi::{Gpi, Key, SigId};
 use port_io::{Name, NoMemory, Sink, SinkFault};
+use py_syntax::{FaultKind, LogLevel};
 use rig_model::{
-    Awaits, Fault, FaultKind, FlowMaker, Form, Given, Level, Outcome, Steps, TaskNo, Tree, Trig,
-    Turned, Value,
+    Awaits, Fault, FlowMaker, Form, Given, Outcome, Steps, TaskNo, Tree, Trig, Turned, Value,
 };
 use std::alloc::Global;
 use std::sync::ledger::Ledger;
@@ -31,6 +31,7 @@ use std::sync::ledger::Ledger;
 /// The latest due time of a timer, in steps. An await whose due time is later is given an `OverflowError`.
 pub const LAST_TIME: u64 = 1 << 62;
 
+/// A fault of that kind, which says nothing.
 pub fn fault_of(kind: FaultKind) -> Fault
     ensures { result ≡ plain_fault kind }
 {
@@ -40,7 +41,7 @@ pub fn fault_of(kind: FaultKind) -> Fault
     }
 }
 
-// When a trigger that begins now is due, if that isn't too late.
+/// When a trigger that begins now is due, if that isn't too late.
 fn due_time(form: Form, time: u64) -> Option<u64>
     requires { IsSoundForm form }
     ensures { MatchOption result (refusal form time ≡ Some (plain_fault OverflowError))
@@ -59,7 +60,7 @@ impl<'a, M: FlowMaker + Drop, W: Awaits> Engine<'a, M, W> {
     ghost use Rattle.scheduler.specs.Fits.{FitsAt, FitsNext};
     ghost use Rattle.scheduler.specs.Turns.{LeadsTo, PutsNext, IsLogged, FitsOwn, is_fine};
 
-    // The task waits, or is given the fault of a trigger that is due too late.
+    /// The task waits, or is given the fault of a trigger that is due too late.
     fn wait<K: Gpi, L: Ledger>(
         &mut self,
         kernel: &mut K,
@@ -89,7 +90,7 @@ impl<'a, M: FlowMaker + Drop, W: Awaits> Engine<'a, M, W> {
         }
     }
 
-    // The task stages a write: from the first one on the read-write phase is held.
+    /// The task stages a write: from the first one on the read-write phase is held.
     fn stage_write<K: Gpi, L: Ledger>(
         &mut self,
         kernel: &mut K,
@@ -113,12 +114,12 @@ impl<'a, M: FlowMaker + Drop, W: Awaits> Engine<'a, M, W> {
         stage(&mut self.staged, sig, number)
     }
 
-    // A task writes a log line.
+    /// A task writes a log line.
     fn write_log<O: Sink>(
         &self,
         alloc: Global,
         time: u64,
-        level: Level,
+        level: LogLevel,
         text: &Name,
         out: &mut O,
     ) -> Result<Next, NoMemory>
@@ -133,7 +134,7 @@ impl<'a, M: FlowMaker + Drop, W: Awaits> Engine<'a, M, W> {
         }
     }
 
-    // A task has returned: it lives no more, and where it is the test's own the test has ended.
+    /// A task has returned: it lives no more, and where it is the test's own the test has ended.
     fn finish(&mut self, task: TaskNo) -> Next
         requires own { Fits (setup_of M.functions self.old) 1 self.old.ready.room (parts_of W.waiting self.old) }
         requires live { IsSome (task_at task self.old.live.tasks) }
@@ -153,7 +154,7 @@ impl<'a, M: FlowMaker + Drop, W: Awaits> Engine<'a, M, W> {
         }
     }
 
-    // What the task wanted is done, once the turn is taken from it.
+    /// What the task wanted is done, once the turn is taken from it.
     pub fn apply<O: Sink, K: Gpi, L: Ledger>(
         &mut self,
         alloc: Global,

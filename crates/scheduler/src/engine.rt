@@ -1,4 +1,4 @@
-// The engine, and its public calls.
+//! The engine, and its public calls.
 ghost use Rattle.std.specs.Prelude.{◌≡◌, ◌≤◌, ◌<◌, ◌⊎◌, [], List, length, IfOk, OnOk, Ok, IsSomeAnd, slice_get};
 ghost use Rattle.gpi.specs.Content.{Content, opening};
 ghost use Rattle.rig_model.specs.Keys.{AreKeys};
@@ -116,7 +116,7 @@ impl<'a, M: FlowMaker + Drop, W: Awaits> Engine<'a, M, W> {
     /// `Spent` comes exactly where the next step costs more than the fuel that is left; `Over` where the test gets its
     /// outcome, with its parts left in place until `end_test`; `WriteFault` where the put of the next line fails, and nothing
     /// is put after it. Whatever becomes of the lines, all keys that an event fired are served.
-    /// After `Spent`, `WriteFault` or `NoMemory` only `end_test` is called.
+    /// It is called only while the test has no outcome: after `Over`, `Spent`, `WriteFault` or `NoMemory` only `end_test` is called.
     pub fn turn<O: Sink, K: Gpi, L: Ledger>(
         &mut self,
         alloc: Global,

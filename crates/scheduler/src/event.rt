@@ -1,14 +1,14 @@
-// Events of the simulator.
+//! Events of the simulator.
 ghost use Rattle.std.specs.Prelude.{◌≡◌, ◌≤◌, ◌<◌, ◌∷◌, ◌+◌, [], List, length, IfOk, OnOk, OnErr, Ok, true, false};
 ghost use Rattle.gpi.specs.Content.{IsChangeOf};
 ghost use Rattle.gpi.specs.Events.{idle};
-ghost use Rattle.gpi.specs.Keys.{among};
+ghost use Rattle.gpi.specs.Keys.{among, has};
 ghost use Rattle.gpi.specs.declared.types.Counts.{Counts};
 ghost use Rattle.gpi.specs.declared.types.Key.{Key};
 ghost use Rattle.gpi.specs.declared.types.Key.TheVariants.{ReadWrite};
 ghost use Rattle.rig_model.specs.FitSteps.{TurnSteps};
 ghost use Rattle.rig_model.specs.Kernel.{StandsAhead};
-ghost use Rattle.rig_model.specs.Keys.{AreKeys, key_list, keys_in, without_all};
+ghost use Rattle.rig_model.specs.Keys.{AreKeys, AreKeysBut, AreOut, key_list, keys_in, without_all};
 ghost use Rattle.rig_model.specs.Rig.{named, staged_key, told_lines};
 ghost use Rattle.rig_model.specs.declared.task.Staged.{Staged};
 ghost use Rattle.rig_model.specs.Serve.{after_put, put_of, flushed, flushed_if};
@@ -30,7 +30,7 @@ fn is_read_write(key: Option<Key>) -> bool
     matches!(key, Some(Key::ReadWrite))
 }
 
-// Whether the read-write phase is among the keys that fired.
+/// Whether the read-write phase is among the keys that fired.
 fn settles(fired: Fired) -> bool
     ensures { result ≡ among ReadWrite (keys_in fired) }
 {
@@ -45,7 +45,7 @@ impl<'a, M: FlowMaker + Drop, W: Awaits> Engine<'a, M, W> {
     ghost use Rattle.scheduler.specs.Fits.{FitsKernel, FitsAfter};
     ghost use Rattle.scheduler.specs.Turns.{Turning};
 
-    // Puts the line of a told change, where changes are written and no put has failed.
+    /// Puts the line of a told change, where changes are written and no put has failed.
     fn tell<O: Sink>(
         &self,
         alloc: Global,
@@ -66,7 +66,7 @@ impl<'a, M: FlowMaker + Drop, W: Awaits> Engine<'a, M, W> {
         }
     }
 
-    // A staged write goes out: it is done, its change is told, and the tasks are woken that wait for it.
+    /// A staged write goes out: it is done, its change is told, and the tasks are woken that wait for it.
     fn put_out<O: Sink, K: Gpi, L: Ledger>(
         &mut self,
         alloc: Global,
@@ -80,6 +80,9 @@ impl<'a, M: FlowMaker + Drop, W: Awaits> Engine<'a, M, W> {
         requires own { Fits (setup_of M.functions self.old) 0 self.old.ready.room (parts_of W.waiting self.old) }
         requires writable { IsOpen (setup_of M.functions self.old) (K.content kernel.old) (W.waiting self.old.awaits) }
         requires sig { write.sig.0 < length self.old.flat.now.signals }
+        requires keys { AreKeysBut (K.content kernel.old).keys (W.held self.old.awaits) (named (W.waiting self.old.awaits) (W.held self.old.awaits)) }
+        ensures keys { AreKeysBut (K.content kernel.new).keys (W.held self.new.awaits) (named (W.waiting self.new.awaits) (W.held self.new.awaits)) }
+        ensures out { has ReadWrite (K.content kernel.old).keys ≡ false → has ReadWrite (K.content kernel.new).keys ≡ false }
         ensures serves { (fired : List Key) (counts : Counts)
             → let setup = setup_of M.functions self.old in let before = K.content kernel.old in
             let c = rig_amid (parts_of W.waiting self.old) before.state fired counts in
@@ -101,7 +104,7 @@ impl<'a, M: FlowMaker + Drop, W: Awaits> Engine<'a, M, W> {
         fault
     }
 
-    // The staged writes go out, the oldest first.
+    /// The staged writes go out, the oldest first.
     fn flush<O: Sink, K: Gpi, L: Ledger>(
         &mut self,
         alloc: Global,
@@ -113,6 +116,11 @@ impl<'a, M: FlowMaker + Drop, W: Awaits> Engine<'a, M, W> {
         requires loaded { K.is_loaded kernel.old }
         requires own { Fits (setup_of M.functions self.old) 0 self.old.ready.room (parts_of W.waiting self.old) }
         requires writable { IsOpen (setup_of M.functions self.old) (K.content kernel.old) (W.waiting self.old.awaits) }
+        requires held { W.held self.old.awaits ≡ staged_key self.old.staged.items }
+        requires keys { AreKeysBut (K.content kernel.old).keys (ReadWrite ∷ []) (named (W.waiting self.old.awaits) (W.held self.old.awaits)) }
+        requires out { AreOut (K.content kernel.old).keys (ReadWrite ∷ []) }
+        ensures keys { AreKeysBut (K.content kernel.new).keys (ReadWrite ∷ []) (named (W.waiting self.new.awaits) (W.held self.new.awaits)) }
+        ensures out { AreOut (K.content kernel.new).keys (ReadWrite ∷ []) }
         ensures serves { (counts : Counts)
             → let fired = ReadWrite ∷ [] in let setup = setup_of M.functions self.old in let before = K.content kernel.old in
             let c = rig_amid (parts_of W.waiting self.old) before.state fired counts in
@@ -132,7 +140,7 @@ impl<'a, M: FlowMaker + Drop, W: Awaits> Engine<'a, M, W> {
         fault
     }
 
-    // The staged writes go out where the read-write phase is among the keys that fired.
+    /// The staged writes go out where the read-write phase is among the keys that fired.
     fn flush_if<O: Sink, K: Gpi, L: Ledger>(
         &mut self,
         alloc: Global,
@@ -147,6 +155,10 @@ impl<'a, M: FlowMaker + Drop, W: Awaits> Engine<'a, M, W> {
         requires writable { IsOpen (setup_of M.functions self.old) (K.content kernel.old) (W.waiting self.old.awaits) }
         requires held { W.held self.old.awaits ≡ staged_key self.old.staged.items }
         requires alone { among ReadWrite (keys_in keys) ≡ true → keys_in keys ≡ ReadWrite ∷ [] }
+        requires keys { AreKeysBut (K.content kernel.old).keys (keys_in keys) (named (W.waiting self.old.awaits) (W.held self.old.awaits)) }
+        requires out { AreOut (K.content kernel.old).keys (keys_in keys) }
+        ensures keys { AreKeysBut (K.content kernel.new).keys (keys_in keys) (named (W.waiting self.new.awaits) (W.held self.new.awaits)) }
+        ensures out { AreOut (K.content kernel.new).keys (keys_in keys) }
         ensures serves { (counts : Counts)
             → let fired = keys_in keys in let setup = setup_of M.functions self.old in let before = K.content kernel.old in
             let c = rig_amid (parts_of W.waiting self.old) before.state fired counts in
@@ -166,7 +178,7 @@ impl<'a, M: FlowMaker + Drop, W: Awaits> Engine<'a, M, W> {
         }
     }
 
-    // The simulator does an event, of which there is one: its change is told, and the keys are served that it fires.
+    /// The simulator does an event, of which there is one: its change is told, and the keys are served that it fires.
     fn do_event<O: Sink, K: Gpi, L: Ledger>(
         &mut self,
         alloc: Global,
@@ -198,7 +210,7 @@ impl<'a, M: FlowMaker + Drop, W: Awaits> Engine<'a, M, W> {
         Ok(put)
     }
 
-    // The simulator does an event, where no task is ready. Where nothing is left that could happen the test has stalled.
+    /// The simulator does an event, where no task is ready. Where nothing is left that could happen the test has stalled.
     pub fn advance<O: Sink, K: Gpi, L: Ledger>(
         &mut self,
         alloc: Global,

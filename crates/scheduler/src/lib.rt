@@ -11,8 +11,6 @@ mod puts;
 mod starts;
 mod task_turn;
 mod tasks;
-#[cfg(test)]
-mod tests;
 mod turn;
 mod view;
 mod writes;

@@ -1,13 +1,15 @@
-// The texts of the lines of a run, each with its line feed.
+//! The texts of the lines of a run, each with its line feed.
 ghost use Rattle.std.specs.Prelude.{◌≡◌, ◌++◌, IfOk, OnOk};
 ghost use Rattle.std.specs.Fmt.{decimal};
-ghost use Rattle.rig_model.specs.Line.{test_line, log_line, sig_line, verdict_line, report_line, budget_line, kind_name, level_name, reason_of, digit_letters};
+ghost use Rattle.rig_model.specs.Line.{test_line, log_line, sig_line, verdict_line, report_line, budget_line, level_word, reason_of, digit_letters};
 
 use four_value::Bits;
 use port_io::NoMemory;
-use rig_model::{FaultKind, Level, Outcome};
+use py_syntax::LogLevel;
+use rig_model::Outcome;
 use std::alloc::{AllocError, Global};
 
+/// Adds a number as its decimal digits.
 fn add_number(alloc: Global, line: &mut Vec<u8>, number: u64) -> Result<(), AllocError>
     ensures { OnOk result (line.new.items ≡ line.old.items ++ decimal number) }
 {
@@ -28,16 +30,19 @@ pub fn test_text(alloc: Global, time: u64, name: &[u8]) -> Result<Vec<u8>, NoMem
     Ok(line)
 }
 
-fn level_text(level: Level) -> &'static [u8]
-    ensures { result.now ≡ level_name level }
+/// A level as it stands in a line.
+fn level_text(level: LogLevel) -> &'static [u8]
+    ensures { result.now ≡ level_word level }
 {
     match level {
-        Level::Info => b"INFO",
+        LogLevel::Info => b"INFO",
+        LogLevel::Warning => b"WARNING",
+        LogLevel::Error => b"ERROR",
     }
 }
 
 /// `<time> <level> <text>`: a task writes a log line. The time is in steps. Only want of memory is an error.
-pub fn log_text(alloc: Global, time: u64, level: Level, text: &[u8]) -> Result<Vec<u8>, NoMemory>
+pub fn log_text(alloc: Global, time: u64, level: LogLevel, text: &[u8]) -> Result<Vec<u8>, NoMemory>
     ensures { IfOk result (λ line. line.items ≡ log_line time level text.now) }
 {
     let mut line = Vec::new(alloc);
@@ -50,7 +55,7 @@ pub fn log_text(alloc: Global, time: u64, level: Level, text: &[u8]) -> Result<V
     Ok(line)
 }
 
-// The digits of a value, the highest first.
+/// The digits of a value, the highest first.
 fn add_digits(line: &mut Vec<u8>, bits: Bits) -> Result<(), AllocError>
     ensures { OnOk result (line.new.items ≡ line.old.items ++ digit_letters bits) }
 {
@@ -75,24 +80,14 @@ pub fn sig_text(alloc: Global, time: u64, path: &[u8], bits: Bits) -> Result<Vec
     Ok(line)
 }
 
-fn kind_text(kind: FaultKind) -> &'static [u8]
-    ensures { result.now ≡ kind_name kind }
-{
-    match kind {
-        FaultKind::AssertionError => b"AssertionError",
-        FaultKind::OverflowError => b"OverflowError",
-        FaultKind::RuntimeError => b"RuntimeError",
-        FaultKind::ValueError => b"ValueError",
-    }
-}
-
+/// Adds the reason why a test failed.
 fn add_reason(line: &mut Vec<u8>, outcome: &Outcome) -> Result<(), AllocError>
     ensures { OnOk result (line.new.items ≡ line.old.items ++ reason_of outcome.now) }
 {
     match outcome {
         Outcome::Normal => {}
         Outcome::Raised(fault) => {
-            line.extend_from_slice(kind_text(fault.kind))?;
+            line.extend_from_slice(fault.kind.name())?;
             let text = fault.text.bytes();
             if !text.is_empty() {
                 line.extend_from_slice(b": ")?;

@@ -1,4 +1,4 @@
-// A live task.
+//! A live task.
 ghost use Rattle.std.specs.Prelude.{◌≡◌};
 
 use rig_model::{Flow, TaskNo};

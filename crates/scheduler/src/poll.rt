@@ -1,4 +1,4 @@
-// A live task is polled at its place.
+//! A live task is polled at its place.
 ghost use Rattle.std.specs.Prelude.{◌≡◌, ◌<◌, length, IfOk, Some, set, get_or};
 ghost use Rattle.scheduler.specs.Places.{PolledAt};
 ghost use Rattle.scheduler.specs.Meanings.{tasks_of};
@@ -9,7 +9,7 @@ use port_io::NoMemory;
 use rig_model::{Flow, Given, Look, Turned};
 use std::alloc::Global;
 
-// Polls the task at that place.
+/// Polls the task at that place.
 pub fn poll_at<F: Flow, V: Look>(
     alloc: Global,
     live: &mut Vec<Live<F>>,

@@ -1,4 +1,4 @@
-// Lines that are put one after the other, until a put fails.
+//! Lines that are put one after the other, until a put fails.
 ghost use Rattle.std.specs.Prelude.{◌≡◌, ◌∷◌, [], length, Some, None, if◌then◌else◌};
 ghost use Rattle.four_value.specs.Vector.{same_digits};
 ghost use Rattle.rig_model.specs.Line.{sig_line};
@@ -10,7 +10,7 @@ use gpi::{SigId, Told};
 use port_io::{Sink, SinkFault};
 use std::alloc::Global;
 
-// Puts a line: why it wasn't taken, if it wasn't.
+/// Puts a line: why it wasn't taken, if it wasn't.
 pub fn put_line<O: Sink>(alloc: Global, out: &mut O, line: &[u8]) -> Option<SinkFault>
     ensures { PutsOn O.takes O.breaks O.told None out.old (line.now ∷ []) result out.new }
 {
@@ -20,7 +20,7 @@ pub fn put_line<O: Sink>(alloc: Global, out: &mut O, line: &[u8]) -> Option<Sink
     }
 }
 
-// Puts the line of a change of the signal of that path.
+/// Puts the line of a change of the signal of that path.
 pub fn put_change<O: Sink>(
     alloc: Global,
     out: &mut O,
@@ -36,7 +36,7 @@ pub fn put_change<O: Sink>(
     }
 }
 
-// The change that a write of a signal tells, if its value changes.
+/// The change that a write of a signal tells, if its value changes.
 pub fn change_of(sig: SigId, old: Bits, new: Bits) -> Option<Told>
     requires { length old ≡ length new }
     ensures { result ≡ (if same_digits old new then None else Some (record { sig = sig; bits = new })) }

@@ -1,4 +1,4 @@
-// Tasks that are started.
+//! Tasks that are started.
 ghost use Rattle.std.specs.Prelude.{◌≡◌, ◌≤◌, ◌<◌, ◌+◌, length, IfOk, OnOk, true};
 ghost use Rattle.gpi.specs.Content.{Content};
 ghost use Rattle.rig_model.specs.Effect.{function_at, is_full, live_limit, start_limit, with_new_task};
@@ -8,7 +8,8 @@ use crate::Engine;
 use crate::effects::fault_of;
 use crate::turn::{Next, Turn};
 use port_io::NoMemory;
-use rig_model::{Awaits, FaultKind, FlowMaker, Given, TaskNo, Value};
+use py_syntax::FaultKind;
+use rig_model::{Awaits, FlowMaker, Given, TaskNo, Value};
 use std::alloc::Global;
 
 /// How many tasks may live at once. A start of one more is given a `RuntimeError`.
@@ -22,14 +23,14 @@ impl<'a, M: FlowMaker + Drop, W: Awaits> Engine<'a, M, W> {
     ghost use Rattle.scheduler.specs.Parts.{Fits};
     ghost use Rattle.scheduler.specs.Turns.{LeadsTo, FitsOwn, is_fine};
 
-    // Whether a limit on tasks is reached.
+    /// Whether a limit on tasks is reached.
     fn is_full(&self) -> bool
         ensures { (content : Content) → result ≡ is_full (rig_of W.waiting self.now content) }
     {
         self.live.len() >= LIVE_LIMIT || self.live.started() >= START_LIMIT
     }
 
-    // A task of that function is live and ready: its number.
+    /// A task of that function is live and ready: its number.
     pub fn add_task(&mut self, alloc: Global, func: u32) -> Result<TaskNo, NoMemory>
         requires func { func < length (M.functions self.old.maker) }
         requires held { length self.old.ready.entries + length (W.waiting self.old.awaits) ≤ length self.old.live.tasks }
@@ -52,7 +53,7 @@ impl<'a, M: FlowMaker + Drop, W: Awaits> Engine<'a, M, W> {
         Ok(number)
     }
 
-    // A task starts another, and goes on or gives way to it.
+    /// A task starts another, and goes on or gives way to it.
     pub fn start_task(
         &mut self,
         alloc: Global,

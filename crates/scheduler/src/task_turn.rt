@@ -1,4 +1,4 @@
-// The turn of a task.
+//! The turn of a task.
 ghost use Rattle.std.specs.Prelude.{◌≡◌, ◌≤◌, ◌<◌, ◌⊎◌, length, IfOk, Ok, Some};
 ghost use Rattle.rig_model.specs.Effect.{goes_on};
 ghost use Rattle.rig_model.specs.FitSteps.{FitSteps, in_turn};
@@ -19,7 +19,7 @@ impl<'a, M: FlowMaker + Drop, W: Awaits> Engine<'a, M, W> {
     ghost use Rattle.scheduler.specs.Fits.{FitsAt, FitsAfter};
     ghost use Rattle.scheduler.specs.Turns.{Turning};
 
-    // The task runs until its turn ends.
+    /// The task runs until its turn ends.
     pub fn run_task<O: Sink, K: Gpi, L: Ledger>(
         &mut self,
         alloc: Global,

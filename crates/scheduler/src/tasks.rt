@@ -1,4 +1,4 @@
-// The live tasks of a test.
+//! The live tasks of a test.
 ghost use Rattle.std.specs.Prelude.{◌≡◌, ◌<◌, ◌^◌, ◌-◌, ◌+◌, ◌++◌, ◌∷◌, [], length, MatchOption, IfOk, OnOk, OnErr, Some, None};
 ghost use Rattle.rig_model.specs.Effect.{dropped};
 ghost use Rattle.rig_model.specs.Step.{task_at};
@@ -29,7 +29,7 @@ impl<F: Flow> Model for LiveTasks<F> {
     ghost view = { λ a. record { tasks = tasks_of a.live.items; started = a.started } };
 }
 
-// Where the task stands among the live ones.
+/// Where the task stands among the live ones.
 fn position<F: Flow>(live: &[Live<F>], task: TaskNo) -> Option<usize>
     ensures { MatchOption result (task_at task (tasks_of live.now) ≡ None) (λ at. StandsAt task (tasks_of live.now) at) }
 {

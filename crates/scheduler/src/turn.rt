@@ -1,4 +1,4 @@
-// What a turn comes to.
+//! What a turn comes to.
 use rig_model::{Given, Outcome};
 
 /// What a turn came to.

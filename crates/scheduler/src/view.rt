@@ -1,4 +1,4 @@
-// What a task sees of the runner.
+//! What a task sees of the runner.
 ghost use Rattle.std.specs.Prelude.{IfOk};
 ghost use Rattle.scheduler.specs.Tasks.{KnowsAll, PollsOf};
 
@@ -30,7 +30,7 @@ impl<'a, K: Gpi> Look for KernelView<'a, K> {
     }
 }
 
-// The task of that number goes on until it wants something, or `None` where it isn't live.
+/// The task of that number goes on until it wants something, or `None` where it isn't live.
 pub fn poll_task<F: Flow, K: Gpi>(
     alloc: Global,
     live: &mut LiveTasks<F>,

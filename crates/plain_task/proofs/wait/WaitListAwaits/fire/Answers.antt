@@ -11,4 +11,4 @@ returns-clause-keys g c =
     = c.serve_one-2.ensures.waiting ∙ ap (all_waiting (key_list c.args.fired.second)) c.serve_one.ensures.waiting ∙ waiting_both c.args.fired.first c.args.fired.second c.args.self.now.waiting.items in
     let h : c.serve_one-2.new.self.held.items ≡ without_all (keys_in c.args.fired) c.args.self.now.held.items
     = c.serve_one-2.ensures.held ∙ ap (without_all (key_list c.args.fired.second)) c.serve_one.ensures.held ∙ without_both c.args.fired.first c.args.fired.second c.args.self.now.held.items in
-    rw (w, h) (not_again (g.K.Gpi.content c.args._kernel.now) (keys_in c.args.fired) c.args.self.now.waiting.items c.args.self.now.held.items)
+    rw (w, h) (not_again (g.K.Gpi.content c.args._kernel.now) (keys_in c.args.fired) c.args.self.now.waiting.items c.args.self.now.held.items c.requires.keys c.requires.out)

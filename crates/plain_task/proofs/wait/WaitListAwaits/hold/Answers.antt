@@ -1,27 +1,21 @@
-use Rattle.std.proofs.Common.{◌≡◌, ◌∙◌, ◌++◌, ◌∷◌, [], List, ap, subst, sym, append_assoc, append-nil}
-use Rattle.gpi.specs.Keys.{among}
-use Rattle.gpi.specs.declared.types.Key.{Key}
-use Rattle.rig_model.specs.Keys.{AreKeys, Rekeyed, AreCounted}
-use Rattle.rig_model.specs.Rig.{named, keys_of}
-use Rattle.plain_task.proofs.Naming.{rekeyed_more, counted_more}
+use Rattle.std.proofs.Common.{◌∙◌, ap, sym, Bool, if◌then◌else◌}
+use Rattle.gpi.specs.declared.types.Counts.{Counts}
+use Rattle.rig_model.specs.Counts.{raised_times}
+use Rattle.rig_model.specs.Rig.{named}
+use Rattle.rig_model.proofs.KernelLaws.{named_is}
 use Rattle.plain_task.proofs.wait.WaitListAwaits.hold.Goals as goal
 
-pub returns-in-Ok-clause-keys : goal.returns-in-Ok-clause-keys
-returns-in-Ok-clause-keys g c =
-    let ks = named c.args.self.now.waiting.items c.args.self.now.held.items in
-    let back : ks ≡ ks ++ [] = sym (append-nil ks) in
-    let front : ks ++ c.args.key ∷ [] ≡ named c.args.self.now.waiting.items c.push.new.self.items
-    = append_assoc (keys_of c.args.self.now.waiting.items) c.args.self.now.held.items (c.args.key ∷ []) ∙ ap (named c.args.self.now.waiting.items) (sym c.in_ok-push.ensures.items) in
-    subst (λ (l : List Key). Rekeyed (g.K.Gpi.content c.args.kernel.now) (g.K.Gpi.content c.register_unless.new.kernel) l) front
-    (rekeyed_more (g.K.Gpi.content c.args.kernel.now) (g.K.Gpi.content c.register_unless.new.kernel) c.args.key ks [] c.names-named.result (c.names-named.ensures ∙ ap (among c.args.key) back)
-    (subst (λ (l : List Key). AreKeys (g.K.Gpi.content c.args.kernel.now).keys l) back c.requires.keys) c.register_unless.ensures.procs c.register_unless.ensures.state c.in-Ok.ensures.keys)
+pub register_unless-requires-clause-named : goal.register_unless-requires-clause-named
+register_unless-requires-clause-named g c =
+    named_is (g.K.Gpi.content c.args.kernel.now).keys c.args.self.now.held.items (named c.args.self.now.waiting.items c.args.self.now.held.items) c.args.key c.requires.keys c.requires.new
+    ∙ sym c.names-named.ensures
 
-pub returns-in-Ok-clause-counts : goal.returns-in-Ok-clause-counts
-returns-in-Ok-clause-counts g c =
-    let ks = named c.args.self.now.waiting.items c.args.self.now.held.items in
-    let back : ks ++ [] ≡ ks = append-nil ks in
-    let front : ks ++ c.args.key ∷ [] ≡ named c.args.self.now.waiting.items c.push.new.self.items
-    = append_assoc (keys_of c.args.self.now.waiting.items) c.args.self.now.held.items (c.args.key ∷ []) ∙ ap (named c.args.self.now.waiting.items) (sym c.in_ok-push.ensures.items) in
-    subst (λ (l : List Key). AreCounted (g.K.Gpi.content c.args.kernel.now) (g.K.Gpi.content c.register_unless.new.kernel) ks l) front
-    (subst (λ (l : List Key). AreCounted (g.K.Gpi.content c.args.kernel.now) (g.K.Gpi.content c.register_unless.new.kernel) l (ks ++ c.args.key ∷ [])) back
-    (counted_more (g.K.Gpi.content c.args.kernel.now) (g.K.Gpi.content c.register_unless.new.kernel) c.args.key ks [] c.names-named.result (c.names-named.ensures ∙ ap (among c.args.key) (sym back)) c.in-Ok.ensures.counts))
+pub returns-in-Ok-clause-registers : goal.returns-in-Ok-clause-registers
+returns-in-Ok-clause-registers g c = record {
+  procs = c.register_unless.ensures.procs;
+  state = c.register_unless.ensures.state;
+  keys = c.in-Ok.ensures.keys;
+  counts = c.in-Ok.ensures.counts
+      ∙ ap (λ (b : Bool). let x : Counts = record (g.K.Gpi.content c.args.kernel.now).counts { primed = raised_times (if b then 0 else 1) (g.K.Gpi.content c.args.kernel.now).counts.primed } in x)
+      (c.names-named.ensures ∙ sym (named_is (g.K.Gpi.content c.args.kernel.now).keys c.args.self.now.held.items (named c.args.self.now.waiting.items c.args.self.now.held.items) c.args.key c.requires.keys c.requires.new));
+}

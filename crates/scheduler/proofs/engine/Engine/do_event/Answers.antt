@@ -1,8 +1,10 @@
 use Rattle.std.proofs.Common.{subst}
+use Rattle.rig_model.specs.Keys.{keys_in}
 use Rattle.rig_model.specs.Rig.{Setup}
+use Rattle.rig_model.proofs.KernelLaws.{but_more}
 use Rattle.scheduler.specs.Engine.{setup_of, parts_of}
 use Rattle.scheduler.specs.Serves.{IsOpen}
-use Rattle.scheduler.proofs.EventLaws.{advances_of, event_alone, event_open, event_stands_ahead, event_fits, event_evented}
+use Rattle.scheduler.proofs.EventLaws.{advances_of, event_alone, event_but, event_out, event_open, event_stands_ahead, event_fits, event_evented}
 use Rattle.scheduler.proofs.FitLaws.{fits_served}
 use Rattle.scheduler.proofs.StandLaws.{keys_named}
 use Rattle.scheduler.proofs.engine.Engine.do_event.Goals as goal
@@ -29,7 +31,7 @@ returns-clause-done g c = event_evented (setup_of g.M.FlowMaker.functions c.args
     (advances_of (g.K.Gpi.content c.args.kernel.now) c.in-Moved.moved (g.K.Gpi.content c.advance.new.self) (rw c.in-Moved.is at c.in_ok-moved.ensures.is))))
     c.flush_if-put.ensures.free _ _ c.flush_if-put.ensures.held
     (subst (λ (st : Setup). IsOpen st (g.K.Gpi.content c.flush_if-put.new.kernel) (g.W.Awaits.waiting c.flush_if-put.new.self.awaits)) c.flush_if-put.ensures.setup c.flush_if-put.ensures.writable)
-    _ _ c.fire.ensures.waiting c.fire.ensures.held c.fire.ensures.ready c.fire.ensures.keys
+    _ _ c.fire.ensures.waiting c.fire.ensures.held c.fire.ensures.ready c.flush_if-put.ensures.keys c.flush_if-put.ensures.out c.fire.ensures.keys
     c.args.out.now _ c.now-time.ensures c.tell-told.ensures
 
 pub returns-clause-fits : goal.returns-clause-fits
@@ -44,7 +46,7 @@ returns-clause-fits g c = record {
       (advances_of (g.K.Gpi.content c.args.kernel.now) c.in-Moved.moved (g.K.Gpi.content c.advance.new.self) (rw c.in-Moved.is at c.in_ok-moved.ensures.is))))
       c.flush_if-put.ensures.free _ _ c.flush_if-put.ensures.held
       (subst (λ (st : Setup). IsOpen st (g.K.Gpi.content c.flush_if-put.new.kernel) (g.W.Awaits.waiting c.flush_if-put.new.self.awaits)) c.flush_if-put.ensures.setup c.flush_if-put.ensures.writable)
-      _ _ c.fire.ensures.waiting c.fire.ensures.held c.fire.ensures.ready c.fire.ensures.keys);
+      _ _ c.fire.ensures.waiting c.fire.ensures.held c.fire.ensures.ready c.flush_if-put.ensures.keys c.flush_if-put.ensures.out c.fire.ensures.keys);
 }
 
 pub returns-clause-keys : goal.returns-clause-keys
@@ -58,4 +60,15 @@ returns-clause-keys g c = keys_named (setup_of g.M.FlowMaker.functions c.args.se
     (advances_of (g.K.Gpi.content c.args.kernel.now) c.in-Moved.moved (g.K.Gpi.content c.advance.new.self) (rw c.in-Moved.is at c.in_ok-moved.ensures.is))))
     c.flush_if-put.ensures.free _ _ c.flush_if-put.ensures.held
     (subst (λ (st : Setup). IsOpen st (g.K.Gpi.content c.flush_if-put.new.kernel) (g.W.Awaits.waiting c.flush_if-put.new.self.awaits)) c.flush_if-put.ensures.setup c.flush_if-put.ensures.writable)
-    _ _ c.fire.ensures.waiting c.fire.ensures.held c.fire.ensures.ready c.fire.ensures.keys)
+    _ _ c.fire.ensures.waiting c.fire.ensures.held c.fire.ensures.ready c.flush_if-put.ensures.keys c.flush_if-put.ensures.out c.fire.ensures.keys)
+
+pub flush_if-put-requires-clause-keys : goal.flush_if-put-requires-clause-keys
+flush_if-put-requires-clause-keys g c = event_but (setup_of g.M.FlowMaker.functions c.args.self.now) (parts_of g.W.Awaits.waiting c.args.self.now) (g.K.Gpi.content c.args.kernel.now) (g.K.Gpi.content c.advance.new.self) (g.W.Awaits.held c.args.self.now.awaits) c.requires.fits.kernel c.in-Moved.moved
+    (advances_of (g.K.Gpi.content c.args.kernel.now) c.in-Moved.moved (g.K.Gpi.content c.advance.new.self) (rw c.in-Moved.is at c.in_ok-moved.ensures.is))
+
+pub flush_if-put-requires-clause-out : goal.flush_if-put-requires-clause-out
+flush_if-put-requires-clause-out g c = event_out (setup_of g.M.FlowMaker.functions c.args.self.now) (parts_of g.W.Awaits.waiting c.args.self.now) (g.K.Gpi.content c.args.kernel.now) (g.K.Gpi.content c.advance.new.self) (g.W.Awaits.held c.args.self.now.awaits) c.requires.fits.kernel c.in-Moved.moved
+    (advances_of (g.K.Gpi.content c.args.kernel.now) c.in-Moved.moved (g.K.Gpi.content c.advance.new.self) (rw c.in-Moved.is at c.in_ok-moved.ensures.is))
+
+pub fire-requires-clause-keys : goal.fire-requires-clause-keys
+fire-requires-clause-keys g c = but_more (g.K.Gpi.content c.flush_if-put.new.kernel).keys (keys_in c.in-Moved.moved.fired) (g.W.Awaits.held c.flush_if-put.new.self.awaits) _ c.flush_if-put.ensures.keys

@@ -1,12 +1,14 @@
-use Rattle.std.proofs.Common.{◌∙◌, refl, sym, ap, subst, [], ◌∷◌, Vec, Global}
+use Rattle.std.proofs.Common.{◌∙◌, refl, sym, ap, subst, List, [], ◌∷◌, Vec, Global}
+use Rattle.gpi.specs.declared.types.Key.{Key}
 use Rattle.gpi.specs.declared.types.Key.TheVariants.{ReadWrite}
-use Rattle.rig_model.specs.Rig.{Setup}
+use Rattle.rig_model.specs.Keys.{AreKeysBut}
+use Rattle.rig_model.specs.Rig.{Setup, named}
 use Rattle.rig_model.specs.Serve.{flushed}
 use Rattle.rig_model.specs.declared.task.Staged.{Staged}
 use Rattle.scheduler.specs.Engine.{setup_of, parts_of}
 use Rattle.scheduler.specs.Parts.{rig_amid}
 use Rattle.scheduler.specs.Serves.{Serves, IsOpen}
-use Rattle.scheduler.proofs.EventLaws.{flushing_begins, flushing_more, flushing_ends}
+use Rattle.scheduler.proofs.EventLaws.{flushing_begins, flushing_more, flushing_ends, no_write, one_key, out_of_one}
 use Rattle.scheduler.proofs.FitLaws.{fits_told}
 use Rattle.scheduler.proofs.engine.Engine.flush.Goals as goal
 
@@ -16,6 +18,9 @@ writes-init g c = record {
   own = c.requires.own;
   writable = c.requires.writable;
   held = λ writes h. h;
+  keys = c.requires.keys;
+  out = c.requires.out;
+  begun = λ h. h;
   setup = refl;
   flushing = λ counts s. flushing_begins g.O.Sink.takes g.O.Sink.breaks g.O.Sink.told (setup_of g.M.FlowMaker.functions c.args.self.now) (parts_of g.W.Awaits.waiting c.args.self.now) (g.K.Gpi.content c.args.kernel.now) _ _ counts s;
 }
@@ -26,6 +31,11 @@ writes-preserved g c = record {
   own = fits_told _ _ 0 _ _ _ (sym (c.put_out-fault.ensures.setup ∙ c.writes.invariant.setup)) refl c.put_out-fault.ensures.own;
   writable = subst (λ (st : Setup). IsOpen st (g.K.Gpi.content c.put_out-fault.new.kernel) (g.W.Awaits.waiting c.put_out-fault.new.self.awaits)) (c.put_out-fault.ensures.setup ∙ c.writes.invariant.setup) c.put_out-fault.ensures.writable;
   held = λ writes h. c.put_out-fault.ensures.held writes (c.writes.invariant.held writes h);
+  keys = subst (λ (hs : List Key). AreKeysBut (g.K.Gpi.content c.put_out-fault.new.kernel).keys hs (named (g.W.Awaits.waiting c.put_out-fault.new.self.awaits) (g.W.Awaits.held c.put_out-fault.new.self.awaits)))
+      (c.put_out-fault.ensures.held c.args.self.now.staged.items (c.writes.invariant.held c.args.self.now.staged.items c.requires.held) ∙ one_key c.writes.self.staged.items c.args.self.now.staged.items c.in-Some.write _ c.in-Some.ensures c.writes.invariant.begun)
+      c.put_out-fault.ensures.keys;
+  out = out_of_one (g.K.Gpi.content c.put_out-fault.new.kernel).keys (c.put_out-fault.ensures.out (c.writes.invariant.out ReadWrite refl));
+  begun = λ h. absurd (no_write c.writes.self.staged.items c.in-Some.write _ c.in-Some.ensures (c.writes.invariant.begun h));
   setup = c.put_out-fault.ensures.setup ∙ c.writes.invariant.setup;
   flushing = λ counts s. flushing_more g.O.Sink.takes g.O.Sink.breaks g.O.Sink.told (setup_of g.M.FlowMaker.functions c.args.self.now) _ c.writes.invariant.setup _ _ _
       (parts_of g.W.Awaits.waiting c.writes.self) (g.K.Gpi.content c.writes.kernel) _ _ (c.writes.invariant.flushing counts s) c.in-Some.write _ c.in-Some.ensures
@@ -42,3 +52,9 @@ returns-clause-serves g c = λ counts s.
     = flushing_ends g.O.Sink.takes g.O.Sink.breaks g.O.Sink.told (setup_of g.M.FlowMaker.functions c.args.self.now) _ _ _
     (parts_of g.W.Awaits.waiting c.writes.self) (g.K.Gpi.content c.writes.kernel) _ _ (c.writes.invariant.flushing counts s) c.in_default.ensures.0 in
     rw (c.in_default.ensures.1) (rw (c.in_default.ensures.0) at ended)
+
+pub put_out-fault-requires-clause-keys : goal.put_out-fault-requires-clause-keys
+put_out-fault-requires-clause-keys g c =
+    subst (λ (hs : List Key). AreKeysBut (g.K.Gpi.content c.writes.kernel).keys hs (named (g.W.Awaits.waiting c.writes.self.awaits) (g.W.Awaits.held c.writes.self.awaits)))
+    (sym (c.writes.invariant.held c.args.self.now.staged.items c.requires.held ∙ one_key c.writes.self.staged.items c.args.self.now.staged.items c.in-Some.write _ c.in-Some.ensures c.writes.invariant.begun))
+    c.writes.invariant.keys

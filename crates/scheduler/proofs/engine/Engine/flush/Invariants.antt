@@ -2,7 +2,8 @@ use Rattle.std.proofs.Common.{◌≡◌, ◌∷◌, [], List, length}
 use Rattle.gpi.specs.declared.types.Counts.{Counts}
 use Rattle.gpi.specs.declared.types.Key.TheVariants.{ReadWrite}
 use Rattle.rig_model.specs.Kernel.{StandsAhead}
-use Rattle.rig_model.specs.Rig.{staged_key}
+use Rattle.rig_model.specs.Keys.{AreKeysBut, AreOut}
+use Rattle.rig_model.specs.Rig.{named, staged_key}
 use Rattle.rig_model.specs.Serve.{flushed}
 use Rattle.rig_model.specs.declared.task.Staged.{Staged}
 use Rattle.scheduler.specs.Engine.{setup_of, parts_of}
@@ -17,6 +18,9 @@ invariant-writes g l = record {
   own : Fits (setup_of g.M.FlowMaker.functions l.fn.self) 0 l.self.ready.room (parts_of g.W.Awaits.waiting l.self);
   writable : IsOpen (setup_of g.M.FlowMaker.functions l.fn.self) (g.K.Gpi.content l.kernel) (g.W.Awaits.waiting l.self.awaits);
   held : (writes : List Staged) → g.W.Awaits.held l.fn.self.awaits ≡ staged_key writes → g.W.Awaits.held l.self.awaits ≡ staged_key writes;
+  keys : AreKeysBut (g.K.Gpi.content l.kernel).keys (ReadWrite ∷ []) (named (g.W.Awaits.waiting l.self.awaits) (g.W.Awaits.held l.self.awaits));
+  out : AreOut (g.K.Gpi.content l.kernel).keys (ReadWrite ∷ []);
+  begun : l.fn.self.staged.items ≡ [] → l.self.staged.items ≡ [];
   setup : setup_of g.M.FlowMaker.functions l.self ≡ setup_of g.M.FlowMaker.functions l.fn.self;
   flushing : (counts : Counts)
       → (let c = rig_amid (parts_of g.W.Awaits.waiting l.fn.self) (g.K.Gpi.content l.fn.kernel).state (ReadWrite ∷ []) counts in

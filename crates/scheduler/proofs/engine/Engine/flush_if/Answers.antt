@@ -1,6 +1,7 @@
-use Rattle.std.proofs.Common.{◌∙◌, sym, ap}
-use Rattle.rig_model.specs.Keys.{keys_in, without_all}
-use Rattle.rig_model.specs.Rig.{staged_key}
+use Rattle.std.proofs.Common.{◌∙◌, sym, ap, subst, List}
+use Rattle.gpi.specs.declared.types.Key.{Key}
+use Rattle.rig_model.specs.Keys.{AreKeysBut, AreOut, keys_in, without_all}
+use Rattle.rig_model.specs.Rig.{named, staged_key}
 use Rattle.scheduler.specs.Engine.{setup_of, parts_of}
 use Rattle.scheduler.proofs.EventLaws.{flushed_then, flushed_else, nothing_staged, held_free, key_goes, key_stays}
 use Rattle.scheduler.proofs.engine.Engine.flush_if.Goals as goal
@@ -30,3 +31,19 @@ returns-else-settles-clause-held g c =
 
 pub returns-else-settles-clause-free : goal.returns-else-settles-clause-free
 returns-else-settles-clause-free g c = held_free _ _ (sym c.settles.ensures ∙ c.if-settles.false)
+
+pub flush-requires-clause-keys : goal.flush-requires-clause-keys
+flush-requires-clause-keys g c =
+    subst (λ (ks : List Key). AreKeysBut (g.K.Gpi.content c.args.kernel.now).keys ks (named (g.W.Awaits.waiting c.args.self.now.awaits) (g.W.Awaits.held c.args.self.now.awaits)))
+    (c.requires.alone (sym c.settles.ensures ∙ c.if-settles.true)) c.requires.keys
+
+pub flush-requires-clause-out : goal.flush-requires-clause-out
+flush-requires-clause-out g c = subst (λ (ks : List Key). AreOut (g.K.Gpi.content c.args.kernel.now).keys ks) (c.requires.alone (sym c.settles.ensures ∙ c.if-settles.true)) c.requires.out
+
+pub returns-then-settles-clause-keys : goal.returns-then-settles-clause-keys
+returns-then-settles-clause-keys g c =
+    subst (λ (ks : List Key). AreKeysBut (g.K.Gpi.content c.flush.new.kernel).keys ks (named (g.W.Awaits.waiting c.flush.new.self.awaits) (g.W.Awaits.held c.flush.new.self.awaits)))
+    (sym (c.requires.alone (sym c.settles.ensures ∙ c.if-settles.true))) c.flush.ensures.keys
+
+pub returns-then-settles-clause-out : goal.returns-then-settles-clause-out
+returns-then-settles-clause-out g c = subst (λ (ks : List Key). AreOut (g.K.Gpi.content c.flush.new.kernel).keys ks) (sym (c.requires.alone (sym c.settles.ensures ∙ c.if-settles.true))) c.flush.ensures.out

@@ -4,7 +4,7 @@ use Rattle.four_value.specs.Vector.{vector}
 use Rattle.four_value.proofs.Numbers.{length_vector}
 use Rattle.scheduler.specs.Engine.{setup_of, parts_of}
 use Rattle.scheduler.specs.Puts.{PutsOn}
-use Rattle.scheduler.proofs.EventLaws.{put_serves, put_open, held_stays, told_same}
+use Rattle.scheduler.proofs.EventLaws.{put_serves, put_open, put_but, put_out_key, held_stays, told_same, change_but, change_out}
 use Rattle.scheduler.proofs.FitLaws.{fits_served}
 use Rattle.scheduler.proofs.engine.Engine.put_out.Goals as goal
 
@@ -18,7 +18,7 @@ change_of-requires g c = sym (ap (λ (ds : List Digit). length ds) c.from_number
 pub returns-clause-serves : goal.returns-clause-serves
 returns-clause-serves g c = λ ahead counts s.
     put_serves (setup_of g.M.FlowMaker.functions c.args.self.now) (parts_of g.W.Awaits.waiting c.args.self.now) _ _ _ c.args.write _ _ _ _ _ _
-    c.deposit-fired.ensures.is.0 c.deposit-fired.ensures.is.1 c.fire.ensures.waiting c.fire.ensures.held c.fire.ensures.ready c.fire.ensures.keys ahead counts s
+    c.deposit-fired.ensures.is.0 c.deposit-fired.ensures.is.1 c.fire.ensures.waiting c.fire.ensures.held c.fire.ensures.ready c.requires.keys c.fire.ensures.keys ahead counts s
     g.O.Sink.takes g.O.Sink.breaks g.O.Sink.told _ _ _ _
     (c.from_number-bits.ensures ∙ ap (vector c.width.result) c.from.ensures ∙ ap (λ (w : ℕ). vector w c.args.write.number) (c.width.ensures.is ∙ ap (λ (ds : List Digit). length ds) c.read-old.ensures))
     (subst (λ (lines : List (List ℕ)). PutsOn g.O.Sink.takes g.O.Sink.breaks g.O.Sink.told c.args.fault c.args.out.now lines c.tell-fault.result c.tell-fault.new.out)
@@ -31,8 +31,22 @@ returns-clause-own g c =
 
 pub returns-clause-held : goal.returns-clause-held
 returns-clause-held g c = held_stays (setup_of g.M.FlowMaker.functions c.args.self.now) (parts_of g.W.Awaits.waiting c.args.self.now) _ _ _ c.args.write _ _ _ _ _ _
-    c.deposit-fired.ensures.is.0 c.deposit-fired.ensures.is.1 c.fire.ensures.waiting c.fire.ensures.held c.fire.ensures.ready c.fire.ensures.keys
+    c.deposit-fired.ensures.is.0 c.deposit-fired.ensures.is.1 c.fire.ensures.waiting c.fire.ensures.held c.fire.ensures.ready c.requires.keys c.fire.ensures.keys
 
 pub returns-clause-writable : goal.returns-clause-writable
 returns-clause-writable g c = put_open (setup_of g.M.FlowMaker.functions c.args.self.now) (parts_of g.W.Awaits.waiting c.args.self.now) _ _ _ c.args.write _ _ _ _ _ _
-    c.deposit-fired.ensures.is.0 c.deposit-fired.ensures.is.1 c.fire.ensures.waiting c.fire.ensures.held c.fire.ensures.ready c.fire.ensures.keys c.deposit-fired.ensures.widths c.requires.writable
+    c.deposit-fired.ensures.is.0 c.deposit-fired.ensures.is.1 c.fire.ensures.waiting c.fire.ensures.held c.fire.ensures.ready c.requires.keys c.fire.ensures.keys c.deposit-fired.ensures.widths c.requires.writable
+
+pub fire-requires-clause-keys : goal.fire-requires-clause-keys
+fire-requires-clause-keys g c = change_but (g.K.Gpi.content c.args.kernel.now) _ c.args.write.sig _ _ c.deposit-fired.ensures.is.0 c.deposit-fired.ensures.is.1 _ _ c.requires.keys
+
+pub fire-requires-clause-out : goal.fire-requires-clause-out
+fire-requires-clause-out g c = change_out (g.K.Gpi.content c.args.kernel.now) _ c.args.write.sig _ _ c.deposit-fired.ensures.is.0 c.deposit-fired.ensures.is.1
+
+pub returns-clause-keys : goal.returns-clause-keys
+returns-clause-keys g c = put_but (setup_of g.M.FlowMaker.functions c.args.self.now) (parts_of g.W.Awaits.waiting c.args.self.now) _ _ _ c.args.write _ _ _ _ _ _
+    c.deposit-fired.ensures.is.0 c.deposit-fired.ensures.is.1 c.fire.ensures.waiting c.fire.ensures.held c.fire.ensures.ready c.requires.keys c.fire.ensures.keys
+
+pub returns-clause-out : goal.returns-clause-out
+returns-clause-out g c = put_out_key (setup_of g.M.FlowMaker.functions c.args.self.now) (parts_of g.W.Awaits.waiting c.args.self.now) _ _ _ c.args.write _ _ _ _ _ _
+    c.deposit-fired.ensures.is.0 c.deposit-fired.ensures.is.1 c.fire.ensures.waiting c.fire.ensures.held c.fire.ensures.ready c.requires.keys c.fire.ensures.keys

@@ -1,9 +1,0 @@
-pub mod Status
-pub mod Front
-pub mod DesignForm
-pub mod DesignReading
-pub mod TestsForm
-pub mod TestsReading
-pub mod Runs
-pub mod Reading
-pub mod Answer

@@ -1,0 +1,89 @@
+-- What is put for a reading, and what is known of it from without.
+use Rattle.std.specs.Prelude.{◌≡◌, ◌⊎◌, ℕ, false, List, [], ◌∷◌, Option}
+use Rattle.std.specs.Io.KnownBytes.{Appends}
+use Rattle.port_io.specs.Ports.{AppendsPart, IsRaised}
+use Rattle.port_io.specs.PutsPart.{PutsPart}
+use Rattle.port_io.specs.ToldLaws.{joined}
+use Rattle.gpi.specs.Content.{Content}
+use Rattle.rig_model.specs.Rig.{Rig, Setup}
+use Rattle.rig_model.specs.Run.{Run, IsRun, written}
+use Rattle.rig_model.specs.declared.file.TestCase.{TestCase}
+use Rattle.rig_model.specs.declared.file.TestFile.{TestFile}
+use Rattle.text_forms.specs.DesignForm.{flat_of}
+use Rattle.command.specs.Reading.{Reading, refused, runs, Reads, IsTold}
+use Rattle.regression.specs.Runs.{RunsTo, status_of}
+use Rattle.regression.specs.declared.status.Status.{Status}
+use Rattle.regression.specs.declared.status.Status.TheVariants as status
+
+-- what a run of the command may cost where its words name no budget: one for each statement that begins, and one for each event
+abbrev pub default_budget : ℕ
+default_budget = 10000000
+
+-- the functions of the file, and the design of these ports; told changes aren't written
+abbrev pub setup_with : List ℕ → TestFile → Setup
+setup_with ports file = record { functions = file.functions; flat = flat_of ports; trace = false }
+
+-- The test of a file is run, which leaves the simulator with this content.
+pub record RunsFile {O : Type 0} (takes breaks : O → List ℕ → O → Type 0) (told : O → Option (List ℕ)) (budget : ℕ) (ports : List ℕ) (file : TestFile) (s : Status) (content : Content) (out out' : O) : Type 0 where
+  pub case : TestCase
+  pub is_case : file.cases ≡ case ∷ []
+  pub last : Rig
+  pub runs : RunsTo takes breaks told (setup_with ports file) case budget s last content out out'
+
+-- The line of a refusal is put: it is taken, or it breaks, or memory is short.
+abbrev pub PutsRefusal : {O : Type 0} → (O → List ℕ → O → Type 0) → (O → List ℕ → O → Type 0) → (O → Option (List ℕ)) → Status → List ℕ → Status → O → O → Type 0
+PutsRefusal takes breaks told own line s out out' =
+    ((s ≡ own) × takes out line out') ⊎ (((s ≡ status.WriteFault) × breaks out line out') ⊎ ((s ≡ status.NoMemory) × PutsPart takes told out (line ∷ []) out'))
+
+-- The simulator that was handed in, after a status: a run leaves it with the design, and a refusal as it was. After a failed
+-- put and want of memory nothing is said of it.
+abbrev pub LeavesKernel : {K : Type 0} → (K → Type 0) → Status → K → K → Type 0
+LeavesKernel is_loaded status.Passed before after = is_loaded after
+LeavesKernel is_loaded status.Failed before after = is_loaded after
+LeavesKernel is_loaded status.Budget before after = is_loaded after
+LeavesKernel is_loaded status.Usage before after = after ≡ before
+LeavesKernel is_loaded status.DesignRefused before after = after ≡ before
+LeavesKernel is_loaded status.TestsRefused before after = after ≡ before
+LeavesKernel is_loaded status.ReadFault before after = after ≡ before
+LeavesKernel is_loaded status.WriteFault before after = Unit {0}
+LeavesKernel is_loaded status.NoMemory before after = Unit {0}
+
+-- The line of a refusal is put, or else the test is run.
+abbrev pub Answers : {O : Type 0} → (O → List ℕ → O → Type 0) → (O → List ℕ → O → Type 0) → (O → Option (List ℕ)) → ℕ → Reading → Status → Content → O → O → Type 0
+Answers takes breaks told budget (refused own line) s content out out' = PutsRefusal takes breaks told own line s out out'
+Answers takes breaks told budget (runs ports file) s content out out' = RunsFile takes breaks told budget ports file s content out out'
+
+-- The lines and the status of a reading, where nothing fails: the one line of a refusal, or those of the run.
+abbrev pub IsAnswer : ℕ → Reading → List (List ℕ) → Status → Type 0
+IsAnswer budget (refused own line) lines s = (lines ≡ line ∷ []) × (s ≡ own)
+IsAnswer budget (runs ports file) lines s =
+    (case : TestCase) × (file.cases ≡ case ∷ []) × (run : Run) × IsRun (setup_with ports file) case budget run
+    × (lines ≡ written (setup_with ports file) budget run) × (s ≡ status_of run)
+
+-- What a sink that tells its bytes has after a status: all the bytes of the lines with the own status, and a front of them where a put broke or memory was short.
+abbrev pub TellsLines : Option (List ℕ) → Option (List ℕ) → List (List ℕ) → Status → Status → Type 0
+TellsLines before after lines own s =
+    ((s ≡ own) × Appends before after (joined lines))
+    ⊎ (((s ≡ status.WriteFault) ⊎ (s ≡ status.NoMemory)) × AppendsPart before after (joined lines))
+
+-- An answer by the four relations of the store and the sink, by the files where the store tells them, by what the simulator holds after a
+-- run, and by the bytes where the sink tells them.
+pub record Answered {S O : Type 0} (files : S → Option (List ℕ → Option (List ℕ))) (gives : S → List ℕ → ℕ → List ℕ → S → Type 0) (misses : S → List ℕ → S → Type 0)
+    (takes breaks : O → List ℕ → O → Type 0) (told : O → Option (List ℕ)) (budget : ℕ) (words : List (List ℕ)) (s : Status) (store store' : S) (content : Content) (out out' : O) : Type 0 where
+  pub reading : Reading
+  pub reads : Reads gives misses words store reading store'
+  pub is_told : IsTold (files store) words reading
+  pub answers : Answers takes breaks told budget reading s content out out'
+  pub lines : List (List ℕ)
+  pub own : Status
+  pub is_answer : IsAnswer budget reading lines own
+  pub tells : TellsLines (told out) (told out') lines own s
+
+-- Memory was short before anything was put.
+pub record Quit {O : Type 0} (s : Status) (out out' : O) : Type 0 where
+  pub short : s ≡ status.NoMemory
+  pub same : out' ≡ out
+
+-- A count of faults rose where that status says so.
+abbrev pub RaisedAt : Status → ℕ → ℕ → Status → Type 0
+RaisedAt at before after s = s ≡ at → IsRaised before after

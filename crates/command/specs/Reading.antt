@@ -1,0 +1,89 @@
+-- What the words come to, by the reads that are made.
+use Rattle.std.specs.Prelude.{◌≡◌, ◌⊎◌, ℕ, List, [], ◌∷◌, ◌++◌, length, Option, codes}
+use Rattle.port_io.specs.Ports.{GivesFile}
+use Rattle.rig_model.specs.declared.file.TestFile.{TestFile}
+use Rattle.text_forms.specs.DesignForm.{ArePorts, IsDesign}
+use Rattle.text_forms.specs.TestsForm.{IsTests, IsOneTest}
+use Rattle.command.specs.declared.decision.Decision.{Decision}
+use Rattle.command.specs.declared.decision.Decision.TheVariants.{Refused, Runs}
+use Rattle.regression.specs.declared.status.Status.{Status}
+use Rattle.regression.specs.declared.status.Status.TheVariants as status
+
+-- a refusal, by its status and its line; or the run of the tests of a file on a design with these ports
+pub data Reading : Type 0 where
+  refused : Status → List ℕ → Reading
+  runs : List ℕ → TestFile → Reading
+
+abbrev pub usage_line : List ℕ
+usage_line = codes "usage: cocorun [--top NAME] [--budget N] [--seed N] [--trace] DESIGN TESTS" ++ 10 ∷ []
+
+-- that file could not be read
+abbrev pub read_line : List ℕ → List ℕ
+read_line name = codes "error: cannot read " ++ name ++ 10 ∷ []
+
+-- that file is of a form that is not built
+abbrev pub refused_line : List ℕ → List ℕ
+refused_line name = codes "error: " ++ name ++ codes ": NotBuilt" ++ 10 ∷ []
+
+-- how many bytes of a file are asked for: one more than a file may have
+abbrev pub most : ℕ
+most = 1048577
+
+module _ {S : Type 0} (gives : S → List ℕ → ℕ → List ℕ → S → Type 0) (misses : S → List ℕ → S → Type 0) where
+  -- the bytes of the file of the tests are read, for a design with these ports
+  abbrev pub TextOfTests : List ℕ → List ℕ → List ℕ → Reading → Type 0
+  TextOfTests tests ports text r =
+      ((r ≡ refused status.TestsRefused (refused_line tests)) × ((file : TestFile) → IsTests ports text file → ⊥))
+      ⊎ ((file : TestFile) × (r ≡ runs ports file) × IsTests ports text file)
+
+  -- the file of the tests is read
+  abbrev pub ReadsTests : List ℕ → List ℕ → S → Reading → S → Type 0
+  ReadsTests tests ports s r s' =
+      ((r ≡ refused status.ReadFault (read_line tests)) × misses s tests s')
+      ⊎ ((text : List ℕ) × gives s tests most text s' × TextOfTests tests ports text r)
+
+  -- the bytes of the design are read
+  abbrev pub TextOfDesign : List ℕ → List ℕ → List ℕ → S → Reading → S → Type 0
+  TextOfDesign design tests text s r s' =
+      ((r ≡ refused status.DesignRefused (refused_line design)) × (s' ≡ s) × ((ports : List ℕ) → IsDesign text ports → ⊥))
+      ⊎ ((ports : List ℕ) × IsDesign text ports × ReadsTests tests ports s r s')
+
+  -- the file of the design is read, and then that of the tests
+  abbrev pub ReadsBoth : List ℕ → List ℕ → S → Reading → S → Type 0
+  ReadsBoth design tests s r s' =
+      ((r ≡ refused status.ReadFault (read_line design)) × misses s design s')
+      ⊎ ((text : List ℕ) × (mid : S) × gives s design most text mid × TextOfDesign design tests text mid r s')
+
+  -- Two words name a design and tests; any others are refused, and nothing is read.
+  abbrev pub Reads : List (List ℕ) → S → Reading → S → Type 0
+  Reads [] s r s' = (r ≡ refused status.Usage usage_line) × (s' ≡ s)
+  Reads (a ∷ []) s r s' = (r ≡ refused status.Usage usage_line) × (s' ≡ s)
+  Reads (design ∷ tests ∷ []) s r s' = ReadsBoth design tests s r s'
+  Reads (a ∷ b ∷ c ∷ words) s r s' = (r ≡ refused status.Usage usage_line) × (s' ≡ s)
+
+-- The reading is one of these files: a text is the first bytes of the file of its name, at most as many as are asked for, where there are
+-- files to tell of, and no file is read that isn't there. A read may fail all the same.
+abbrev pub IsTold : Option (List ℕ → Option (List ℕ)) → List (List ℕ) → Reading → Type 0
+IsTold files words r = Reads (λ (a : Unit {0}) (name : List ℕ) (n : ℕ) (text : List ℕ) (b : Unit {0}). GivesFile files name n text) (λ (a : Unit {0}) (name : List ℕ) (b : Unit {0}). Unit {0}) words tt r tt
+
+-- what a decision stands for
+abbrev pub reading_of : Decision → Reading
+reading_of (Refused own line) = refused own line.items
+reading_of (Runs ports file) = runs ports.items file
+
+-- the status of a refusal: of the words, of a text, or for a file that could not be read
+abbrev pub IsRefusalStatus : Status → Type 0
+IsRefusalStatus status.Passed = ⊥
+IsRefusalStatus status.Failed = ⊥
+IsRefusalStatus status.Usage = Unit {0}
+IsRefusalStatus status.DesignRefused = Unit {0}
+IsRefusalStatus status.TestsRefused = Unit {0}
+IsRefusalStatus status.ReadFault = Unit {0}
+IsRefusalStatus status.WriteFault = ⊥
+IsRefusalStatus status.NoMemory = ⊥
+IsRefusalStatus status.Budget = ⊥
+
+-- a refusal has the status of one, and what is to run can be run
+abbrev pub CanRun : Decision → Type 0
+CanRun (Refused own line) = IsRefusalStatus own
+CanRun (Runs ports file) = ArePorts ports.items × IsOneTest (length ports.items) file

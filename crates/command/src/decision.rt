@@ -1,0 +1,12 @@
+//! What the words and the files come to.
+use regression::Status;
+use rig_model::TestFile;
+
+/// What is to be done.
+#[derive(Drop)]
+pub enum Decision {
+    /// A refusal, by its status and its line.
+    Refused(Status, Vec<u8>),
+    /// The tests of a file run on a design with these ports.
+    Runs(Vec<u8>, TestFile),
+}

@@ -1,0 +1,208 @@
+//! The top call.
+ghost use Rattle.std.specs.Prelude.{◌≡◌, ◌⊎◌, ◌∷◌, [], List, ℕ, length, IfOk, OnOk, map, string_bytes};
+ghost use Rattle.command.specs.Answer.{Answers, Answered, Quit, RunsFile, RaisedAt, LeavesKernel, PutsRefusal, default_budget};
+ghost use Rattle.text_forms.specs.DesignForm.{ArePorts};
+ghost use Rattle.text_forms.specs.TestsForm.{IsOneTest};
+ghost use Rattle.regression.specs.Runs.{status_in};
+ghost use Rattle.command.specs.Reading.{CanRun, ReadsBoth, ReadsTests, read_line, reading_of, refused_line, usage_line};
+
+use crate::decision::Decision;
+use gpi::Gpi;
+use plain_task::{TreeMaker, WaitList};
+use port_io::{NoMemory, Sink, SinkFault, Store, StoreFault};
+use regression::{Status, run_all};
+use rig_model::{Steps, TestFile};
+use scheduler::Engine;
+use std::alloc::Global;
+use std::sync::ledger::Ledger;
+use text_forms::{flat_of_ports, read_design, read_tests};
+
+/// How many bytes of a file are asked for: one more than a file may have.
+const MOST: usize = 1_048_577;
+
+/// What a run may cost: one for each statement that begins, and one for each event of the simulator.
+const BUDGET: u64 = 10_000_000;
+
+/// The line that says how the command is called.
+fn usage_text(alloc: Global) -> Result<Vec<u8>, NoMemory>
+    ensures { IfOk result (λ line. line.items ≡ usage_line) }
+{
+    let mut line = Vec::new(alloc);
+    line.extend_from_slice(
+        b"usage: cocorun [--top NAME] [--budget N] [--seed N] [--trace] DESIGN TESTS\n",
+    )?;
+    Ok(line)
+}
+
+/// The line that says that a file could not be read.
+fn read_text(alloc: Global, name: &str) -> Result<Vec<u8>, NoMemory>
+    ensures { IfOk result (λ line. line.items ≡ read_line name.now) }
+{
+    let mut line = Vec::new(alloc);
+    line.extend_from_slice(b"error: cannot read ")?;
+    line.extend_from_slice(name.as_bytes())?;
+    line.push(b'\n')?;
+    Ok(line)
+}
+
+/// The line that says that a text is of a form that is not built.
+fn refused_text(alloc: Global, name: &str) -> Result<Vec<u8>, NoMemory>
+    ensures { IfOk result (λ line. line.items ≡ refused_line name.now) }
+{
+    let mut line = Vec::new(alloc);
+    line.extend_from_slice(b"error: ")?;
+    line.extend_from_slice(name.as_bytes())?;
+    line.extend_from_slice(b": NotBuilt\n")?;
+    Ok(line)
+}
+
+/// Reads the tests, for a design with these ports.
+fn decide_tests<S: Store>(
+    alloc: Global,
+    tests: &str,
+    ports: Vec<u8>,
+    store: &mut S,
+) -> Result<Decision, NoMemory>
+    requires { ArePorts ports.items }
+    ensures reads { IfOk result (λ decision. ReadsTests S.gives S.misses tests.now ports.items store.old (reading_of decision) store.new) }
+    ensures can_run { IfOk result (λ decision. CanRun decision) }
+{
+    match store.read_file(alloc, tests, MOST) {
+        Ok(text) => match read_tests(alloc, ports.as_slice(), text.as_slice())? {
+            Some(file) => Ok(Decision::Runs(ports, file)),
+            None => Ok(Decision::Refused(Status::TestsRefused, refused_text(alloc, tests)?)),
+        },
+        Err(StoreFault::Failed) => Ok(Decision::Refused(
+            Status::ReadFault,
+            read_text(alloc, tests)?,
+        )),
+        Err(StoreFault::OutOfMemory) => Err(NoMemory),
+    }
+}
+
+/// Reads the design, and then the tests.
+pub fn decide<S: Store>(
+    alloc: Global,
+    design: &str,
+    tests: &str,
+    store: &mut S,
+) -> Result<Decision, NoMemory>
+    ensures reads { IfOk result (λ decision. ReadsBoth S.gives S.misses design.now tests.now store.old (reading_of decision) store.new) }
+    ensures can_run { IfOk result (λ decision. CanRun decision) }
+{
+    match store.read_file(alloc, design, MOST) {
+        Ok(text) => match read_design(alloc, text.as_slice())? {
+            Some(ports) => decide_tests(alloc, tests, ports, store),
+            None => Ok(Decision::Refused(Status::DesignRefused, refused_text(alloc, design)?)),
+        },
+        Err(StoreFault::Failed) => Ok(Decision::Refused(
+            Status::ReadFault,
+            read_text(alloc, design)?,
+        )),
+        Err(StoreFault::OutOfMemory) => Err(NoMemory),
+    }
+}
+
+/// Puts the line of a refusal.
+fn refuse<O: Sink>(alloc: Global, own: Status, line: &[u8], out: &mut O) -> Status
+    ensures { PutsRefusal O.takes O.breaks O.told own line.now result out.old out.new }
+{
+    match out.put(alloc, line) {
+        Ok(()) => own,
+        Err(SinkFault::Failed) => Status::WriteFault,
+        Err(SinkFault::OutOfMemory) => Status::NoMemory,
+    }
+}
+
+/// Runs the test of the file on a design with these ports.
+fn run_file<O: Sink, K: Gpi, L: Ledger>(
+    alloc: Global,
+    ports: &[u8],
+    file: &TestFile,
+    budget: u64,
+    kernel: &mut K,
+    out: &mut O,
+    steps: &mut Steps<L>,
+) -> Result<Status, NoMemory>
+    requires ports { ArePorts ports.now }
+    requires file { IsOneTest (length ports.now) file.now }
+    ensures runs { RunsFile O.takes O.breaks O.told budget ports.now file.now (status_in result) (K.content kernel.new) out.old out.new }
+    ensures loaded { OnOk result (K.is_loaded kernel.new) }
+{
+    let flat = flat_of_ports(alloc, ports)?;
+    kernel.load(alloc, &flat)?;
+    let maker = TreeMaker::new(alloc, file)?;
+    let mut engine = Engine::new(alloc, maker, WaitList::new(alloc), &flat, false)?;
+    let case = file.cases.get(0);
+    Ok(run_all(alloc, case, &mut engine, kernel, out, budget, steps))
+}
+
+/// Does what was decided, within a budget.
+pub fn answer<O: Sink, K: Gpi, L: Ledger>(
+    alloc: Global,
+    decision: &Decision,
+    budget: u64,
+    kernel: &mut K,
+    out: &mut O,
+    steps: &mut Steps<L>,
+) -> Status
+    requires { CanRun decision.now }
+    ensures answers { Answers O.takes O.breaks O.told budget (reading_of decision.now) result (K.content kernel.new) out.old out.new }
+    ensures kernel { LeavesKernel K.is_loaded result kernel.old kernel.new }
+{
+    match decision {
+        Decision::Refused(own, line) => refuse(alloc, *own, line.as_slice(), out),
+        Decision::Runs(ports, file) => {
+            match run_file(alloc, ports.as_slice(), file, budget, kernel, out, steps) {
+                Ok(status) => status,
+                Err(NoMemory) => Status::NoMemory,
+            }
+        }
+    }
+}
+
+/// Runs the tests of a file on a design.
+///
+/// `words` are those of the command without the program's name: exactly two, the name of the design and the name of the tests. The
+/// design is read first. What is put, one put for each line, and the status:
+///
+/// - other words: the usage line, `Usage`, and nothing is read;
+/// - a file that cannot be read: `error: cannot read <file>`, `ReadFault`;
+/// - a text that is of no form that is built: `error: <file>: NotBuilt`, `DesignRefused` or `TestsRefused`;
+/// - else the lines of the run, with `Passed`, `Failed`, or, where the budget is reached, `Budget`.
+///
+/// Where the store tells its files, the texts are the first bytes of the files that it told when it was handed in.
+///
+/// `WriteFault` comes where a put failed, and nothing is put after it. `NoMemory` comes where memory was short, and then a front of
+/// that answer was put, which may be nothing. The count of faults of the store rose where the status is `ReadFault`, and that of the
+/// sink where it is `WriteFault`.
+///
+/// The run is simulated by `kernel`, whatever it held before: the design is loaded into it once both texts are accepted. After
+/// `Passed`, `Failed` and `Budget` it stands for the run's last configuration: it holds that configuration's state, its awaited keys are
+/// the registered ones, and its counts are those of the run. At `Budget` nothing is dropped. After `Usage`, `DesignRefused`,
+/// `TestsRefused` and `ReadFault` it is as it was handed in. After `WriteFault` and `NoMemory` nothing is said of it. `steps` counts the
+/// steps of work of the parts.
+pub fn cocorun<S: Store, O: Sink, K: Gpi, L: Ledger>(
+    alloc: Global,
+    words: &[String],
+    store: &mut S,
+    out: &mut O,
+    kernel: &mut K,
+    steps: &mut Steps<L>,
+) -> Status
+    ensures answer { Answered S.files S.gives S.misses O.takes O.breaks O.told default_budget (map string_bytes words.now) result store.old store.new (K.content kernel.new) out.old out.new ⊎ Quit result out.old out.new }
+    ensures kernel { LeavesKernel K.is_loaded result kernel.old kernel.new }
+    ensures read_fault { RaisedAt Status.ReadFault (S.faults store.old) (S.faults store.new) result }
+    ensures write_fault { RaisedAt Status.WriteFault (O.faults out.old) (O.faults out.new) result }
+{
+    if words.len() != 2 {
+        let Ok(line) = usage_text(alloc) else {
+            return Status::NoMemory;
+        };
+        return refuse(alloc, Status::Usage, line.as_slice(), out);
+    }
+    match decide(alloc, words[0].as_str(), words[1].as_str(), store) {
+        Ok(decision) => answer(alloc, &decision, BUDGET, kernel, out, steps),
+        Err(NoMemory) => Status::NoMemory,
+    }
+}

@@ -1,0 +1,4 @@
+pub mod LineLaws
+pub mod Stands
+pub mod RunTurns
+pub mod TestRuns

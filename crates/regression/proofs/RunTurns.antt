@@ -1,0 +1,192 @@
+-- From turns to a run.
+use Rattle.std.proofs.Common.{◌≡◌, ℕ, suc, ◌+◌, Bool, true, false, List, [], ◌∷◌, ◌++◌, Option, Some, Result, Ok, Err, refl, ap, sym, subst, ◌∙◌, arith, append-nil}
+use Rattle.std.specs.Prelude.{◌&&◌}
+use Rattle.port_io.specs.Ports.{TakesAll}
+use Rattle.port_io.specs.PutsPart.{PutsPart}
+use Rattle.port_io.specs.PutLaws.{takes_one, takes_then, puts_then}
+use Rattle.port_io.proofs.PartLaws.{part_then}
+use Rattle.port_io.specs.declared.ports.NoMemory.{NoMemory}
+use Rattle.gpi.specs.Content.{Content, no_counts}
+use Rattle.rig_model.specs.Kernel.{StandsFor}
+use Rattle.rig_model.specs.Rig.{Rig, Setup}
+use Rattle.rig_model.specs.FitSteps.{FitSteps, anywhere, Moves, Short, Begins}
+use Rattle.rig_model.specs.Line.{test_line, budget_line, verdict_line}
+use Rattle.rig_model.specs.Run.{Run, IsRun, IsStart, written, passes, opening, opening_sim, emptied, ended, test_begun, test_ended, report_of}
+use Rattle.rig_model.proofs.RunLaws.{in_test, Reached, reached_begun, reached_steps, reached_end, reached_short, reached_start}
+use Rattle.rig_model.specs.declared.file.TestCase.{TestCase}
+use Rattle.rig_model.specs.declared.task.Outcome.{Outcome}
+use Rattle.scheduler.specs.Turns.{Turning}
+use Rattle.scheduler.specs.declared.turn.Turn.TheVariants as turn
+use Rattle.regression.specs.Runs.{Whole, Broken, Unfinished, RunsTo, PutsLines, EndsTo, status_in, verdict_status, stopped_status, ended_status, short_status, map_ok}
+use Rattle.regression.proofs.Stands.{stands_rest}
+use Rattle.regression.specs.declared.status.Status.{Status}
+
+module _ {O : Type 0} (takes breaks : O → List ℕ → O → Type 0) (told : O → Option (List ℕ)) (setup : Setup) (case : TestCase) (budget : ℕ) (c0 : Rig) (out : O) (new : c0 ≡ emptied (opening_sim setup) no_counts) where
+  abbrev first : List (List ℕ)
+  first = test_line 0 case.name ∷ []
+
+  abbrev begun_rig : Rig
+  begun_rig = test_begun setup case (opening setup case).rig
+
+  first_starts : IsStart setup case budget first
+  first_starts = reached_start setup budget case (in_test case begun_rig first 0) first [] (reached_begun setup budget case) refl
+
+  line_is : test_line c0.sim.time case.name ≡ test_line 0 case.name
+  line_is = ap (λ (c : Rig). test_line c.sim.time case.name) new
+
+  -- the line of the test broke
+  pub begin_broken : (out' : O) → breaks out (test_line c0.sim.time case.name) out' → Broken takes breaks setup case budget out out'
+  begin_broken out' b = record {
+    lines = first;
+    starts = first_starts;
+    puts = ([], test_line 0 case.name, [], refl, (out, refl, subst (λ (l : List ℕ). breaks out l out') line_is b));
+  }
+
+  -- memory was short while it was put
+  pub begin_cut : (out' : O) → PutsPart takes told out (test_line c0.sim.time case.name ∷ []) out' → Unfinished takes told setup case budget out out'
+  begin_cut out' p = record { lines = first; starts = first_starts; puts = subst (λ (l : List ℕ). PutsPart takes told out (l ∷ []) out') line_is p }
+
+  -- the test has begun
+  module _ (c1 : Rig) (out1 : O) (begun : c1 ≡ test_begun setup case c0) (taken : takes out (test_line c0.sim.time case.name) out1) where
+    taken_first : TakesAll takes out first out1
+    taken_first = takes_one takes breaks out (test_line 0 case.name) out1 (subst (λ (l : List ℕ). takes out l out1) line_is taken)
+
+    at_first : Reached setup budget case (in_test case c1 first 0)
+    at_first = subst (λ (c : Rig). Reached setup budget case (in_test case c first 0)) (ap (test_begun setup case) (sym new) ∙ sym begun) (reached_begun setup budget case)
+
+    -- lines that steps write from here on are those of the run
+    starts_here : (fuel' : ℕ) (lines : List (List ℕ)) (n : ℕ) (d : Rig) → FitSteps anywhere setup n budget c1 lines fuel' d → IsStart setup case budget (first ++ lines)
+    starts_here fuel' lines n d h =
+        let r : (cost' : ℕ) × (cost' + fuel' ≡ budget) × Reached setup budget case (in_test case d (first ++ lines) cost')
+        = reached_steps setup budget case n c1 first 0 budget lines fuel' d at_first (omega arith) h in
+        reached_start setup budget case (in_test case d (first ++ lines) r.0) (first ++ lines) [] r.2 (sym (append-nil (first ++ lines)))
+
+    pub turns_broken : (fuel' : ℕ) (e : Rig) (out' : O) → Turning takes breaks told (FitSteps anywhere setup) setup budget c1 out1 (Ok turn.WriteFault) fuel' e out' → Broken takes breaks setup case budget out out'
+    turns_broken fuel' e out' t =
+        let b : Begins (FitSteps anywhere setup) budget c1 t.lines = t.turns in
+        record {
+          lines = first ++ t.lines;
+          starts = starts_here b.left t.lines b.count b.last b.steps;
+          puts = puts_then takes breaks out first out1 t.lines false out' taken_first t.puts;
+        }
+
+    pub turns_cut : (x : NoMemory) (fuel' : ℕ) (e : Rig) (out' : O) → Turning takes breaks told (FitSteps anywhere setup) setup budget c1 out1 (Err x) fuel' e out' → Unfinished takes told setup case budget out out'
+    turns_cut x fuel' e out' t =
+        let b : Begins (FitSteps anywhere setup) budget c1 t.lines = t.turns in
+        record {
+          lines = first ++ t.lines;
+          starts = starts_here b.left t.lines b.count b.last b.steps;
+          puts = part_then takes told out first out1 t.lines out' taken_first t.puts;
+        }
+
+    -- the budget is reached
+    module _ (fuel' : ℕ) (e : Rig) (mid : O) (t : Turning takes breaks told (FitSteps anywhere setup) setup budget c1 out1 (Ok turn.Spent) fuel' e mid) where
+      short : Short (FitSteps anywhere setup) setup budget c1 t.lines fuel' e
+      short = t.turns
+
+      short_reach : (cost' : ℕ) × (cost' + fuel' ≡ budget) × Reached setup budget case (in_test case short.last (first ++ t.lines) cost')
+      short_reach = reached_steps setup budget case short.count c1 first 0 budget t.lines fuel' short.last at_first (omega arith) short.steps
+
+      short_run : Run
+      short_run = in_test case short.last (first ++ t.lines) short_reach.0
+
+      short_is : IsRun setup case budget short_run
+      unfolding short_run
+      short_is = reached_short setup budget case short.last (first ++ t.lines) short_reach.0 fuel' short_reach.2 short_reach.1 short.no_fit.runs short.no_fit.short
+
+      short_taken : TakesAll takes out (first ++ t.lines) mid
+      short_taken = takes_then takes breaks out first out1 t.lines mid taken_first t.puts
+
+      short_written : written setup budget short_run ≡ (first ++ t.lines) ++ budget_line budget ∷ []
+      unfolding short_run
+      short_written = let h = short_is.stopped in rw h refl
+
+      short_starts : IsStart setup case budget ((first ++ t.lines) ++ budget_line budget ∷ [])
+      short_starts = record {
+        count = short_is.count;
+        more = [];
+        reached = ap (written setup budget) (sym short_is.reached) ∙ short_written ∙ sym (append-nil ((first ++ t.lines) ++ budget_line budget ∷ []));
+      }
+
+      short_ends : (content : Content) (put : Result Bool NoMemory) (out' : O) → StandsFor setup content e → PutsLines takes breaks told (budget_line budget ∷ []) put mid out'
+          → RunsTo takes breaks told setup case budget (status_in (map_ok short_status put)) e content out out'
+      unfolding short_run
+      short_ends content (Ok true) out' s p = record {
+        run = short_run;
+        is_run = short_is;
+        status_is = refl;
+        puts = subst (λ (ls : List (List ℕ)). TakesAll takes out ls out') (sym short_written) (takes_then takes breaks out (first ++ t.lines) mid (budget_line budget ∷ []) out' short_taken p);
+        rest = short.no_fit.rest;
+        stands = stands_rest setup content short.last e short.no_fit.rest s;
+      }
+      short_ends content (Ok false) out' s p = record {
+        lines = (first ++ t.lines) ++ budget_line budget ∷ [];
+        starts = short_starts;
+        puts = puts_then takes breaks out (first ++ t.lines) mid (budget_line budget ∷ []) false out' short_taken p;
+      }
+      short_ends content (Err x) out' s p = record {
+        lines = (first ++ t.lines) ++ budget_line budget ∷ [];
+        starts = short_starts;
+        puts = part_then takes told out (first ++ t.lines) mid (budget_line budget ∷ []) out' short_taken p;
+      }
+
+      pub run_short : (content : Content) (s : Status) (out' : O) → StandsFor setup content e → EndsTo takes breaks told (budget_line budget ∷ []) short_status s mid out'
+          → RunsTo takes breaks told setup case budget s e content out out'
+      run_short content s out' k h = subst (λ (x : Status). RunsTo takes breaks told setup case budget x e content out out') (sym h.status_is) (short_ends content h.put out' k h.puts)
+
+    -- the test has its outcome
+    module _ (fuel' : ℕ) (e : Rig) (mid : O) (o : Outcome) (t : Turning takes breaks told (FitSteps anywhere setup) setup budget c1 out1 (Ok (turn.Over o)) fuel' e mid) where
+      abbrev last : Rig
+      last = record e { outcome = Some o }
+
+      abbrev two : List (List ℕ)
+      two = verdict_line e.sim.time case.name o ∷ report_of (passes o ∷ []) e.sim.time ∷ []
+
+      over : Moves (FitSteps anywhere setup) budget c1 t.lines fuel' last
+      over = t.turns
+
+      over_reach : (cost' : ℕ) × (cost' + fuel' ≡ budget) × Reached setup budget case (in_test case last (first ++ t.lines) cost')
+      over_reach = reached_steps setup budget case (suc over.count) c1 first 0 budget t.lines fuel' last at_first (omega arith) over.steps
+
+      abbrev final : Run
+      final = test_ended case o (in_test case last (first ++ t.lines) over_reach.0)
+
+      over_is : IsRun setup case budget final
+      over_is = reached_end setup budget case last (first ++ t.lines) over_reach.0 fuel' o over_reach.2 over_reach.1 refl
+
+      over_taken : TakesAll takes out (first ++ t.lines) mid
+      over_taken = takes_then takes breaks out first out1 t.lines mid taken_first t.puts
+
+      over_starts : IsStart setup case budget ((first ++ t.lines) ++ two)
+      over_starts = record { count = over_is.count; more = []; reached = ap (written setup budget) (sym over_is.reached) ∙ sym (append-nil ((first ++ t.lines) ++ two)) }
+
+      one_verdict : (b : Bool) → verdict_status b ≡ stopped_status true (b && true)
+      one_verdict true = refl
+      one_verdict false = refl
+
+      over_whole : (content : Content) (e' : Rig) (out' : O) → e' ≡ ended e → StandsFor setup content e' → TakesAll takes mid two out'
+          → Whole takes setup case budget (verdict_status (passes o)) e' content out out'
+      over_whole content e' out' r k p = record {
+        run = final;
+        is_run = over_is;
+        status_is = one_verdict (passes o);
+        puts = takes_then takes breaks out (first ++ t.lines) mid two out' over_taken p;
+        rest = rw r (record { sim = refl; waiting = refl; staged = refl; fired = refl; counts = refl });
+        stands = subst (StandsFor setup content) r k;
+      }
+
+      by_verdict : (content : Content) (b : Bool) (e' : Rig) (out' : O) → Whole takes setup case budget (verdict_status b) e' content out out' → RunsTo takes breaks told setup case budget (verdict_status b) e' content out out'
+      by_verdict content true e' out' w = w
+      by_verdict content false e' out' w = w
+
+      over_ends : (content : Content) (put : Result Bool NoMemory) (e' : Rig) (out' : O) → e' ≡ ended e → StandsFor setup content e' → PutsLines takes breaks told two put mid out'
+          → RunsTo takes breaks told setup case budget (status_in (map_ok (ended_status o) put)) e' content out out'
+      over_ends content (Ok true) e' out' r k p = by_verdict content (passes o) e' out' (over_whole content e' out' r k p)
+      over_ends content (Ok false) e' out' r k p = record { lines = (first ++ t.lines) ++ two; starts = over_starts; puts = puts_then takes breaks out (first ++ t.lines) mid two false out' over_taken p }
+      over_ends content (Err x) e' out' r k p = record { lines = (first ++ t.lines) ++ two; starts = over_starts; puts = part_then takes told out (first ++ t.lines) mid two out' over_taken p }
+
+      pub run_over : (content : Content) (time : ℕ) (s : Status) (e' : Rig) (out' : O) → time ≡ e.sim.time → e' ≡ ended e → StandsFor setup content e'
+          → EndsTo takes breaks told (verdict_line time case.name o ∷ report_of (passes o ∷ []) time ∷ []) (ended_status o) s mid out' → RunsTo takes breaks told setup case budget s e' content out out'
+      run_over content time s e' out' n r k h =
+          subst (λ (x : Status). RunsTo takes breaks told setup case budget x e' content out out') (sym h.status_is)
+          (over_ends content h.put e' out' r k (subst (λ (m : ℕ). PutsLines takes breaks told (verdict_line m case.name o ∷ report_of (passes o ∷ []) m ∷ []) h.put mid out') n h.puts))

@@ -1,0 +1,22 @@
+use Rattle.std.proofs.Common.{◌∙◌, ap, Ok, subst}
+use Rattle.scheduler.specs.Fits.{FitsAfter}
+use Rattle.scheduler.specs.declared.turn.Turn.{Turn}
+use Rattle.scheduler.proofs.ManyTurns.{went_then, turning_anywhere, turning_err}
+use Rattle.regression.proofs.run.run_turns.Goals as goal
+
+pub returns-in_err-turn-clause-turning : goal.returns-in_err-turn-clause-turning
+returns-in_err-turn-clause-turning g c = c.turns.invariant.turning _ _ _ _
+    (turning_err g.O.Sink.takes g.O.Sink.breaks g.O.Sink.told _ _ _ _ _ _ _ _ _ _ c.turns.invariant.setup c.from_residual.ensures.0 c.in_err-turn.ensures.turning)
+
+pub turns-preserved : goal.turns-preserved
+turns-preserved g c = record {
+  turning = λ r fuel e out more. c.turns.invariant.turning r fuel e out
+      (went_then g.O.Sink.takes g.O.Sink.breaks g.O.Sink.told _ _ _ _ _ _ _ _ _ r fuel e out c.turns.invariant.setup (ap Ok c.in-Went.is) c.in_ok-turn.ensures.turning more);
+  setup = c.turn.ensures.setup ∙ c.turns.invariant.setup;
+  loaded = c.turn.ensures.loaded;
+  fits = subst (λ (t : Turn). FitsAfter g.M.FlowMaker.functions g.W.Awaits.waiting g.W.Awaits.held t c.turn.new.self (g.K.Gpi.content c.turn.new.kernel)) c.in-Went.is c.in_ok-turn.ensures.fits;
+}
+
+pub returns-in-turns-clause-turning : goal.returns-in-turns-clause-turning
+returns-in-turns-clause-turning g c = c.turns.invariant.turning _ _ _ _
+    (turning_anywhere g.O.Sink.takes g.O.Sink.breaks g.O.Sink.told _ _ _ _ _ _ _ _ _ c.turns.invariant.setup c.in_ok-turn.ensures.turning)

@@ -1,0 +1,210 @@
+//! A whole run.
+ghost use Rattle.std.specs.Prelude.{◌≡◌, ◌≢◌, ◌<◌, [], ◌∷◌, length, IfOk, Ok};
+ghost use Rattle.gpi.specs.Content.{no_counts};
+ghost use Rattle.rig_model.specs.FitSteps.{FitSteps, anywhere};
+ghost use Rattle.rig_model.specs.Line.{verdict_line, budget_line};
+ghost use Rattle.rig_model.specs.Run.{emptied, opening_sim, report_of, passes};
+ghost use Rattle.scheduler.specs.Engine.{rig_of, setup_of};
+ghost use Rattle.scheduler.specs.Fits.{FitsKernel, FitsAfter};
+ghost use Rattle.scheduler.specs.Turns.{Turning};
+ghost use Rattle.regression.specs.Runs.{RunsTo, PutsLine, PutsLines, EndsTo, status_in, verdict_status, ended_status, short_status};
+
+use crate::status::Status;
+use gpi::Gpi;
+use port_io::{NoMemory, Sink, SinkFault};
+use rig_model::{Awaits, FlowMaker, Outcome, Steps, TestCase};
+use scheduler::{Engine, Tally, Turn, budget_text, report_text, verdict_text};
+use std::alloc::Global;
+use std::sync::ledger::Ledger;
+
+/// Puts a line, and tells whether it was taken.
+fn take_line<O: Sink>(alloc: Global, out: &mut O, line: &[u8]) -> Result<bool, NoMemory>
+    ensures { PutsLine O.takes O.breaks O.told line.now result out.old out.new }
+{
+    match out.put(alloc, line) {
+        Ok(()) => Ok(true),
+        Err(SinkFault::Failed) => Ok(false),
+        Err(SinkFault::OutOfMemory) => Err(NoMemory),
+    }
+}
+
+fn has_passed(outcome: &Outcome) -> bool
+    ensures { result ≡ passes outcome.now }
+{
+    match outcome {
+        Outcome::Normal => true,
+        Outcome::Raised(_) => false,
+        Outcome::Stalled => false,
+    }
+}
+
+/// The report on one test.
+fn report_one(alloc: Global, passed: bool, time: u64) -> Result<Vec<u8>, NoMemory>
+    ensures { IfOk result (λ line. line.items ≡ report_of (passed ∷ []) time) }
+{
+    let tally = if passed {
+        Tally {
+            tests: 1,
+            passed: 1,
+            failed: 0,
+            skipped: 0,
+        }
+    } else {
+        Tally {
+            tests: 1,
+            passed: 0,
+            failed: 1,
+            skipped: 0,
+        }
+    };
+    report_text(alloc, tally, time)
+}
+
+fn verdict_of(passed: bool) -> Status
+    ensures { result ≡ verdict_status passed }
+{
+    if passed {
+        Status::Passed
+    } else {
+        Status::Failed
+    }
+}
+
+/// Puts two lines, and tells whether both were taken.
+fn put_two<O: Sink>(
+    alloc: Global,
+    out: &mut O,
+    first: &[u8],
+    second: &[u8],
+) -> Result<bool, NoMemory>
+    ensures { PutsLines O.takes O.breaks O.told (first.now ∷ second.now ∷ []) result out.old out.new }
+{
+    if take_line(alloc, out, first)? {
+        take_line(alloc, out, second)
+    } else {
+        Ok(false)
+    }
+}
+
+/// Puts the verdict on a test that ended, and the report.
+fn end_run<O: Sink>(
+    alloc: Global,
+    time: u64,
+    case: &TestCase,
+    outcome: &Outcome,
+    out: &mut O,
+) -> Result<Status, NoMemory>
+    ensures { EndsTo O.takes O.breaks O.told (verdict_line time case.now.name outcome.now ∷ report_of (passes outcome.now ∷ []) time ∷ []) (ended_status outcome.now) (status_in result) out.old out.new }
+{
+    let passed = has_passed(outcome);
+    let verdict = verdict_text(alloc, time, case.name.bytes(), outcome)?;
+    let report = report_one(alloc, passed, time)?;
+    if put_two(alloc, out, verdict.as_slice(), report.as_slice())? {
+        Ok(verdict_of(passed))
+    } else {
+        Ok(Status::WriteFault)
+    }
+}
+
+/// Turns, until one does anything but go.
+fn run_turns<O: Sink, K: Gpi, M: FlowMaker + Drop, W: Awaits, L: Ledger>(
+    alloc: Global,
+    engine: &mut Engine<'_, M, W>,
+    kernel: &mut K,
+    out: &mut O,
+    fuel: &mut u64,
+    steps: &mut Steps<L>,
+) -> Result<Turn, NoMemory>
+    requires loaded { K.is_loaded kernel.old }
+    requires fits { FitsKernel M.functions W.waiting W.held engine.old (K.content kernel.old) }
+    ensures turning { Turning O.takes O.breaks O.told (FitSteps anywhere (setup_of M.functions engine.old)) (setup_of M.functions engine.old)
+        fuel.old (rig_of W.waiting engine.old (K.content kernel.old)) out.old result fuel.new (rig_of W.waiting engine.new (K.content kernel.new)) out.new }
+    ensures stops { result ≢ Ok Turn.Went }
+    ensures setup { setup_of M.functions engine.new ≡ setup_of M.functions engine.old }
+    ensures fits { IfOk result (λ turn. FitsAfter M.functions W.waiting W.held turn engine.new (K.content kernel.new)) }
+    ensures loaded { K.is_loaded kernel.new }
+{
+    'turns: loop {
+        let turn = engine.turn(alloc, kernel, out, fuel, steps)?;
+        if let Turn::Went = turn {
+            continue;
+        }
+        return Ok(turn);
+    }
+}
+
+/// Puts the line that says that the budget was reached.
+fn end_short<O: Sink>(alloc: Global, budget: u64, out: &mut O) -> Result<Status, NoMemory>
+    ensures { EndsTo O.takes O.breaks O.told (budget_line budget ∷ []) short_status (status_in result) out.old out.new }
+{
+    let line = budget_text(alloc, budget)?;
+    if take_line(alloc, out, line.as_slice())? {
+        Ok(Status::Budget)
+    } else {
+        Ok(Status::WriteFault)
+    }
+}
+
+/// Runs the test within a budget.
+fn run_test<O: Sink, K: Gpi, M: FlowMaker + Drop, W: Awaits, L: Ledger>(
+    alloc: Global,
+    case: &TestCase,
+    engine: &mut Engine<'_, M, W>,
+    kernel: &mut K,
+    out: &mut O,
+    budget: u64,
+    steps: &mut Steps<L>,
+) -> Result<Status, NoMemory>
+    requires loaded { K.is_loaded kernel.old }
+    requires func { case.now.func < length (setup_of M.functions engine.old).functions }
+    requires fits { FitsKernel M.functions W.waiting W.held engine.old (K.content kernel.old) }
+    requires new { rig_of W.waiting engine.old (K.content kernel.old) ≡ emptied (opening_sim (setup_of M.functions engine.old)) no_counts }
+    ensures runs { RunsTo O.takes O.breaks O.told (setup_of M.functions engine.old) case.now budget (status_in result)
+        (rig_of W.waiting engine.new (K.content kernel.new)) (K.content kernel.new) out.old out.new }
+    ensures loaded { K.is_loaded kernel.new }
+{
+    let begun = engine.begin_test(alloc, kernel, case, out, steps)?;
+    if let Turn::WriteFault = begun {
+        return Ok(Status::WriteFault);
+    }
+    let mut fuel = budget;
+    let turn = run_turns(alloc, engine, kernel, out, &mut fuel, steps)?;
+    match turn {
+        Turn::Over(outcome) => {
+            let time = kernel.now();
+            engine.end_test(kernel, steps);
+            end_run(alloc, time, case, &outcome, out)
+        }
+        Turn::Spent => end_short(alloc, budget, out),
+        Turn::WriteFault => Ok(Status::WriteFault),
+        Turn::Went => unreachable!(),
+    }
+}
+
+/// Runs the test within a budget: its lines, its verdict and the closing line are put in order, one put each. `Passed` and `Failed`
+/// come where the run is over, `Budget` where it isn't, with the line `BUDGET <budget>` in place of the closing line. After these
+/// three, engine and simulator stand where the run stops: at the end of a run the test is dropped and no key is registered any
+/// more, and at the budget nothing is dropped. `WriteFault` comes where the put of the next line fails, and `NoMemory` where memory
+/// is short; then nothing is said of the two, but that the simulator holds a design.
+pub fn run_all<O: Sink, K: Gpi, M: FlowMaker + Drop, W: Awaits, L: Ledger>(
+    alloc: Global,
+    case: &TestCase,
+    engine: &mut Engine<'_, M, W>,
+    kernel: &mut K,
+    out: &mut O,
+    budget: u64,
+    steps: &mut Steps<L>,
+) -> Status
+    requires loaded { K.is_loaded kernel.old }
+    requires func { case.now.func < length (setup_of M.functions engine.old).functions }
+    requires fits { FitsKernel M.functions W.waiting W.held engine.old (K.content kernel.old) }
+    requires new { rig_of W.waiting engine.old (K.content kernel.old) ≡ emptied (opening_sim (setup_of M.functions engine.old)) no_counts }
+    ensures runs { RunsTo O.takes O.breaks O.told (setup_of M.functions engine.old) case.now budget result
+        (rig_of W.waiting engine.new (K.content kernel.new)) (K.content kernel.new) out.old out.new }
+    ensures loaded { K.is_loaded kernel.new }
+{
+    match run_test(alloc, case, engine, kernel, out, budget, steps) {
+        Ok(status) => status,
+        Err(NoMemory) => Status::NoMemory,
+    }
+}

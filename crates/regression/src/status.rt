@@ -1,0 +1,45 @@
+//! How a run of the program ends.
+ghost use Rattle.std.specs.Prelude.{◌≡◌};
+ghost use Rattle.regression.specs.Status.{code_of};
+
+/// How a run of the program ends.
+#[derive(Clone, Copy, Debug, PartialEq, Eq)]
+pub enum Status {
+    /// All tests passed or were skipped.
+    Passed,
+    /// At least one test failed.
+    Failed,
+    /// The words have no reading.
+    Usage,
+    /// The design was refused.
+    DesignRefused,
+    /// The tests were refused.
+    TestsRefused,
+    /// A file could not be read.
+    ReadFault,
+    /// A line could not be written.
+    WriteFault,
+    /// Memory was short.
+    NoMemory,
+    /// The budget was reached.
+    Budget,
+}
+
+impl Status {
+    /// The number that the process ends with.
+    pub fn code(self) -> u8
+        ensures { result ≡ code_of self }
+    {
+        match self {
+            Status::Passed => 0,
+            Status::Failed => 1,
+            Status::Usage => 2,
+            Status::DesignRefused => 3,
+            Status::TestsRefused => 4,
+            Status::ReadFault => 5,
+            Status::WriteFault => 6,
+            Status::NoMemory => 7,
+            Status::Budget => 8,
+        }
+    }
+}
