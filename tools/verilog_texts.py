@@ -1,5 +1,5 @@
 #!/usr/bin/env python3
-"""Compares the table of Verilog texts in crates/v_parse/src/text_rows.rt with Icarus Verilog.
+"""Compares the Verilog texts in crates/verilog_tests/stdin with Icarus Verilog.
 
     tools/verilog_texts.py
 
@@ -15,17 +15,18 @@ import sys
 import tempfile
 from pathlib import Path
 
-TABLE = Path(__file__).resolve().parent.parent / "crates" / "v_parse" / "src" / "text_rows.rt"
-ROW = re.compile(r'rule: "(?P<rule>(?:[^"\\]|\\.)*)",\s*text: b"(?P<text>(?:[^"\\]|\\.)*)",\s*expected: "(?P<expected>[^"]*)"', re.S)
+FOLDER = Path(__file__).resolve().parent.parent / "crates" / "verilog_tests"
 WIDER = "wider than the standard"
-ESCAPES = {"n": "\n", "t": "\t", "r": "\r", "0": "\0", "\\": "\\", '"': '"', "'": "'"}
 
 
-def plain(text):
-    """The text that a byte string literal says."""
-    text = re.sub(r"\\\n\s*", "", text)
-    text = re.sub(r"\\x([0-9a-fA-F]{2})", lambda found: chr(int(found[1], 16)), text)
-    return re.sub(r"\\(.)", lambda found: ESCAPES[found[1]], text)
+def rows():
+    """The rule, the text and the answer of each row that asks for a tree."""
+    asked = (FOLDER / "stdin").read_text(encoding="ascii").splitlines()
+    answers = (FOLDER / "stdout").read_text(encoding="ascii").splitlines()
+    for row, answer in zip(asked, answers):
+        kind, rule, *parts = row.split("\t")
+        if kind == "tree":
+            yield rule, re.sub(r"\\([0-9a-f]{2})", lambda byte: chr(int(byte[1], 16)), parts[0]), answer[len(rule) + 2 :]
 
 
 def answer(text):
@@ -41,17 +42,17 @@ def answer(text):
 
 def main():
     counts, wrong = {}, 0
-    for row in ROW.finditer(TABLE.read_text(encoding="utf-8")):
-        accepted = row["expected"].endswith(("module", "modules"))
-        said = answer(plain(row["text"]))
-        if row["rule"].startswith(WIDER):
+    for rule, text, told in rows():
+        accepted = told.startswith("(")
+        said = answer(text)
+        if rule.startswith(WIDER):
             said = f"{said} (wider than the standard)"
         counts[accepted, said] = counts.get((accepted, said), 0) + 1
         if accepted and said == "syntax error":
             wrong += 1
-            print(f"accepted, but Icarus finds a syntax error: {row['rule']}: {row['text']}")
+            print(f"accepted, but Icarus finds a syntax error: {rule}: {text}")
         elif not accepted and said == "compiles":
-            print(f"refused, and Icarus takes it: {row['rule']}: {row['text']}")
+            print(f"refused, and Icarus takes it: {rule}: {text}")
     for (accepted, said), count in sorted(counts.items()):
         print(f"{'accepted' if accepted else 'refused'}, {said}: {count}")
     return 1 if wrong or not counts else 0
