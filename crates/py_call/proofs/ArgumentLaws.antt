@@ -8,10 +8,11 @@ use Rattle.py_syntax.specs.declared.operator.Operator.TheVariants as operator
 use Rattle.py_syntax.specs.declared.operator.Bracket.TheVariants as bracket
 use Rattle.py_syntax.specs.declared.token.Token.{Token}
 use Rattle.py_syntax.specs.declared.token.Token.TheVariants as token
-use Rattle.py_expression.specs.Tokens.{operation_at, after_close, after_comma, after_last, after_assign, named_at}
+use Rattle.py_expression.specs.Tokens.{operation_at}
+use Rattle.py_phrase.specs.Marks.{after, after_close, after_comma, after_last, after_assign, named_at}
 use Rattle.py_expression.proofs.Again.{Quiet}
 use Rattle.py_expression.proofs.Starts.{starts}
-use Rattle.py_expression.proofs.TokenFacts.{some_same, named_at_is, after_close_is, after_comma_is, after_last_is}
+use Rattle.py_phrase.proofs.Facts.{some_same, named_at_is, after_close_is, after_comma_is, after_last_is}
 use Rattle.py_call.specs.Kept.{kept, of_one, of_two, given_as, kept_list, kept_argument, kept_arguments}
 use Rattle.py_call.specs.Reading.{value_of, begin_by, begin_of, argument_of, joined, Step, going, done, behind_by, behind_of, step_of, more_by, more_of, some_arguments_of, arguments_by, arguments_of}
 use Rattle.py_call.proofs.Chosen.{not_some, also_is, made_is, closes_again}
@@ -22,7 +23,7 @@ use Rattle.py_call.proofs.ValueLaws.{value_sound, value_again}
 -- ---- one argument
 
 begin_is : (ts : List Token) → IsGivenBy (begin_of ts).0 ts (begin_of ts).1
-unfolding begin_of
+unfolding begin_of after
 begin_is ts = go (named_at ts) refl
   where
     go : (o : Option (List ℕ × List Token)) → named_at ts ≡ o → IsGivenBy (begin_by ts o).0 ts (begin_by ts o).1
@@ -30,7 +31,7 @@ begin_is ts = go (named_at ts) refl
     go (Some x) q = named_at_is ts x q
 
 pub argument_sound : (ts rest : List Token) (v : Argument × ℕ) → argument_of ts ≡ Some (v, rest) → (x : Argument) × SpellsArgument x ts rest × (v ≡ kept_argument x)
-unfolding argument_of
+unfolding argument_of after
 argument_sound ts rest v h =
     let name = (begin_of ts).0 in
     let (y, a, b) = made_is (value_of (begin_of ts).1) (λ z. (of_one (given_as name) z.0, z.1)) (v, rest) h in
@@ -45,15 +46,16 @@ abbrev pub IsBehind : List Token → Type 0
 IsBehind ts = Quiet ts × (after_assign ts ≡ None)
 
 begin_again : (name : Option (List ℕ)) (e : Tree) (ts us rest : List Token) → IsGivenBy name ts us → Spells e us rest → after_assign rest ≡ None → begin_of ts ≡ (name, us)
-unfolding begin_of
+unfolding begin_of after
 begin_again None e ts us rest g s h = rw (g, (starts e us rest s).2 h)
 begin_again (Some n) e ts us rest g s h = rw g
 
 pub argument_again : (x : Argument) (ts rest : List Token) → SpellsArgument x ts rest → IsBehind rest → argument_of ts ≡ Some (kept_argument x, rest)
-unfolding argument_of
+unfolding argument_of after
 argument_again x ts rest (us, g, s) (q, h) = rw (begin_again x.name x.value ts us rest g s h, value_again x.value us rest s q)
 
 pub argument_begins : (x : Argument) (ts rest : List Token) → SpellsArgument x ts rest → after_close ts ≡ None
+unfolding after
 argument_begins x ts rest (us, g, s) = go x.name g
   where
     go : (name : Option (List ℕ)) → IsGivenBy name ts us → after_close ts ≡ None
@@ -70,7 +72,7 @@ argument_length x ts rest (us, g, s) = go x.name g
 -- ---- several
 
 pub others_behind : (xs : List Argument) (ts rest : List Token) → SpellsOthers xs ts rest → IsBehind ts
-unfolding operation_at
+unfolding operation_at after
 others_behind [] ts rest (inl e) = rw e ((refl, refl, refl, refl), refl)
 others_behind [] ts rest (inr e) = rw e ((refl, refl, refl, refl), refl)
 others_behind (x ∷ xs) ts rest (us, vs, e, s, more) = rw e ((refl, refl, refl, refl), refl)
@@ -95,7 +97,7 @@ Behind xs us (going ys ws) = (us ≡ token.Operator operator.Comma ∷ ws) × (y
 Behind xs us (done ys ws) = Closes us ws × (ys ≡ xs)
 
 behind_is : (xs : List Argument × ℕ) (us : List Token) (s : Step) → behind_of xs us ≡ Some s → Behind xs us s
-unfolding behind_of
+unfolding behind_of after
 behind_is xs us s h = go (after_last us) refl h
   where
     go : (o : Option (List Token)) → after_last us ≡ o → behind_by xs us o ≡ Some s → Behind xs us s
@@ -149,7 +151,7 @@ step_done acc x ts us rest s closes = rw (argument_again x ts us s (others_behin
 
 step_going : (acc : List Argument × ℕ) (x : Argument) (ts us ws : List Token) → SpellsArgument x ts us → us ≡ token.Operator operator.Comma ∷ ws → IsBehind us → after_close ws ≡ None
     → step_of acc ts ≡ Some (going (joined acc (kept_argument x)) ws)
-unfolding step_of behind_of
+unfolding step_of behind_of after
 step_going acc x ts us ws s comma is none = rw (argument_again x ts us s is, comma, none)
 
 pub more_again : (xs : List Argument) (x : Argument) (n : ℕ) (acc : List Argument × ℕ) (ts us rest : List Token) → SpellsArgument x ts us → SpellsOthers xs us rest → length xs < n
@@ -174,7 +176,7 @@ glued_start : (ys : List Argument × ℕ) → glued ([], 0) ys ≡ ys
 glued_start ys = ap (λ n. (ys.0, n)) (let k : max 0 ys.1 ≡ ys.1 = omega arith in k)
 
 pub arguments_sound : (ts rest : List Token) (v : List Argument × ℕ) → arguments_of ts ≡ Some (v, rest) → (xs : List Argument) × SpellsArguments xs ts rest × (v ≡ kept_arguments xs)
-unfolding arguments_of some_arguments_of kept_list
+unfolding arguments_of some_arguments_of kept_list after
 arguments_sound ts rest v h = go (after_close ts) refl h
   where
     go : (o : Option (List Token)) → after_close ts ≡ o → arguments_by ts o ≡ Some (v, rest) → (xs : List Argument) × SpellsArguments xs ts rest × (v ≡ kept_arguments xs)
@@ -189,7 +191,7 @@ arguments_sound ts rest v h = go (after_close ts) refl h
         (x ∷ xs, (us, s, more), e ∙ glued_start (kept_arguments (x ∷ xs)))
 
 pub arguments_again : (xs : List Argument) (ts rest : List Token) → SpellsArguments xs ts rest → arguments_of ts ≡ Some (kept_arguments xs, rest)
-unfolding arguments_of some_arguments_of kept_list
+unfolding arguments_of some_arguments_of kept_list after
 arguments_again [] ts rest e = rw e
 arguments_again (x ∷ xs) ts rest (us, s, more) =
     rw (argument_begins x ts us s)

@@ -10,9 +10,9 @@ use Rattle.py_syntax.specs.CallForms.{IsGivenBy, SpellsStarted, SpellsTimed, Spe
 use Rattle.py_syntax.specs.declared.operator.Operator.TheVariants as operator
 use Rattle.py_syntax.specs.declared.token.Token.{Token}
 use Rattle.py_syntax.specs.declared.token.Token.TheVariants as token
-use Rattle.py_expression.specs.Tokens.{after_close, after_comma, after_last, after_assign, after_name, after_name_by, named_at}
+use Rattle.py_phrase.specs.Marks.{after, after_close, after_comma, after_last, after_assign, after_name, after_name_by, named_at}
 use Rattle.py_expression.proofs.Starts.{starts}
-use Rattle.py_expression.proofs.TokenFacts.{after_comma_is, named_at_is, bytes_are}
+use Rattle.py_phrase.proofs.Facts.{after_comma_is, named_at_is, bytes_are}
 use Rattle.py_call.specs.Kept.{kept, of_one, of_two, kept_optional, kept_timed, timeout_of, kept_times, kept_awaited}
 use Rattle.py_call.specs.Chosen.{also, made, ended, closed}
 use Rattle.py_call.specs.Words.{after_call, after_member}
@@ -24,9 +24,11 @@ use Rattle.py_call.proofs.WordLaws.{after_call_is, after_member_is, closes_end, 
 use Rattle.py_call.proofs.StartedLaws.{started_sound, started_again, closed_start_sound, closed_start_again}
 
 comma_behind : (ts : List Token) → IsBehind (token.Operator operator.Comma ∷ ts)
+unfolding after
 comma_behind ts = end_behind (token.Operator operator.Comma ∷ ts) refl
 
 closes_behind : (ts rest : List Token) → Closes ts rest → IsBehind ts
+unfolding after
 closes_behind ts rest h = end_behind ts (closes_end ts rest h)
 
 -- a reading that fails, since nothing that it gives stands there
@@ -37,7 +39,7 @@ fails (Some x) h = absurd (h x refl)
 -- ---- `cocotb.start(..)`
 
 awaited_start_sound : (ts : List Token) (v : Awaited × ℕ) → awaited_start_of ts ≡ Some v → (f : StartedCall) × SpellsStart (codes "start") f ts × (v ≡ kept_awaited (AwaitedStart f))
-unfolding awaited_start_of
+unfolding awaited_start_of after
 awaited_start_sound ts v h =
     let (w, a, b) = made_is (also (after_member (codes "cocotb") (codes "start") ts) closed_start_of) (of_one AwaitedStart) v h in
     let (us, c, d) = also_is (after_member (codes "cocotb") (codes "start") ts) closed_start_of w a in
@@ -45,13 +47,13 @@ awaited_start_sound ts v h =
     (f, (us, vs, after_member_is (codes "cocotb") (codes "start") ts us c, s, closes), sym b ∙ ap (λ z. of_one AwaitedStart z) k)
 
 awaited_start_again : (f : StartedCall) (ts : List Token) → SpellsStart (codes "start") f ts → awaited_start_of ts ≡ Some (kept_awaited (AwaitedStart f))
-unfolding awaited_start_of
+unfolding awaited_start_of after
 awaited_start_again f ts (us, vs, e, s, closes) = rw (e, closed_start_again f us vs s closes)
 
 -- ---- the first argument of `with_timeout`
 
 comma_is : {A : Type 0} (x y : A) (ts rest : List Token) → before_comma (x, ts) ≡ Some (y, rest) → (ts ≡ token.Operator operator.Comma ∷ rest) × (x ≡ y)
-unfolding before_comma
+unfolding before_comma after
 comma_is {A} x y ts rest h =
     let (us, a, b) = made_is (after_comma ts) (λ vs. (x, vs)) (y, rest) h in
     (after_comma_is ts us a ∙ ap (λ (z : A × List Token). token.Operator operator.Comma ∷ z.1) b, ap (λ (z : A × List Token). z.0) b)
@@ -71,7 +73,7 @@ timed_value_sound ts rest v h =
     )
 
 timed_value_again : (e : Tree) (ts rest : List Token) → Spells e ts (token.Operator operator.Comma ∷ rest) → timed_value_of ts ≡ Some (kept_timed (TimedValue e), rest)
-unfolding timed_value_of before_comma
+unfolding timed_value_of before_comma after
 timed_value_again e ts rest s = rw (value_again e ts (token.Operator operator.Comma ∷ rest) s (comma_behind rest).0)
 
 timed_call_sound : (ts rest : List Token) (v : Timed × ℕ) → timed_call_of ts ≡ Some (v, rest)
@@ -89,7 +91,7 @@ timed_call_sound ts rest v h =
     )
 
 timed_call_again : (f : StartedCall) (ts rest : List Token) → SpellsStarted f ts (token.Operator operator.Comma ∷ rest) → timed_call_of ts ≡ Some (kept_timed (TimedCall f), rest)
-unfolding timed_call_of before_comma
+unfolding timed_call_of before_comma after
 timed_call_again f ts rest s = rw (started_again f ts (token.Operator operator.Comma ∷ rest) s refl)
 
 some_none : {A : Type 0} {x : A} (o : Option A) → o ≡ None → o ≡ Some x → ⊥
@@ -115,6 +117,7 @@ timed_again (TimedCall f) ts rest (s, other) =
 -- ---- the times of `with_timeout`
 
 name_is : (ts : List Token) → IsGivenBy None ts (after_name (codes "timeout_unit") ts) ⊎ IsGivenBy (Some (codes "timeout_unit")) ts (after_name (codes "timeout_unit") ts)
+unfolding after
 name_is ts = go (named_at ts) refl
   where
     named : (x : List ℕ × List Token) → named_at ts ≡ Some x → (b : Bool) → bytes_eq x.0 (codes "timeout_unit") ≡ b
@@ -129,11 +132,12 @@ name_is ts = go (named_at ts) refl
 
 name_again : (ts us rest : List Token) (e : Tree) → IsGivenBy None ts us ⊎ IsGivenBy (Some (codes "timeout_unit")) ts us → Spells e us rest → after_assign rest ≡ None
     → after_name (codes "timeout_unit") ts ≡ us
+unfolding after
 name_again ts us rest e (inl g) s h = rw (g, (starts e us rest s).2 h)
 name_again ts us rest e (inr g) s h = rw g
 
 argument_comma_is : (ts us : List Token) → after_argument_comma ts ≡ Some us → ts ≡ token.Operator operator.Comma ∷ us
-unfolding after_argument_comma
+unfolding after_argument_comma after
 argument_comma_is ts us h = go (after_last ts) h
   where
     go : (o : Option (List Token)) → argument_comma ts o ≡ Some us → ts ≡ token.Operator operator.Comma ∷ us
@@ -141,7 +145,7 @@ argument_comma_is ts us h = go (after_last ts) h
     go None k = after_comma_is ts us k
 
 unit_sound : (ts : List Token) (v : Option Tree × ℕ) → unit_of ts ≡ Some v → (u : Option Tree) × SpellsUnit u ts × (v ≡ kept_optional kept u)
-unfolding unit_of
+unfolding unit_of after
 unit_sound ts v h = go (after_argument_comma ts) refl h
   where
     go : (o : Option (List Token)) → after_argument_comma ts ≡ o → unit_by ts o ≡ Some v → (u : Option Tree) × SpellsUnit u ts × (v ≡ kept_optional kept u)
@@ -156,11 +160,12 @@ unit_sound ts v h = go (after_argument_comma ts) refl h
         )
 
 given_begins : (e : Tree) (us vs ws : List Token) → IsGivenBy None us vs ⊎ IsGivenBy (Some (codes "timeout_unit")) us vs → Spells e vs ws → after_close us ≡ None
+unfolding after
 given_begins e us vs ws (inl g) s = rw g (starts e vs ws s).0
 given_begins e us vs ws (inr g) s = rw g
 
 unit_again : (u : Option Tree) (ts : List Token) → SpellsUnit u ts → unit_of ts ≡ Some (kept_optional kept u)
-unfolding unit_of after_argument_comma
+unfolding unit_of after_argument_comma after
 unit_again None ts closes = rw (closes_again ts [] closes) (closed_again (None, 0) ts closes)
 unit_again (Some e) ts (us, vs, ws, comma, given, s, closes) =
     let is = closes_behind ws [] closes in
@@ -177,6 +182,7 @@ times_sound ts v h =
     (e, u, x.1, s, t, sym d ∙ ap (λ y. of_two (λ t z. (t, z)) y w) k ∙ ap (λ y. of_two (λ t z. (t, z)) (kept e) y) l)
 
 unit_behind : (u : Option Tree) (ts : List Token) → SpellsUnit u ts → IsBehind ts
+unfolding after
 unit_behind None ts closes = closes_behind ts [] closes
 unit_behind (Some e) ts (us, vs, ws, comma, given, s, closes) = subst (λ zs. IsBehind zs) (sym comma) (comma_behind us)
 
@@ -186,7 +192,7 @@ times_again e u ts us s t = rw (value_again e ts us s (unit_behind u us t).0, un
 
 with_timeout_sound : (ts : List Token) (v : Awaited × ℕ) → with_timeout_of ts ≡ Some v
     → (x : Timed) × (e : Tree) × (u : Option Tree) × SpellsTimeout x e u ts × (v ≡ kept_awaited (WithTimeout x e u))
-unfolding with_timeout_of
+unfolding with_timeout_of after
 with_timeout_sound ts v h =
     let (us, a, b) = also_is (after_call (codes "with_timeout") ts) (λ ws. also (timed_of ws) (λ y. made (of_two timeout_of y.0) (times_of y.1))) v h in
     let (y, c, d) = also_is (timed_of us) (λ z. made (of_two timeout_of z.0) (times_of z.1)) v b in
@@ -201,7 +207,7 @@ with_timeout_sound ts v h =
     )
 
 with_timeout_again : (x : Timed) (e : Tree) (u : Option Tree) (ts : List Token) → SpellsTimeout x e u ts → with_timeout_of ts ≡ Some (kept_awaited (WithTimeout x e u))
-unfolding with_timeout_of
+unfolding with_timeout_of after
 with_timeout_again x e u ts (us, vs, ws, eq, s, t, r) = rw (eq, timed_again x us vs s, times_again e u vs ws t r)
 
 -- ---- all forms
@@ -243,7 +249,7 @@ timeout_no_value x e u ts (us, vs, ws, eq, s, t, r) =
     no_value_call (codes "with_timeout") us f refl (subst (λ zs. Spells f zs []) eq sp))
 
 timeout_no_start : (x : Timed) (e : Tree) (u : Option Tree) (ts : List Token) → SpellsTimeout x e u ts → awaited_start_of ts ≡ None
-unfolding awaited_start_of
+unfolding awaited_start_of after
 timeout_no_start x e u ts (us, vs, ws, eq, s, t, r) = rw eq
 
 pub awaited_sound : (ts : List Token) (v : Awaited × ℕ) → awaited_of ts ≡ Some v → (a : Awaited) × SpellsAwaited a ts × (v ≡ kept_awaited a)

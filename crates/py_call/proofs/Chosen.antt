@@ -2,9 +2,9 @@
 use Rattle.std.proofs.Common.{◌≡◌, List, [], ◌∷◌, Option, Some, None, Bool, true, false, refl, subst, ◌⊎◌, inl, inr, ◌&&◌, if◌then◌else◌}
 use Rattle.py_syntax.specs.ExpressionSpells.{Closes}
 use Rattle.py_syntax.specs.declared.token.Token.{Token}
-use Rattle.py_expression.specs.Tokens.{after_last}
-use Rattle.py_expression.proofs.TokenFacts.{some_same, after_last_is}
-use Rattle.py_call.specs.Chosen.{also, or_else, made, end_of, ended, close_of, closed}
+use Rattle.py_phrase.specs.Marks.{after, end_of, after_last}
+use Rattle.py_phrase.proofs.Facts.{some_same, after_last_is}
+use Rattle.py_call.specs.Chosen.{also, or_else, made, ended, close_of, closed}
 
 pub not_some : {A : Type 0} {x : A} → None ≡ Some x → ⊥
 not_some e = cc
@@ -29,12 +29,14 @@ pub ended_is : {A : Type 0} (x y : A) (ts : List Token) → ended x ts ≡ Some 
 ended_is x y ts e = let (u, a, b) = made_is (end_of ts) (λ _. x) y e in (end_is ts u a, b)
 
 pub close_is : (ts : List Token) (u : Unit {0}) → close_of ts ≡ Some u → Closes ts []
+unfolding after
 close_is ts u e = let (us, a, b) = also_is (after_last ts) end_of u e in subst (λ vs. Closes ts vs) (end_is us u b) (after_last_is ts us a)
 
 pub closed_is : {A : Type 0} (x y : A) (ts : List Token) → closed x ts ≡ Some y → Closes ts [] × (x ≡ y)
 closed_is x y ts e = let (u, a, b) = made_is (close_of ts) (λ _. x) y e in (close_is ts u a, b)
 
 pub closes_again : (here rest : List Token) → Closes here rest → after_last here ≡ Some rest
+unfolding after
 closes_again here rest (inl e) = rw e
 closes_again here rest (inr e) = rw e
 

@@ -12,9 +12,10 @@ use Rattle.py_syntax.specs.declared.token.Token.{Token}
 use Rattle.py_syntax.specs.declared.token.Token.TheVariants as token
 use Rattle.py_expression.specs.Ends.{starts_expression}
 use Rattle.py_expression.proofs.Starts.{begins}
-use Rattle.py_expression.proofs.TokenFacts.{some_same, after_close_is, after_last_is}
+use Rattle.py_phrase.proofs.Facts.{some_same, after_close_is, after_last_is}
 use Rattle.py_call.specs.Kept.{kept, of_one, kept_list, kept_right}
-use Rattle.py_call.specs.Chosen.{also, end_of, ended}
+use Rattle.py_phrase.specs.Marks.{after, end_of}
+use Rattle.py_call.specs.Chosen.{also, ended}
 use Rattle.py_call.specs.Words.{after_call, after_member, after_text, after_await}
 use Rattle.py_call.specs.Reading.{values_of, whole_value_of, closed_start_of, awaited_of, new_by, after_new, new_of, two_of, random_int_of, start_soon_of, right_value_of, right_by, call_or_value_of, await_by, right_of}
 use Rattle.py_call.proofs.Chosen.{not_some, also_is, made_is, end_is, ended_is, closes_again}
@@ -46,7 +47,7 @@ new_spells name ts us e (inl h) = inl (e ∙ ap (λ zs. call_tokens name zs) h)
 new_spells name ts us e (inr (text, ws, h, closes)) = inr (text, ws, e ∙ ap (λ zs. call_tokens name zs) h, closes)
 
 new_again : (s : RightSide) (ts : List Token) → NewEnds ts → new_of s ts ≡ Some (s, 0)
-unfolding new_of after_new
+unfolding new_of after_new after
 new_again s ts (inl e) = rw e
 new_again s ts (inr (text, us, e, closes)) = rw (e, closes_again us [] closes)
 
@@ -98,7 +99,7 @@ random_int_again a b ts s = rw (values_again (a ∷ b ∷ []) ts [] s)
 -- ---- all forms
 
 pub right_sound : (ts : List Token) (v : RightSide × ℕ) → right_of ts ≡ Some v → (s : RightSide) × SpellsRight s ts × (v ≡ kept_right s)
-unfolding right_of call_or_value_of start_soon_of right_value_of
+unfolding right_of call_or_value_of start_soon_of right_value_of after
 right_sound ts v h = go (after_await ts) refl h
   where
     others : (a b c d : Option (List Token)) → after_member (codes "cocotb") (codes "start_soon") ts ≡ a → after_member (codes "random") (codes "randint") ts ≡ b
@@ -128,10 +129,11 @@ right_sound ts v h = go (after_await ts) refl h
         (after_call (codes "Event") ts) (after_call (codes "Lock") ts) refl refl refl refl k
 
 no_await : (ts us : List Token) → starts_expression ts ≡ true → after_await ts ≡ Some us → ⊥
+unfolding after
 no_await ts us s h = let e : starts_expression (token.Keyword keyword.Await ∷ us) ≡ true = subst (λ zs. starts_expression zs ≡ true) (after_await_is ts us h) s in cc
 
 right_value_again : (e : Tree) (ts : List Token) → Spells e ts [] → right_of ts ≡ Some (kept_right (RightValue e))
-unfolding right_of call_or_value_of right_value_of function_of method_of
+unfolding right_of call_or_value_of right_value_of function_of method_of after
 right_value_again e ts s =
     let a : after_await ts ≡ None = fails (after_await ts) (λ us h. no_await ts us (begins e ts [] s) h) in
     let b : after_member (codes "cocotb") (codes "start_soon") ts ≡ None = fails (after_member (codes "cocotb") (codes "start_soon") ts)
@@ -149,7 +151,7 @@ new_reads name ts (inl e) = (token.Close bracket.Round ∷ [], e, inl refl)
 new_reads name ts (inr (text, us, e, closes)) = (token.Text text ∷ us, e, inr (text, us, refl, closes))
 
 pub right_again : (s : RightSide) (ts : List Token) → SpellsRight s ts → right_of ts ≡ Some (kept_right s)
-unfolding right_of call_or_value_of start_soon_of
+unfolding right_of call_or_value_of start_soon_of after
 right_again (RightValue e) ts s = right_value_again e ts s
 right_again (RightAwait a) ts (us, e, s) = rw (e, awaited_again a us s)
 right_again (RightStart f) ts (us, vs, e, s, closes) = rw (e, closed_start_again f us vs s closes)

@@ -2,9 +2,9 @@
 use Rattle.std.proofs.Common.{◌≡◌, ℕ, suc, List, [], length, Option, Some, None, sym, ◌∙◌}
 use Rattle.py_syntax.specs.StatementTrees.{Argument}
 use Rattle.py_syntax.specs.declared.token.Token.{Token}
-use Rattle.py_expression.specs.declared.fault.ReadError.{ReadError}
-use Rattle.py_expression.specs.declared.fault.ReadError.TheVariants as errors
-use Rattle.py_expression.specs.Gives.{Fails}
+use Rattle.py_phrase.specs.declared.fault.ReadError.{ReadError}
+use Rattle.py_phrase.specs.declared.fault.ReadError.TheVariants as errors
+use Rattle.py_phrase.specs.Gives.{Fails}
 use Rattle.py_call.specs.Reading.{going, done, step_of, more_of, some_arguments_of}
 
 pub more_next : (k n : ℕ) (xs ys : List Argument × ℕ) (ts us : List Token) → k ≡ suc n → step_of xs ts ≡ Some (going ys us) → more_of k xs ts ≡ more_of n ys us

@@ -13,12 +13,12 @@ use Rattle.py_syntax.specs.declared.operator.Bracket.TheVariants as bracket
 use Rattle.py_syntax.specs.declared.token.Token.{Token}
 use Rattle.py_syntax.specs.declared.token.Token.TheVariants as token
 use Rattle.py_expression.specs.Shown.{Shown, shown}
-use Rattle.py_expression.specs.Tokens.{after_open}
+use Rattle.py_phrase.specs.Marks.{after, after_open}
 use Rattle.py_expression.specs.Reading.{primary_of}
 use Rattle.py_expression.specs.Ends.{IsPlain, IsRead}
 use Rattle.py_expression.proofs.Tables.{prefix_range, level_below}
 use Rattle.py_expression.proofs.ReaderLaws.{primary_sound, primary_again}
-use Rattle.py_expression.proofs.TokenFacts.{some_same, after_open_is, bytes_are}
+use Rattle.py_phrase.proofs.Facts.{some_same, after_open_is, bytes_are}
 use Rattle.py_call.specs.Kept.{lowered, kept, of_one, of_two, given_as, kept_list, kept_arguments, kept_started}
 use Rattle.py_call.specs.Chosen.{also, or_else, closed}
 use Rattle.py_call.specs.Words.{call_at, is_end}
@@ -47,7 +47,7 @@ clock_kept (x ∷ y ∷ z ∷ xs) = refl
 function_call_is : (ts rest : List Token) (v : StartedCall × ℕ) → function_call_of ts ≡ Some (v, rest)
     → (n : List ℕ) × (us : List Token) × (xs : List Argument) × (ts ≡ call_tokens n us) × SpellsArguments xs us rest × (in_order xs ≡ true) × (is_end rest ≡ true)
     × (v ≡ kept_started (FunctionCall n xs))
-unfolding function_call_of function_call_by
+unfolding function_call_of function_call_by after
 function_call_is ts rest v h =
     let (c, a, b) = also_is (call_at ts) (λ d. also (arguments_of d.1) (function_call_by d.0)) (v, rest) h in
     let (y, d, e) = also_is (arguments_of c.1) (function_call_by c.0) (v, rest) b in
@@ -71,7 +71,7 @@ function_call_sound ts rest v h =
 
 function_call_again : (n : List ℕ) (xs : List Argument) (ts rest : List Token) → SpellsStarted (FunctionCall n xs) ts rest → is_end rest ≡ true
     → function_call_of ts ≡ Some (kept_started (FunctionCall n xs), rest)
-unfolding function_call_of function_call_by
+unfolding function_call_of function_call_by after
 function_call_again n xs ts rest (us, e, s, order) end = rw (e, arguments_again xs us rest s, in_order_kept false xs, order, end)
 
 -- ---- the start of a clock
@@ -107,7 +107,7 @@ attribute_read ts rest x b name h at =
     )
 
 clock_start_sound : (ts rest : List Token) (v : StartedCall × ℕ) → clock_start_of ts ≡ Some (v, rest) → (f : StartedCall) × SpellsStarted f ts rest × (v ≡ kept_started f)
-unfolding clock_start_of clock_start_from clock_start_by
+unfolding clock_start_of clock_start_from clock_start_by after
 clock_start_sound ts rest v h =
     let (x, a, b) = also_is (primary_of ts) clock_start_from (v, rest) h in
     let (c, d, e) = also_is (owner_of (codes "start") x.0.tree) (λ k. also (after_open x.1) (λ us. also (arguments_of us) (clock_start_by (lowered 1 k x.0.height)))) (v, rest) b in
@@ -143,13 +143,13 @@ start_plain e = refl
 clock_from : (e b : Tree) (xs : List Argument) (vs rest : List Token) → (shown (Attribute e (codes "start"))).tree ≡ Attribute b (codes "start")
     → SpellsArguments xs vs rest → starts_clock xs ≡ true
     → clock_start_from (shown (Attribute e (codes "start")), token.Open bracket.Round ∷ vs) ≡ Some (kept_started (ClockStart e xs), rest)
-unfolding clock_start_from clock_start_by owner_of
+unfolding clock_start_from clock_start_by owner_of after
 clock_from e b xs vs rest at s fits =
     rw (at, arguments_again xs vs rest s, clock_kept xs, fits, kept_attribute e (codes "start") b (codes "start") at)
 
 clock_start_again : (e : Tree) (xs : List Argument) (ts rest : List Token) → SpellsStarted (ClockStart e xs) ts rest
     → clock_start_of ts ≡ Some (kept_started (ClockStart e xs), rest)
-unfolding clock_start_of
+unfolding clock_start_of after
 clock_start_again e xs ts rest (us, vs, s, l, eq, sa, fits) =
     let (b, at) = attribute_is_shown e (codes "start") in
     rw (attribute_again e (codes "start") ts vs (subst (λ ws. Spells e ts ws) eq s) l (start_plain e)) (clock_from e b xs vs rest at sa fits)

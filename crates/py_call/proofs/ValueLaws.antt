@@ -7,6 +7,7 @@ use Rattle.py_syntax.specs.CallForms.{SpellsPrimary}
 use Rattle.py_syntax.specs.declared.operator.Bracket.TheVariants as bracket
 use Rattle.py_syntax.specs.declared.token.Token.{Token}
 use Rattle.py_syntax.specs.declared.token.Token.TheVariants as token
+use Rattle.py_phrase.specs.Marks.{after}
 use Rattle.py_expression.specs.Shown.{Shown, shown, cut, hollow, nothing}
 use Rattle.py_expression.specs.Tokens.{operation_at}
 use Rattle.py_expression.specs.Reading.{expression_of, primary_of}
@@ -104,14 +105,15 @@ attribute_is_shown e n = go (at_most_or_more (height (Attribute e n)) 66)
 -- Where an expression ends.
 
 pub quiet_end : Quiet []
-unfolding operation_at
+unfolding operation_at after
 quiet_end = (refl, refl, refl, refl)
 
 pub stops_quiet : (least : ℕ) (e : Tree) (rest : List Token) → 1 ≤ least → Quiet rest → Stops least e rest
+unfolding after
 stops_quiet least e rest h q = record { no_operator = omega (arith, q.0); no_tail = (q.1, q.2); uncalled = inl q.3 }
 
 pub stops_open : (least : ℕ) (e : Tree) (rest : List Token) → 1 ≤ least → IsPlain e → Stops least e (token.Open bracket.Round ∷ rest)
-unfolding operation_at
+unfolding operation_at after
 stops_open least e rest h p = record { no_operator = omega arith; no_tail = (refl, refl); uncalled = inr p }
 
 pub value_sound : (ts rest : List Token) (v : Tree × ℕ) → value_of ts ≡ Some (v, rest) → (e : Tree) × Spells e ts rest × (v ≡ kept e)
@@ -125,7 +127,7 @@ value_sound ts rest v h =
     )
 
 pub value_again : (e : Tree) (ts rest : List Token) → Spells e ts rest → Quiet rest → value_of ts ≡ Some (kept e, rest)
-unfolding value_of
+unfolding value_of after
 value_again e ts rest s q = rw (expression_again e ts rest s (stops_quiet 1 e rest (omega arith) q)) (ap (λ (v : Tree × ℕ). Some (v, rest)) (kept_shown e))
 
 pub whole_value_sound : (ts : List Token) (v : Tree × ℕ) → whole_value_of ts ≡ Some v → (e : Tree) × Spells e ts [] × (v ≡ kept e)
@@ -137,7 +139,7 @@ whole_value_sound ts v h =
     (e, subst (λ us. Spells e ts us) end s, sym same ∙ k)
 
 pub whole_value_again : (e : Tree) (ts : List Token) → Spells e ts [] → whole_value_of ts ≡ Some (kept e)
-unfolding whole_value_of
+unfolding whole_value_of after
 whole_value_again e ts s = rw (value_again e ts [] s quiet_end)
 
 pub primary_level : (e : Tree) → 12 ≤ level e → level e ≡ 12
@@ -170,5 +172,5 @@ whole_primary_sound ts v h =
     )
 
 pub whole_primary_again : (e : Tree) (ts : List Token) → SpellsPrimary e ts → whole_primary_of ts ≡ Some (kept e)
-unfolding whole_primary_of
+unfolding whole_primary_of after
 whole_primary_again e ts (s, l) = rw (primary_again e ts [] s (omega arith) (stops_quiet 12 e [] (omega arith) quiet_end)) (ap (λ (v : Tree × ℕ). Some v) (kept_shown e))

@@ -11,37 +11,39 @@ use Rattle.py_syntax.specs.declared.operator.Bracket.TheVariants as bracket
 use Rattle.py_syntax.specs.declared.token.Token.{Token}
 use Rattle.py_syntax.specs.declared.token.Token.TheVariants as token
 use Rattle.py_expression.specs.Shown.{Shown}
-use Rattle.py_expression.specs.Tokens.{operation_at, after_open, name_at}
+use Rattle.py_expression.specs.Tokens.{operation_at}
+use Rattle.py_phrase.specs.Marks.{after, after_dot, after_open, name_at}
 use Rattle.py_expression.specs.Ends.{IsPlain}
 use Rattle.py_expression.proofs.ReaderLaws.{expression_again}
-use Rattle.py_expression.proofs.Tables.{bytes_same}
-use Rattle.py_expression.proofs.TokenFacts.{some_same, name_in_is, after_open_is, bytes_are}
+use Rattle.py_phrase.specs.declared.mark.Mark.TheVariants as mark
+use Rattle.py_phrase.proofs.Facts.{after_is, after_dot_is, bytes_same}
+use Rattle.py_phrase.proofs.Facts.{after_is, after_dot_is, some_same, name_at_is, after_open_is, bytes_are}
 use Rattle.py_call.specs.Chosen.{also}
-use Rattle.py_call.specs.Words.{call_at, after_call, after_dot, after_member, after_text, after_await, is_end}
+use Rattle.py_call.specs.Words.{call_at, after_call, after_member, after_text, after_await, is_end}
 use Rattle.py_call.proofs.Chosen.{not_some, also_is, choice_is}
 use Rattle.py_call.proofs.ArgumentLaws.{IsBehind}
 use Rattle.py_call.proofs.ValueLaws.{quiet_end, stops_quiet, stops_open}
 
 pub call_at_is : (ts : List Token) (c : List ℕ × List Token) → call_at ts ≡ Some c → ts ≡ call_tokens c.0 c.1
+unfolding after
 call_at_is ts c h =
     let (x, a, b) = also_is (name_at ts) (λ y. also (after_open y.1) (λ us. Some (y.0, us))) c h in
     let (us, d, e) = also_is (after_open x.1) (λ vs. Some (x.0, vs)) c b in
-    name_in_is ts x a ∙ ap (λ vs. token.Name x.0 ∷ vs) (after_open_is x.1 us d) ∙ ap (λ (y : List ℕ × List Token). call_tokens y.0 y.1) (some_same e)
+    name_at_is ts x a ∙ ap (λ vs. token.Name x.0 ∷ vs) (after_open_is x.1 us d) ∙ ap (λ (y : List ℕ × List Token). call_tokens y.0 y.1) (some_same e)
 
 pub after_call_is : (name : List ℕ) (ts us : List Token) → after_call name ts ≡ Some us → ts ≡ call_tokens name us
+unfolding after
 after_call_is name ts us h =
     let (x, a, b) = also_is (call_at ts) (λ y. if bytes_eq y.0 name then Some y.1 else None) us h in
     let (p, same) = choice_is (bytes_eq x.0 name) x.1 us b in
     call_at_is ts x a ∙ ap (λ n. call_tokens n x.1) (bytes_are x.0 name p) ∙ ap (λ vs. call_tokens name vs) same
 
 pub after_call_again : (name : List ℕ) (us : List Token) → after_call name (call_tokens name us) ≡ Some us
+unfolding after
 after_call_again name us = rw (bytes_same name)
 
-after_dot_is : (ts us : List Token) → after_dot ts ≡ Some us → ts ≡ token.Operator operator.Dot ∷ us
-after_dot_is (token.Operator operator.Dot ∷ ts) us e = ap (λ x. token.Operator operator.Dot ∷ x) (some_same e)
-after_dot_is _ us e = cc
-
 member_more : (owner name n : List ℕ) (vs us : List Token) → (if bytes_eq n owner then after_call name vs else None) ≡ Some us → (n ≡ owner) × (vs ≡ call_tokens name us)
+unfolding after
 member_more owner name n vs us h = go (bytes_eq n owner) refl h
   where
     go : (b : Bool) → bytes_eq n owner ≡ b → (if b then after_call name vs else None) ≡ Some us → (n ≡ owner) × (vs ≡ call_tokens name us)
@@ -49,14 +51,16 @@ member_more owner name n vs us h = go (bytes_eq n owner) refl h
     go false q k = absurd (not_some k)
 
 pub after_member_is : (owner name : List ℕ) (ts us : List Token) → after_member owner name ts ≡ Some us → ts ≡ member_tokens owner name us
+unfolding after
 after_member_is owner name ts us h =
     let (x, a, b) = also_is (name_at ts) (λ y. also (after_dot y.1) (λ vs. if bytes_eq y.0 owner then after_call name vs else None)) us h in
     let (vs, c, d) = also_is (after_dot x.1) (λ ws. if bytes_eq x.0 owner then after_call name ws else None) us b in
     let (same, e) = member_more owner name x.0 vs us d in
-    name_in_is ts x a ∙ ap (λ ws. token.Name x.0 ∷ ws) (after_dot_is x.1 vs c) ∙ ap (λ n. token.Name n ∷ token.Operator operator.Dot ∷ vs) same
+    name_at_is ts x a ∙ ap (λ ws. token.Name x.0 ∷ ws) (after_dot_is x.1 vs c) ∙ ap (λ n. token.Name n ∷ token.Operator operator.Dot ∷ vs) same
     ∙ ap (λ ws. token.Name owner ∷ token.Operator operator.Dot ∷ ws) e
 
 pub after_member_again : (owner name : List ℕ) (us : List Token) → after_member owner name (member_tokens owner name us) ≡ Some us
+unfolding after
 after_member_again owner name us = rw (bytes_same owner, bytes_same name)
 
 pub after_text_is : (ts us : List Token) → after_text ts ≡ Some us → (text : List ℕ) × (ts ≡ token.Text text ∷ us)
@@ -64,11 +68,11 @@ after_text_is (token.Text text ∷ ts) us e = (text, ap (λ x. token.Text text �
 after_text_is _ us e = absurd cc
 
 pub after_await_is : (ts us : List Token) → after_await ts ≡ Some us → ts ≡ token.Keyword keyword.Await ∷ us
-after_await_is (token.Keyword keyword.Await ∷ ts) us e = ap (λ x. token.Keyword keyword.Await ∷ x) (some_same e)
-after_await_is _ us e = cc
+unfolding after
+after_await_is ts us e = after_is (mark.Keyword keyword.Await) ts us e
 
 pub end_behind : (ts : List Token) → is_end ts ≡ true → IsBehind ts
-unfolding operation_at
+unfolding operation_at after
 end_behind [] h = ((refl, refl, refl, refl), refl)
 end_behind (token.Operator operator.Comma ∷ ts) h = ((refl, refl, refl, refl), refl)
 end_behind (token.Close bracket.Round ∷ ts) h = ((refl, refl, refl, refl), refl)
@@ -80,6 +84,7 @@ closes_end ts rest (inr e) = rw e
 
 -- an expression that nothing goes on with, and another one that reaches to the end of the line
 pub no_other : (e f : Tree) (ts us : List Token) → Spells e ts (token.Open bracket.Round ∷ us) → IsPlain e → Spells f ts [] → ⊥
+unfolding after
 no_other e f ts us s p t =
     let a = expression_again e ts (token.Open bracket.Round ∷ us) s (stops_open 1 e us (omega arith) p) in
     let b = expression_again f ts [] t (stops_quiet 1 f [] (omega arith) quiet_end) in

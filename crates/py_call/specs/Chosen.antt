@@ -1,7 +1,7 @@
 -- Readings that may fail, put together.
-use Rattle.std.specs.Prelude.{List, [], ◌∷◌, Option, Some, None}
+use Rattle.std.specs.Prelude.{List, Option, Some, None}
 use Rattle.py_syntax.specs.declared.token.Token.{Token}
-use Rattle.py_expression.specs.Tokens.{after_last}
+use Rattle.py_phrase.specs.Marks.{end_of, after_last}
 
 -- the one, and then the other
 abbrev pub also : {A B : Type 0} → Option A → (A → Option B) → Option B
@@ -17,11 +17,6 @@ or_else None other = other
 abbrev pub made : {A B : Type 0} → (A → B) → Option A → Option B
 made make None = None
 made make (Some x) = Some (make x)
-
--- nothing follows
-abbrev pub end_of : List Token → Option (Unit {0})
-end_of [] = Some tt
-end_of (t ∷ ts) = None
 
 abbrev pub ended : {A : Type 0} → A → List Token → Option A
 ended x ts = made (λ _. x) (end_of ts)

@@ -7,10 +7,10 @@ use Rattle.py_syntax.specs.StatementTrees.{Argument, StartedCall, FunctionCall, 
 use Rattle.py_syntax.specs.CallForms.{is_placed, in_order, starts_clock}
 use Rattle.py_syntax.specs.declared.token.Token.{Token}
 use Rattle.py_expression.specs.Shown.{Shown}
-use Rattle.py_expression.specs.Tokens.{after_open, after_close, after_comma, after_last, after_name, named_at}
+use Rattle.py_phrase.specs.Marks.{end_of, after_open, after_close, after_comma, after_last, after_name, named_at}
 use Rattle.py_expression.specs.Reading.{expression_of, primary_of}
 use Rattle.py_call.specs.Kept.{lowered, of_one, of_two, given_as, timeout_of}
-use Rattle.py_call.specs.Chosen.{also, or_else, made, end_of, ended, closed}
+use Rattle.py_call.specs.Chosen.{also, or_else, made, ended, closed}
 use Rattle.py_call.specs.Words.{call_at, after_call, after_member, after_text, after_await, is_end}
 
 -- Expressions.

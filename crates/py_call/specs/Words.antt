@@ -6,7 +6,8 @@ use Rattle.py_syntax.specs.declared.operator.Operator.TheVariants as operator
 use Rattle.py_syntax.specs.declared.operator.Bracket.TheVariants as bracket
 use Rattle.py_syntax.specs.declared.token.Token.{Token}
 use Rattle.py_syntax.specs.declared.token.Token.TheVariants as token
-use Rattle.py_expression.specs.Tokens.{after_open, name_at}
+use Rattle.py_phrase.specs.Marks.{after, after_open, after_dot, name_at}
+use Rattle.py_phrase.specs.declared.mark.Mark.TheVariants as mark
 use Rattle.py_call.specs.Chosen.{also}
 
 -- a name before a `(`, and what stands behind that
@@ -16,10 +17,6 @@ call_at ts = also (name_at ts) (λ x. also (after_open x.1) (λ us. Some (x.0, u
 -- behind `name(`
 abbrev pub after_call : List ℕ → List Token → Option (List Token)
 after_call name ts = also (call_at ts) (λ x. if bytes_eq x.0 name then Some x.1 else None)
-
-abbrev pub after_dot : List Token → Option (List Token)
-after_dot (token.Operator operator.Dot ∷ ts) = Some ts
-after_dot _ = None
 
 -- behind `owner.name(`
 abbrev pub after_member : List ℕ → List ℕ → List Token → Option (List Token)
@@ -31,8 +28,7 @@ after_text (token.Text text ∷ ts) = Some ts
 after_text _ = None
 
 abbrev pub after_await : List Token → Option (List Token)
-after_await (token.Keyword keyword.Await ∷ ts) = Some ts
-after_await _ = None
+after_await ts = after (mark.Keyword keyword.Await) ts
 
 -- whether a started call may end here: at the end of the line, before a comma, or before `)`
 abbrev pub is_end : List Token → Bool

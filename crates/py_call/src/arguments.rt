@@ -4,15 +4,14 @@ ghost use Rattle.std.specs.Prelude.{◌≡◌, [], map, Some, None, IfOk, MatchO
 ghost use Rattle.py_syntax.specs.ExpressionTrees.{view};
 ghost use Rattle.py_syntax.specs.StatementTrees.{view_argument};
 ghost use Rattle.py_syntax.specs.CallForms.{in_order, starts_clock};
-ghost use Rattle.py_expression.specs.Gives.{Gives};
+ghost use Rattle.py_phrase.specs.Gives.{Gives};
 ghost use Rattle.py_call.specs.Reading;
 ghost use Rattle.py_call.specs.Views.{tall, ahead, arguments_in, arguments_ahead, step_in};
 
-use crate::tokens::{after_close, after_comma, after_last, named_at};
 use crate::values::value;
 use port_io::{Name, NoMemory};
-use py_expression::ReadError;
-use py_syntax::{Argument, Token};
+use py_phrase::{Mark, ReadError, after, after_last, named_at};
+use py_syntax::{Argument, Bracket, Operator, Token};
 use std::alloc::Global;
 
 /// Arguments, and the greatest height of their values.
@@ -24,6 +23,7 @@ pub struct Arguments {
 }
 
 impl Arguments {
+    /// No arguments.
     fn new(alloc: Global) -> Self
         ensures { arguments_in result ≡ ([], 0) }
     {
@@ -62,6 +62,7 @@ fn begin<'a>(alloc: Global, tokens: &'a [Token]) -> Result<(Option<Name>, &'a [T
     }
 }
 
+/// One argument with the height of its value, and the tokens after it.
 #[tactic(auto, unfolding(crate::specs::Reading::argument_of))]
 fn argument(alloc: Global, tokens: &[Token]) -> Result<((Argument, usize), &[Token]), ReadError>
     ensures { Gives (ahead view_argument) result (Reading.argument_of tokens.now) }
@@ -76,7 +77,10 @@ fn argument(alloc: Global, tokens: &[Token]) -> Result<((Argument, usize), &[Tok
 fn behind<'a>(all: Arguments, tokens: &'a [Token]) -> Result<Step<'a>, ReadError>
     ensures { Gives step_in result (Reading.behind_of (arguments_in all) tokens.now) }
 {
-    match (after_last(tokens), after_comma(tokens)) {
+    match (
+        after_last(tokens),
+        after(Mark::Operator(Operator::Comma), tokens),
+    ) {
         (Some(rest), _) => Ok(Step::Done(all, rest)),
         (None, Some(rest)) => Ok(Step::Going(all, rest)),
         (None, None) => Err(ReadError::Wrong),
@@ -115,7 +119,7 @@ fn some_arguments(alloc: Global, tokens: &[Token]) -> Result<(Arguments, &[Token
 pub fn argument_list(alloc: Global, tokens: &[Token]) -> Result<(Arguments, &[Token]), ReadError>
     ensures { Gives arguments_ahead result (Reading.arguments_of tokens.now) }
 {
-    match after_close(tokens) {
+    match after(Mark::Close(Bracket::Round), tokens) {
         Some(rest) => Ok((Arguments::new(alloc), rest)),
         None => some_arguments(alloc, tokens),
     }

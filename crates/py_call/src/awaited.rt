@@ -3,17 +3,15 @@
 ghost use Rattle.std.specs.Prelude.{◌≡◌, codes, Some, None, MatchOption};
 ghost use Rattle.py_syntax.specs.ExpressionTrees.{view};
 ghost use Rattle.py_syntax.specs.StatementTrees.{optional, view_started, view_timed, view_awaited};
-ghost use Rattle.py_expression.specs.Gives.{Gives};
+ghost use Rattle.py_phrase.specs.Gives.{Gives};
 ghost use Rattle.py_call.specs.Reading;
 ghost use Rattle.py_call.specs.Views.{tall, ahead, times_in};
 
 use crate::call::started;
-use crate::tokens::{
-    after_call, after_comma, after_last, after_member, after_name, close_of_line, end_of_line,
-};
+use crate::tokens::{after_call, after_member, close_of_line};
 use crate::values::{value, whole_primary};
-use py_expression::ReadError;
-use py_syntax::{Awaited, Expression, StartedCall, Timed, Token};
+use py_phrase::{Mark, ReadError, after, after_last, after_name, end_of_line};
+use py_syntax::{Awaited, Expression, Operator, StartedCall, Timed, Token};
 use std::alloc::Global;
 
 /// A time and perhaps its unit.
@@ -47,7 +45,7 @@ fn timed_value(alloc: Global, tokens: &[Token]) -> Result<((Timed, usize), &[Tok
     ensures { Gives (ahead view_timed) result (Reading.timed_value_of tokens.now) }
 {
     let ((value, height), rest) = value(alloc, tokens)?;
-    match after_comma(rest) {
+    match after(Mark::Operator(Operator::Comma), rest) {
         Some(rest) => Ok(((Timed::Value(value), height), rest)),
         None => Err(ReadError::Wrong),
     }
@@ -59,7 +57,7 @@ fn timed_call(alloc: Global, tokens: &[Token]) -> Result<((Timed, usize), &[Toke
     ensures { Gives (ahead view_timed) result (Reading.timed_call_of tokens.now) }
 {
     let ((call, height), rest) = started(alloc, tokens)?;
-    match after_comma(rest) {
+    match after(Mark::Operator(Operator::Comma), rest) {
         Some(rest) => Ok(((Timed::Call(call), height), rest)),
         None => Err(ReadError::Wrong),
     }
@@ -83,7 +81,7 @@ fn after_argument_comma(tokens: &[Token]) -> Option<&[Token]>
 {
     match after_last(tokens) {
         Some(_) => None,
-        None => after_comma(tokens),
+        None => after(Mark::Operator(Operator::Comma), tokens),
     }
 }
 

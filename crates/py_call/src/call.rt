@@ -5,17 +5,18 @@ ghost use Rattle.py_syntax.specs.ExpressionTrees.{view};
 ghost use Rattle.py_syntax.specs.StatementTrees.{view_argument, view_started};
 ghost use Rattle.py_syntax.specs.CallForms;
 ghost use Rattle.py_syntax.specs.CallForms.{in_order, starts_clock};
-ghost use Rattle.py_expression.specs.Gives.{Gives};
+ghost use Rattle.py_phrase.specs.Gives.{Gives};
 ghost use Rattle.py_call.specs.Reading;
 ghost use Rattle.py_expression.specs.Kept.{measured};
 ghost use Rattle.py_call.specs.Views.{tall, ahead, arguments_in};
 
 use crate::arguments::{Arguments, argument_list};
-use crate::tokens::{after_open, call_at, is_end};
+use crate::tokens::{call_at, is_end};
 use crate::values::within;
 use port_io::Name;
-use py_expression::{Measured, ReadError, primary};
-use py_syntax::{Argument, Expression, StartedCall, Token};
+use py_expression::{Measured, primary};
+use py_phrase::{Mark, ReadError, after};
+use py_syntax::{Argument, Bracket, Expression, StartedCall, Token};
 use std::alloc::Global;
 
 /// Whether no argument that is given by its place stands behind one that is given by its name.
@@ -34,6 +35,7 @@ fn is_in_order(list: &[Argument]) -> bool
     true
 }
 
+/// Whether an argument is given by this name.
 fn is_named(name: &Option<Name>, wanted: &[u8]) -> bool
     ensures { result ≡ CallForms.is_named wanted.now name.now }
 {
@@ -143,7 +145,10 @@ fn clock_start_from<'a>(
     ensures { Gives (ahead view_started) result (Reading.clock_start_from (measured callee, tokens.now)) }
 {
     let height = callee.height;
-    let (Some(clock), Some(rest)) = (owner(callee.tree, b"start"), after_open(tokens)) else {
+    let (Some(clock), Some(rest)) = (
+        owner(callee.tree, b"start"),
+        after(Mark::Open(Bracket::Round), tokens),
+    ) else {
         return Err(ReadError::Wrong);
     };
     let (arguments, rest) = argument_list(alloc, rest)?;

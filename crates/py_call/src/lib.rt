@@ -13,8 +13,6 @@ pub use arguments::{Arguments, argument_list};
 pub use awaited::{await_operand, closed_start};
 pub use call::started;
 pub use laws::{await_operands_are_read, right_sides_are_read, started_calls_are_read};
-pub use right::{after_await, right_side, value_list};
-pub use tokens::{
-    after_call, after_comma, after_last, after_member, after_open, close_of_line, end_of_line,
-};
+pub use right::{right_side, value_list};
+pub use tokens::after_call;
 pub use values::{value, whole_value, within};

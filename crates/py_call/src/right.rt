@@ -4,18 +4,18 @@ ghost use Rattle.std.specs.Prelude.{◌≡◌, codes, map, Some, None, IfOk, Mat
 ghost use Rattle.py_syntax.specs.declared.call.Argument as argument;
 ghost use Rattle.py_syntax.specs.ExpressionTrees.{view};
 ghost use Rattle.py_syntax.specs.StatementTrees.{view_right, view_argument};
-ghost use Rattle.py_expression.specs.Gives.{Gives};
+ghost use Rattle.py_phrase.specs.Gives.{Gives};
 ghost use Rattle.py_call.specs.Reading;
 ghost use Rattle.py_call.specs.Words;
 ghost use Rattle.py_call.specs.Views.{tall, values_ahead};
 
 use crate::arguments::argument_list;
 use crate::awaited::{await_operand, closed_start};
-use crate::tokens::{after_call, after_close, after_last, after_member, after_text, end_of_line};
+use crate::tokens::{after_call, after_member, after_text};
 use crate::values::whole_value;
 use port_io::NoMemory;
-use py_expression::ReadError;
-use py_syntax::{Argument, Expression, Keyword, RightSide, Token};
+use py_phrase::{Mark, ReadError, after, after_last, end_of_line};
+use py_syntax::{Argument, Bracket, Expression, Keyword, RightSide, Token};
 use std::alloc::Global;
 
 /// Whether all are given by their places.
@@ -94,7 +94,7 @@ fn after_new(tokens: &[Token]) -> Option<&[Token]>
 {
     match after_text(tokens) {
         Some(rest) => after_last(rest),
-        None => after_close(tokens),
+        None => after(Mark::Close(Bracket::Round), tokens),
     }
 }
 
@@ -150,22 +150,12 @@ fn call_or_value(alloc: Global, tokens: &[Token]) -> Result<(RightSide, usize), 
     right_value(alloc, tokens)
 }
 
-/// The tokens behind `await`.
-pub fn after_await(tokens: &[Token]) -> Option<&[Token]>
-    ensures { MatchOption result (Words.after_await tokens.now ≡ None) (λ x. Words.after_await tokens.now ≡ Some x.now) }
-{
-    match tokens.split_first() {
-        Some((Token::Keyword(Keyword::Await), rest)) => Some(rest),
-        _ => None,
-    }
-}
-
 /// The right side that these tokens are, with its height.
 #[tactic(auto, unfolding(crate::specs::Reading::right_of))]
 pub fn right_side(alloc: Global, tokens: &[Token]) -> Result<(RightSide, usize), ReadError>
     ensures { Gives (tall view_right) result (Reading.right_of tokens.now) }
 {
-    match after_await(tokens) {
+    match after(Mark::Keyword(Keyword::Await), tokens) {
         Some(rest) => {
             let (awaited, height) = await_operand(alloc, rest)?;
             Ok((RightSide::Await(awaited), height))

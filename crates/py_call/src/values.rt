@@ -2,13 +2,13 @@
 
 ghost use Rattle.std.specs.Prelude.{◌≡◌, ◌≤◌};
 ghost use Rattle.py_syntax.specs.ExpressionTrees.{view};
-ghost use Rattle.py_expression.specs.Gives.{Gives};
+ghost use Rattle.py_phrase.specs.Gives.{Gives};
 ghost use Rattle.py_call.specs.Kept;
 ghost use Rattle.py_call.specs.Reading;
 ghost use Rattle.py_call.specs.Views.{tall, ahead};
 
-use crate::tokens::end_of_line;
-use py_expression::{ReadError, expression, primary};
+use py_expression::{expression, primary};
+use py_phrase::{ReadError, end_of_line};
 use py_syntax::{Const, Expression, Token};
 use std::alloc::Global;
 

@@ -17,11 +17,13 @@ use Rattle.py_syntax.specs.declared.expression.Method.{Method}
 use Rattle.py_expression.specs.Shown as node
 use Rattle.py_expression.specs.Shown.{Shown, ShownTrees, shown, snoc, joined}
 use Rattle.py_expression.specs.Frames.{Frame, prefix, infix_op, brackets, subscript, call, format, wanted, Spot}
-use Rattle.py_expression.specs.Tokens.{operation_at, after_open, after_close, after_open_square, after_assign, after_last, attribute_at, named_at}
+use Rattle.py_expression.specs.Tokens.{operation_at, attribute_at}
+use Rattle.py_phrase.specs.Marks.{after, after_open, after_close, after_open_square, after_assign, after_last, named_at}
 use Rattle.py_expression.specs.Reading.{run, read_of, start, wanted_of, begin_of, name_of, name_by, call_of, call_end, argument_of, argument_begin, argument_by, follow_of, attribute_of, attribute_by, close_of, behind_argument, parts_of, opened, frame, behind_primary, behind_operand, in_format}
 use Rattle.py_expression.specs.Ends.{operation_level, front, NoTail, IsPlain, IsUncalled, Stops}
 use Rattle.py_expression.proofs.Nodes.{shown_constant, shown_name, shown_bracketed, shown_attribute, shown_method_call, shown_subscript, shown_unary, shown_infix, shown_call, shown_format, shown_trees, shown_with_tree, shown_parts, shown_with_text, shown_with_formatted, each_shown, count_of, greatest, each_part, greatest_part, followed, followed_snoc, followed_none, count_snoc, joined_assoc, joined_none}
-use Rattle.py_expression.proofs.Tables.{bytes_same, prefix_again, function_again, method_again, operation_again, operation_length, level_below, level_not_three, left_at_least, prefix_range}
+use Rattle.py_expression.proofs.Tables.{prefix_again, function_again, method_again, operation_again, operation_length, level_below, level_not_three, left_at_least, prefix_range}
+use Rattle.py_phrase.proofs.Facts.{bytes_same}
 use Rattle.py_expression.proofs.Starts.{operation_plain, starts}
 use Rattle.py_expression.proofs.Steps.{run_done}
 use Rattle.py_expression.proofs.Leads.{Leads, leads_then, leads_here, leads_step, wanted_step, follow_step, parts_step, infix_step, close_step, done_step, operand_step}
@@ -55,19 +57,19 @@ abbrev pub Quiet : List Token → Type 0
 Quiet ts = (front ts ≡ 0) × (attribute_at ts ≡ None) × (after_open_square ts ≡ None) × (after_open ts ≡ None)
 
 pub quiet_close : (ts : List Token) → Quiet (token.Close bracket.Round ∷ ts)
-unfolding operation_at
+unfolding operation_at after
 quiet_close ts = (refl, refl, refl, refl)
 
 pub quiet_close_square : (ts : List Token) → Quiet (token.Close bracket.Square ∷ ts)
-unfolding operation_at
+unfolding operation_at after
 quiet_close_square ts = (refl, refl, refl, refl)
 
 pub quiet_format_close : (ts : List Token) → Quiet (token.FormatClose ∷ ts)
-unfolding operation_at
+unfolding operation_at after
 quiet_format_close ts = (refl, refl, refl, refl)
 
 pub quiet_comma : (ts : List Token) → Quiet (token.Operator operator.Comma ∷ ts)
-unfolding operation_at
+unfolding operation_at after
 quiet_comma ts = (refl, refl, refl, refl)
 
 length_one : (ts us : List Token) (t : Token) → ts ≡ t ∷ us → length ts ≡ length us + 1
@@ -98,6 +100,7 @@ level_positive (MethodCall e m) = omega arith
 -- an expression inside of an opened node, up to the token that closes it
 inner : (e : Tree) → OperandReads e → (stack : List Frame) (f : Frame) (us vs : List Token) (s : Spot) (need n k : ℕ) → Spells e us vs → Quiet vs
     → 2 * length us + k ≤ n → need + 1 ≤ 2 * length vs + k → close_of stack f.least f.opened (shown e) vs ≡ Some s → Leads need n (await (f ∷ stack) 1 us) s
+unfolding after
 inner e ih stack f us vs s need n k sp q h l c =
     leads_then (2 * length vs + k) need n _ _ _
     (ih (f ∷ stack) 1 us vs n k sp (level_positive e) (omega (arith, q.0)) (q.1, q.2) (inl q.3) h)
@@ -110,7 +113,7 @@ if_less n m a b h = grind arith
 
 wanted_constant : (c : Const) (stack : List Frame) (least : ℕ) (t : Token) (rest : List Token) → IsConstant c t
     → wanted_of stack least (t ∷ rest) ≡ Some (behind_primary stack least (node.constant c) rest)
-unfolding wanted_of begin_of
+unfolding wanted_of begin_of after
 wanted_constant constants.Absent stack least t rest h = rw h
 wanted_constant (constants.Truth true) stack least t rest h = rw h
 wanted_constant (constants.Truth false) stack least t rest h = rw h
@@ -128,7 +131,7 @@ constant_reads c stack least ts rest n k (t, is, e) u h =
 
 wanted_name : (stack : List Frame) (least : ℕ) (n : List ℕ) (rest : List Token) → (after_open rest ≡ None) ⊎ (function_of n ≡ None)
     → wanted_of stack least (token.Name n ∷ rest) ≡ Some (behind_primary stack least (node.name n) rest)
-unfolding wanted_of begin_of name_of
+unfolding wanted_of begin_of name_of after
 wanted_name stack least n rest (inl h) = rw h (go (function_of n))
   where
     go : (o : Option Function) → name_by stack least n rest o None ≡ Some (behind_primary stack least (node.name n) rest)
@@ -146,7 +149,7 @@ name_reads n stack least ts rest m k e u h =
 -- Brackets, attributes, subscripts, methods.
 
 bracketed_reads : (e : Tree) → OperandReads e → PrimaryReads (Bracketed e)
-unfolding Spells wanted_of begin_of close_of
+unfolding Spells wanted_of begin_of close_of after
 bracketed_reads e ih stack least ts rest n k (us, vs, a, s, b) u h =
     let la : length ts ≡ length us + 1 = length_one ts us (token.Open bracket.Round) a in
     let lb : length vs ≡ length rest + 1 = length_one vs rest (token.Close bracket.Round) b in
@@ -156,7 +159,7 @@ bracketed_reads e ih stack least ts rest n k (us, vs, a, s, b) u h =
 
 follow_attribute : (stack : List Frame) (least : ℕ) (v : Shown) (n : List ℕ) (rest : List Token) → (after_open rest ≡ None) ⊎ (method_of n ≡ None)
     → follow_of stack least v (token.Operator operator.Dot ∷ token.Name n ∷ rest) ≡ behind_primary stack least (node.attribute v n) rest
-unfolding follow_of attribute_of
+unfolding follow_of attribute_of after
 follow_attribute stack least v n rest (inl h) = rw h (go (method_of n))
   where
     go : (o : Option Method) → attribute_by stack least v n rest o None ≡ behind_primary stack least (node.attribute v n) rest
@@ -165,7 +168,7 @@ follow_attribute stack least v n rest (inl h) = rw h (go (method_of n))
 follow_attribute stack least v n rest (inr h) = rw h
 
 attribute_reads : (e : Tree) (n : List ℕ) → (level e ≡ 12 → PrimaryReads e) → PrimaryReads (Attribute e n)
-unfolding Spells IsPlain
+unfolding Spells IsPlain after
 attribute_reads e n ih stack least ts rest m k (us, s, l, a) u h =
     let la : length us ≡ length rest + 2 = rw a (omega arith) in
     leads_then (2 * length us + 1 + k) (2 * length rest + 1 + k) m _ _ _ (ih l stack least ts us m k s (inl (rw a)) h)
@@ -176,11 +179,11 @@ attribute_reads e n ih stack least ts rest m k (us, s, l, a) u h =
 follow_method : (stack : List Frame) (least : ℕ) (v : Shown) (m : Method) (rest : List Token)
     → follow_of stack least v (token.Operator operator.Dot ∷ token.Name (method_name m) ∷ token.Open bracket.Round ∷ token.Close bracket.Round ∷ rest)
     ≡ behind_primary stack least (node.method_call v m) rest
-unfolding follow_of attribute_of
+unfolding follow_of attribute_of after
 follow_method stack least v m rest = rw (method_again m)
 
 method_reads : (e : Tree) (x : Method) → (level e ≡ 12 → PrimaryReads e) → PrimaryReads (MethodCall e x)
-unfolding Spells
+unfolding Spells after
 method_reads e x ih stack least ts rest m k (us, s, l, a) u h =
     let la : length us ≡ length rest + 4 = rw a (omega arith) in
     leads_then (2 * length us + 1 + k) (2 * length rest + 1 + k) m _ _ _ (ih l stack least ts us m k s (inl (rw a)) h)
@@ -189,7 +192,7 @@ method_reads e x ih stack least ts rest m k (us, s, l, a) u h =
     (leads_here _ _ _ (omega arith)))
 
 subscript_reads : (e i : Tree) → (level e ≡ 12 → PrimaryReads e) → OperandReads i → PrimaryReads (Subscript e i)
-unfolding Spells follow_of close_of
+unfolding Spells follow_of close_of after
 subscript_reads e i ih ii stack least ts rest n k (us, vs, ws, s, l, a, si, b) u h =
     let la : length us ≡ length vs + 1 = length_one us vs (token.Open bracket.Square) a in
     let lb : length ws ≡ length rest + 1 = length_one ws rest (token.Close bracket.Square) b in
@@ -209,6 +212,7 @@ unfolding wanted_of
 wanted_prefix op stack least ts h = rw (prefix_again op) (if_at_most least (prefix_level op) (Some (opened stack (frame (prefix op) least) (prefix_level op) ts)) None h)
 
 front_small : (ts : List Token) → (front ts < 11) × (front ts ≡ 3 → ⊥)
+unfolding after
 front_small ts = go (operation_at ts)
   where
     go : (o : Option (Operation × List Token)) → (operation_level o < 11) × (operation_level o ≡ 3 → ⊥)
@@ -216,6 +220,7 @@ front_small ts = go (operation_at ts)
     go (Some x) = ((level_below x.0).1, level_not_three x.0)
 
 front_below : (op : UnOp) (ts : List Token) → front ts ≤ prefix_level op → front ts < prefix_level op
+unfolding after
 front_below op ts h = go (prefix_range op) (at_most_or_more_of (front ts) (prefix_level op) h)
   where
     at_most_or_more_of : (a b : ℕ) → a ≤ b → (a < b) ⊎ (a ≡ b)
@@ -227,6 +232,7 @@ front_below op ts h = go (prefix_range op) (at_most_or_more_of (front ts) (prefi
     go (inr a) (inr e) = omega (arith, (front_small ts).0)
 
 uncalled_again : (e : Tree) (rest : List Token) → (IsPlain e → ⊥) → IsUncalled e rest → after_open rest ≡ None
+unfolding after
 uncalled_again e rest never (inl h) = h
 uncalled_again e rest never (inr h) = absurd (never h)
 
@@ -243,7 +249,7 @@ unary_reads op e ih stack least ts rest n k (us, a, s, l) b f t u h =
     (leads_here _ _ _ (omega arith))))
 
 infix_reads : (op : Operation) (l r : Tree) → OperandReads l → OperandReads r → OperandReads (Infix op l r)
-unfolding Spells level IsPlain close_of
+unfolding Spells level IsPlain close_of after
 infix_reads op l r il ir stack least ts rest n k (us, vs, sl, ll, a, sr, lr) b f t u h =
     let at : operation_at us ≡ Some (op, vs) = rw a (operation_again op vs (λ q. (starts r vs rest sr).1 (omega arith))) in
     let plain = operation_plain op vs in
@@ -262,6 +268,7 @@ infix_reads op l r il ir stack least ts rest n k (us, vs, sl, ll, a, sr, lr) b f
 
 -- where an argument begins that is given by its place or by its name
 begins_again : (f : Function) (n : ℕ) (us vs : List Token) → Begins f n us vs → named_at vs ≡ None → argument_begin f n us ≡ vs
+unfolding after
 begins_again f n us vs (inl e) h = rw e (go (name_at f n))
   where
     go : (o : Option (List ℕ)) → argument_by vs o ≡ vs
@@ -270,12 +277,13 @@ begins_again f n us vs (inl e) h = rw e (go (name_at f n))
 begins_again f n us vs (inr (name, at, e)) h = rw (e, at, bytes_same name)
 
 begins_open : (f : Function) (n : ℕ) (us vs : List Token) → Begins f n us vs → after_close vs ≡ None → after_close us ≡ None
+unfolding after
 begins_open f n us vs (inl e) h = rw e h
 begins_open f n us vs (inr (name, at, e)) h = rw e
 
 -- what ends an argument
 others_quiet : (f : Function) (n : ℕ) (es : Trees) (ts rest : List Token) → SpellOthers f n es ts rest → Quiet ts × (after_assign ts ≡ None)
-unfolding SpellOthers operation_at
+unfolding SpellOthers operation_at after
 others_quiet f n NoTree ts rest (enough, inl e) = rw e ((refl, refl, refl, refl), refl)
 others_quiet f n NoTree ts rest (enough, inr e) = rw e ((refl, refl, refl, refl), refl)
 others_quiet f n (Then x es) ts rest (us, vs, ws, e, takes, begins, s, more) = rw e ((refl, refl, refl, refl), refl)
@@ -291,6 +299,7 @@ unfolding call_end
 call_end_is f acc stack least rest h = rw h (ap (λ v. Some (behind_primary stack least v rest)) (shown_call f acc))
 
 closes_again : (here rest : List Token) → Closes here rest → after_last here ≡ Some rest
+unfolding after
 closes_again here rest (inl e) = rw e
 closes_again here rest (inr e) = rw e
 
@@ -322,7 +331,7 @@ argument_reads : (e : Tree) (es : Trees) → OperandReads e → OthersRead es
     → (f : Function) (acc : Trees) (stack : List Frame) (least : ℕ) (vs ws rest : List Token) (n k : ℕ) → Spells e vs ws → SpellOthers f (count_of acc + 1) es ws rest
     → 2 * length vs + k + 1 ≤ n
     → Leads (2 * length rest + 1 + k) n (await (frame (call f (shown_trees acc)) least ∷ stack) 1 vs) (behind_primary stack least (shown (Call f (followed acc (Then e es)))) rest)
-unfolding close_of
+unfolding close_of after
 argument_reads e es ie ies f acc stack least vs ws rest n k s more h =
     let ih = ies f (snoc acc e) stack least ws rest (count_of acc + 1) (sym (count_snoc acc e)) more in
     leads_then (2 * length ws + k) (2 * length rest + 1 + k) n _ ih.0 _
@@ -331,7 +340,7 @@ argument_reads e es ie ies f acc stack least vs ws rest n k s more h =
     (λ m hm. subst (λ es2. Leads (2 * length rest + 1 + k) m ih.0 (behind_primary stack least (shown (Call f es2)) rest)) (followed_snoc acc e es) (ih.2 m k (omega arith)))
 
 others_more : (e : Tree) (es : Trees) → OperandReads e → OthersRead es → OthersRead (Then e es)
-unfolding SpellOthers behind_argument
+unfolding SpellOthers behind_argument after
 others_more e es ie ies f acc stack least here rest m em (us, vs, ws, eq, takes, begins, s, more) =
     let ends = others_quiet f (m + 1) es ws rest more in
     let st = starts e vs ws s in
@@ -348,11 +357,11 @@ shown_none = refl
 
 wanted_call : (f : Function) (stack : List Frame) (least : ℕ) (us : List Token)
     → wanted_of stack least (token.Name (function_name f) ∷ token.Open bracket.Round ∷ us) ≡ call_of stack least f us
-unfolding wanted_of begin_of name_of
+unfolding wanted_of begin_of name_of after
 wanted_call f stack least us = rw (function_again f)
 
 call_none_reads : (f : Function) → PrimaryReads (Call f NoTree)
-unfolding Spells SpellArguments call_of count_of
+unfolding Spells SpellArguments call_of count_of after
 call_none_reads f stack least ts rest n k (us, a, (enough, b)) u h =
     let la : length ts ≡ length us + 2 = rw a (omega arith) in
     let lb : length us ≡ length rest + 1 = length_one us rest (token.Close bracket.Round) b in
@@ -360,7 +369,7 @@ call_none_reads f stack least ts rest n k (us, a, (enough, b)) u h =
     (wanted_call f stack least us ∙ rw (b, ← shown_none) (call_end_is f NoTree stack least rest enough)) (omega arith) (leads_here _ _ _ (omega arith))
 
 call_some_reads : (f : Function) (e : Tree) (es : Trees) → OperandReads e → OthersRead es → PrimaryReads (Call f (Then e es))
-unfolding Spells SpellArguments call_of count_of followed
+unfolding Spells SpellArguments call_of count_of followed after
 call_some_reads f e es ie ies stack least ts rest n k (us, a, (vs, ws, takes, begins, s, more)) u h =
     let ends = others_quiet f 1 es ws rest more in
     let st = starts e vs ws s in
@@ -394,7 +403,7 @@ parts_text t ps ih acc stack least here rest n k (us, e, more) h =
     (joined_assoc acc (TextThen t NoPart) ps) (ih (joined acc (TextThen t NoPart)) stack least us rest (n - 1) k more (omega arith)))
 
 parts_tree : (e : Tree) (ps : Parts) → OperandReads e → PartsRead ps → PartsRead (FormattedThen e ps)
-unfolding SpellParts parts_of joined close_of
+unfolding SpellParts parts_of joined close_of after
 parts_tree e ps ie ih acc stack least here rest n k (us, vs, ws, a, s, b, more) h =
     let la : length here ≡ length us + 1 = length_one here us token.FormatOpen a in
     let lb : length vs ≡ length ws + 1 = length_one vs ws token.FormatClose b in
@@ -410,7 +419,7 @@ unfolding each_part greatest_part
 no_parts_shown = refl
 
 format_reads : (ps : Parts) → PartsRead ps → PrimaryReads (FormatString ps)
-unfolding Spells wanted_of begin_of joined
+unfolding Spells wanted_of begin_of joined after
 format_reads ps ih stack least ts rest n k (us, a, more) u h =
     let la : length ts ≡ length us + 1 = length_one ts us token.FormatStart a in
     leads_token _ n stack least token.FormatStart ts us (in_format stack least (shown_parts NoPart) us) _ a (rw no_parts_shown) (omega arith)
@@ -442,7 +451,7 @@ mutual
   parts_read (FormattedThen e ps) = parts_tree e ps (reads e).operand (parts_read ps)
 
 pub read_again : (least : ℕ) (e : Tree) (ts rest : List Token) → Spells e ts rest → least ≤ level e → Stops least e rest → read_of least ts ≡ Some (shown e, rest)
-unfolding read_of
+unfolding read_of after
 read_again least e ts rest s b stops =
     go ((reads e).operand [] least ts rest (2 * length ts + 1) 1 s b (omega (arith, stops.no_operator)) stops.no_tail stops.uncalled (omega arith))
   where

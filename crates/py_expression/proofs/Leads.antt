@@ -3,6 +3,7 @@ use Rattle.std.proofs.Common.{◌≡◌, ℕ, ◌+◌, ◌-◌, ◌<◌, ◌≤�
 use Rattle.py_syntax.specs.ExpressionTables.{level_of, left_level}
 use Rattle.py_syntax.specs.declared.token.Token.{Token}
 use Rattle.py_syntax.specs.declared.expression.Operation.{Operation}
+use Rattle.py_phrase.specs.Marks.{after}
 use Rattle.py_expression.specs.Shown.{Shown, ShownParts}
 use Rattle.py_expression.specs.Frames.{Frame, infix_op, wanted, Spot, going, done}
 use Rattle.py_expression.specs.Tokens.{operation_at}
@@ -51,12 +52,12 @@ fits_no least level op a = grind arith
 pub infix_step : (stack : List Frame) (least level : ℕ) (v : Shown) (op : Operation) (ts us : List Token)
     → operation_at ts ≡ Some (op, us) → least ≤ level_of op → left_level op ≤ level
     → step_of (behind_operand stack least v level ts) ≡ Some (going (opened stack (frame (infix_op op v) least) (level_of op + 1) us))
-unfolding step_of operand_of
+unfolding step_of operand_of after
 infix_step stack least level v op ts us e a b = rw (e, fits_yes least level op a b)
 
 -- no operator that is taken
 pub operand_leaves : (stack : List Frame) (least level : ℕ) (v : Shown) (ts : List Token) → front ts < least → operand_of stack least v level ts ≡ leave_of stack v ts
-unfolding operand_of
+unfolding operand_of after
 operand_leaves stack least level v ts h = go (operation_at ts) h
   where
     go : (o : Option (Operation × List Token)) → operation_level o < least → operand_by stack least v level ts o ≡ leave_of stack v ts
@@ -65,14 +66,14 @@ operand_leaves stack least level v ts h = go (operation_at ts) h
 
 pub close_step : (stack : List Frame) (f : Frame) (least level : ℕ) (v : Shown) (ts : List Token) (s : Spot) → front ts < least
     → close_of stack f.least f.opened v ts ≡ Some s → step_of (behind_operand (f ∷ stack) least v level ts) ≡ Some (going s)
-unfolding step_of leave_of
+unfolding step_of leave_of after
 close_step stack f least level v ts s h e = operand_leaves (f ∷ stack) least level v ts h ∙ rw e
 
 pub done_step : (least level : ℕ) (v : Shown) (ts : List Token) → front ts < least → step_of (behind_operand [] least v level ts) ≡ Some (done v ts)
-unfolding step_of leave_of
+unfolding step_of leave_of after
 done_step least level v ts h = operand_leaves [] least level v ts h
 
 -- nothing follows a primary
 pub operand_step : (stack : List Frame) (least : ℕ) (v : Shown) (ts : List Token) → NoTail ts → step_of (behind_primary stack least v ts) ≡ Some (going (behind_operand stack least v 12 ts))
-unfolding step_of follow_of
+unfolding step_of follow_of after
 operand_step stack least v ts h = rw (h.0, h.1)

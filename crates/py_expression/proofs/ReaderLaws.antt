@@ -4,10 +4,11 @@ use Rattle.std.specs.Borrow.{Bor}
 use Rattle.py_syntax.specs.ExpressionTrees.{Tree, height}
 use Rattle.py_syntax.specs.ExpressionSpells.{Spells, level}
 use Rattle.py_syntax.specs.declared.token.Token.{Token}
-use Rattle.py_expression.specs.declared.fault.ReadError.{ReadError}
-use Rattle.py_expression.specs.declared.fault.ReadError.TheVariants as errors
+use Rattle.py_phrase.specs.Marks.{after}
+use Rattle.py_phrase.specs.declared.fault.ReadError.{ReadError}
+use Rattle.py_phrase.specs.declared.fault.ReadError.TheVariants as errors
 use Rattle.py_expression.specs.declared.measured.Measured.{Measured}
-use Rattle.py_expression.specs.Gives.{Gives}
+use Rattle.py_phrase.specs.Gives.{Gives}
 use Rattle.py_expression.specs.Kept.{measured}
 use Rattle.py_expression.specs.Shown.{Shown, shown}
 use Rattle.py_expression.specs.Reading.{read_of, expression_of, primary_of}
@@ -15,18 +16,20 @@ use Rattle.py_expression.specs.Ends.{Stops, IsRead, IsFound}
 use Rattle.py_expression.proofs.Again.{read_again, level_positive}
 use Rattle.py_expression.proofs.Sound.{read_sound}
 use Rattle.py_expression.proofs.Nodes.{at_most_or_more, shown_whole, shown_high}
-use Rattle.py_expression.proofs.TokenFacts.{some_same}
+use Rattle.py_phrase.proofs.Facts.{some_same}
 
 pub expression_sound : (ts rest : List Token) (v : Shown) → expression_of ts ≡ Some (v, rest) → IsRead 1 ts v rest
 expression_sound ts rest v e = read_sound 1 ts (omega arith) (v, rest) e
 
 pub expression_again : (e : Tree) (ts rest : List Token) → Spells e ts rest → Stops 1 e rest → expression_of ts ≡ Some (shown e, rest)
+unfolding after
 expression_again e ts rest s stops = read_again 1 e ts rest s (level_positive e) stops
 
 pub primary_sound : (ts rest : List Token) (v : Shown) → primary_of ts ≡ Some (v, rest) → IsRead 12 ts v rest
 primary_sound ts rest v e = read_sound 12 ts (omega arith) (v, rest) e
 
 pub primary_again : (e : Tree) (ts rest : List Token) → Spells e ts rest → 12 ≤ level e → Stops 12 e rest → primary_of ts ≡ Some (shown e, rest)
+unfolding after
 primary_again e ts rest s b stops = read_again 12 e ts rest s b stops
 
 -- trees of which the same is kept are the same, if one is within the limit
@@ -38,6 +41,7 @@ shown_same e f h eq = go (at_most_or_more (height f) 66)
     go (inr k) = absurd (omega (arith, ap (λ (s : Shown). s.height) (sym (shown_whole e h) ∙ eq ∙ shown_high f k)))
 
 pub one_expression_law : (e f : Tree) (ts rest others : List Token) → Spells e ts rest → Stops 1 e rest → Spells f ts others → Stops 1 f others → height e ≤ 66 → (e ≡ f) × (rest ≡ others)
+unfolding after
 one_expression_law e f ts rest others s a t b h =
     let both : (shown e, rest) ≡ (shown f, others) = some_same (sym (expression_again e ts rest s a) ∙ expression_again f ts others t b) in
     (shown_same e f h (ap (λ (x : Shown × List Token). x.0) both), ap (λ (x : Shown × List Token). x.1) both)
@@ -54,6 +58,7 @@ none_some o x a b = cc
 
 pub only_law : (least : ℕ) (ts : List Token) (r : Result (Measured × Bor (List Token)) ReadError) (e : Tree) (rest : List Token)
     → Gives (λ x. (measured x.0, x.1.now)) r (read_of least ts) → Spells e ts rest → least ≤ level e → Stops least e rest → IsFound e rest r
+unfolding after
 only_law least ts (Ok x) e rest g s b stops =
     let both : (measured x.0, x.1.now) ≡ (shown e, rest) = some_same (sym g ∙ read_again least e ts rest s b stops) in
     (ap (λ (y : Shown × List Token). y.0) both, ap (λ (y : Shown × List Token). y.1) both)

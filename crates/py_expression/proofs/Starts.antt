@@ -12,7 +12,8 @@ use Rattle.py_syntax.specs.declared.expression.BinOp.TheVariants as binary
 use Rattle.py_syntax.specs.declared.expression.BoolOp.TheVariants as bool
 use Rattle.py_syntax.specs.declared.expression.Operation.{Operation}
 use Rattle.py_syntax.specs.declared.expression.Operation.TheVariants as operation
-use Rattle.py_expression.specs.Tokens.{after_not, after_close, after_assign, named_at, attribute_at, after_open, after_open_square}
+use Rattle.py_expression.specs.Tokens.{after_not, attribute_at}
+use Rattle.py_phrase.specs.Marks.{after, after_close, after_assign, named_at, after_open, after_open_square}
 use Rattle.py_expression.specs.Ends.{begins_expression, starts_expression}
 use Rattle.py_expression.proofs.Tables.{left_at_least}
 
@@ -20,6 +21,7 @@ use Rattle.py_expression.proofs.Tables.{left_at_least}
 pub operation_plain : (op : Operation) (ts : List Token)
     → (after_assign (operation_tokens op ++ ts) ≡ None) × (attribute_at (operation_tokens op ++ ts) ≡ None)
     × (after_open_square (operation_tokens op ++ ts) ≡ None) × (after_open (operation_tokens op ++ ts) ≡ None)
+unfolding after
 operation_plain (operation.Bool bool.Or) ts = (refl, refl, refl, refl)
 operation_plain (operation.Bool bool.And) ts = (refl, refl, refl, refl)
 operation_plain (operation.Binary binary.Equal) ts = (refl, refl, refl, refl)
@@ -46,6 +48,7 @@ abbrev pub Starts : Tree → List Token → List Token → Type 0
 Starts e ts rest = (after_close ts ≡ None) × (4 ≤ level e → after_not ts ≡ None) × (after_assign rest ≡ None → named_at ts ≡ None)
 
 constant_starts : (c : Const) (t : Token) (us : List Token) → IsConstant c t → (after_close (t ∷ us) ≡ None) × (after_not (t ∷ us) ≡ None) × (named_at (t ∷ us) ≡ None)
+unfolding after
 constant_starts constants.Absent t us h = rw h (refl, refl, refl)
 constant_starts (constants.Truth true) t us h = rw h (refl, refl, refl)
 constant_starts (constants.Truth false) t us h = rw h (refl, refl, refl)
@@ -55,7 +58,7 @@ constant_starts (constants.Text bytes) t us h = rw h (refl, refl, refl)
 constant_starts (constants.Named n) t us h = absurd h
 
 prefix_starts : (op : UnOp) (e : Tree) (us rest : List Token) → Starts (Unary op e) (prefix_token op ∷ us) rest
-unfolding level
+unfolding level after
 prefix_starts unary.Not e us rest = (refl, λ h. absurd (omega arith), λ h. refl)
 prefix_starts unary.Negative e us rest = (refl, λ h. refl, λ h. refl)
 prefix_starts unary.Positive e us rest = (refl, λ h. refl, λ h. refl)
@@ -63,10 +66,11 @@ prefix_starts unary.Invert e us rest = (refl, λ h. refl, λ h. refl)
 
 -- behind a tree, one that goes on with it
 starts_more : (e f : Tree) (ts us rest : List Token) → Starts e ts us → (4 ≤ level f → 4 ≤ level e) → after_assign us ≡ None → Starts f ts rest
+unfolding after
 starts_more e f ts us rest (a, b, c) up h = (a, λ k. b (up k), λ _. c h)
 
 pub starts : (e : Tree) (ts rest : List Token) → Spells e ts rest → Starts e ts rest
-unfolding Spells level
+unfolding Spells level after
 starts (Constant c) ts rest (t, is, eq) = rw eq (let k = constant_starts c t rest is in (k.0, λ h. k.1, λ h. k.2))
 starts (FormatString ps) ts rest (us, eq, more) = rw eq (refl, λ h. refl, λ h. refl)
 starts (Name n) ts rest eq = rw eq (refl, λ h. refl, λ h. rw h)

@@ -1,6 +1,5 @@
 -- The tables of operators, functions and methods, and the tokens that they stand for.
-use Rattle.std.proofs.Common.{◌≡◌, ℕ, ◌+◌, ◌<◌, ◌≤◌, List, [], ◌∷◌, ◌++◌, length, Some, None, refl, arith, ◌⊎◌, inl, inr, true}
-use Rattle.std.specs.Str.{bytes_eq}
+use Rattle.std.proofs.Common.{◌≡◌, ◌+◌, ◌<◌, ◌≤◌, List, ◌++◌, length, Some, None, refl, arith, ◌⊎◌, inl, inr}
 use Rattle.py_syntax.specs.ExpressionTables.{level_of, left_level, prefix_level, operation_tokens, prefix_token, function_name, function_of, method_name, method_of}
 use Rattle.py_syntax.specs.declared.token.Token.{Token}
 use Rattle.py_syntax.specs.declared.expression.UnOp.{UnOp}
@@ -13,11 +12,8 @@ use Rattle.py_syntax.specs.declared.expression.Function.{Function}
 use Rattle.py_syntax.specs.declared.expression.Function.TheVariants as function
 use Rattle.py_syntax.specs.declared.expression.Method.{Method}
 use Rattle.py_syntax.specs.declared.expression.Method.TheVariants as method
+use Rattle.py_phrase.specs.Marks.{after}
 use Rattle.py_expression.specs.Tokens.{prefix_of, operation_at, after_not}
-
-pub bytes_same : (bs : List ℕ) → bytes_eq bs bs ≡ true
-bytes_same [] = refl
-bytes_same (b ∷ bs) = grind (arith, bytes_same bs)
 
 pub prefix_again : (op : UnOp) → prefix_of (prefix_token op) ≡ Some op
 prefix_again unary.Not = refl
@@ -54,7 +50,7 @@ method_again method.IsSet = refl
 method_again method.Done = refl
 
 pub operation_again : (op : Operation) (ts : List Token) → (4 ≤ level_of op → after_not ts ≡ None) → operation_at (operation_tokens op ++ ts) ≡ Some (op, ts)
-unfolding operation_at
+unfolding operation_at after
 operation_again (operation.Bool bool.Or) ts h = refl
 operation_again (operation.Bool bool.And) ts h = refl
 operation_again (operation.Binary binary.Equal) ts h = refl

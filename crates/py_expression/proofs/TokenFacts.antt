@@ -1,13 +1,9 @@
 -- What the helpers on tokens tell of the tokens.
-use Rattle.std.proofs.Common.{◌≡◌, ℕ, ◌<◌, ◌^◌, List, [], ◌∷◌, ◌++◌, Option, Some, None, refl, sym, ap, ◌∙◌, arith, inl, inr, true, false, Bool, pos, if◌then◌else◌, cond}
-use Rattle.std.specs.Prelude.{nat_lt}
+use Rattle.std.proofs.Common.{◌≡◌, ℕ, List, [], ◌∷◌, ◌++◌, Option, Some, None, refl, sym, ap, ◌∙◌, arith, inl, inr, true, false, Bool, if◌then◌else◌, cond}
 use Rattle.std.specs.Str.{bytes_eq}
 use Rattle.std.specs.List.{find}
-use Rattle.std.proofs.lemmas.Slice.Eq.{bytes_eq-Decides}
 use Rattle.py_syntax.specs.ExpressionTables.{operation_tokens, prefix_token, function_name, function_of, functions, method_name, method_of, methods, name_at}
-use Rattle.py_syntax.specs.ExpressionSpells.{IsConstant, Closes, Begins}
-use Rattle.py_syntax.specs.declared.constant.Const.{Const}
-use Rattle.py_syntax.specs.declared.constant.Const.TheVariants as constants
+use Rattle.py_syntax.specs.ExpressionSpells.{Begins}
 use Rattle.py_syntax.specs.declared.keyword.Keyword.TheVariants as keyword
 use Rattle.py_syntax.specs.declared.operator.Operator.TheVariants as operator
 use Rattle.py_syntax.specs.declared.operator.Bracket.TheVariants as bracket
@@ -20,51 +16,25 @@ use Rattle.py_syntax.specs.declared.expression.Operation.{Operation}
 use Rattle.py_syntax.specs.declared.expression.Operation.TheVariants as operation
 use Rattle.py_syntax.specs.declared.expression.Function.{Function}
 use Rattle.py_syntax.specs.declared.expression.Method.{Method}
-use Rattle.py_expression.specs.Tokens.{prefix_of, operation_of, operation_at, operation_from, with_not, after_not, constant_of, after_open, after_close, after_open_square, after_close_square, after_comma, after_format_close, after_assign, after_empty_call, after_close_in, after_last, last_by, name_at as name_in, attribute_at, named_at, named_from, named_by, after_name_by}
+use Rattle.py_phrase.specs.declared.mark.Mark.TheVariants as mark
+use Rattle.py_phrase.specs.Marks.{after, after_open, after_dot, named_at, after_name_by}
+use Rattle.py_phrase.proofs.Facts.{some_same, bytes_are, after_is, after_open_is, after_close_is, after_dot_is, name_at_is, named_at_is}
+use Rattle.py_expression.specs.Tokens.{prefix_of, operation_of, operation_at, operation_from, with_not, after_not, after_format_close, after_empty_call, after_close_in, name_behind, attribute_at}
 use Rattle.py_expression.specs.Reading.{argument_begin, argument_by}
 
-pub some_same : {A : Type 0} {a b : A} → Some a ≡ Some b → a ≡ b
-some_same {A} {a} {b} e = ap (λ (o : Option A). elim o as (λ _. A) [ None ↦ a | Some x ↦ x ]) e
-
 pub after_not_is : (ts us : List Token) → after_not ts ≡ Some us → ts ≡ token.Keyword keyword.Not ∷ us
-after_not_is (token.Keyword keyword.Not ∷ ts) us e = ap (λ x. token.Keyword keyword.Not ∷ x) (some_same e)
-after_not_is _ us e = cc
-
-pub after_open_is : (ts us : List Token) → after_open ts ≡ Some us → ts ≡ token.Open bracket.Round ∷ us
-after_open_is (token.Open bracket.Round ∷ ts) us e = ap (λ x. token.Open bracket.Round ∷ x) (some_same e)
-after_open_is _ us e = cc
-
-pub after_close_is : (ts us : List Token) → after_close ts ≡ Some us → ts ≡ token.Close bracket.Round ∷ us
-after_close_is (token.Close bracket.Round ∷ ts) us e = ap (λ x. token.Close bracket.Round ∷ x) (some_same e)
-after_close_is _ us e = cc
-
-pub after_open_square_is : (ts us : List Token) → after_open_square ts ≡ Some us → ts ≡ token.Open bracket.Square ∷ us
-after_open_square_is (token.Open bracket.Square ∷ ts) us e = ap (λ x. token.Open bracket.Square ∷ x) (some_same e)
-after_open_square_is _ us e = cc
-
-pub after_close_square_is : (ts us : List Token) → after_close_square ts ≡ Some us → ts ≡ token.Close bracket.Square ∷ us
-after_close_square_is (token.Close bracket.Square ∷ ts) us e = ap (λ x. token.Close bracket.Square ∷ x) (some_same e)
-after_close_square_is _ us e = cc
-
-pub after_comma_is : (ts us : List Token) → after_comma ts ≡ Some us → ts ≡ token.Operator operator.Comma ∷ us
-after_comma_is (token.Operator operator.Comma ∷ ts) us e = ap (λ x. token.Operator operator.Comma ∷ x) (some_same e)
-after_comma_is _ us e = cc
+after_not_is ts us e = after_is (mark.Keyword keyword.Not) ts us e
 
 pub after_format_close_is : (ts us : List Token) → after_format_close ts ≡ Some us → ts ≡ token.FormatClose ∷ us
 after_format_close_is (token.FormatClose ∷ ts) us e = ap (λ x. token.FormatClose ∷ x) (some_same e)
 after_format_close_is _ us e = cc
 
-pub after_assign_is : (ts us : List Token) → after_assign ts ≡ Some us → ts ≡ token.Operator operator.Assign ∷ us
-after_assign_is (token.Operator operator.Assign ∷ ts) us e = ap (λ x. token.Operator operator.Assign ∷ x) (some_same e)
-after_assign_is _ us e = cc
-
-pub name_in_is : (ts : List Token) (x : List ℕ × List Token) → name_in ts ≡ Some x → ts ≡ token.Name x.0 ∷ x.1
-name_in_is (token.Name n ∷ ts) x e = ap (λ (y : List ℕ × List Token). token.Name y.0 ∷ y.1) (some_same e)
-name_in_is _ x e = cc
-
 pub attribute_at_is : (ts : List Token) (x : List ℕ × List Token) → attribute_at ts ≡ Some x → ts ≡ token.Operator operator.Dot ∷ token.Name x.0 ∷ x.1
-attribute_at_is (token.Operator operator.Dot ∷ ts) x e = ap (λ us. token.Operator operator.Dot ∷ us) (name_in_is ts x e)
-attribute_at_is _ x e = cc
+attribute_at_is ts x e = go (after_dot ts) refl e
+  where
+    go : (o : Option (List Token)) → after_dot ts ≡ o → name_behind o ≡ Some x → ts ≡ token.Operator operator.Dot ∷ token.Name x.0 ∷ x.1
+    go None q h = cc
+    go (Some us) q h = after_dot_is ts us q ∙ ap (λ vs. token.Operator operator.Dot ∷ vs) (name_at_is us x h)
 
 pub after_empty_call_is : (ts us : List Token) → after_empty_call ts ≡ Some us → ts ≡ token.Open bracket.Round ∷ token.Close bracket.Round ∷ us
 after_empty_call_is ts us e = go (after_open ts) refl e
@@ -72,13 +42,6 @@ after_empty_call_is ts us e = go (after_open ts) refl e
     go : (o : Option (List Token)) → after_open ts ≡ o → after_close_in o ≡ Some us → ts ≡ token.Open bracket.Round ∷ token.Close bracket.Round ∷ us
     go None q h = cc
     go (Some vs) q h = after_open_is ts vs q ∙ ap (λ x. token.Open bracket.Round ∷ x) (after_close_is vs us h)
-
-pub after_last_is : (ts us : List Token) → after_last ts ≡ Some us → Closes ts us
-after_last_is ts us e = go (after_comma ts) refl e
-  where
-    go : (o : Option (List Token)) → after_comma ts ≡ o → last_by ts o ≡ Some us → Closes ts us
-    go None q h = inl (after_close_is ts us h)
-    go (Some vs) q h = inr (after_comma_is ts vs q ∙ ap (λ x. token.Operator operator.Comma ∷ x) (after_close_is vs us h))
 
 pub prefix_is : (t : Token) (op : UnOp) → prefix_of t ≡ Some op → t ≡ prefix_token op
 prefix_is (token.Keyword keyword.False) op e = cc
@@ -243,6 +206,7 @@ operation_is_one token.Invalid op e = cc
 
 with_not_is : (op : Operation) (ts : List Token) (o : Option (List Token)) → after_not ts ≡ o
     → operation_tokens op ++ ts ≡ operation_tokens (with_not op ts o).0 ++ (with_not op ts o).1
+unfolding after
 with_not_is (operation.Bool bool.Or) ts o q = refl
 with_not_is (operation.Bool bool.And) ts o q = refl
 with_not_is (operation.Binary binary.Equal) ts o q = refl
@@ -266,7 +230,7 @@ with_not_is (operation.Binary binary.FloorDivide) ts o q = refl
 with_not_is (operation.Binary binary.Modulo) ts o q = refl
 
 pub operation_is : (ts : List Token) (x : Operation × List Token) → operation_at ts ≡ Some x → ts ≡ operation_tokens x.0 ++ x.1
-unfolding operation_at
+unfolding operation_at after
 operation_is [] x e = cc
 operation_is (t ∷ ts) x e = go (operation_of t) refl e
   where
@@ -274,61 +238,6 @@ operation_is (t ∷ ts) x e = go (operation_of t) refl e
     go None q h = cc
     go (Some op) q h = ap (λ us. us ++ ts) (operation_is_one t op q) ∙ with_not_is op ts (after_not ts) refl
         ∙ ap (λ (y : Operation × List Token). operation_tokens y.0 ++ y.1) (some_same h)
-
-number_is : (n : ℕ) (c : Const) → (if nat_lt n (2 ^ 127) then Some (constants.Whole (pos n)) else None) ≡ Some c → (c ≡ constants.Whole (pos n)) × (n < 2 ^ 127)
-number_is n c e = grind arith
-
-pub constant_is : (t : Token) (c : Const) → constant_of t ≡ Some c → IsConstant c t
-constant_is (token.Number n) c e = let k = number_is n c e in rw k.0 (refl, k.1)
-constant_is (token.Text bytes) c e = rw (sym (some_same e)) refl
-constant_is (token.Keyword keyword.False) c e = rw (sym (some_same e)) refl
-constant_is (token.Keyword keyword.None) c e = rw (sym (some_same e)) refl
-constant_is (token.Keyword keyword.True) c e = rw (sym (some_same e)) refl
-constant_is (token.Keyword keyword.And) c e = cc
-constant_is (token.Keyword keyword.As) c e = cc
-constant_is (token.Keyword keyword.Assert) c e = cc
-constant_is (token.Keyword keyword.Async) c e = cc
-constant_is (token.Keyword keyword.Await) c e = cc
-constant_is (token.Keyword keyword.Break) c e = cc
-constant_is (token.Keyword keyword.Class) c e = cc
-constant_is (token.Keyword keyword.Continue) c e = cc
-constant_is (token.Keyword keyword.Def) c e = cc
-constant_is (token.Keyword keyword.Del) c e = cc
-constant_is (token.Keyword keyword.Elif) c e = cc
-constant_is (token.Keyword keyword.Else) c e = cc
-constant_is (token.Keyword keyword.Except) c e = cc
-constant_is (token.Keyword keyword.Finally) c e = cc
-constant_is (token.Keyword keyword.For) c e = cc
-constant_is (token.Keyword keyword.From) c e = cc
-constant_is (token.Keyword keyword.Global) c e = cc
-constant_is (token.Keyword keyword.If) c e = cc
-constant_is (token.Keyword keyword.Import) c e = cc
-constant_is (token.Keyword keyword.In) c e = cc
-constant_is (token.Keyword keyword.Is) c e = cc
-constant_is (token.Keyword keyword.Lambda) c e = cc
-constant_is (token.Keyword keyword.Nonlocal) c e = cc
-constant_is (token.Keyword keyword.Not) c e = cc
-constant_is (token.Keyword keyword.Or) c e = cc
-constant_is (token.Keyword keyword.Pass) c e = cc
-constant_is (token.Keyword keyword.Raise) c e = cc
-constant_is (token.Keyword keyword.Return) c e = cc
-constant_is (token.Keyword keyword.Try) c e = cc
-constant_is (token.Keyword keyword.While) c e = cc
-constant_is (token.Keyword keyword.With) c e = cc
-constant_is (token.Keyword keyword.Yield) c e = cc
-constant_is (token.Operator m) c e = cc
-constant_is (token.Name n) c e = cc
-constant_is (token.Open b) c e = cc
-constant_is (token.Close b) c e = cc
-constant_is token.FormatStart c e = cc
-constant_is (token.FormatText n) c e = cc
-constant_is token.FormatOpen c e = cc
-constant_is token.FormatClose c e = cc
-constant_is token.FormatEnd c e = cc
-constant_is token.Invalid c e = cc
-
-pub bytes_are : (xs ys : List ℕ) → bytes_eq xs ys ≡ true → xs ≡ ys
-bytes_are xs ys e = (bytes_eq-Decides xs ys).0 e
 
 find_passes : {X : Type 0} (p : X → Bool) (xs : List X) (x : X) → find p xs ≡ Some x → p x ≡ true
 find_passes p [] x e = cc
@@ -346,20 +255,9 @@ pub method_is : (n : List ℕ) (m : Method) → method_of n ≡ Some m → n ≡
 unfolding method_of
 method_is n m e = sym (bytes_are (method_name m) n (find_passes (λ g. bytes_eq (method_name g) n) methods m e))
 
-named_by_is : (n : List ℕ) (o : Option (List Token)) (x : List ℕ × List Token) → named_by n o ≡ Some x → (n ≡ x.0) × (o ≡ Some x.1)
-named_by_is n None x e = cc
-named_by_is n (Some ts) x e = (ap (λ (y : List ℕ × List Token). y.0) (some_same e), ap (λ (y : List ℕ × List Token). Some y.1) (some_same e))
-
-pub named_at_is : (ts : List Token) (x : List ℕ × List Token) → named_at ts ≡ Some x → ts ≡ token.Name x.0 ∷ token.Operator operator.Assign ∷ x.1
-named_at_is ts x e = go (name_in ts) refl e
-  where
-    go : (o : Option (List ℕ × List Token)) → name_in ts ≡ o → named_from o ≡ Some x → ts ≡ token.Name x.0 ∷ token.Operator operator.Assign ∷ x.1
-    go None q h = cc
-    go (Some y) q h = let k = named_by_is y.0 (after_assign y.1) x h in
-        name_in_is ts y q ∙ ap (λ n. token.Name n ∷ y.1) k.0 ∙ ap (λ us. token.Name x.0 ∷ us) (after_assign_is y.1 x.1 k.1)
-
 -- where an argument begins, it begins by its place or by its name
 pub argument_begins : (f : Function) (n : ℕ) (ts : List Token) → Begins f n ts (argument_begin f n ts)
+unfolding after
 argument_begins f n ts = go (name_at f n) refl
   where
     named : (name : List ℕ) → name_at f n ≡ Some name → (x : List ℕ × List Token) → named_at ts ≡ Some x → (b : Bool) → bytes_eq x.0 name ≡ b

@@ -1,7 +1,6 @@
 pub mod Rows
 pub mod Shown
 pub mod Kept
-pub mod Gives
 pub mod Tokens
 pub mod Frames
 pub mod Spots

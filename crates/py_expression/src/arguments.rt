@@ -20,6 +20,7 @@ pub struct Arguments {
 }
 
 impl Arguments {
+    /// No arguments.
     pub fn new(alloc: Global) -> Self
         ensures { arguments_in result ≡ Shown.no_trees }
     {

@@ -1,18 +1,18 @@
 //! How an operand begins.
 
 ghost use Rattle.std.specs.Prelude.{◌≡◌, ◌∷◌};
-ghost use Rattle.py_expression.specs.Gives.{Gives};
+ghost use Rattle.py_phrase.specs.Gives.{Gives};
 ghost use Rattle.py_expression.specs.Kept.{arguments_in};
 ghost use Rattle.py_expression.specs.Spots.{stack_in, spot_in};
 ghost use Rattle.py_expression.specs.Reading;
 
 use crate::arguments::Arguments;
-use crate::fault::ReadError;
 use crate::frame::{Frame, Opened, Point, Spot, behind_primary, open};
 use crate::measured::Measured;
 use crate::parts::Parts;
-use crate::tokens::{after_close, after_name, after_open, constant, next, prefix_of};
+use crate::tokens::prefix_of;
 use port_io::Name;
+use py_phrase::{Mark, ReadError, after, after_name, constant_of};
 use py_syntax::{Bracket, Function, Token};
 use std::alloc::Global;
 
@@ -76,7 +76,7 @@ fn call<'a>(
 ) -> Result<Spot<'a>, ReadError>
     ensures { Gives spot_in result (Reading.call_of (stack_in stack.items) least function tokens.now) }
 {
-    match after_close(tokens) {
+    match after(Mark::Close(Bracket::Round), tokens) {
         Some(rest) => call_end(alloc, stack, least, function, Arguments::new(alloc), rest),
         None => argument(stack, least, function, Arguments::new(alloc), tokens),
     }
@@ -93,7 +93,10 @@ fn name<'a>(
 ) -> Result<Spot<'a>, ReadError>
     ensures { Gives spot_in result (Reading.name_of (stack_in stack.items) least name.now tokens.now) }
 {
-    match (Function::of(name.bytes()), after_open(tokens)) {
+    match (
+        Function::of(name.bytes()),
+        after(Mark::Open(Bracket::Round), tokens),
+    ) {
         (Some(function), Some(rest)) => call(alloc, stack, least, function, rest),
         _ => {
             let name = Measured::name(Name::of(alloc, name.bytes())?);
@@ -126,7 +129,7 @@ fn begin<'a>(
         }),
         Token::Name(word) => name(alloc, stack, least, word, rest),
         _ => {
-            let constant = Measured::constant(constant(alloc, first)?);
+            let constant = Measured::constant(constant_of(alloc, first)?);
             Ok(behind_primary(stack, least, constant, rest))
         }
     }
@@ -142,7 +145,7 @@ pub fn wanted<'a>(
 ) -> Result<Spot<'a>, ReadError>
     ensures { Gives spot_in result (Reading.wanted_of (stack_in stack.items) least tokens.now) }
 {
-    let Some((first, rest)) = next(tokens) else {
+    let Some((first, rest)) = tokens.split_first() else {
         return Err(ReadError::Wrong);
     };
     match prefix_of(first) {

@@ -1,23 +1,20 @@
 //! What may stand behind an operand: an operator, or the end of the innermost node.
 
 ghost use Rattle.std.specs.Prelude.{◌≡◌, ◌∷◌, Some};
-ghost use Rattle.py_expression.specs.Gives.{Gives};
+ghost use Rattle.py_phrase.specs.Gives.{Gives};
 ghost use Rattle.py_expression.specs.Kept.{measured, arguments_in, parts_in};
 ghost use Rattle.py_expression.specs.Spots.{stack_in, spot_in, step_in, opened_in};
 ghost use Rattle.py_expression.specs.Reading;
 
 use crate::arguments::Arguments;
 use crate::begin::{argument, call_end};
-use crate::fault::ReadError;
 use crate::frame::{Frame, Opened, Point, Spot, Step, behind_primary, innermost, open};
 use crate::measured::Measured;
 use crate::parts::Parts;
-use crate::tokens::{
-    after_close, after_close_square, after_comma, after_format_close, after_last, next,
-    operation_at,
-};
+use crate::tokens::{after_format_close, operation_at};
 use port_io::Name;
-use py_syntax::{Function, Token};
+use py_phrase::{Mark, ReadError, after, after_last};
+use py_syntax::{Bracket, Function, Operator, Token};
 use std::alloc::Global;
 
 /// What stands behind the arguments of a call that were read so far: its end, or a comma and one more.
@@ -35,12 +32,13 @@ fn behind_argument<'a>(
     if let Some(rest) = after_last(tokens) {
         return call_end(alloc, stack, least, function, arguments, rest);
     }
-    match after_comma(tokens) {
+    match after(Mark::Operator(Operator::Comma), tokens) {
         Some(rest) => argument(stack, least, function, arguments, rest),
         None => Err(ReadError::Wrong),
     }
 }
 
+/// `(inner)`, behind what stands in the brackets.
 #[tactic(auto, unfolding(crate::specs::Reading::close_of))]
 fn brackets<'a>(
     alloc: Global,
@@ -51,7 +49,7 @@ fn brackets<'a>(
 ) -> Result<Spot<'a>, ReadError>
     ensures { Gives spot_in result (Reading.close_of (stack_in stack.items) least (opened_in Opened.Brackets) (measured inner) tokens.now) }
 {
-    match after_close(tokens) {
+    match after(Mark::Close(Bracket::Round), tokens) {
         Some(rest) => {
             let primary = Measured::bracketed(alloc, inner)?;
             Ok(behind_primary(stack, least, primary, rest))
@@ -60,6 +58,7 @@ fn brackets<'a>(
     }
 }
 
+/// `base[index]`, behind the index.
 #[tactic(auto, unfolding(crate::specs::Reading::close_of))]
 fn subscript<'a>(
     alloc: Global,
@@ -71,7 +70,7 @@ fn subscript<'a>(
 ) -> Result<Spot<'a>, ReadError>
     ensures { Gives spot_in result (Reading.close_of (stack_in stack.items) least (opened_in (Opened.Subscript base)) (measured index) tokens.now) }
 {
-    match after_close_square(tokens) {
+    match after(Mark::Close(Bracket::Square), tokens) {
         Some(rest) => {
             let primary = Measured::subscript(alloc, base, index)?;
             Ok(behind_primary(stack, least, primary, rest))
@@ -80,6 +79,7 @@ fn subscript<'a>(
     }
 }
 
+/// `{expression}` of an f-string, behind the expression.
 #[tactic(auto, unfolding(crate::specs::Reading::close_of))]
 fn formatted<'a>(
     alloc: Global,
@@ -182,7 +182,7 @@ pub fn in_format<'a>(
 ) -> Result<Spot<'a>, ReadError>
     ensures { Gives spot_in result (Reading.parts_of (stack_in stack.items) least (parts_in parts) tokens.now) }
 {
-    match next(tokens) {
+    match tokens.split_first() {
         Some((Token::FormatText(text), rest)) => Ok(Spot {
             stack,
             least,

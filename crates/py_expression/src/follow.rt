@@ -1,17 +1,17 @@
 //! What may follow a primary: attributes, subscripts and calls of methods.
 
 ghost use Rattle.std.specs.Prelude.{◌≡◌, ◌∷◌};
-ghost use Rattle.py_expression.specs.Gives.{Gives};
+ghost use Rattle.py_phrase.specs.Gives.{Gives};
 ghost use Rattle.py_expression.specs.Kept.{measured};
 ghost use Rattle.py_expression.specs.Spots.{stack_in, spot_in};
 ghost use Rattle.py_expression.specs.Reading;
 
-use crate::fault::ReadError;
 use crate::frame::{Frame, Opened, Point, Spot, behind_primary, open};
 use crate::measured::Measured;
-use crate::tokens::{after_empty_call, after_open_square, attribute_at};
+use crate::tokens::{after_empty_call, attribute_at};
 use port_io::Name;
-use py_syntax::{Method, Token};
+use py_phrase::{Mark, ReadError, after};
+use py_syntax::{Bracket, Method, Token};
 use std::alloc::Global;
 
 /// What stands behind `.name`: a call of the method, or nothing that belongs to it.
@@ -52,7 +52,7 @@ pub fn follow<'a>(
     if let Some((name, rest)) = attribute_at(tokens) {
         return attribute(alloc, stack, least, base, name, rest);
     }
-    match after_open_square(tokens) {
+    match after(Mark::Open(Bracket::Square), tokens) {
         Some(rest) => {
             let opened = Opened::Subscript(base);
             Ok(open(stack, Frame { opened, least }, 1, rest)?)

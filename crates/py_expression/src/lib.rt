@@ -4,7 +4,6 @@
 mod arguments;
 mod begin;
 mod close;
-mod fault;
 mod follow;
 mod frame;
 mod laws;
@@ -13,8 +12,6 @@ mod parts;
 mod reader;
 mod tokens;
 
-pub use fault::ReadError;
 pub use laws::one_expression;
 pub use measured::{KEPT, Measured};
 pub use reader::{expression, primary};
-pub use tokens::constant;

@@ -25,6 +25,7 @@ pub struct Measured {
     pub height: usize,
 }
 
+/// What stands for a tree that isn't kept.
 fn nothing() -> Expression
     ensures { view result ≡ Shown.nothing }
 {
@@ -81,6 +82,7 @@ fn fitted(alloc: Global, tree: Expression, part: usize) -> Result<Measured, NoMe
 }
 
 impl Measured {
+    /// A constant.
     pub fn constant(value: Const) -> Measured
         ensures { measured result ≡ Shown.constant value }
     {
@@ -90,6 +92,7 @@ impl Measured {
         }
     }
 
+    /// A name.
     pub fn name(name: Name) -> Measured
         ensures { measured result ≡ Shown.name name }
     {
@@ -99,6 +102,7 @@ impl Measured {
         }
     }
 
+    /// `(inner)`
     #[tactic(auto, unfolding(crate::specs::Shown::bracketed))]
     pub fn bracketed(alloc: Global, inner: Measured) -> Result<Measured, NoMemory>
         ensures { IfOk result (λ m. measured m ≡ Shown.bracketed (measured inner)) }
@@ -111,6 +115,7 @@ impl Measured {
         )
     }
 
+    /// `base.name`
     #[tactic(auto, unfolding(crate::specs::Shown::attribute))]
     pub fn attribute(alloc: Global, base: Measured, name: Name) -> Result<Measured, NoMemory>
         ensures { IfOk result (λ m. measured m ≡ Shown.attribute (measured base) name) }
@@ -123,6 +128,7 @@ impl Measured {
         )
     }
 
+    /// `base[index]`
     #[tactic(auto, unfolding(crate::specs::Shown::subscript))]
     pub fn subscript(alloc: Global, base: Measured, index: Measured) -> Result<Measured, NoMemory>
         ensures { IfOk result (λ m. measured m ≡ Shown.subscript (measured base) (measured index)) }
@@ -135,6 +141,7 @@ impl Measured {
         )
     }
 
+    /// `base.method()`
     #[tactic(auto, unfolding(crate::specs::Shown::method_call))]
     pub fn method_call(alloc: Global, base: Measured, method: Method) -> Result<Measured, NoMemory>
         ensures { IfOk result (λ m. measured m ≡ Shown.method_call (measured base) method) }
@@ -147,6 +154,7 @@ impl Measured {
         )
     }
 
+    /// An operator and its operand.
     #[tactic(auto, unfolding(crate::specs::Shown::unary))]
     pub fn unary(alloc: Global, op: UnOp, operand: Measured) -> Result<Measured, NoMemory>
         ensures { IfOk result (λ m. measured m ≡ Shown.unary op (measured operand)) }
@@ -159,6 +167,7 @@ impl Measured {
         )
     }
 
+    /// An operator between its two operands.
     #[tactic(auto, unfolding(crate::specs::Shown::infix_of))]
     pub fn infix_of(
         alloc: Global,
@@ -178,6 +187,7 @@ impl Measured {
         fitted(alloc, tree, height)
     }
 
+    /// A call of a known function.
     #[tactic(auto, unfolding(crate::specs::Shown::call))]
     pub fn call(
         alloc: Global,
@@ -190,6 +200,7 @@ impl Measured {
         fitted(alloc, arguments.into_call(function), height)
     }
 
+    /// An f-string of these parts.
     #[tactic(auto, unfolding(crate::specs::Shown::format_string))]
     pub fn format_string(alloc: Global, parts: Parts) -> Result<Measured, NoMemory>
         ensures { IfOk result (λ m. measured m ≡ Shown.format_string (parts_in parts)) }

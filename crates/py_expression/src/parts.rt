@@ -20,6 +20,7 @@ pub struct Parts {
 }
 
 impl Parts {
+    /// No parts.
     pub fn new(alloc: Global) -> Self
         ensures { parts_in result ≡ Shown.no_parts }
     {

@@ -5,17 +5,17 @@ ghost use Rattle.py_syntax.specs.ExpressionTrees.{Tree};
 ghost use Rattle.py_syntax.specs.ExpressionSpells.{Spells, level};
 ghost use Rattle.py_syntax.specs.declared.token.Token.{Token};
 ghost use Rattle.py_expression.specs.Ends.{IsRead, Stops, IsFound};
-ghost use Rattle.py_expression.specs.Gives.{Gives};
+ghost use Rattle.py_phrase.specs.Gives.{Gives};
 ghost use Rattle.py_expression.specs.Kept.{measured};
 ghost use Rattle.py_expression.specs.Spots.{spot_in, step_in};
 ghost use Rattle.py_expression.specs.Reading;
 
 use crate::begin::wanted;
 use crate::close::{behind_operand, in_format};
-use crate::fault::ReadError;
 use crate::follow::follow;
 use crate::frame::{Point, Spot, Step};
 use crate::measured::Measured;
+use py_phrase::ReadError;
 use py_syntax::Token;
 use std::alloc::Global;
 

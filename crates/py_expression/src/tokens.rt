@@ -1,20 +1,11 @@
 //! The tokens that decide how an expression goes on.
 
-ghost use Rattle.std.specs.Prelude.{◌≡◌, [], ◌∷◌, Some, None, MatchOption};
-ghost use Rattle.py_expression.specs.Gives.{Gives};
+ghost use Rattle.std.specs.Prelude.{◌≡◌, Some, None, MatchOption};
 ghost use Rattle.py_expression.specs.Tokens;
 
-use crate::fault::ReadError;
 use port_io::Name;
-use py_syntax::{BinOp, BoolOp, Bracket, Const, Keyword, Operation, Operator, Token, UnOp};
-use std::alloc::Global;
-
-/// The first token and the tokens after it.
-pub fn next(tokens: &[Token]) -> Option<(&Token, &[Token])>
-    ensures { MatchOption result (tokens.now ≡ []) (λ x. tokens.now ≡ x.0.now ∷ x.1.now) }
-{
-    tokens.split_first()
-}
+use py_phrase::{Mark, after, name_at};
+use py_syntax::{BinOp, BoolOp, Bracket, Keyword, Operation, Operator, Token, UnOp};
 
 /// The operator with one operand that a token is.
 pub fn prefix_of(token: &Token) -> Option<UnOp>
@@ -29,6 +20,7 @@ pub fn prefix_of(token: &Token) -> Option<UnOp>
     }
 }
 
+/// The operator between two operands that is written so.
 fn marked_operation(mark: Operator) -> Option<BinOp>
     ensures { result ≡ Tokens.marked_operation mark }
 {
@@ -66,92 +58,18 @@ fn operation_of(token: &Token) -> Option<Operation>
     }
 }
 
-/// The tokens after a `not`.
-fn after_not(tokens: &[Token]) -> Option<&[Token]>
-    ensures { MatchOption result (Tokens.after_not tokens.now ≡ None) (λ x. Tokens.after_not tokens.now ≡ Some x.now) }
-{
-    match next(tokens) {
-        Some((Token::Keyword(Keyword::Not), rest)) => Some(rest),
-        _ => None,
-    }
-}
-
 /// The operator at the front, and the tokens after it.
 #[tactic(auto, unfolding(crate::specs::Tokens::operation_at))]
 pub fn operation_at(tokens: &[Token]) -> Option<(Operation, &[Token])>
     ensures { MatchOption result (Tokens.operation_at tokens.now ≡ None) (λ x. Tokens.operation_at tokens.now ≡ Some (x.0, x.1.now)) }
 {
-    let (first, rest) = next(tokens)?;
+    let (first, rest) = tokens.split_first()?;
     let op = operation_of(first)?;
-    match (op, after_not(rest)) {
-        (Operation::Binary(BinOp::Is), Some(after)) => {
-            Some((Operation::Binary(BinOp::IsNot), after))
+    match (op, after(Mark::Keyword(Keyword::Not), rest)) {
+        (Operation::Binary(BinOp::Is), Some(behind)) => {
+            Some((Operation::Binary(BinOp::IsNot), behind))
         }
         _ => Some((op, rest)),
-    }
-}
-
-/// The constant that a token is.
-pub fn constant(alloc: Global, token: &Token) -> Result<Const, ReadError>
-    ensures { Gives (λ c. c) result (Tokens.constant_of token.now) }
-{
-    match token {
-        Token::Keyword(Keyword::None) => Ok(Const::Absent),
-        Token::Keyword(Keyword::True) => Ok(Const::Truth(true)),
-        Token::Keyword(Keyword::False) => Ok(Const::Truth(false)),
-        Token::Number(n) if *n < 1 << 127 => Ok(Const::Whole(*n as i128)),
-        Token::Text(text) => Ok(Const::Text(Name::of(alloc, text.bytes())?)),
-        _ => Err(ReadError::Wrong),
-    }
-}
-
-/// The tokens after a `(`.
-pub fn after_open(tokens: &[Token]) -> Option<&[Token]>
-    ensures { MatchOption result (Tokens.after_open tokens.now ≡ None) (λ x. Tokens.after_open tokens.now ≡ Some x.now) }
-{
-    match next(tokens) {
-        Some((Token::Open(Bracket::Round), rest)) => Some(rest),
-        _ => None,
-    }
-}
-
-/// The tokens after a `)`.
-pub fn after_close(tokens: &[Token]) -> Option<&[Token]>
-    ensures { MatchOption result (Tokens.after_close tokens.now ≡ None) (λ x. Tokens.after_close tokens.now ≡ Some x.now) }
-{
-    match next(tokens) {
-        Some((Token::Close(Bracket::Round), rest)) => Some(rest),
-        _ => None,
-    }
-}
-
-/// The tokens after a `[`.
-pub fn after_open_square(tokens: &[Token]) -> Option<&[Token]>
-    ensures { MatchOption result (Tokens.after_open_square tokens.now ≡ None) (λ x. Tokens.after_open_square tokens.now ≡ Some x.now) }
-{
-    match next(tokens) {
-        Some((Token::Open(Bracket::Square), rest)) => Some(rest),
-        _ => None,
-    }
-}
-
-/// The tokens after a `]`.
-pub fn after_close_square(tokens: &[Token]) -> Option<&[Token]>
-    ensures { MatchOption result (Tokens.after_close_square tokens.now ≡ None) (λ x. Tokens.after_close_square tokens.now ≡ Some x.now) }
-{
-    match next(tokens) {
-        Some((Token::Close(Bracket::Square), rest)) => Some(rest),
-        _ => None,
-    }
-}
-
-/// The tokens after a comma.
-pub fn after_comma(tokens: &[Token]) -> Option<&[Token]>
-    ensures { MatchOption result (Tokens.after_comma tokens.now ≡ None) (λ x. Tokens.after_comma tokens.now ≡ Some x.now) }
-{
-    match next(tokens) {
-        Some((Token::Operator(Operator::Comma), rest)) => Some(rest),
-        _ => None,
     }
 }
 
@@ -159,7 +77,7 @@ pub fn after_comma(tokens: &[Token]) -> Option<&[Token]>
 pub fn after_format_close(tokens: &[Token]) -> Option<&[Token]>
     ensures { MatchOption result (Tokens.after_format_close tokens.now ≡ None) (λ x. Tokens.after_format_close tokens.now ≡ Some x.now) }
 {
-    match next(tokens) {
+    match tokens.split_first() {
         Some((Token::FormatClose, rest)) => Some(rest),
         _ => None,
     }
@@ -169,63 +87,15 @@ pub fn after_format_close(tokens: &[Token]) -> Option<&[Token]>
 pub fn after_empty_call(tokens: &[Token]) -> Option<&[Token]>
     ensures { MatchOption result (Tokens.after_empty_call tokens.now ≡ None) (λ x. Tokens.after_empty_call tokens.now ≡ Some x.now) }
 {
-    after_close(after_open(tokens)?)
-}
-
-/// The tokens after the `)` of a call, before which a comma may stand.
-pub fn after_last(tokens: &[Token]) -> Option<&[Token]>
-    ensures { MatchOption result (Tokens.after_last tokens.now ≡ None) (λ x. Tokens.after_last tokens.now ≡ Some x.now) }
-{
-    match after_comma(tokens) {
-        Some(rest) => after_close(rest),
-        None => after_close(tokens),
-    }
-}
-
-/// The name at the front, and the tokens after it.
-fn name_at(tokens: &[Token]) -> Option<(&Name, &[Token])>
-    ensures { MatchOption result (Tokens.name_at tokens.now ≡ None) (λ x. Tokens.name_at tokens.now ≡ Some (x.0.now, x.1.now)) }
-{
-    match next(tokens) {
-        Some((Token::Name(name), rest)) => Some((name, rest)),
-        _ => None,
-    }
+    after(
+        Mark::Close(Bracket::Round),
+        after(Mark::Open(Bracket::Round), tokens)?,
+    )
 }
 
 /// The name after a dot, and the tokens after it.
 pub fn attribute_at(tokens: &[Token]) -> Option<(&Name, &[Token])>
     ensures { MatchOption result (Tokens.attribute_at tokens.now ≡ None) (λ x. Tokens.attribute_at tokens.now ≡ Some (x.0.now, x.1.now)) }
 {
-    match next(tokens) {
-        Some((Token::Operator(Operator::Dot), rest)) => name_at(rest),
-        _ => None,
-    }
-}
-
-/// The tokens after a `=`.
-fn after_assign(tokens: &[Token]) -> Option<&[Token]>
-    ensures { MatchOption result (Tokens.after_assign tokens.now ≡ None) (λ x. Tokens.after_assign tokens.now ≡ Some x.now) }
-{
-    match next(tokens) {
-        Some((Token::Operator(Operator::Assign), rest)) => Some(rest),
-        _ => None,
-    }
-}
-
-/// The name before a `=`, and the tokens after that.
-fn named_at(tokens: &[Token]) -> Option<(&Name, &[Token])>
-    ensures { MatchOption result (Tokens.named_at tokens.now ≡ None) (λ x. Tokens.named_at tokens.now ≡ Some (x.0.now, x.1.now)) }
-{
-    let (name, rest) = name_at(tokens)?;
-    Some((name, after_assign(rest)?))
-}
-
-/// The tokens after `name=`, or all tokens where that doesn't stand at the front.
-pub fn after_name<'a>(wanted: &[u8], tokens: &'a [Token]) -> &'a [Token]
-    ensures { result.now ≡ Tokens.after_name wanted.now tokens.now }
-{
-    match named_at(tokens) {
-        Some((name, rest)) if name.bytes() == wanted => rest,
-        _ => tokens,
-    }
+    name_at(after(Mark::Operator(Operator::Dot), tokens)?)
 }

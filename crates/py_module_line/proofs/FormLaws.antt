@@ -1,8 +1,9 @@
 -- The readers of the forms read these.
-use Rattle.std.proofs.Common.{◌≡◌, inl, inr, ℕ, Bool, true, false, ◌<◌, List, [], ◌∷◌, length, Option, Some, None, refl, sym, ap, ◌∙◌, arith}
+use Rattle.std.proofs.Common.{◌≡◌, inl, inr, if◌then◌else◌, ℕ, Bool, true, false, ◌<◌, List, [], ◌∷◌, length, Option, Some, None, refl, sym, ap, ◌∙◌, arith}
 use Rattle.std.specs.Prelude.{codes}
 use Rattle.std.specs.Str.{bytes_eq}
 use Rattle.py_syntax.specs.declared.constant.Const.{Const}
+use Rattle.py_syntax.specs.declared.operator.Operator.TheVariants as operator
 use Rattle.py_syntax.specs.declared.operator.Bracket.TheVariants as bracket
 use Rattle.py_syntax.specs.declared.token.Token.{Token}
 use Rattle.py_syntax.specs.declared.token.Token.TheVariants as token
@@ -11,10 +12,10 @@ use Rattle.py_syntax.specs.ModuleForms as form
 use Rattle.py_syntax.specs.Phrases.{Phrase, exactly, word, name, text, both, ◌◃◌, ◌▹◌, by_name, closes, nothing, elements, listed}
 use Rattle.py_phrase.specs.declared.mark.Mark.{Mark}
 use Rattle.py_phrase.specs.declared.mark.Mark.TheVariants as marks
-use Rattle.py_phrase.specs.Marks.{token_of, after_if, after, after_word, comma, assign}
+use Rattle.py_phrase.specs.Marks.{token_of, after, after_word, named_at, after_name_by, comma, assign}
 use Rattle.py_phrase.specs.Readers as read
 use Rattle.py_phrase.specs.Readers.{Reader, bind, ending, elements_of, choose}
-use Rattle.py_phrase.proofs.Facts.{after_is, after_again, after_word_is, after_word_again}
+use Rattle.py_phrase.proofs.Facts.{bytes_are, bytes_same, named_at_is}
 use Rattle.py_phrase.proofs.Phrased.{Reads, Anything, End, bind_some, pair_same, mark_reads, word_reads, name_reads, text_reads, both_reads, makes_reads, seq, left, right, weaker}
 use Rattle.py_phrase.proofs.Choices.{either_reads, or_reads}
 use Rattle.py_phrase.proofs.Lists.{Parts, closing_parts, open_parts, elements_reads}
@@ -116,48 +117,56 @@ last_reads = record {
 }
 
 by_name_reads : {A : Type 0} (w : List ℕ) (p : Phrase A) (r : Reader A) (E : List Token → Type 0) → Reads p r E
-    → ((ts rest : List Token) (x : A) → p x ts rest → E rest → Reading.after_named w ts ≡ None) → Reads (by_name w p) (Reading.by_name_of w r) E
-unfolding Reading.skip_name
+    → ((ts rest : List Token) (x : A) → p x ts rest → E rest → named_at ts ≡ None) → Reads (by_name w p) (Reading.by_name_of w r) E
+unfolding after
 by_name_reads {A} w p r E a none = record { sound = sounds; again = agains }
   where
     sounds : (ts rest : List Token) (x : A) → Reading.by_name_of w r ts ≡ Some (x, rest) → by_name w p x ts rest
-    sounds ts rest x e = by (Reading.after_named w ts) refl e
+    sounds ts rest x e = by (named_at ts) refl e
       where
-        by : (o : Option (List Token)) → Reading.after_named w ts ≡ o → r (Reading.without_name ts o) ≡ Some (x, rest) → by_name w p x ts rest
+        named : (y : List ℕ × List Token) → named_at ts ≡ Some y → (b : Bool) → bytes_eq y.0 w ≡ b → r (if b then y.1 else ts) ≡ Some (x, rest) → by_name w p x ts rest
+        named y q true k h =
+            inr (
+              tt,
+              x,
+              y.1,
+              (tt, tt, token.Operator operator.Assign ∷ y.1, named_at_is ts y q ∙ ap (λ n. token.Name n ∷ token.Operator operator.Assign ∷ y.1) (bytes_are y.0 w k), refl, refl),
+              a.sound y.1 rest x h,
+              refl,
+            )
+        named y q false k h = inl (a.sound ts rest x h)
+
+        by : (o : Option (List ℕ × List Token)) → named_at ts ≡ o → r (after_name_by w ts o) ≡ Some (x, rest) → by_name w p x ts rest
         by None q h = inl (a.sound ts rest x h)
-        by (Some us) q h = let (vs, ev, e1) = bind_some _ (after_word w ts) us q in
-            inr (tt, x, us, (tt, tt, vs, after_word_is w ts vs ev, after_is assign vs us e1, refl), a.sound us rest x h, refl)
+        by (Some y) q h = named y q (bytes_eq y.0 w) refl h
 
     agains : (ts rest : List Token) (x : A) → by_name w p x ts rest → E rest → Reading.by_name_of w r ts ≡ Some (x, rest)
     agains ts rest x (inl h) f = rw (none ts rest x h f) (a.again ts rest x h f)
     agains ts rest x (inr (u, y, us, (v, z, vs, q1, q2, e1), h, e2)) f =
-        rw (q1, after_word_again w vs, q2, after_again assign us) (a.again us rest y h f ∙ ap (λ (k : A). Some (k, rest)) (sym e2))
+        rw (q1, q2, bytes_same w) (a.again us rest y h f ∙ ap (λ (k : A). Some (k, rest)) (sym e2))
 
-name_unnamed : (w : List ℕ) (ts rest : List Token) (n : List ℕ) → name n ts rest → No assign rest → Reading.after_named w ts ≡ None
-unfolding after_word
-name_unnamed w ts rest n q f = rw q (by (bytes_eq n w))
-  where
-    by : (b : Bool) → bind (λ us. after assign us) (after_if rest b) ≡ None
-    by true = f
-    by false = refl
+name_unnamed : (ts rest : List Token) (n : List ℕ) → name n ts rest → No assign rest → named_at ts ≡ None
+name_unnamed ts rest n q f = rw (q, f) refl
 
 last_no_assign : (mid rest : List Token) (x : Unit {0}) → form.last x mid rest → Anything rest → No assign mid
 unfolding after
 last_no_assign mid rest x (inl h) f = rw h refl
 last_no_assign mid rest x (inr h) f = rw h refl
 
+given_reads : Reads (by_name (codes "test_function") name) Reading.function_given (No assign)
+unfolding Reading.function_given
+given_reads = by_name_reads (codes "test_function") name read.name (No assign) (weaker (No assign) (λ ts h. tt) name_reads) name_unnamed
+
 pub factory_reads : Reads form.factory_form Reading.factory_of Anything
 factory_reads =
     seq Factory (left (left (left name_reads (mark_reads assign)) (word_reads (codes "TestFactory"))) (mark_reads Reading.opening))
-    (both_reads (λ x y. x) (by_name (codes "test_function") name) form.last (Reading.by_name_of (codes "test_function") read.name) Reading.last (No assign) Anything
-    (by_name_reads (codes "test_function") name read.name (No assign) (weaker (No assign) (λ ts h. tt) name_reads) (name_unnamed (codes "test_function"))) last_reads last_no_assign)
+    (both_reads (λ x y. x) (by_name (codes "test_function") name) form.last Reading.function_given Reading.last (No assign) Anything given_reads last_reads last_no_assign)
 
 bracketed_reads : Reads form.constants_form Reading.bracketed_constants Anything
 bracketed_reads = right (mark_reads (marks.Open bracket.Square)) constants_reads
 
-bracket_unnamed : (w : List ℕ) (ts rest : List Token) (cs : List Const) → form.constants_form cs ts rest → Anything rest → Reading.after_named w ts ≡ None
-unfolding after_word
-bracket_unnamed w ts rest cs (x, ds, us, q, h, e) f = rw q refl
+bracket_unnamed : (ts rest : List Token) (cs : List Const) → form.constants_form cs ts rest → Anything rest → named_at ts ≡ None
+bracket_unnamed ts rest cs (x, ds, us, q, h, e) f = rw q refl
 
 abbrev by_place : Phrase (List ℕ × List Const)
 by_place = both (λ o cs. (o, cs)) (text ◃ exactly form.comma) (by_name (codes "optionlist") form.constants_form)
@@ -173,7 +182,7 @@ list_first =
 place_reads : Reads by_place Reading.option_by_place Anything
 place_reads =
     seq (λ o cs. (o, cs)) (left text_reads (mark_reads comma))
-    (by_name_reads (codes "optionlist") form.constants_form Reading.bracketed_constants Anything bracketed_reads (bracket_unnamed (codes "optionlist")))
+    (by_name_reads (codes "optionlist") form.constants_form Reading.bracketed_constants Anything bracketed_reads bracket_unnamed)
 
 name_first_reads : Reads name_first Reading.option_name_first Anything
 name_first_reads =

@@ -6,11 +6,11 @@ use Rattle.py_syntax.specs.ModuleForms as form
 use Rattle.py_syntax.specs.ModuleForms.{SpellsModuleLine}
 use Rattle.py_syntax.specs.ModuleTrees.{view_module_line}
 use Rattle.py_syntax.specs.declared.module.ModuleLine as code
-use Rattle.py_expression.specs.declared.fault.ReadError.{ReadError}
-use Rattle.py_expression.specs.declared.fault.ReadError.TheVariants as errors
-use Rattle.py_expression.specs.Gives.{Gives}
+use Rattle.py_phrase.specs.declared.fault.ReadError.{ReadError}
+use Rattle.py_phrase.specs.declared.fault.ReadError.TheVariants as errors
+use Rattle.py_phrase.specs.Gives.{Gives}
 use Rattle.py_module_line.specs.Found.{IsFound}
-use Rattle.py_expression.proofs.TokenFacts.{some_same}
+use Rattle.py_phrase.proofs.Facts.{some_same}
 use Rattle.py_phrase.specs.Readers.{whole}
 use Rattle.py_phrase.proofs.Phrased.{Anything, End}
 use Rattle.py_phrase.proofs.Choices.{whole_sound, whole_again}

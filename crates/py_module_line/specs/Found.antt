@@ -3,8 +3,8 @@ use Rattle.std.specs.Prelude.{◌≡◌, Result, Ok, Err}
 use Rattle.py_syntax.specs.ModuleTrees as trees
 use Rattle.py_syntax.specs.ModuleTrees.{view_module_line}
 use Rattle.py_syntax.specs.declared.module.ModuleLine.{ModuleLine}
-use Rattle.py_expression.specs.declared.fault.ReadError.{ReadError}
-use Rattle.py_expression.specs.declared.fault.ReadError.TheVariants as errors
+use Rattle.py_phrase.specs.declared.fault.ReadError.{ReadError}
+use Rattle.py_phrase.specs.declared.fault.ReadError.TheVariants as errors
 
 abbrev pub Line : Type 0
 Line = trees.ModuleLine

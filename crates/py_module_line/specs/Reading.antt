@@ -1,5 +1,5 @@
 -- How the lines of a module are read, as functions on lists of tokens.
-use Rattle.std.specs.Prelude.{ℕ, Bool, true, false, List, [], ◌∷◌, Option, Some, None, codes, if◌then◌else◌}
+use Rattle.std.specs.Prelude.{ℕ, Bool, true, false, List, ◌∷◌, Option, Some, None, codes, if◌then◌else◌}
 use Rattle.py_syntax.specs.ModuleForms.{affixes, parameters}
 use Rattle.py_syntax.specs.ModuleTrees.{ModuleLine, Import, FromImport, Constant, Test, Factory, AddOption, GenerateTests, Function}
 use Rattle.py_syntax.specs.declared.constant.Const.{Const}
@@ -10,7 +10,7 @@ use Rattle.py_syntax.specs.declared.token.Token.{Token}
 use Rattle.py_syntax.specs.declared.token.Token.TheVariants as token
 use Rattle.py_phrase.specs.declared.mark.Mark.{Mark}
 use Rattle.py_phrase.specs.declared.mark.Mark.TheVariants as marks
-use Rattle.py_phrase.specs.Marks.{after, after_word, comma, assign}
+use Rattle.py_phrase.specs.Marks.{after, after_word, after_name, comma, assign}
 use Rattle.py_phrase.specs.Readers.{Reader, bind, mark, word, name, text, both_of, ◌◃◌, ◌▹◌, makes_of, choose, whole, ending, elements_of, listed_of, constant, constants_in, setting, parameter}
 use Rattle.py_module_line.specs.declared.kind.Kind.{Kind}
 use Rattle.py_module_line.specs.declared.kind.Kind.TheVariants as kind
@@ -84,19 +84,8 @@ kind_at ts =
 abbrev pub last : Reader (Unit {0})
 last ts = bind (λ us. Some (tt, us)) (ending comma (Some closing) ts)
 
-abbrev pub after_named : List ℕ → List Token → Option (List Token)
-after_named w ts = bind (λ us. after assign us) (after_word w ts)
-
-abbrev pub without_name : List Token → Option (List Token) → List Token
-without_name ts None = ts
-without_name ts (Some us) = us
-
--- behind `name=`, if that stands at the front
-unfoldable pub skip_name : List ℕ → List Token → List Token
-skip_name w ts = without_name ts (after_named w ts)
-
 abbrev pub by_name_of : {A : Type 0} → List ℕ → Reader A → Reader A
-by_name_of w r ts = r (skip_name w ts)
+by_name_of w r ts = r (after_name w ts)
 
 abbrev pub import_of : Reader ModuleLine
 import_of = both_of (λ x n. Import n) (mark import_word) name
@@ -116,8 +105,12 @@ constant_of = both_of Constant (name ◃ mark assign) constant
 abbrev pub test_of : Reader ModuleLine
 test_of = both_of (λ x ss. Test ss) (mark at_sign ▹ word (codes "cocotb") ▹ mark dot ▹ word (codes "test") ▹ mark opening) (listed_of setting closing)
 
+-- `function` or `test_function=function`
+unfoldable pub function_given : Reader (List ℕ)
+function_given ts = by_name_of (codes "test_function") name ts
+
 abbrev pub factory_of : Reader ModuleLine
-factory_of = both_of Factory (name ◃ mark assign ◃ word (codes "TestFactory") ◃ mark opening) (by_name_of (codes "test_function") name ◃ last)
+factory_of = both_of Factory (name ◃ mark assign ◃ word (codes "TestFactory") ◃ mark opening) (function_given ◃ last)
 
 abbrev pub bracketed_constants : Reader (List Const)
 bracketed_constants = mark (marks.Open bracket.Square) ▹ constants_in
@@ -137,7 +130,7 @@ unfoldable pub option_by_name : Reader (List ℕ × List Const)
 option_by_name ts = choose (is_there (after_word (codes "optionlist") ts)) (option_list_first ts) (option_name_first ts)
 
 abbrev pub begins_with_text : List Token → Bool
-begins_with_text (token.Text text ∷ ts) = true
+begins_with_text (token.Text bytes ∷ ts) = true
 begins_with_text _ = false
 
 unfoldable pub option : Reader (List ℕ × List Const)

@@ -2,10 +2,10 @@
 
 ghost use Rattle.std.specs.Prelude.{◌≡◌};
 ghost use Rattle.py_syntax.specs.ModuleForms;
-ghost use Rattle.py_expression.specs.Gives.{Gives};
+ghost use Rattle.py_phrase.specs.Gives.{Gives};
 
 use port_io::Name;
-use py_expression::ReadError;
+use py_phrase::ReadError;
 use py_syntax::{Const, Setting};
 use std::alloc::Global;
 

@@ -2,30 +2,24 @@
 
 ghost use Rattle.std.specs.Prelude.{◌≡◌};
 ghost use Rattle.py_syntax.specs.ModuleTrees.{view_module_line};
-ghost use Rattle.py_expression.specs.Gives.{Gives};
+ghost use Rattle.py_phrase.specs.Gives.{Gives};
 ghost use Rattle.py_module_line.specs.Reading;
 
 use crate::affix::affixes;
 use port_io::Name;
-use py_expression::ReadError;
 use py_phrase::{
-    Mark, after, after_word, constants, expect, expect_word, last, listed, name, text,
+    Mark, ReadError, after_name, after_word, constants, expect, expect_word, last, listed, name,
+    text,
 };
 use py_syntax::{Bracket, Const, ModuleLine, Operator, Token};
 use std::alloc::Global;
 
-/// The tokens behind `name=`, or all where that doesn't stand at the front.
-#[tactic(auto, unfolding(crate::specs::Reading::skip_name))]
-fn skip_name<'a>(word: &[u8], tokens: &'a [Token]) -> &'a [Token]
-    ensures { result.now ≡ Reading.skip_name word.now tokens.now }
+/// `function` or `test_function=function`
+#[tactic(auto, unfolding(crate::specs::Reading::function_given))]
+fn function_given(alloc: Global, tokens: &[Token]) -> Result<(Name, &[Token]), ReadError>
+    ensures { Gives (λ x. (x.0, x.1.now)) result (Reading.function_given tokens.now) }
 {
-    let Some(rest) = after_word(word, tokens) else {
-        return tokens;
-    };
-    match after(Mark::Operator(Operator::Assign), rest) {
-        Some(rest) => rest,
-        None => tokens,
-    }
+    name(alloc, after_name(b"test_function", tokens))
 }
 
 /// `name = TestFactory(function)`
@@ -36,8 +30,9 @@ pub fn factory(alloc: Global, tokens: &[Token]) -> Result<(ModuleLine, &[Token])
     let rest = expect(Mark::Operator(Operator::Assign), rest)?;
     let rest = expect_word(b"TestFactory", rest)?;
     let rest = expect(Mark::Open(Bracket::Round), rest)?;
-    let (function, rest) = name(alloc, skip_name(b"test_function", rest))?;
-    Ok((ModuleLine::Factory(target, function), last(rest)?))
+    let (function, rest) = function_given(alloc, rest)?;
+    let rest = last(rest)?;
+    Ok((ModuleLine::Factory(target, function), rest))
 }
 
 /// `[constant, ..]`
@@ -56,7 +51,7 @@ fn option_by_place(
 {
     let (parameter, rest) = text(alloc, tokens)?;
     let rest = expect(Mark::Operator(Operator::Comma), rest)?;
-    let (values, rest) = bracketed_constants(alloc, skip_name(b"optionlist", rest))?;
+    let (values, rest) = bracketed_constants(alloc, after_name(b"optionlist", rest))?;
     Ok(((parameter, values), rest))
 }
 
@@ -109,6 +104,7 @@ fn option_by_name(
     }
 }
 
+/// Whether a text stands at the front.
 fn begins_with_text(tokens: &[Token]) -> bool
     ensures { result ≡ Reading.begins_with_text tokens.now }
 {
@@ -138,7 +134,8 @@ fn call<'a>(
     let (target, rest) = name(alloc, tokens)?;
     let rest = expect(Mark::Operator(Operator::Dot), rest)?;
     let rest = expect_word(method, rest)?;
-    Ok((target, expect(Mark::Open(Bracket::Round), rest)?))
+    let rest = expect(Mark::Open(Bracket::Round), rest)?;
+    Ok((target, rest))
 }
 
 /// `name.add_option("parameter", [constant, ..])`

@@ -3,11 +3,10 @@
 ghost use Rattle.std.specs.Prelude.{◌≡◌, false};
 ghost use Rattle.py_syntax.specs.ModuleForms;
 ghost use Rattle.py_syntax.specs.ModuleTrees.{view_module_line};
-ghost use Rattle.py_expression.specs.Gives.{Gives};
+ghost use Rattle.py_phrase.specs.Gives.{Gives};
 ghost use Rattle.py_module_line.specs.Reading;
 
-use py_expression::ReadError;
-use py_phrase::{Mark, expect, listed, name};
+use py_phrase::{Mark, ReadError, expect, listed, name};
 use py_syntax::{Bracket, Keyword, ModuleLine, Operator, Parameter, Token};
 use std::alloc::Global;
 

@@ -2,12 +2,11 @@
 
 ghost use Rattle.std.specs.Prelude.{◌≡◌};
 ghost use Rattle.py_syntax.specs.ModuleTrees.{view_module_line};
-ghost use Rattle.py_expression.specs.Gives.{Gives};
+ghost use Rattle.py_phrase.specs.Gives.{Gives};
 ghost use Rattle.py_module_line.specs.Reading;
 
 use port_io::Name;
-use py_expression::ReadError;
-use py_phrase::{Mark, after, elements, expect, name};
+use py_phrase::{Mark, ReadError, after, elements, expect, name};
 use py_syntax::{Bracket, Keyword, ModuleLine, Operator, Token};
 use std::alloc::Global;
 

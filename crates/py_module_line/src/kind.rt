@@ -20,6 +20,7 @@ pub enum Kind {
     Function,
 }
 
+/// Whether this mark stands at the front.
 fn starts(mark: Mark, tokens: &[Token]) -> bool
     ensures { result ≡ Reading.starts mark tokens.now }
 {

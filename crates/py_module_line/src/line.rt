@@ -3,7 +3,7 @@
 ghost use Rattle.std.specs.Prelude.{◌≡◌, IfOk};
 ghost use Rattle.py_syntax.specs.ModuleTrees.{view_module_line};
 ghost use Rattle.py_syntax.specs.ModuleForms.{SpellsModuleLine};
-ghost use Rattle.py_expression.specs.Gives.{Gives};
+ghost use Rattle.py_phrase.specs.Gives.{Gives};
 ghost use Rattle.py_module_line.specs.Found.{Line, IsFound};
 ghost use Rattle.py_module_line.specs.Reading;
 
@@ -11,8 +11,7 @@ use crate::factory::{add_option, factory, generate_tests};
 use crate::function::function;
 use crate::import::{from_import, import};
 use crate::kind::{Kind, kind_of};
-use py_expression::ReadError;
-use py_phrase::{Element, Mark, expect, expect_word, listed, name};
+use py_phrase::{Element, Mark, ReadError, end_of_line, expect, expect_word, listed, name};
 use py_syntax::{Bracket, Const, ModuleLine, Operator, Token};
 use std::alloc::Global;
 
@@ -62,10 +61,8 @@ fn whole_line(alloc: Global, tokens: &[Token]) -> Result<ModuleLine, ReadError>
     ensures { Gives view_module_line result (Reading.line_of tokens.now) }
 {
     let (line, rest) = read_line(alloc, tokens)?;
-    match rest.split_first() {
-        None => Ok(line),
-        Some(_) => Err(ReadError::Wrong),
-    }
+    end_of_line(rest)?;
+    Ok(line)
 }
 
 /// The line of a module that these tokens are. Wrong where they are none.

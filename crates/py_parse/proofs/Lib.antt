@@ -1,1 +1,14 @@
+pub mod BlockFacts
+pub mod Steps
+pub mod Contents
+pub mod OutlineLaws
+pub mod CallLaws
+pub mod RowLaws
+pub mod AddLaws
+pub mod Shape
+pub mod Flat
+pub mod Back
+pub mod LineWords
+pub mod Follow
+pub mod Made
 pub mod ParseLaws

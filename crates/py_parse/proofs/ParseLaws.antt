@@ -1,12 +1,12 @@
 -- From lines in their places to modules.
-use Rattle.std.proofs.Common.{◌≡◌, List, map, sym, ap, ◌∙◌}
+use Rattle.std.proofs.Common.{◌≡◌, List, sym, ap, ◌∙◌}
 use Rattle.py_syntax.specs.Line.{Line}
 use Rattle.py_syntax.specs.BlockTrees.{ModuleItem}
 use Rattle.py_syntax.specs.Outline.{Placed, SpellsOutline, AreWithinLimits, at_start}
-use Rattle.py_syntax.specs.Modules.{AreItems, module_lines, SpellsModule, IsWithinLimits}
-use Rattle.py_block.specs.Nesting.{module_of}
-use Rattle.py_block.proofs.Back.{module_back}
-use Rattle.py_outline.proofs.CallLaws.{one_outline_law}
+use Rattle.py_syntax.specs.Modules.{module_lines, SpellsModule, IsWithinLimits}
+use Rattle.py_parse.specs.Nesting.{module_of}
+use Rattle.py_parse.proofs.Back.{module_back}
+use Rattle.py_parse.proofs.CallLaws.{one_outline_law}
 
 pub is_spelled : (ps : List Placed) (m : List ModuleItem) (ls : List Line) → SpellsOutline at_start ps ls × AreWithinLimits ps
     → ((text : List Line) → SpellsOutline at_start ps text → SpellsModule m text × (module_lines m ≡ ps)) → SpellsModule m ls × IsWithinLimits m

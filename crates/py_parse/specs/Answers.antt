@@ -2,8 +2,8 @@
 use Rattle.std.specs.Prelude.{◌≡◌, List, Result, Ok, Err}
 use Rattle.py_syntax.specs.BlockTrees.{ModuleItem, view_module}
 use Rattle.py_syntax.specs.declared.tree.Module.{Module}
-use Rattle.py_outline.specs.declared.fault.PyFault.{PyFault}
-use Rattle.py_outline.specs.declared.fault.PyFault.TheVariants as fault
+use Rattle.py_parse.specs.declared.fault.PyFault.{PyFault}
+use Rattle.py_parse.specs.declared.fault.PyFault.TheVariants as fault
 
 -- this module, unless memory ran out
 abbrev pub IsRead : List ModuleItem → Result Module PyFault → Type 0

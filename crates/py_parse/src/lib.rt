@@ -1,7 +1,22 @@
-//! Reads a Python text as a module.
+//! Reads a Python text as a module: `parse` gives the tree of its logical lines, or the first line that breaks a rule.
+//!
+//! `outline` puts the lines into their blocks, and `module_of` makes the tree of lines in their places, from the last to the first,
+//! so that a deep text costs no stack. What a line says is left to `py_statement` and `py_module_line`.
 #![tactic(auto)]
 
+mod blocks;
+mod content;
+mod fault;
+mod laws;
+mod level;
+mod nest;
 mod parser;
+mod place;
+mod reader;
+mod words;
 
-pub use parser::{one_module, parse};
-pub use py_outline::PyFault;
+pub use fault::PyFault;
+pub use laws::{one_module, one_outline, one_tree};
+pub use nest::module_of;
+pub use parser::parse;
+pub use reader::outline;

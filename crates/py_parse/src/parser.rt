@@ -1,15 +1,16 @@
 //! Whole texts.
 
-ghost use Rattle.std.specs.Prelude.{◌≡◌, List, IfOk, IfErr};
+ghost use Rattle.std.specs.Prelude.{List, IfOk, IfErr};
 ghost use Rattle.py_syntax.specs.Line.{Line};
 ghost use Rattle.py_syntax.specs.BlockTrees.{ModuleItem, view_module};
 ghost use Rattle.py_syntax.specs.Modules.{SpellsModule, IsWithinLimits};
 ghost use Rattle.py_syntax.specs.Outline.{Refusal, Refused, at_start};
-ghost use Rattle.py_outline.specs.Found.{IsBroken, IsRefused};
+ghost use Rattle.py_parse.specs.Found.{IsBroken, IsRefused};
 ghost use Rattle.py_parse.specs.Answers.{IsRead};
 
-use py_block::module_of;
-use py_outline::{PyFault, outline};
+use crate::fault::PyFault;
+use crate::nest::module_of;
+use crate::reader::outline;
 use py_syntax::{Lines, Module};
 use std::alloc::Global;
 
@@ -28,8 +29,3 @@ pub fn parse(alloc: Global, lines: &Lines) -> Result<Module, PyFault>
     let placed = outline(alloc, lines)?;
     Ok(module_of(alloc, placed)?)
 }
-
-/// A text has at most one module within the limits.
-pub fn one_module()
-    ensures { (m n : List ModuleItem) (text : List Line) → SpellsModule m text → IsWithinLimits m → SpellsModule n text → IsWithinLimits n → m ≡ n }
-{}

@@ -10,17 +10,15 @@ use Rattle.py_syntax.specs.declared.token.Token.TheVariants as token
 use Rattle.py_syntax.specs.ExpressionSpells.{IsConstant}
 use Rattle.py_syntax.specs.ConstantForms.{SpellsConstant, SpellsOtherConstants, SpellsConstants}
 use Rattle.py_syntax.specs.Phrases.{closes, others, listed}
-use Rattle.py_expression.specs.declared.fault.ReadError.{ReadError}
-use Rattle.py_expression.specs.declared.fault.ReadError.TheVariants as errors
-use Rattle.py_expression.specs.Gives.{Gives}
-use Rattle.py_expression.specs.Tokens.{constant_of}
-use Rattle.py_expression.proofs.TokenFacts.{constant_is}
+use Rattle.py_phrase.specs.declared.fault.ReadError.{ReadError}
+use Rattle.py_phrase.specs.declared.fault.ReadError.TheVariants as errors
+use Rattle.py_phrase.specs.Gives.{Gives}
 use Rattle.py_phrase.specs.declared.mark.Mark.{Mark}
 use Rattle.py_phrase.specs.declared.mark.Mark.TheVariants as mark
 use Rattle.py_phrase.specs.Marks.{token_of, after, comma}
-use Rattle.py_phrase.specs.Readers.{number, name, negative_of, negative, plain, named_by, constant_by, constant, constants_in}
+use Rattle.py_phrase.specs.Readers.{constant_of, number, name, negative_of, negative, plain, named_by, constant_by, constant, constants_in}
 use Rattle.py_phrase.specs.Found.{AreFound}
-use Rattle.py_phrase.proofs.Facts.{after_is}
+use Rattle.py_phrase.proofs.Facts.{after_is, constant_is}
 use Rattle.py_phrase.proofs.Phrased.{Reads, Anything, bind_some, pair_same, name_reads}
 use Rattle.py_phrase.proofs.Lists.{closing_parts, listed_reads}
 

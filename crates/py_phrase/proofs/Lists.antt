@@ -4,8 +4,8 @@ use Rattle.std.proofs.lemmas.List.{append-nil}
 use Rattle.py_syntax.specs.declared.token.Token.{Token}
 use Rattle.py_syntax.specs.Phrases.{Phrase, Ending, closes, nothing, others, elements, listed}
 use Rattle.py_phrase.specs.declared.mark.Mark.{Mark}
-use Rattle.py_phrase.specs.Marks.{token_of, after, comma}
-use Rattle.py_phrase.specs.Readers.{Reader, closing_by, stopping_by, ending, others_by, others_of, elements_of, listed_by, listed_of}
+use Rattle.py_phrase.specs.Marks.{token_of, after, comma, closing_by}
+use Rattle.py_phrase.specs.Readers.{Reader, stopping_by, ending, others_by, others_of, elements_of, listed_by, listed_of}
 use Rattle.py_phrase.proofs.Facts.{after_is, after_again}
 use Rattle.py_phrase.proofs.Phrased.{Reads, Anything, bind_some, pair_same}
 

@@ -3,12 +3,11 @@ use Rattle.std.proofs.Common.{◌≡◌, ℕ, List, [], ◌∷◌, Option, Some,
 use Rattle.py_syntax.specs.declared.token.Token.{Token}
 use Rattle.py_syntax.specs.declared.token.Token.TheVariants as token
 use Rattle.py_syntax.specs.Phrases.{Phrase, exactly, word, name, text, both, ◌◃◌, ◌▹◌, becomes, makes}
-use Rattle.py_expression.proofs.TokenFacts.{some_same}
 use Rattle.py_phrase.specs.declared.mark.Mark.{Mark}
 use Rattle.py_phrase.specs.Marks.{token_of, after, after_word}
 use Rattle.py_phrase.specs.Readers as read
 use Rattle.py_phrase.specs.Readers.{Reader, bind, both_of, map_of, makes_of, choose, ended, whole}
-use Rattle.py_phrase.proofs.Facts.{after_is, after_again, after_word_is, after_word_again}
+use Rattle.py_phrase.proofs.Facts.{some_same, after_is, after_again, after_word_is, after_word_again}
 
 -- What is read is spelled, and what is spelled is read, where the tokens behind it end it.
 pub record Reads {T : Type 0} (p : Phrase T) (r : Reader T) (Ends : List Token → Type 0) : Type 0 where

@@ -4,8 +4,8 @@ use Rattle.std.specs.Borrow.{Bor}
 use Rattle.std.proofs.Common.{Vec, Global}
 use Rattle.py_syntax.specs.declared.constant.Const.{Const}
 use Rattle.py_syntax.specs.declared.token.Token.{Token}
-use Rattle.py_expression.specs.declared.fault.ReadError.{ReadError}
-use Rattle.py_expression.specs.declared.fault.ReadError.TheVariants as errors
+use Rattle.py_phrase.specs.declared.fault.ReadError.{ReadError}
+use Rattle.py_phrase.specs.declared.fault.ReadError.TheVariants as errors
 
 -- these, unless memory ran out
 abbrev pub AreFound : List Const → List Token → Result (Vec Const Global × Bor (List Token)) ReadError → Type 0

@@ -1,3 +1,4 @@
+pub mod Gives
 pub mod Marks
 pub mod Readers
 pub mod Found

@@ -1,8 +1,9 @@
 -- Readers of phrases, as functions on lists of tokens. A reader gives the value at the front and the tokens after it, or None where
 -- no phrase stands there.
-use Rattle.std.specs.Prelude.{ℕ, zero, suc, Bool, ◌^◌, nat_lt, List, [], ◌∷◌, ◌++◌, length, Option, Some, None, pos, neg_ℤ, if◌then◌else◌}
+use Rattle.std.specs.Prelude.{ℕ, zero, suc, Bool, true, false, ◌^◌, nat_lt, List, [], ◌∷◌, ◌++◌, length, Option, Some, None, pos, neg_ℤ, if◌then◌else◌}
 use Rattle.py_syntax.specs.declared.constant.Const.{Const}
 use Rattle.py_syntax.specs.declared.constant.Const.TheVariants as constants
+use Rattle.py_syntax.specs.declared.keyword.Keyword.TheVariants as keyword
 use Rattle.py_syntax.specs.declared.operator.Operator.TheVariants as operator
 use Rattle.py_syntax.specs.declared.operator.Bracket.TheVariants as bracket
 use Rattle.py_syntax.specs.declared.token.Token.{Token}
@@ -10,8 +11,7 @@ use Rattle.py_syntax.specs.declared.token.Token.TheVariants as token
 use Rattle.py_syntax.specs.declared.module.Parameter.{Parameter}
 use Rattle.py_syntax.specs.declared.module.Setting.{Setting}
 use Rattle.py_syntax.specs.ModuleForms.{required, optional}
-use Rattle.py_expression.specs.Tokens.{constant_of}
-use Rattle.py_phrase.specs.Marks.{after, after_word, comma, assign}
+use Rattle.py_phrase.specs.Marks.{after, after_word, comma, assign, closing_by, name_at, end_of}
 use Rattle.py_phrase.specs.declared.mark.Mark.{Mark}
 use Rattle.py_phrase.specs.declared.mark.Mark.TheVariants as marks
 
@@ -31,8 +31,7 @@ abbrev pub word : List ℕ → Reader (Unit {0})
 word w ts = bind (λ us. Some (tt, us)) (after_word w ts)
 
 abbrev pub name : Reader (List ℕ)
-name (token.Name n ∷ ts) = Some (n, ts)
-name _ = None
+name ts = name_at ts
 
 abbrev pub text : Reader (List ℕ)
 text (token.Text bytes ∷ ts) = Some (bytes, ts)
@@ -67,17 +66,13 @@ abbrev pub choose : {A : Type 0} → Bool → A → A → A
 choose b x y = if b then x else y
 
 abbrev pub ended : {V : Type 0} → V × List Token → Option V
-ended x = elim (x.1) [ [] ↦ Some x.0 | _ ∷ _ ↦ None ]
+ended x = bind (λ _. Some x.0) (end_of x.1)
 
 -- all tokens
 abbrev pub whole : {V : Type 0} → Reader V → List Token → Option V
 whole r ts = bind ended (r ts)
 
 -- Lists.
-
-abbrev pub closing_by : Mark → List Token → Option (List Token) → Option (List Token)
-closing_by close ts (Some us) = after close us
-closing_by close ts None = after close ts
 
 abbrev pub stopping_by : List Token → Option (List Token) → Option (List Token)
 stopping_by ts (Some us) = None
@@ -110,6 +105,14 @@ unfoldable pub listed_of : {A : Type 0} → Reader A → Mark → Reader (List A
 listed_of r close ts = listed_by r close ts (after close ts)
 
 -- Constants.
+
+abbrev pub constant_of : Token → Option Const
+constant_of (token.Keyword keyword.None) = Some constants.Absent
+constant_of (token.Keyword keyword.True) = Some (constants.Truth true)
+constant_of (token.Keyword keyword.False) = Some (constants.Truth false)
+constant_of (token.Number n) = if nat_lt n (2 ^ 127) then Some (constants.Whole (pos n)) else None
+constant_of (token.Text bytes) = Some (constants.Text bytes)
+constant_of _ = None
 
 abbrev pub negative_of : ℕ → List Token → Option (Const × List Token)
 negative_of n ts = if nat_lt n (2 ^ 127) then Some (constants.Whole (neg_ℤ (pos n)), ts) else None

@@ -6,15 +6,29 @@ ghost use Rattle.py_syntax.specs.declared.constant.Const.{Const};
 ghost use Rattle.py_syntax.specs.declared.token.Token.{Token};
 ghost use Rattle.py_phrase.specs.Found.{AreFound};
 ghost use Rattle.py_phrase.specs.Readers;
-ghost use Rattle.py_expression.specs.Gives.{Gives};
+ghost use Rattle.py_phrase.specs.Gives.{Gives};
 
 use crate::element::Element;
+use crate::fault::ReadError;
 use crate::list::listed;
 use crate::mark::{Mark, after};
 use port_io::Name;
-use py_expression::{ReadError, constant};
-use py_syntax::{Bracket, Const, Operator, Token};
+use py_syntax::{Bracket, Const, Keyword, Operator, Token};
 use std::alloc::Global;
+
+/// The constant that a token is.
+pub fn constant_of(alloc: Global, token: &Token) -> Result<Const, ReadError>
+    ensures { Gives (λ c. c) result (Readers.constant_of token.now) }
+{
+    match token {
+        Token::Keyword(Keyword::None) => Ok(Const::Absent),
+        Token::Keyword(Keyword::True) => Ok(Const::Truth(true)),
+        Token::Keyword(Keyword::False) => Ok(Const::Truth(false)),
+        Token::Number(n) if *n < 1 << 127 => Ok(Const::Whole(*n as i128)),
+        Token::Text(text) => Ok(Const::Text(Name::of(alloc, text.bytes())?)),
+        _ => Err(ReadError::Wrong),
+    }
+}
 
 /// The number behind a minus, with its sign, and the tokens after it.
 fn negative(tokens: &[Token]) -> Result<(Const, &[Token]), ReadError>
@@ -40,7 +54,7 @@ impl Element for Const {
             Some((Token::Name(name), rest)) => {
                 Ok((Const::Named(Name::of(alloc, name.bytes())?), rest))
             }
-            Some((first, rest)) => Ok((constant(alloc, first)?, rest)),
+            Some((first, rest)) => Ok((constant_of(alloc, first)?, rest)),
             None => Err(ReadError::Wrong),
         }
     }

@@ -1,12 +1,13 @@
-//! Single tokens that carry a value, and the end of a line.
+//! Elements of lists, and single tokens that carry a value.
 
 ghost use Rattle.std.specs.Prelude.{◌≡◌, List, [], ◌∷◌, Option, Some, None};
 ghost use Rattle.py_syntax.specs.declared.token.Token.{Token};
 ghost use Rattle.py_phrase.specs.Readers;
-ghost use Rattle.py_expression.specs.Gives.{Gives};
+ghost use Rattle.py_phrase.specs.Gives.{Gives};
 
+use crate::fault::ReadError;
+use crate::mark::name_at;
 use port_io::Name;
-use py_expression::ReadError;
 use py_syntax::Token;
 use std::alloc::Global;
 
@@ -24,10 +25,10 @@ impl Element for Name {
     ghost reading = { Readers.name };
 
     fn read<'a>(alloc: Global, tokens: &'a [Token]) -> Result<(Self, &'a [Token]), ReadError> {
-        match tokens.split_first() {
-            Some((Token::Name(name), rest)) => Ok((Name::of(alloc, name.bytes())?, rest)),
-            _ => Err(ReadError::Wrong),
-        }
+        let Some((name, rest)) = name_at(tokens) else {
+            return Err(ReadError::Wrong);
+        };
+        Ok((Name::of(alloc, name.bytes())?, rest))
     }
 }
 
@@ -45,15 +46,5 @@ pub fn text(alloc: Global, tokens: &[Token]) -> Result<(Name, &[Token]), ReadErr
     match tokens.split_first() {
         Some((Token::Text(text), rest)) => Ok((Name::of(alloc, text.bytes())?, rest)),
         _ => Err(ReadError::Wrong),
-    }
-}
-
-/// This value, where no token is left.
-pub fn end<T: Drop>(value: T, rest: &[Token]) -> Result<T, ReadError>
-    ensures { Gives (λ x. x) result (Readers.ended (value, rest.now)) }
-{
-    match rest.split_first() {
-        None => Ok(value),
-        Some(_) => Err(ReadError::Wrong),
     }
 }

@@ -4,12 +4,12 @@ ghost use Rattle.std.specs.Prelude.{◌≡◌, List, [], ◌∷◌, ◌++◌, Op
 ghost use Rattle.py_syntax.specs.declared.token.Token.{Token};
 ghost use Rattle.py_phrase.specs.Marks;
 ghost use Rattle.py_phrase.specs.Readers;
-ghost use Rattle.py_expression.specs.Gives.{Gives};
+ghost use Rattle.py_phrase.specs.Gives.{Gives};
 
 use crate::element::Element;
-use crate::mark::{Mark, after, expect};
+use crate::fault::ReadError;
+use crate::mark::{Mark, after, after_last, expect};
 use port_io::NoMemory;
-use py_expression::ReadError;
 use py_syntax::{Bracket, Operator, Token};
 use std::alloc::Global;
 
@@ -28,11 +28,11 @@ fn ending(between: Mark, close: Option<Mark>, tokens: &[Token]) -> Option<&[Toke
 }
 
 /// The tokens after a `)`, before which a comma may stand.
+#[tactic(auto, unfolding(crate::specs::Readers::ending))]
 pub fn last(tokens: &[Token]) -> Result<&[Token], ReadError>
     ensures { Gives (λ x. x.now) result (Readers.ending Marks.comma (Some (Mark.Close Bracket.Round)) tokens.now) }
 {
-    let comma = Mark::Operator(Operator::Comma);
-    ending(comma, Some(Mark::Close(Bracket::Round)), tokens).ok_or(ReadError::Wrong)
+    after_last(tokens).ok_or(ReadError::Wrong)
 }
 
 /// These and one more.

@@ -1,10 +1,11 @@
-//! Tokens that a form writes out.
+//! The tokens at the front: marks, words and names.
 
 ghost use Rattle.std.specs.Prelude.{◌≡◌, Some, None, MatchOption};
 ghost use Rattle.py_phrase.specs.Marks;
-ghost use Rattle.py_expression.specs.Gives.{Gives};
+ghost use Rattle.py_phrase.specs.Gives.{Gives};
 
-use py_expression::ReadError;
+use crate::fault::ReadError;
+use port_io::Name;
 use py_syntax::{Bracket, Keyword, Operator, Token};
 
 /// A reserved word, an operator or a bracket.
@@ -49,6 +50,17 @@ pub fn expect(mark: Mark, tokens: &[Token]) -> Result<&[Token], ReadError>
     after(mark, tokens).ok_or(ReadError::Wrong)
 }
 
+/// The tokens after the `)` of a call, before which a comma may stand.
+pub fn after_last(tokens: &[Token]) -> Option<&[Token]>
+    ensures { MatchOption result (Marks.after_last tokens.now ≡ None) (λ x. Marks.after_last tokens.now ≡ Some x.now) }
+{
+    match after(Mark::Operator(Operator::Comma), tokens) {
+        Some(rest) => after(Mark::Close(Bracket::Round), rest),
+        None => after(Mark::Close(Bracket::Round), tokens),
+    }
+}
+
+/// Whether a token is this name.
 fn is_word(word: &[u8], token: &Token) -> bool
     ensures { result ≡ Marks.is_word word.now token.now }
 {
@@ -74,4 +86,43 @@ pub fn expect_word<'a>(word: &[u8], tokens: &'a [Token]) -> Result<&'a [Token], 
     ensures { Gives (λ x. x.now) result (Marks.after_word word.now tokens.now) }
 {
     after_word(word, tokens).ok_or(ReadError::Wrong)
+}
+
+/// The name at the front, and the tokens after it.
+pub fn name_at(tokens: &[Token]) -> Option<(&Name, &[Token])>
+    ensures { MatchOption result (Marks.name_at tokens.now ≡ None) (λ x. Marks.name_at tokens.now ≡ Some (x.0.now, x.1.now)) }
+{
+    match tokens.split_first() {
+        Some((Token::Name(name), rest)) => Some((name, rest)),
+        _ => None,
+    }
+}
+
+/// The name before a `=`, and the tokens after that.
+pub fn named_at(tokens: &[Token]) -> Option<(&Name, &[Token])>
+    ensures { MatchOption result (Marks.named_at tokens.now ≡ None) (λ x. Marks.named_at tokens.now ≡ Some (x.0.now, x.1.now)) }
+{
+    let (name, rest) = name_at(tokens)?;
+    Some((name, after(Mark::Operator(Operator::Assign), rest)?))
+}
+
+/// The tokens after `name=`, or all tokens where that doesn't stand at the front.
+pub fn after_name<'a>(wanted: &[u8], tokens: &'a [Token]) -> &'a [Token]
+    ensures { result.now ≡ Marks.after_name wanted.now tokens.now }
+{
+    match named_at(tokens) {
+        Some((name, rest)) if name.bytes() == wanted => rest,
+        _ => tokens,
+    }
+}
+
+/// Wrong unless nothing follows.
+pub fn end_of_line(tokens: &[Token]) -> Result<(), ReadError>
+    ensures { Gives (λ _. tt) result (Marks.end_of tokens.now) }
+{
+    if tokens.is_empty() {
+        Ok(())
+    } else {
+        Err(ReadError::Wrong)
+    }
 }

@@ -4,8 +4,8 @@ ghost use Rattle.std.specs.Prelude.{◌≡◌};
 ghost use Rattle.py_phrase.specs.Readers;
 
 use crate::element::{Element, name};
+use crate::fault::ReadError;
 use crate::mark::{Mark, after, expect};
-use py_expression::ReadError;
 use py_syntax::{Const, Operator, Parameter, Setting, Token};
 use std::alloc::Global;
 

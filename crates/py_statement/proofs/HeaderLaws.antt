@@ -14,8 +14,8 @@ use Rattle.py_syntax.specs.declared.operator.Operator.TheVariants as operator
 use Rattle.py_syntax.specs.declared.operator.Bracket.TheVariants as bracket
 use Rattle.py_syntax.specs.declared.token.Token.{Token}
 use Rattle.py_syntax.specs.declared.token.Token.TheVariants as token
-use Rattle.py_expression.specs.Tokens.{after_open, after_open_square, name_at}
-use Rattle.py_expression.proofs.TokenFacts.{some_same, after_open_is, after_open_square_is, name_in_is}
+use Rattle.py_phrase.specs.Marks.{after, after_open, after_open_square, name_at}
+use Rattle.py_phrase.proofs.Facts.{some_same, after_open_is, after_open_square_is, name_at_is}
 use Rattle.py_phrase.specs.Readers.{constants_in}
 use Rattle.py_phrase.proofs.ConstantLaws.{constants_sound, constants_again}
 use Rattle.py_call.specs.Kept.{kept, of_one}
@@ -41,7 +41,7 @@ test_sound ts v h =
     (e, subst (λ us. Spells e ts us) (colon_is x.1 u c) s, sym d ∙ k)
 
 pub test_again : (e : Tree) (ts : List Token) → Spells e ts colon → test_of ts ≡ Some (kept e)
-unfolding test_of
+unfolding test_of after
 test_again e ts s = rw (value_again e ts colon s quiet_colon)
 
 -- ---- `for`
@@ -67,7 +67,7 @@ range_sound ts us v e h =
     )
 
 range_span_again : (es : List Tree) (r : Span) (us : List Token) → range_of es ≡ Some r → SpellsValues es us colon → range_span_of us ≡ Some (kept_span r)
-unfolding range_span_of
+unfolding range_span_of after
 range_span_again es r us h s =
     let (q, is, k) = range_again es r h in rw (values_again es us colon s, is) (ap (λ z. Some z) k)
 
@@ -79,7 +79,7 @@ constants_span_sound ts us v e h =
     (Constants x.0, (us, e, subst (λ ws. SpellsConstants x.0 us ws) (colon_is x.1 u c) (constants_sound us x.1 x.0 a)), sym d)
 
 span_sound : (ts : List Token) (v : Span × ℕ) → span_of ts ≡ Some v → (s : Span) × SpellsSpan s ts × (v ≡ kept_span s)
-unfolding span_of
+unfolding span_of after
 span_sound ts v h = go (after_call (codes "range") ts) refl (after_open_square ts) refl h
   where
     go : (a : Option (List Token)) → after_call (codes "range") ts ≡ a → (b : Option (List Token)) → after_open_square ts ≡ b → span_by a b ≡ Some v
@@ -89,7 +89,7 @@ span_sound ts v h = go (after_call (codes "range") ts) refl (after_open_square t
     go None q None r k = absurd (not_some k)
 
 span_again : (s : Span) (ts : List Token) → SpellsSpan s ts → span_of ts ≡ Some (kept_span s)
-unfolding span_of constants_span_of
+unfolding span_of constants_span_of after
 span_again (Stop e) ts (us, eq, s) = rw (eq, range_span_again (e ∷ []) (Stop e) us refl s)
 span_again (StartStop e f) ts (us, eq, s) = rw (eq, range_span_again (e ∷ f ∷ []) (StartStop e f) us refl s)
 span_again (StartStopStep e f g) ts (us, eq, s) = rw (eq, range_span_again (e ∷ f ∷ g ∷ []) (StartStopStep e f g) us refl s)
@@ -97,16 +97,16 @@ span_again (Constants cs) ts (us, eq, s) = rw (eq, constants_again us colon cs s
 
 pub for_sound : (ts : List Token) (v : Header × ℕ) → for_of ts ≡ Some v
     → (n : List ℕ) × (s : Span) × (us : List Token) × (ts ≡ token.Name n ∷ token.Keyword keyword.In ∷ us) × SpellsSpan s us × (v ≡ kept_header (For n s))
-unfolding for_of
+unfolding for_of after
 for_sound ts v h =
     let (x, a, b) = also_is (name_at ts) (λ y. also (after_in y.1) (λ us. made (of_one (For y.0)) (span_of us))) v h in
     let (us, c, d) = also_is (after_in x.1) (λ ws. made (of_one (For x.0)) (span_of ws)) v b in
     let (w, e, f) = made_is (span_of us) (of_one (For x.0)) v d in
     let (s, sp, k) = span_sound us w e in
-    (x.0, s, us, name_in_is ts x a ∙ ap (λ ws. token.Name x.0 ∷ ws) (after_in_is x.1 us c), sp, sym f ∙ ap (λ z. of_one (For x.0) z) k)
+    (x.0, s, us, name_at_is ts x a ∙ ap (λ ws. token.Name x.0 ∷ ws) (after_in_is x.1 us c), sp, sym f ∙ ap (λ z. of_one (For x.0) z) k)
 
 pub for_again : (n : List ℕ) (s : Span) (us : List Token) → SpellsSpan s us → for_of (token.Name n ∷ token.Keyword keyword.In ∷ us) ≡ Some (kept_header (For n s))
-unfolding for_of
+unfolding for_of after
 for_again n s us sp = rw (span_again s us sp)
 
 -- ---- `except`
@@ -118,7 +118,7 @@ others_as_kinds (k ∷ ks) ts rest (us, vs, comma, (ws, given, name), more) =
     (vs, comma ∙ ap (λ zs. token.Operator operator.Comma ∷ zs) (given ∙ name), others_as_kinds ks vs rest more)
 
 kinds_as_others : (ks : List FaultKind) (ts rest : List Token) → SpellsOtherKinds ks ts rest → SpellsOthers (map placed (map kind_name ks)) ts rest
-unfolding Spells
+unfolding Spells after
 kinds_as_others [] ts rest s = s
 kinds_as_others (k ∷ ks) ts rest (us, e, more) =
     (token.Name (fault_name k) ∷ us, us, e, (token.Name (fault_name k) ∷ us, refl, refl), kinds_as_others ks us rest more)
@@ -128,7 +128,7 @@ unfolding Spells
 as_kinds k ks ts rest (us, (vs, given, name), more) = (us, given ∙ name, others_as_kinds ks us rest more)
 
 as_values : (ks : List FaultKind) (ts rest : List Token) → SpellsKinds ks ts rest → SpellsValues (map kind_name ks) ts rest
-unfolding Spells
+unfolding Spells after
 as_values [] ts rest s = absurd s
 as_values (k ∷ ks) ts rest (us, e, more) = (us, (token.Name (fault_name k) ∷ us, e, refl), kinds_as_others ks us rest more)
 
@@ -148,12 +148,12 @@ kinds_sound ts us c e h =
     some (k ∷ ks) d i s = subst (λ q. SpellsCaught q ts) (some_same i) (us, e, as_kinds k ks us colon s)
 
 caught_kinds_again : (ks : List FaultKind) (us : List Token) → SpellsKinds ks us colon → caught_kinds_of us ≡ Some (Kinds ks)
-unfolding caught_kinds_of
+unfolding caught_kinds_of after
 caught_kinds_again [] us s = absurd s
 caught_kinds_again (k ∷ ks) us s = rw (values_again (map kind_name (k ∷ ks)) us colon (as_values (k ∷ ks) us colon s), kinds_again (k ∷ ks))
 
 caught_kind_sound : (ts : List Token) (x : FaultKind × List Token) (c : Caught) → ts ≡ token.Name (fault_name x.0) ∷ x.1 → caught_kind_of x ≡ Some c → SpellsCaught c ts
-unfolding caught_kind_of as_name_of
+unfolding caught_kind_of as_name_of after
 caught_kind_sound ts x c e h = go (after_as x.1) refl h
   where
     go : (o : Option (List Token)) → after_as x.1 ≡ o → caught_kind_by x.0 x.1 o ≡ Some c → SpellsCaught c ts
@@ -164,10 +164,10 @@ caught_kind_sound ts x c e h = go (after_as x.1) refl h
         let (y, a, b) = also_is (name_at us) (λ z. made (λ _. KindAs x.0 z.0) (colon_of z.1)) c k in
         let (u, d, f) = made_is (colon_of y.1) (λ _. KindAs x.0 y.0) c b in
         subst (λ g. SpellsCaught g ts) f
-        (e ∙ ap (λ ws. token.Name (fault_name x.0) ∷ ws) (after_as_is x.1 us q ∙ ap (λ ws. token.Keyword keyword.As ∷ ws) (name_in_is us y a ∙ ap (λ ws. token.Name y.0 ∷ ws) (colon_is y.1 u d))))
+        (e ∙ ap (λ ws. token.Name (fault_name x.0) ∷ ws) (after_as_is x.1 us q ∙ ap (λ ws. token.Keyword keyword.As ∷ ws) (name_at_is us y a ∙ ap (λ ws. token.Name y.0 ∷ ws) (colon_is y.1 u d))))
 
 caught_sound : (ts : List Token) (c : Caught) → caught_of ts ≡ Some c → SpellsCaught c ts
-unfolding caught_of
+unfolding caught_of after
 caught_sound ts c h = go (after_open ts) refl (kind_at ts) refl h
   where
     go : (a : Option (List Token)) → after_open ts ≡ a → (b : Option (FaultKind × List Token)) → kind_at ts ≡ b → caught_by ts a b ≡ Some c → SpellsCaught c ts
@@ -176,7 +176,7 @@ caught_sound ts c h = go (after_open ts) refl (kind_at ts) refl h
     go None q None r k = let (u, d, f) = made_is (colon_of ts) (λ _. All) c k in subst (λ g. SpellsCaught g ts) f (colon_is ts u d)
 
 caught_again : (c : Caught) (ts : List Token) → SpellsCaught c ts → caught_of ts ≡ Some c
-unfolding caught_of caught_kind_of as_name_of
+unfolding caught_of caught_kind_of as_name_of after
 caught_again All ts e = rw e
 caught_again (Kind k) ts e = rw (e, kind_at_again k colon)
 caught_again (Kinds ks) ts (us, e, s) = rw (e, caught_kinds_again ks us s)
@@ -187,7 +187,7 @@ unfolding except_of
 except_sound ts v h = let (c, a, b) = made_is (caught_of ts) (λ d. (Except d, 0)) v h in (c, caught_sound ts c a, sym b)
 
 pub except_again : (c : Caught) (ts : List Token) → SpellsCaught c ts → except_of ts ≡ Some (kept_header (Except c))
-unfolding except_of
+unfolding except_of after
 except_again c ts s = rw (caught_again c ts s)
 
 -- ---- the others
@@ -197,11 +197,11 @@ unfolding header_only
 header_only_sound h ts v k = let (u, a, b) = made_is (colon_of ts) (λ _. (h, 0)) v k in (colon_is ts u a, sym b)
 
 pub header_only_again : (h : Header) → header_only h colon ≡ Some (h, 0)
-unfolding header_only
+unfolding header_only after
 header_only_again h = refl
 
 pub with_sound : (ts : List Token) (v : Header × ℕ) → with_of ts ≡ Some v → (e : Tree) × (us : List Token) × (ts ≡ token.Keyword keyword.With ∷ us) × Spells e us colon × (v ≡ kept_header (With e))
-unfolding with_of
+unfolding with_of after
 with_sound ts v h =
     let (us, a, b) = also_is (after_with ts) (λ ws. made (of_one With) (test_of ws)) v h in
     let (w, c, d) = made_is (test_of us) (of_one With) v b in
@@ -209,5 +209,5 @@ with_sound ts v h =
     (e, us, after_with_is ts us a, s, sym d ∙ ap (λ z. of_one With z) k)
 
 pub with_again : (e : Tree) (us : List Token) → Spells e us colon → with_of (token.Keyword keyword.With ∷ us) ≡ Some (kept_header (With e))
-unfolding with_of
+unfolding with_of after
 with_again e us s = rw (test_again e us s)

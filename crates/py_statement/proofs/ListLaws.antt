@@ -9,7 +9,7 @@ use Rattle.py_syntax.specs.declared.fault_kind.FaultKind.{FaultKind}
 use Rattle.py_syntax.specs.declared.token.Token.{Token}
 use Rattle.py_expression.specs.Shown.{nothing}
 use Rattle.py_expression.proofs.Nodes.{at_most_or_more}
-use Rattle.py_expression.proofs.TokenFacts.{some_same}
+use Rattle.py_phrase.proofs.Facts.{some_same}
 use Rattle.py_call.specs.Kept.{lowered, kept, kept_list}
 use Rattle.py_call.specs.Chosen.{also, made, ended}
 use Rattle.py_call.specs.Reading.{values_of}

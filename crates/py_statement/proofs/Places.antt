@@ -5,6 +5,7 @@ use Rattle.std.proofs.lemmas.List.{append-nil}
 use Rattle.py_syntax.specs.ExpressionTrees.{Tree}
 use Rattle.py_syntax.specs.StatementForms.{one_more, places}
 use Rattle.py_syntax.specs.declared.fault_kind.FaultKind.{FaultKind}
+use Rattle.py_phrase.specs.Marks.{after}
 use Rattle.py_call.specs.Chosen.{also, made}
 use Rattle.py_statement.specs.Reading.{places_behind, kind_of, kinds_behind}
 
@@ -51,7 +52,7 @@ front xs None = None
 front xs (Some ys) = Some (xs ++ ys)
 
 kinds_as : (ks : List FaultKind) (es : List Tree) → kinds_behind ks es ≡ front ks (kinds_of es)
-unfolding kinds_behind kinds_of
+unfolding kinds_behind kinds_of after
 kinds_as ks [] = ap (λ z. Some z) (sym (append-nil ks))
 kinds_as ks (e ∷ es) = go (kind_of e) (λ k. kinds_as (ks ++ (k ∷ [])) es)
   where
@@ -65,6 +66,7 @@ kinds_as ks (e ∷ es) = go (kind_of e) (λ k. kinds_as (ks ++ (k ∷ [])) es)
     go (Some k) ih = ih k ∙ more k (kinds_of es)
 
 pub kinds_same : (es : List Tree) → kinds_behind [] es ≡ kinds_of es
+unfolding after
 kinds_same es = kinds_as [] es ∙ none (kinds_of es)
   where
     none : (o : Option (List FaultKind)) → front [] o ≡ o

@@ -17,15 +17,15 @@ use Rattle.py_syntax.specs.declared.statement.LogLevel.{LogLevel}
 use Rattle.py_syntax.specs.declared.token.Token.{Token}
 use Rattle.py_syntax.specs.declared.token.Token.TheVariants as token
 use Rattle.py_expression.specs.Shown.{Shown, shown}
-use Rattle.py_expression.specs.Tokens.{after_assign, after_open, after_close}
+use Rattle.py_phrase.specs.Marks.{after, end_of, after_assign, after_open, after_close}
 use Rattle.py_expression.specs.Reading.{primary_of}
 use Rattle.py_expression.specs.Ends.{IsPlain}
 use Rattle.py_expression.proofs.Again.{Quiet}
 use Rattle.py_expression.proofs.Nodes.{shown_name}
 use Rattle.py_expression.proofs.ReaderLaws.{primary_again}
-use Rattle.py_expression.proofs.TokenFacts.{some_same, after_assign_is, after_open_is, after_close_is, bytes_are}
+use Rattle.py_phrase.proofs.Facts.{some_same, after_assign_is, after_open_is, after_close_is, bytes_are}
 use Rattle.py_call.specs.Kept.{lowered, kept, of_one, of_two, kept_list}
-use Rattle.py_call.specs.Chosen.{also, made, end_of, ended}
+use Rattle.py_call.specs.Chosen.{also, made, ended}
 use Rattle.py_call.specs.Reading.{whole_value_of, values_of, closed_start_of, right_of}
 use Rattle.py_call.proofs.Chosen.{not_some, also_is, made_is, choice_is, and_is, end_is, ended_is}
 use Rattle.py_call.proofs.ValueLaws.{same_base, attribute_is_shown, kept_attribute, stops_quiet, whole_value_sound, whole_value_again}
@@ -46,6 +46,7 @@ Found ts v = (s : Statement) × SpellsStatement s ts × (v ≡ kept_statement s)
 
 -- a choice whose one side is a reading
 when : {A : Type 0} (b : Bool) (o : Option A) (y : A) → (if b then o else None) ≡ Some y → (b ≡ true) × (o ≡ Some y)
+unfolding after
 when true o y h = (refl, h)
 when false o y h = absurd (not_some h)
 
@@ -72,7 +73,7 @@ assign_value_sound ts us x v h k =
 
 assigned_sound : (ts us : List Token) (x : Shown) (v : Statement × ℕ) → primary_of ts ≡ Some (x, token.Operator operator.Assign ∷ us)
     → assigned_of x.tree x.height us ≡ Some v → Found ts v
-unfolding assigned_of
+unfolding assigned_of after
 assigned_sound ts us x v h k = go x.tree refl k
   where
     go : (t : Tree) → x.tree ≡ t → assigned_of t x.height us ≡ Some v → Found ts v
@@ -81,7 +82,7 @@ assigned_sound ts us x v h k = go x.tree refl k
 
 augmented_sound : (ts us : List Token) (x : Shown) (mark : Operator) (op : BinOp) (v : Statement × ℕ) → primary_of ts ≡ Some (x, token.Operator mark ∷ us)
     → augmenting mark ≡ Some op → augmented_of x.tree op us ≡ Some v → Found ts v
-unfolding augmented_of
+unfolding augmented_of after
 augmented_sound ts us x mark op v h m k = go x.tree refl k
   where
     go : (t : Tree) → x.tree ≡ t → augmented_of t op us ≡ Some v → Found ts v
@@ -97,7 +98,7 @@ abbrev pub Called_at : List Token → Shown → List ℕ → List Token → Tree
 Called_at ts x n us b = (primary_of ts ≡ Some (x, token.Open bracket.Round ∷ us)) × (x.tree ≡ Attribute b n)
 
 act_sound : (ts us : List Token) (x : Shown) (b : Tree) (a : Action) (v : Statement × ℕ) → Called_at ts x (action_name a) us b → act_of b x.height a us ≡ Some v → Found ts v
-unfolding act_of
+unfolding act_of after
 act_sound ts us x b a v (h, at) k =
     let (u, c, d) = made_is (also (after_close us) end_of) (λ _. of_one (acting a) (lowered 1 b x.height)) v k in
     let (vs, e, f) = also_is (after_close us) end_of u c in
@@ -126,7 +127,7 @@ start_sound ts us x b v (h, at) k =
 
 logger_sound : (ts us : List Token) (x : Shown) (b : Tree) (n : List ℕ) (g : Logger × ℕ) → Called_at ts x n us b → logger_of b x.height ≡ Some g
     → (l : Logger) × SpellsLogger l ts (method_tokens n us) × (g ≡ kept_logger l)
-unfolding logger_of Spells
+unfolding logger_of Spells after
 logger_sound ts us x b n g (h, at) k =
     let (y, c, d) = also_is (split_of b) (λ z. logger_by z.0 z.1 x.height) g k in
     let (t, st, l, low, same) = attribute_read ts (token.Open bracket.Round ∷ us) x b n h at in
@@ -155,7 +156,7 @@ logger_sound ts us x b n g (h, at) k =
 
 first_kept : (es : List Tree) (y : Tree × List Tree) → first_of (kept_list kept es).0 ≡ Some y
     → (e : Tree) × (fs : List Tree) × (es ≡ e ∷ fs) × ((y, (kept_list kept es).1) ≡ kept_values e fs)
-unfolding kept_list
+unfolding kept_list after
 first_kept [] y h = absurd (not_some h)
 first_kept (e ∷ fs) y h = (e, fs, refl, ap (λ (z : Tree × List Tree). (z, (kept_values e fs).1)) (sym (some_same h)))
 
@@ -199,7 +200,7 @@ called_sound ts us x v h k =
 -- ---- all of them
 
 pub plain_sound : (ts : List Token) (v : Statement × ℕ) → plain_of ts ≡ Some v → Found ts v
-unfolding plain_of behind_of
+unfolding plain_of behind_of after
 plain_sound ts v k =
     let (x, h, b) = also_is (primary_of ts) behind_of v k in
     go x h (after_assign x.1) refl (after_open x.1) refl (augmenting_at x.1) refl b
@@ -218,7 +219,7 @@ plain_sound ts v k =
 -- ---- and back
 
 primary_name : (n : List ℕ) (rest : List Token) → Quiet rest → primary_of (token.Name n ∷ rest) ≡ Some (record { tree = Name n; height = 1 }, rest)
-unfolding Spells level
+unfolding Spells level after
 primary_name n rest q =
     primary_again (Name n) (token.Name n ∷ rest) rest refl (omega arith) (stops_quiet 12 (Name n) rest (omega arith) q) ∙ ap (λ (s : Shown). Some (s, rest)) (sym (shown_name n))
 
@@ -230,12 +231,12 @@ called_read m e ts us (s, l) = attribute_again e (called_name m) ts us s l (call
 -- behind a call of a method of e that is shown as b
 method_again : (m : Called) (e b : Tree) (us : List Token) → (shown (Attribute e (called_name m))).tree ≡ Attribute b (called_name m)
     → behind_of (shown (Attribute e (called_name m)), token.Open bracket.Round ∷ us) ≡ method_by m b (shown (Attribute e (called_name m))).height us
-unfolding behind_of called_statement_of split_of
+unfolding behind_of called_statement_of split_of after
 method_again m e b us at = rw (at, called_again m)
 
 assign_value_again : (e : Tree) (s : RightSide) (ts us : List Token) → SpellsBefore e ts (token.Operator operator.Dot ∷ token.Name (codes "value") ∷ token.Operator operator.Assign ∷ us) → SpellsRight s us
     → plain_of ts ≡ Some (kept_statement (AssignValue e s))
-unfolding plain_of behind_of assigned_of assigned_value_of split_of Spells level
+unfolding plain_of behind_of assigned_of assigned_value_of split_of Spells level after
 assign_value_again e s ts us (sp, l) r =
     let read = primary_again (Attribute e (codes "value")) ts (token.Operator operator.Assign ∷ us)
     (token.Operator operator.Dot ∷ token.Name (codes "value") ∷ token.Operator operator.Assign ∷ us, sp, l, refl) (omega arith)
@@ -244,24 +245,24 @@ assign_value_again e s ts us (sp, l) r =
     rw (read, at, right_again s us r, kept_attribute e (codes "value") b (codes "value") at)
 
 plain_from : (ts : List Token) (x : Shown × List Token) (v : Option (Statement × ℕ)) → primary_of ts ≡ Some x → behind_of x ≡ v → plain_of ts ≡ v
-unfolding plain_of
+unfolding plain_of after
 plain_from ts x v h k = rw h k
 
 assign_name_again : (n : List ℕ) (s : RightSide) (us : List Token) → SpellsRight s us
     → plain_of (token.Name n ∷ token.Operator operator.Assign ∷ us) ≡ Some (kept_statement (Assign n s))
-unfolding behind_of assigned_of
+unfolding behind_of assigned_of after
 assign_name_again n s us r =
     plain_from _ _ _ (primary_name n (token.Operator operator.Assign ∷ us) (quiet_assign us)) (rw (right_again s us r))
 
 augmented_again : (n : List ℕ) (op : BinOp) (e : Tree) (mark : Operator) (us : List Token) → augmenting mark ≡ Some op → Spells e us []
     → plain_of (token.Name n ∷ token.Operator mark ∷ us) ≡ Some (kept_statement (AugmentedAssign n op e))
-unfolding behind_of augmented_of
+unfolding behind_of augmented_of after
 augmented_again n op e mark us h s =
     let (quiet, none) = quiet_mark mark op us h in
     plain_from _ _ _ (primary_name n (token.Operator mark ∷ us) quiet) (rw (none, h, whole_value_again e us s))
 
 act_again : (e : Tree) (a : Action) (ts : List Token) → SpellsBefore e ts (method_tokens (action_name a) (token.Close bracket.Round ∷ [])) → plain_of ts ≡ Some (kept_statement (Act e a))
-unfolding act_of
+unfolding act_of after
 act_again e a ts s =
     let (b, at) = attribute_is_shown e (action_name a) in
     plain_from _ _ _ (called_read (called.Act a) e ts (token.Close bracket.Round ∷ []) s)
@@ -269,7 +270,7 @@ act_again e a ts s =
 
 immediate_again : (e v : Tree) (ts us : List Token) → SpellsBefore e ts (method_tokens (codes "setimmediatevalue") us) → SpellsValues (v ∷ []) us []
     → plain_of ts ≡ Some (kept_statement (SetImmediateValue e v))
-unfolding set_immediate_of
+unfolding set_immediate_of after
 immediate_again e v ts us s values =
     let (b, at) = attribute_is_shown e (codes "setimmediatevalue") in
     plain_from _ _ _ (called_read called.SetImmediateValue e ts us s)
@@ -278,7 +279,7 @@ immediate_again e v ts us s values =
 
 start_again : (f : StartedCall) (ts us vs : List Token) → ts ≡ member_tokens (codes "cocotb") (codes "start_soon") us → SpellsStarted f us vs → Closes vs []
     → plain_of ts ≡ Some (kept_statement (StartSoon f))
-unfolding start_soon_of Spells level height
+unfolding start_soon_of Spells level height after
 start_again f ts us vs e s closes =
     plain_from _ _ _ (called_read called.StartSoon (Name (codes "cocotb")) ts us (e, refl))
     (method_again called.StartSoon (Name (codes "cocotb")) (Name (codes "cocotb")) us (tree_whole (Attribute (Name (codes "cocotb")) (codes "start_soon")) (omega arith))
@@ -286,13 +287,13 @@ start_again f ts us vs e s closes =
 
 log_from : (b : Tree) (h : ℕ) (l : LogLevel) (e : Tree) (es : List Tree) (us : List Token) (g : Logger × ℕ) → logger_of b h ≡ Some g → SpellsValues (e ∷ es) us [] → can_log e es ≡ true
     → log_of b h l us ≡ Some (of_two (logged_as l) g (kept_values e es))
-unfolding log_of logged_by kept_list
+unfolding log_of logged_by kept_list after
 log_from b h l e es us g lg s can = rw (lg, values_again (e ∷ es) us [] s, can_log_kept e es, can)
 
 log_hierarchy_again : (f : Tree) (l : LogLevel) (e : Tree) (es : List Tree) (ts us : List Token)
     → SpellsLogger (HierarchyLog f) ts (method_tokens (level_name l) us) → SpellsValues (e ∷ es) us [] → can_log e es ≡ true
     → plain_of ts ≡ Some (kept_statement (Log (HierarchyLog f) l e es))
-unfolding logger_of split_of Spells level
+unfolding logger_of split_of Spells level after
 log_hierarchy_again f l e es ts us (sf, lf) s can =
     let (c, at) = attributes_shown f (codes "_log") (level_name l) in
     let (g, is, low, named) = base_is_attribute (Attribute f (codes "_log")) c (level_name l) (codes "_log") at in
@@ -306,7 +307,7 @@ log_hierarchy_again f l e es ts us (sf, lf) s can =
 log_cocotb_again : (l : LogLevel) (e : Tree) (es : List Tree) (ts us : List Token)
     → SpellsLogger CocotbLog ts (method_tokens (level_name l) us) → SpellsValues (e ∷ es) us [] → can_log e es ≡ true
     → plain_of ts ≡ Some (kept_statement (Log CocotbLog l e es))
-unfolding logger_of split_of Spells level height
+unfolding logger_of split_of Spells level height after
 log_cocotb_again l e es ts us sl s can =
     plain_from _ _ _
     (called_read (called.Log l) (Attribute (Name (codes "cocotb")) (codes "log")) ts us
@@ -333,6 +334,7 @@ BeginsPlain (Assert c e) = ⊥
 BeginsPlain (Await a) = ⊥
 
 pub plain_again : (s : Statement) (ts : List Token) → BeginsPlain s → SpellsStatement s ts → plain_of ts ≡ Some (kept_statement s)
+unfolding after
 plain_again (Assign n s) ts p (us, e, r) = rw e (assign_name_again n s us r)
 plain_again (AugmentedAssign n op x) ts p (mark, us, e, is, s) = rw e (augmented_again n op x mark us is s)
 plain_again (AssignValue e s) ts p (us, sp, r) = assign_value_again e s ts us sp r

@@ -10,8 +10,8 @@ use Rattle.py_syntax.specs.declared.fault_kind.FaultKind.{FaultKind}
 use Rattle.py_syntax.specs.declared.operator.Operator.TheVariants as operator
 use Rattle.py_syntax.specs.declared.token.Token.{Token}
 use Rattle.py_syntax.specs.declared.token.Token.TheVariants as token
-use Rattle.py_expression.specs.Tokens.{after_open, after_comma}
-use Rattle.py_expression.proofs.TokenFacts.{some_same, after_open_is, after_comma_is}
+use Rattle.py_phrase.specs.Marks.{after, after_open, after_comma}
+use Rattle.py_phrase.proofs.Facts.{some_same, after_open_is, after_comma_is}
 use Rattle.py_call.specs.Kept.{kept, of_one, of_two, kept_optional}
 use Rattle.py_call.specs.Chosen.{made}
 use Rattle.py_call.specs.Reading.{value_of, whole_value_of, awaited_of, right_of}
@@ -33,7 +33,7 @@ unfolding only
 only_sound s ts v h = let (end, same) = ended_is (s, 0) v ts h in (end, sym same)
 
 pub only_again : (s : Statement) → only s [] ≡ Some (s, 0)
-unfolding only
+unfolding only after
 only_again s = refl
 
 -- ---- `return`
@@ -43,7 +43,7 @@ SpellsReturned None ts = ts ≡ []
 SpellsReturned (Some s) ts = SpellsRight s ts
 
 pub return_sound : (ts : List Token) (v : Statement × ℕ) → return_of ts ≡ Some v → (s : Option RightSide) × SpellsReturned s ts × (v ≡ kept_statement (Return s))
-unfolding return_of
+unfolding return_of after
 return_sound [] v h = (None, refl, sym (some_same h))
 return_sound (t ∷ ts) v h =
     let (w, a, b) = made_is (right_of (t ∷ ts)) (of_one (λ s. Return (Some s))) v h in
@@ -61,7 +61,7 @@ no_side NewLock (inr (text, us, e, closes)) = cc
 no_side (RandomInt a b) (us, e, s) = cc
 
 pub return_again : (s : Option RightSide) (ts : List Token) → SpellsReturned s ts → return_of ts ≡ Some (kept_statement (Return s))
-unfolding return_of
+unfolding return_of after
 return_again None ts e = rw e
 return_again (Some s) [] sp = absurd (no_side s sp)
 return_again (Some s) (t ∷ ts) sp = rw (right_again s (t ∷ ts) sp)
@@ -69,7 +69,7 @@ return_again (Some s) (t ∷ ts) sp = rw (right_again s (t ∷ ts) sp)
 -- ---- `raise`
 
 raised_sound : (ts : List Token) (v : Option Tree × ℕ) → raised_of ts ≡ Some v → (e : Option Tree) × SpellsRaised e ts × (v ≡ kept_optional kept e)
-unfolding raised_of
+unfolding raised_of after
 raised_sound ts v h = go (after_open ts) refl h
   where
     go : (o : Option (List Token)) → after_open ts ≡ o → raised_by ts o ≡ Some v → (e : Option Tree) × SpellsRaised e ts × (v ≡ kept_optional kept e)
@@ -80,7 +80,7 @@ raised_sound ts v h = go (after_open ts) refl h
         (Some e, (us, after_open_is ts us q, s), sym b ∙ ap (λ z. of_one (λ t. Some t) z) is)
 
 raised_again : (e : Option Tree) (ts : List Token) → SpellsRaised e ts → raised_of ts ≡ Some (kept_optional kept e)
-unfolding raised_of
+unfolding raised_of after
 raised_again None ts e = rw e
 raised_again (Some e) ts (us, eq, s) = rw (eq, one_value_again e us s)
 
@@ -94,13 +94,13 @@ raise_sound ts v h =
     (x.0, e, x.1, kind_at_is ts x a, s, sym d ∙ ap (λ z. of_one (Raise x.0) z) is)
 
 pub raise_again : (k : FaultKind) (e : Option Tree) (us : List Token) → SpellsRaised e us → raise_of (token.Name (fault_name k) ∷ us) ≡ Some (kept_statement (Raise k e))
-unfolding raise_of
+unfolding raise_of after
 raise_again k e us s = rw (kind_at_again k us, raised_again e us s)
 
 -- ---- `assert`
 
 message_sound : (ts : List Token) (v : Option Tree × ℕ) → message_of ts ≡ Some v → (e : Option Tree) × SpellsMessage e ts × (v ≡ kept_optional kept e)
-unfolding message_of
+unfolding message_of after
 message_sound ts v h = go (after_comma ts) refl h
   where
     go : (o : Option (List Token)) → after_comma ts ≡ o → message_by ts o ≡ Some v → (e : Option Tree) × SpellsMessage e ts × (v ≡ kept_optional kept e)
@@ -111,11 +111,12 @@ message_sound ts v h = go (after_comma ts) refl h
         (Some e, (us, after_comma_is ts us q, s), sym b ∙ ap (λ z. of_one (λ t. Some t) z) is)
 
 message_again : (e : Option Tree) (ts : List Token) → SpellsMessage e ts → message_of ts ≡ Some (kept_optional kept e)
-unfolding message_of
+unfolding message_of after
 message_again None ts e = rw e
 message_again (Some e) ts (us, eq, s) = rw (eq, whole_value_again e us s)
 
 message_behind : (e : Option Tree) (ts : List Token) → SpellsMessage e ts → IsBehind ts
+unfolding after
 message_behind None ts e = subst (λ us. IsBehind us) (sym e) (end_behind [] refl)
 message_behind (Some e) ts (us, eq, s) = subst (λ us. IsBehind us) (sym eq) (end_behind (token.Operator operator.Comma ∷ us) refl)
 
@@ -130,7 +131,7 @@ assert_sound ts v h =
     (t, e, x.1, s, m, sym d ∙ ap (λ z. of_two Assert z w) k ∙ ap (λ z. of_two Assert (kept t) z) is)
 
 pub assert_again : (c : Tree) (e : Option Tree) (ts us : List Token) → Spells c ts us → SpellsMessage e us → assert_of ts ≡ Some (kept_statement (Assert c e))
-unfolding assert_of
+unfolding assert_of after
 assert_again c e ts us s m = rw (value_again c ts us s (message_behind e us m).0, message_again e us m)
 
 -- ---- `await`
@@ -143,5 +144,5 @@ await_sound ts v h =
     (x, s, sym b ∙ ap (λ z. of_one Await z) k)
 
 pub await_again : (a : Awaited) (ts : List Token) → SpellsAwaited a ts → await_of ts ≡ Some (kept_statement (Await a))
-unfolding await_of
+unfolding await_of after
 await_again a ts s = rw (awaited_again a ts s)

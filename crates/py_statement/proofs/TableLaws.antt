@@ -16,9 +16,11 @@ use Rattle.py_syntax.specs.declared.statement.Action.TheVariants as action
 use Rattle.py_syntax.specs.declared.statement.LogLevel.TheVariants as level
 use Rattle.py_syntax.specs.declared.token.Token.{Token}
 use Rattle.py_syntax.specs.declared.token.Token.TheVariants as token
-use Rattle.py_expression.specs.Tokens.{operation_at, after_assign, name_at}
+use Rattle.py_expression.specs.Tokens.{operation_at}
+use Rattle.py_phrase.specs.Marks.{after, after_assign, name_at}
 use Rattle.py_expression.proofs.Again.{Quiet}
-use Rattle.py_expression.proofs.TokenFacts.{some_same, name_in_is, bytes_are}
+use Rattle.py_phrase.specs.declared.mark.Mark.TheVariants as mark
+use Rattle.py_phrase.proofs.Facts.{after_is, some_same, name_at_is, bytes_are}
 use Rattle.py_call.specs.Chosen.{made}
 use Rattle.py_call.proofs.Chosen.{not_some, also_is, made_is}
 use Rattle.py_statement.specs.Words.{called_name, all_called, called_of, keyword_at, augmenting_at, after_in, after_as, after_with, colon_of, kind_at}
@@ -26,6 +28,7 @@ use Rattle.py_statement.specs.declared.method.Called.{Called}
 use Rattle.py_statement.specs.declared.method.Called.TheVariants as called
 
 find_passes : {X : Type 0} (p : X → Bool) (xs : List X) (x : X) → find p xs ≡ Some x → p x ≡ true
+unfolding after
 find_passes p [] x e = absurd (not_some e)
 find_passes p (y ∷ ys) x e = go (p y) refl e (λ h. find_passes p ys x h)
   where
@@ -38,7 +41,7 @@ unfolding fault_of
 fault_is n k e = sym (bytes_are (fault_name k) n (find_passes (λ j. bytes_eq (fault_name j) n) kinds k e))
 
 pub fault_again : (k : FaultKind) → fault_of (fault_name k) ≡ Some k
-unfolding fault_of
+unfolding fault_of after
 fault_again kind.AssertionError = refl
 fault_again kind.AttributeError = refl
 fault_again kind.IndexError = refl
@@ -57,7 +60,7 @@ unfolding called_of
 called_is n m e = sym (bytes_are (called_name m) n (find_passes (λ j. bytes_eq (called_name j) n) all_called m e))
 
 pub called_again : (m : Called) → called_of (called_name m) ≡ Some m
-unfolding called_of
+unfolding called_of after
 called_again (called.Act action.Set) = refl
 called_again (called.Act action.Clear) = refl
 called_again (called.Act action.Release) = refl
@@ -70,7 +73,7 @@ called_again called.StartSoon = refl
 
 -- no expression calls a method of such a name
 pub called_plain : (m : Called) → method_of (called_name m) ≡ None
-unfolding method_of
+unfolding method_of after
 called_plain (called.Act action.Set) = refl
 called_plain (called.Act action.Clear) = refl
 called_plain (called.Act action.Release) = refl
@@ -85,9 +88,10 @@ pub kind_at_is : (ts : List Token) (x : FaultKind × List Token) → kind_at ts 
 kind_at_is ts x h =
     let (y, a, b) = also_is (name_at ts) (λ z. made (λ k. (k, z.1)) (fault_of z.0)) x h in
     let (k, c, d) = made_is (fault_of y.0) (λ j. (j, y.1)) x b in
-    name_in_is ts y a ∙ ap (λ n. token.Name n ∷ y.1) (fault_is y.0 k c) ∙ ap (λ (z : FaultKind × List Token). token.Name (fault_name z.0) ∷ z.1) d
+    name_at_is ts y a ∙ ap (λ n. token.Name n ∷ y.1) (fault_is y.0 k c) ∙ ap (λ (z : FaultKind × List Token). token.Name (fault_name z.0) ∷ z.1) d
 
 pub kind_at_again : (k : FaultKind) (ts : List Token) → kind_at (token.Name (fault_name k) ∷ ts) ≡ Some (k, ts)
+unfolding after
 kind_at_again k ts = rw (fault_again k)
 
 pub keyword_at_is : (ts : List Token) (x : Keyword × List Token) → keyword_at ts ≡ Some x → ts ≡ token.Keyword x.0 ∷ x.1
@@ -95,27 +99,28 @@ keyword_at_is (token.Keyword k ∷ ts) x e = ap (λ (y : Keyword × List Token).
 keyword_at_is _ x e = cc
 
 pub after_in_is : (ts us : List Token) → after_in ts ≡ Some us → ts ≡ token.Keyword keyword.In ∷ us
-after_in_is (token.Keyword keyword.In ∷ ts) us e = ap (λ x. token.Keyword keyword.In ∷ x) (some_same e)
-after_in_is _ us e = cc
+unfolding after
+after_in_is ts us e = after_is (mark.Keyword keyword.In) ts us e
 
 pub after_as_is : (ts us : List Token) → after_as ts ≡ Some us → ts ≡ token.Keyword keyword.As ∷ us
-after_as_is (token.Keyword keyword.As ∷ ts) us e = ap (λ x. token.Keyword keyword.As ∷ x) (some_same e)
-after_as_is _ us e = cc
+unfolding after
+after_as_is ts us e = after_is (mark.Keyword keyword.As) ts us e
 
 pub after_with_is : (ts us : List Token) → after_with ts ≡ Some us → ts ≡ token.Keyword keyword.With ∷ us
-after_with_is (token.Keyword keyword.With ∷ ts) us e = ap (λ x. token.Keyword keyword.With ∷ x) (some_same e)
-after_with_is _ us e = cc
+unfolding after
+after_with_is ts us e = after_is (mark.Keyword keyword.With) ts us e
 
 pub colon_is : (ts : List Token) (u : Unit {0}) → colon_of ts ≡ Some u → ts ≡ colon
+unfolding after
 colon_is (token.Operator operator.Colon ∷ []) u e = refl
 colon_is _ u e = cc
 
 pub quiet_colon : Quiet colon
-unfolding operation_at
+unfolding operation_at after
 quiet_colon = (refl, refl, refl, refl)
 
 pub quiet_assign : (ts : List Token) → Quiet (token.Operator operator.Assign ∷ ts)
-unfolding operation_at
+unfolding operation_at after
 quiet_assign ts = (refl, refl, refl, refl)
 
 mark_is : (mark : Operator) (ts : List Token) (x : BinOp × List Token) → augmenting_at (token.Operator mark ∷ ts) ≡ Some x
@@ -131,7 +136,7 @@ augmenting_at_is _ x e = absurd cc
 
 -- the operator of an assignment goes on with no expression
 pub quiet_mark : (mark : Operator) (op : BinOp) (ts : List Token) → augmenting mark ≡ Some op → Quiet (token.Operator mark ∷ ts) × (after_assign (token.Operator mark ∷ ts) ≡ None)
-unfolding operation_at
+unfolding operation_at after
 quiet_mark operator.PlusAssign op ts h = ((refl, refl, refl, refl), refl)
 quiet_mark operator.MinusAssign op ts h = ((refl, refl, refl, refl), refl)
 quiet_mark operator.TimesAssign op ts h = ((refl, refl, refl, refl), refl)

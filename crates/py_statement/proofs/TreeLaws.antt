@@ -9,7 +9,7 @@ use Rattle.py_expression.specs.Reading.{primary_of}
 use Rattle.py_expression.specs.Ends.{IsRead}
 use Rattle.py_expression.proofs.Nodes.{at_most_or_more, shown_whole, shown_high}
 use Rattle.py_expression.proofs.ReaderLaws.{primary_sound}
-use Rattle.py_expression.proofs.TokenFacts.{bytes_are}
+use Rattle.py_phrase.proofs.Facts.{bytes_are}
 use Rattle.py_call.specs.Kept.{lowered, kept}
 use Rattle.py_call.proofs.Chosen.{not_some}
 use Rattle.py_call.proofs.ValueLaws.{same_base, same_attribute, lowered_same, lowered_high}

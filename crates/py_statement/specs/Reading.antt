@@ -13,11 +13,11 @@ use Rattle.py_syntax.specs.declared.statement.Action.{Action}
 use Rattle.py_syntax.specs.declared.statement.LogLevel.{LogLevel}
 use Rattle.py_syntax.specs.declared.token.Token.{Token}
 use Rattle.py_expression.specs.Shown.{Shown}
-use Rattle.py_expression.specs.Tokens.{after_open, after_close, after_open_square, after_comma, after_assign, name_at}
+use Rattle.py_phrase.specs.Marks.{end_of, after_open, after_close, after_open_square, after_comma, after_assign, name_at}
 use Rattle.py_expression.specs.Reading.{primary_of}
 use Rattle.py_phrase.specs.Readers.{constants_in}
 use Rattle.py_call.specs.Kept.{lowered, of_one, of_two}
-use Rattle.py_call.specs.Chosen.{also, made, end_of, ended}
+use Rattle.py_call.specs.Chosen.{also, made, ended}
 use Rattle.py_call.specs.Words.{after_call}
 use Rattle.py_call.specs.Reading.{value_of, whole_value_of, values_of, closed_start_of, awaited_of, right_of}
 use Rattle.py_statement.specs.Kept.{acting, logged_as}

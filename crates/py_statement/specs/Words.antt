@@ -11,7 +11,8 @@ use Rattle.py_syntax.specs.declared.statement.Action.TheVariants as action
 use Rattle.py_syntax.specs.declared.statement.LogLevel.TheVariants as level
 use Rattle.py_syntax.specs.declared.token.Token.{Token}
 use Rattle.py_syntax.specs.declared.token.Token.TheVariants as token
-use Rattle.py_expression.specs.Tokens.{name_at}
+use Rattle.py_phrase.specs.Marks.{after, name_at}
+use Rattle.py_phrase.specs.declared.mark.Mark.TheVariants as mark
 use Rattle.py_call.specs.Chosen.{also, made}
 use Rattle.py_statement.specs.declared.method.Called.{Called}
 use Rattle.py_statement.specs.declared.method.Called.TheVariants as called
@@ -36,20 +37,17 @@ keyword_at _ = None
 
 -- the operator of `+=` and the like
 abbrev pub augmenting_at : List Token → Option (BinOp × List Token)
-augmenting_at (token.Operator mark ∷ ts) = made (λ op. (op, ts)) (augmenting mark)
+augmenting_at (token.Operator o ∷ ts) = made (λ op. (op, ts)) (augmenting o)
 augmenting_at _ = None
 
 abbrev pub after_in : List Token → Option (List Token)
-after_in (token.Keyword keyword.In ∷ ts) = Some ts
-after_in _ = None
+after_in ts = after (mark.Keyword keyword.In) ts
 
 abbrev pub after_as : List Token → Option (List Token)
-after_as (token.Keyword keyword.As ∷ ts) = Some ts
-after_as _ = None
+after_as ts = after (mark.Keyword keyword.As) ts
 
 abbrev pub after_with : List Token → Option (List Token)
-after_with (token.Keyword keyword.With ∷ ts) = Some ts
-after_with _ = None
+after_with ts = after (mark.Keyword keyword.With) ts
 
 -- `:` alone
 abbrev pub colon_of : List Token → Option (Unit {0})

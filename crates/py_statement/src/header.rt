@@ -3,19 +3,16 @@
 ghost use Rattle.std.specs.Prelude.{◌≡◌, List, [], ◌∷◌, ◌++◌, map, codes, Some, None, IfOk};
 ghost use Rattle.py_syntax.specs.ExpressionTrees.{view};
 ghost use Rattle.py_syntax.specs.StatementTrees.{view_caught, view_span, view_header};
-ghost use Rattle.py_expression.specs.Gives.{Gives};
+ghost use Rattle.py_phrase.specs.Gives.{Gives};
 ghost use Rattle.py_call.specs.Views.{tall};
 ghost use Rattle.py_statement.specs.Reading;
 
 use crate::tree::{kind, range};
-use crate::words::{
-    after_as, after_in, after_open_square, after_with, colon_of_line, kind_at, name_at,
-};
+use crate::words::{colon_of_line, kind_at};
 use port_io::{Name, NoMemory};
-use py_call::{after_call, after_open, value, value_list};
-use py_expression::ReadError;
-use py_phrase::constants;
-use py_syntax::{Caught, Expression, FaultKind, Header, Span, Token};
+use py_call::{after_call, value, value_list};
+use py_phrase::{Mark, ReadError, after, constants, name_at};
+use py_syntax::{Bracket, Caught, Expression, FaultKind, Header, Keyword, Span, Token};
 use std::alloc::Global;
 
 /// An expression and `:` at the end of the line.
@@ -61,7 +58,7 @@ fn span(alloc: Global, tokens: &[Token]) -> Result<(Span, usize), ReadError>
     if let Some(rest) = after_call(b"range", tokens) {
         return range_span(alloc, rest);
     }
-    match after_open_square(tokens) {
+    match after(Mark::Open(Bracket::Square), tokens) {
         Some(rest) => constants_span(alloc, rest),
         None => Err(ReadError::Wrong),
     }
@@ -75,7 +72,7 @@ pub fn for_header(alloc: Global, tokens: &[Token]) -> Result<(Header, usize), Re
     let Some((name, rest)) = name_at(tokens) else {
         return Err(ReadError::Wrong);
     };
-    let Some(rest) = after_in(rest) else {
+    let Some(rest) = after(Mark::Keyword(Keyword::In), rest) else {
         return Err(ReadError::Wrong);
     };
     let name = Name::of(alloc, name.bytes())?;
@@ -137,7 +134,7 @@ fn as_name(alloc: Global, kind: FaultKind, tokens: &[Token]) -> Result<Caught, R
 fn caught_kind(alloc: Global, kind: FaultKind, tokens: &[Token]) -> Result<Caught, ReadError>
     ensures { Gives view_caught result (Reading.caught_kind_of (kind, tokens.now)) }
 {
-    match after_as(tokens) {
+    match after(Mark::Keyword(Keyword::As), tokens) {
         Some(rest) => as_name(alloc, kind, rest),
         None => {
             colon_of_line(tokens)?;
@@ -151,7 +148,7 @@ fn caught_kind(alloc: Global, kind: FaultKind, tokens: &[Token]) -> Result<Caugh
 fn caught(alloc: Global, tokens: &[Token]) -> Result<Caught, ReadError>
     ensures { Gives view_caught result (Reading.caught_of tokens.now) }
 {
-    if let Some(rest) = after_open(tokens) {
+    if let Some(rest) = after(Mark::Open(Bracket::Round), tokens) {
         return caught_kinds(alloc, rest);
     }
     match kind_at(tokens) {
@@ -171,13 +168,22 @@ pub fn except_header(alloc: Global, tokens: &[Token]) -> Result<(Header, usize),
     Ok((Header::Except(caught(alloc, tokens)?), 0))
 }
 
-/// A header of a word alone, behind the word.
+/// Behind `else`.
 #[tactic(auto, unfolding(crate::specs::Reading::header_only))]
-pub fn header_only(header: Header, tokens: &[Token]) -> Result<(Header, usize), ReadError>
-    ensures { Gives (tall view_header) result (Reading.header_only (view_header header) tokens.now) }
+pub fn else_header(tokens: &[Token]) -> Result<(Header, usize), ReadError>
+    ensures { Gives (tall view_header) result (Reading.header_only (view_header Header.Else) tokens.now) }
 {
     colon_of_line(tokens)?;
-    Ok((header, 0))
+    Ok((Header::Else, 0))
+}
+
+/// Behind `try`.
+#[tactic(auto, unfolding(crate::specs::Reading::header_only))]
+pub fn try_header(tokens: &[Token]) -> Result<(Header, usize), ReadError>
+    ensures { Gives (tall view_header) result (Reading.header_only (view_header Header.Try) tokens.now) }
+{
+    colon_of_line(tokens)?;
+    Ok((Header::Try, 0))
 }
 
 /// Behind `async`.
@@ -185,7 +191,7 @@ pub fn header_only(header: Header, tokens: &[Token]) -> Result<(Header, usize), 
 pub fn with_header(alloc: Global, tokens: &[Token]) -> Result<(Header, usize), ReadError>
     ensures { Gives (tall view_header) result (Reading.with_of tokens.now) }
 {
-    match after_with(tokens) {
+    match after(Mark::Keyword(Keyword::With), tokens) {
         Some(rest) => {
             let (lock, height) = test(alloc, rest)?;
             Ok((Header::With(lock), height))

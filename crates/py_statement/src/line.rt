@@ -3,17 +3,17 @@
 ghost use Rattle.std.specs.Prelude.{ℕ, Option};
 ghost use Rattle.py_syntax.specs.StatementTrees.{view_statement, view_header, view_line};
 ghost use Rattle.py_syntax.specs.StatementTrees;
-ghost use Rattle.py_expression.specs.Gives.{Gives};
+ghost use Rattle.py_phrase.specs.Gives.{Gives};
 ghost use Rattle.py_call.specs.Views.{tall};
 ghost use Rattle.py_statement.specs.Reading;
 ghost use Rattle.py_statement.specs.Lines.{line_of, Answers};
 
 use crate::fault::LineError;
-use crate::header::{except_header, for_header, header_only, test, with_header};
+use crate::header::{else_header, except_header, for_header, test, try_header, with_header};
 use crate::plain::plain_statement;
 use crate::statement::{asserting, awaiting, only, raising, returning};
 use crate::words::keyword_at;
-use py_expression::ReadError;
+use py_phrase::ReadError;
 use py_syntax::{BodyLine, Header, Keyword, Statement, Token};
 use std::alloc::Global;
 
@@ -42,6 +42,7 @@ fn heads(read: Result<(Header, usize), ReadError>) -> Result<(BodyLine, usize), 
     Ok((BodyLine::Header(header), height))
 }
 
+/// Behind `if`.
 fn if_header(alloc: Global, tokens: &[Token]) -> Result<(Header, usize), ReadError>
     ensures { Gives (tall view_header) result (Reading.if_of tokens.now) }
 {
@@ -49,6 +50,7 @@ fn if_header(alloc: Global, tokens: &[Token]) -> Result<(Header, usize), ReadErr
     Ok((Header::If(condition), height))
 }
 
+/// Behind `elif`.
 fn elif_header(alloc: Global, tokens: &[Token]) -> Result<(Header, usize), ReadError>
     ensures { Gives (tall view_header) result (Reading.elif_of tokens.now) }
 {
@@ -56,6 +58,7 @@ fn elif_header(alloc: Global, tokens: &[Token]) -> Result<(Header, usize), ReadE
     Ok((Header::Elif(condition), height))
 }
 
+/// Behind `while`.
 fn while_header(alloc: Global, tokens: &[Token]) -> Result<(Header, usize), ReadError>
     ensures { Gives (tall view_header) result (Reading.while_of tokens.now) }
 {
@@ -82,10 +85,10 @@ fn worded(
         Keyword::Await => simple(awaiting(alloc, rest)),
         Keyword::If => heads(if_header(alloc, rest)),
         Keyword::Elif => heads(elif_header(alloc, rest)),
-        Keyword::Else => heads(header_only(Header::Else, rest)),
+        Keyword::Else => heads(else_header(rest)),
         Keyword::While => heads(while_header(alloc, rest)),
         Keyword::For => heads(for_header(alloc, rest)),
-        Keyword::Try => heads(header_only(Header::Try, rest)),
+        Keyword::Try => heads(try_header(rest)),
         Keyword::Except => heads(except_header(alloc, rest)),
         Keyword::Async => heads(with_header(alloc, rest)),
         _ => plain_line(alloc, tokens),

@@ -3,7 +3,7 @@
 ghost use Rattle.std.specs.Prelude.{◌≡◌, List, map, codes, Some, None, MatchOption};
 ghost use Rattle.py_syntax.specs.ExpressionTrees.{view};
 ghost use Rattle.py_syntax.specs.StatementTrees.{view_statement, view_logger};
-ghost use Rattle.py_expression.specs.Gives.{Gives};
+ghost use Rattle.py_phrase.specs.Gives.{Gives};
 ghost use Rattle.py_expression.specs.Kept.{measured};
 ghost use Rattle.py_call.specs.Views.{tall};
 ghost use Rattle.py_statement.specs.Reading;
@@ -11,11 +11,12 @@ ghost use Rattle.py_statement.specs.Reading;
 use crate::method::Called;
 use crate::statement::one_value;
 use crate::tree::{can_log, first, is_word, split};
-use crate::words::{after_assign, after_close, augmenting_at};
+use crate::words::augmenting_at;
 use port_io::Name;
-use py_call::{after_open, closed_start, end_of_line, right_side, value_list, whole_value, within};
-use py_expression::{Measured, ReadError, primary};
-use py_syntax::{Action, BinOp, Expression, LogLevel, Logger, Statement, Token};
+use py_call::{closed_start, right_side, value_list, whole_value, within};
+use py_expression::{Measured, primary};
+use py_phrase::{Mark, ReadError, after, end_of_line};
+use py_syntax::{Action, BinOp, Bracket, Expression, LogLevel, Logger, Operator, Statement, Token};
 use std::alloc::Global;
 
 /// `signal.value = right side`, behind the `=`; the tree is `signal.value`.
@@ -157,7 +158,7 @@ fn act(
 ) -> Result<(Statement, usize), ReadError>
     ensures { Gives (tall view_statement) result (Reading.act_of (view tree) height action tokens.now) }
 {
-    match after_close(tokens) {
+    match after(Mark::Close(Bracket::Round), tokens) {
         Some(rest) => {
             end_of_line(rest)?;
             let (object, height) = within(tree, height, 1);
@@ -243,10 +244,10 @@ fn called_statement(
 fn behind(alloc: Global, found: Measured, tokens: &[Token]) -> Result<(Statement, usize), ReadError>
     ensures { Gives (tall view_statement) result (Reading.behind_of (measured found, tokens.now)) }
 {
-    if let Some(rest) = after_assign(tokens) {
+    if let Some(rest) = after(Mark::Operator(Operator::Assign), tokens) {
         return assigned(alloc, found.tree, found.height, rest);
     }
-    if let Some(rest) = after_open(tokens) {
+    if let Some(rest) = after(Mark::Open(Bracket::Round), tokens) {
         return called_statement(alloc, found.tree, found.height, rest);
     }
     match augmenting_at(tokens) {

@@ -3,17 +3,15 @@
 ghost use Rattle.std.specs.Prelude.{◌≡◌, Some, None};
 ghost use Rattle.py_syntax.specs.ExpressionTrees.{view};
 ghost use Rattle.py_syntax.specs.StatementTrees.{optional, view_statement};
-ghost use Rattle.py_expression.specs.Gives.{Gives};
+ghost use Rattle.py_phrase.specs.Gives.{Gives};
 ghost use Rattle.py_call.specs.Views.{tall};
 ghost use Rattle.py_statement.specs.Reading;
 
 use crate::tree::one;
 use crate::words::kind_at;
-use py_call::{
-    after_comma, after_open, await_operand, end_of_line, right_side, value, value_list, whole_value,
-};
-use py_expression::ReadError;
-use py_syntax::{Expression, Statement, Token};
+use py_call::{await_operand, right_side, value, value_list, whole_value};
+use py_phrase::{Mark, ReadError, after, end_of_line};
+use py_syntax::{Bracket, Expression, Operator, Statement, Token};
 use std::alloc::Global;
 
 /// A statement of a word alone, behind the word.
@@ -57,7 +55,7 @@ pub fn one_value(alloc: Global, tokens: &[Token]) -> Result<(Expression, usize),
 fn raised(alloc: Global, tokens: &[Token]) -> Result<(Option<Expression>, usize), ReadError>
     ensures { Gives (tall (optional view)) result (Reading.raised_of tokens.now) }
 {
-    match after_open(tokens) {
+    match after(Mark::Open(Bracket::Round), tokens) {
         Some(rest) => {
             let (value, height) = one_value(alloc, rest)?;
             Ok((Some(value), height))
@@ -86,7 +84,7 @@ pub fn raising(alloc: Global, tokens: &[Token]) -> Result<(Statement, usize), Re
 fn message(alloc: Global, tokens: &[Token]) -> Result<(Option<Expression>, usize), ReadError>
     ensures { Gives (tall (optional view)) result (Reading.message_of tokens.now) }
 {
-    match after_comma(tokens) {
+    match after(Mark::Operator(Operator::Comma), tokens) {
         Some(rest) => {
             let (value, height) = whole_value(alloc, rest)?;
             Ok((Some(value), height))

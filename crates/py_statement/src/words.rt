@@ -2,13 +2,11 @@
 
 ghost use Rattle.std.specs.Prelude.{◌≡◌, Some, None, MatchOption};
 ghost use Rattle.py_syntax.specs.StatementTables;
-ghost use Rattle.py_expression.specs.Gives.{Gives};
-ghost use Rattle.py_expression.specs.Tokens;
+ghost use Rattle.py_phrase.specs.Gives.{Gives};
 ghost use Rattle.py_statement.specs.Words;
 
-use port_io::Name;
-use py_expression::ReadError;
-use py_syntax::{BinOp, Bracket, FaultKind, Keyword, Operator, Token};
+use py_phrase::{ReadError, name_at};
+use py_syntax::{BinOp, FaultKind, Keyword, Operator, Token};
 
 /// The reserved word at the front, and the tokens after it.
 pub fn keyword_at(tokens: &[Token]) -> Option<(Keyword, &[Token])>
@@ -16,46 +14,6 @@ pub fn keyword_at(tokens: &[Token]) -> Option<(Keyword, &[Token])>
 {
     match tokens.split_first() {
         Some((Token::Keyword(keyword), rest)) => Some((*keyword, rest)),
-        _ => None,
-    }
-}
-
-/// The name at the front, and the tokens after it.
-pub fn name_at(tokens: &[Token]) -> Option<(&Name, &[Token])>
-    ensures { MatchOption result (Tokens.name_at tokens.now ≡ None) (λ x. Tokens.name_at tokens.now ≡ Some (x.0.now, x.1.now)) }
-{
-    match tokens.split_first() {
-        Some((Token::Name(name), rest)) => Some((name, rest)),
-        _ => None,
-    }
-}
-
-/// The tokens after a `=`.
-pub fn after_assign(tokens: &[Token]) -> Option<&[Token]>
-    ensures { MatchOption result (Tokens.after_assign tokens.now ≡ None) (λ x. Tokens.after_assign tokens.now ≡ Some x.now) }
-{
-    match tokens.split_first() {
-        Some((Token::Operator(Operator::Assign), rest)) => Some(rest),
-        _ => None,
-    }
-}
-
-/// The tokens after a `)`.
-pub fn after_close(tokens: &[Token]) -> Option<&[Token]>
-    ensures { MatchOption result (Tokens.after_close tokens.now ≡ None) (λ x. Tokens.after_close tokens.now ≡ Some x.now) }
-{
-    match tokens.split_first() {
-        Some((Token::Close(Bracket::Round), rest)) => Some(rest),
-        _ => None,
-    }
-}
-
-/// The tokens after a `[`.
-pub fn after_open_square(tokens: &[Token]) -> Option<&[Token]>
-    ensures { MatchOption result (Tokens.after_open_square tokens.now ≡ None) (λ x. Tokens.after_open_square tokens.now ≡ Some x.now) }
-{
-    match tokens.split_first() {
-        Some((Token::Open(Bracket::Square), rest)) => Some(rest),
         _ => None,
     }
 }
@@ -85,36 +43,6 @@ pub fn augmenting_at(tokens: &[Token]) -> Option<(BinOp, &[Token])>
 {
     match tokens.split_first() {
         Some((Token::Operator(mark), rest)) => Some((augmenting(*mark)?, rest)),
-        _ => None,
-    }
-}
-
-/// The tokens after `in`.
-pub fn after_in(tokens: &[Token]) -> Option<&[Token]>
-    ensures { MatchOption result (Words.after_in tokens.now ≡ None) (λ x. Words.after_in tokens.now ≡ Some x.now) }
-{
-    match tokens.split_first() {
-        Some((Token::Keyword(Keyword::In), rest)) => Some(rest),
-        _ => None,
-    }
-}
-
-/// The tokens after `as`.
-pub fn after_as(tokens: &[Token]) -> Option<&[Token]>
-    ensures { MatchOption result (Words.after_as tokens.now ≡ None) (λ x. Words.after_as tokens.now ≡ Some x.now) }
-{
-    match tokens.split_first() {
-        Some((Token::Keyword(Keyword::As), rest)) => Some(rest),
-        _ => None,
-    }
-}
-
-/// The tokens after `with`.
-pub fn after_with(tokens: &[Token]) -> Option<&[Token]>
-    ensures { MatchOption result (Words.after_with tokens.now ≡ None) (λ x. Words.after_with tokens.now ≡ Some x.now) }
-{
-    match tokens.split_first() {
-        Some((Token::Keyword(Keyword::With), rest)) => Some(rest),
         _ => None,
     }
 }

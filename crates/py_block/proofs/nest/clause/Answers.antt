@@ -1,7 +1,0 @@
-use Rattle.std.proofs.Common.{rules}
-use Rattle.py_syntax.specs.declared.tree.BlockItem.TheViews.{the_lemmas}
-use Rattle.py_block.proofs.RowLaws.{row_block}
-use Rattle.py_block.proofs.nest.clause.Goals as goal
-
-pub returns : goal.returns
-returns c = search (rules, the_lemmas, row_block)

@@ -1,7 +1,0 @@
-use Rattle.std.proofs.Common.{sym, ap, ◌∙◌}
-use Rattle.py_block.specs.Nesting.{module_of}
-use Rattle.py_block.proofs.Back.{module_back}
-use Rattle.py_block.proofs.nest.one_tree.Goals as goal
-
-pub returns : goal.returns
-returns c = λ m n i j e. sym (module_back m i) ∙ ap module_of e ∙ module_back n j

@@ -1,4 +1,0 @@
-pub mod Blocks
-pub mod BlocksView
-pub mod Reading
-pub mod Found
