@@ -119,17 +119,15 @@ pub fn said(alloc: Global, text: &[u8]) -> Result<Option<Name>, NoMemory>
     let mut bytes = Vec::new(alloc);
     let mut escaped = false;
     for byte in text {
-        if escaped {
-            if !is_escapable(*byte) {
-                return Ok(None);
-            }
-            bytes.push(*byte)?;
-            escaped = false;
-        } else if *byte == b'\\' {
+        if *byte == b'\\' && !escaped {
             escaped = true;
-        } else {
-            bytes.push(*byte)?;
+            continue;
         }
+        if escaped && !is_escapable(*byte) {
+            return Ok(None);
+        }
+        bytes.push(*byte)?;
+        escaped = false;
     }
     if escaped {
         return Ok(None);
