@@ -1,11 +1,10 @@
 #!/usr/bin/env python3
 """Compares the modules that `py_parse` reads with the trees of CPython's `ast`.
 
-    tools/python_trees.py PROGRAM [FILE ..]
+    tools/python_trees.py [PROGRAM FILE ..]
 
-PROGRAM is the built program `py_parse_trees`, which prints the module that the text on its standard input spells, or a fault. The
-texts are the FILEs and those of the tables in crates/py_parse/src, each line of them in a text of its own. Where the program prints
-a module, CPython must read the text too, and print the same. The gate doesn't run this.
+The texts are the `tree` rows of crates/python_tests: where `stdout` has a module for one, CPython must read the text too, and its tree
+must be the same. PROGRAM is the built program `python_tests`; with it the FILEs are compared as well. The gate doesn't run this.
 
 What a form doesn't keep is left out on both sides: docstrings, brackets, the text of `Event` and `Lock`, and whether an argument was
 given by its name where its place tells it.
@@ -16,7 +15,7 @@ import subprocess
 import sys
 from pathlib import Path
 
-CRATE = Path(__file__).resolve().parent.parent / "crates" / "py_parse" / "src"
+CRATE = Path(__file__).resolve().parent.parent / "crates" / "python_tests"
 BINARY = {
     ast.BitOr: "|", ast.BitXor: "^", ast.BitAnd: "&", ast.LShift: "<<", ast.RShift: ">>", ast.Add: "+", ast.Sub: "-",
     ast.Mult: "*", ast.FloorDiv: "//", ast.Mod: "%",
@@ -54,6 +53,8 @@ def call(node):
     keywords = node.keywords
     if isinstance(node.func, ast.Attribute) and node.func.attr == "generate_tests":
         keywords = sorted(keywords, key=lambda keyword: keyword.arg != "prefix")
+    if is_option:
+        keywords = sorted(keywords, key=lambda keyword: keyword.arg != "name")
     for keyword in keywords:
         by_place = keyword.arg in LAST and (is_known or is_option)
         parts.append(expression(keyword.value) if by_place else f"{keyword.arg}={literal(keyword.value)}")
@@ -171,23 +172,32 @@ def statements(node):
     raise ValueError(ast.dump(node))
 
 
-def plain(text):
-    """The text that a literal of the tables says."""
-    return re.sub(r"\\(.)", lambda found: {"n": "\n"}.get(found[1], found[1]), text)
+def plain(part):
+    """The text that a part of a row says."""
+    return re.sub(r"\\([0-9a-f]{2})", lambda found: chr(int(found[1], 16)), part)
 
 
-def table_texts():
-    lines = (CRATE / "line_rows.rt").read_text(encoding="utf-8")
-    frames = {
-        "STATEMENTS": "async def t(dut):\n  {}\n", "HEADERS": "async def t(dut):\n  {}\n    pass\n", "MODULE_LINES": "import a\n{}\n",
-    }
-    for name, frame in frames.items():
-        rows = re.search(r"pub static (?:NO_)?" + name + r": \[&str; \d+\] = \[\n(.*?)\n\];", lines.replace("NO_" + name, "no"), re.S)[1]
-        for row in re.finditer(r'^    "((?:[^"\\]|\\.)*)",$', rows, re.M):
-            yield frame.replace("{}", plain(row[1]))
-    texts = (CRATE / "text_rows.rt").read_text(encoding="utf-8")
-    for row in re.finditer(r'text: b"((?:[^"\\]|\\.)*)"', texts):
-        yield plain(row[1])
+def escaped(text):
+    """A part of a row that says the text."""
+    return "".join(char if " " <= char <= "~" and char != "\\" else f"\\{ord(char):02x}" for char in text)
+
+
+def table_rows():
+    """The texts of the tables, each with what is read of it."""
+    rows = (CRATE / "stdin").read_text(encoding="utf-8").splitlines()
+    answers = (CRATE / "stdout").read_text(encoding="utf-8").splitlines()
+    for row, answer in zip(rows, answers, strict=True):
+        asked, rule, part = row.split("\t", 2)
+        if asked == "tree":
+            yield plain(part), answer.removeprefix(rule + ": ")
+
+
+def file_rows(program, files):
+    """The texts of the files, each with what the program reads of it."""
+    texts = [Path(file).read_text(encoding="latin-1") for file in files]
+    rows = "".join(f"tree\tfile\t{escaped(text)}\n" for text in texts)
+    shown = subprocess.run([program], input=rows, capture_output=True, text=True, check=True).stdout.splitlines()
+    return [(text, answer.removeprefix("file: ")) for text, answer in zip(texts, shown, strict=True)]
 
 
 def is_alone(text):
@@ -196,10 +206,9 @@ def is_alone(text):
     return any(line.startswith("@") and not (lines[at + 1:] or [""])[0].startswith("async def") for at, line in enumerate(lines))
 
 
-def main(program, files):
+def main(program=None, *files):
     counts = {"same": 0, "refused": 0, "other": 0}
-    for text in [*table_texts(), *(Path(file).read_text(encoding="latin-1") for file in files)]:
-        shown = subprocess.run([program], input=text, capture_output=True, text=True, encoding="latin-1").stdout.strip()
+    for text, shown in [*table_rows(), *(file_rows(program, files) if program else [])]:
         if not shown.startswith("(module"):
             counts["refused"] += 1
             continue
@@ -217,4 +226,4 @@ def main(program, files):
 
 
 if __name__ == "__main__":
-    sys.exit(main(sys.argv[1], sys.argv[2:]))
+    sys.exit(main(*sys.argv[1:]))
