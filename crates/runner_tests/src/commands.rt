@@ -1,55 +1,48 @@
 //! The command with its words, over files and lines in memory.
 ghost use Rattle.std.specs.Prelude.{◌≡◌, ◌<◌};
 
-use crate::command_rows::{COMMANDS, CommandRow};
-use crate::run_rows::{ONE_PORT, TWO_PORTS, WRITE_AND_READ};
+use crate::row::{Row, push_bytes, quoted};
 use command::cocorun;
 use gpi::Gpi;
 use list_kernel::ListKernel;
 use port_io::{MemSink, MemStore, NoMemory};
 use regression::Status;
 use rig_model::Steps;
-use std::alloc::{AllocGlobal, Global};
+use std::alloc::Global;
 use std::marker::Brand;
-use std::process::Abort;
 use std::sync::ledger::{Blank, Ledger};
-use std::test::Fail;
 
-/// A tests file of these functions and a test with this body.
-pub fn tests_text(alloc: Global, functions: &str, body: &str) -> Result<String, NoMemory> {
-    let mut text = String::from_str(
-        alloc,
-        "import cocotb\nfrom cocotb.triggers import Timer\n\n",
-    )?;
-    text.push_str(functions)?;
-    text.push_str("@cocotb.test()\nasync def t(dut):\n")?;
-    text.push_str(body)?;
-    Ok(text)
+/// Adds the file of that name, whose text is part `i`, unless that is `-`.
+fn add_file(
+    alloc: Global,
+    store: &mut MemStore,
+    name: &str,
+    row: &Row<'_>,
+    i: usize,
+) -> Result<(), NoMemory> {
+    match row.part(i) {
+        b"-" => Ok(()),
+        _ => store.add(name, &row.text(alloc, i)?),
+    }
 }
 
-/// A store with these two files, where they are there.
-pub fn store_of(
-    alloc: Global,
-    design: Option<&str>,
-    functions: &str,
-    body: Option<&str>,
-) -> Result<MemStore, NoMemory> {
+/// A store with the design, which is part `i`, and the tests, which are the part behind it.
+pub fn store_of(alloc: Global, row: &Row<'_>, i: usize) -> Result<MemStore, NoMemory> {
     let mut store = MemStore::new(alloc);
-    if let Some(text) = design {
-        store.add("d.v", text.as_bytes())?;
-    }
-    if let Some(body) = body {
-        let tests = tests_text(alloc, functions, body)?;
-        store.add("t.py", tests.as_bytes())?;
-    }
+    add_file(alloc, &mut store, "d.v", row, i)?;
+    add_file(alloc, &mut store, "t.py", row, i.saturating_add(1))?;
     Ok(store)
 }
 
-/// The words of a command.
-fn words_of(alloc: Global, texts: &[&str]) -> Result<Vec<String>, NoMemory> {
+/// The words of a command, between spaces.
+fn words_of(alloc: Global, row: &Row<'_>) -> Result<Vec<String>, NoMemory> {
     let mut words = Vec::new(alloc);
-    for text in texts {
-        words.push(String::from_str(alloc, text)?)?;
+    for bytes in row.part(2).split(|byte| *byte == b' ') {
+        if !bytes.is_empty() {
+            let mut word = String::new(alloc);
+            push_bytes(&mut word, bytes)?;
+            words.push(word)?;
+        }
     }
     Ok(words)
 }
@@ -71,86 +64,46 @@ fn run<L: Ledger>(
     cocorun(alloc, words, store, sink, kernel, &mut steps)
 }
 
-/// The status of a command on this kernel, and what it put.
+/// The status of a row's command on this kernel, and what it put.
 fn outcome(
     alloc: Global,
-    row: &CommandRow,
+    row: &Row<'_>,
     kernel: &mut ListKernel,
 ) -> Result<(Status, MemSink), NoMemory> {
-    let words = words_of(alloc, row.words)?;
-    let mut store = store_of(alloc, row.design, row.functions, row.body)?;
+    let words = words_of(alloc, row)?;
+    let mut store = store_of(alloc, row, 3)?;
     let mut sink = MemSink::new(alloc);
-    store.fail_at(row.failing_read)?;
-    sink.fail_at(row.failing_put)?;
+    store.fail_at(row.number(5))?;
+    sink.fail_at(row.number(6))?;
     let status = run::<Brand>(alloc, &words, &mut store, &mut sink, kernel, Blank::new(1));
     Ok((status, sink))
 }
 
-/// The status and the lines of a row are those of its command.
-fn check_row(
-    rt: &(impl Abort + AllocGlobal),
-    row: &CommandRow,
+/// The status of a command, and what it put.
+pub fn command_text(alloc: Global, row: &Row<'_>) -> Result<String, NoMemory> {
+    let mut kernel = ListKernel::new(alloc);
+    let (status, sink) = outcome(alloc, row, &mut kernel)?;
+    let lines = quoted(alloc, sink.bytes())?;
+    Ok(format!(in alloc; "{status:?} {lines}")?)
+}
+
+/// How many keys a simulator registered, removed and fired since it was loaded.
+pub fn counts_text<K: Gpi>(alloc: Global, kernel: &K) -> Result<String, NoMemory> {
+    let counts = kernel.counts();
+    Ok(format!(in alloc;
+        "primed={} removed={} fired={}",
+        counts.primed, counts.removed, counts.fired
+    )?)
+}
+
+/// The same on a simulator that other commands had before, and its counts.
+pub fn kept_text(
+    alloc: Global,
+    row: &Row<'_>,
     kernel: &mut ListKernel,
-) -> Result<(), NoMemory> {
-    let (status, sink) = outcome(rt.alloc(), row, kernel)?;
-    assert_eq!(rt; status, row.status, "{}", row.rule);
-    assert_eq!(rt; sink.bytes(), row.lines.as_bytes(), "{}", row.rule);
-    Ok(())
-}
-
-#[test]
-fn commands(rt: HostRuntime) -> Result<(), Fail> {
-    for row in &COMMANDS {
-        let mut kernel = ListKernel::new(rt.alloc());
-        check_row(&rt, row, &mut kernel)?;
-    }
-    Ok(())
-}
-
-/// One kernel is handed to three commands: a run, a refusal, which leaves it as it is, and another run, for which it is loaded anew.
-static ON_ONE_KERNEL: [CommandRow; 3] = [
-    CommandRow {
-        rule: "a run",
-        words: &["d.v", "t.py"],
-        design: Some(ONE_PORT),
-        functions: "",
-        body: Some(WRITE_AND_READ),
-        failing_read: 0,
-        failing_put: 0,
-        lines: "0 TEST t\n2 PASS t\n** TESTS=1 PASS=1 FAIL=0 SKIP=0 TIME=2 **\n",
-        status: Status::Passed,
-    },
-    CommandRow {
-        rule: "a refusal after it",
-        words: &["d.v", "t.py"],
-        design: Some(""),
-        functions: "",
-        body: Some(WRITE_AND_READ),
-        failing_read: 0,
-        failing_put: 0,
-        lines: "error: d.v: NotBuilt\n",
-        status: Status::DesignRefused,
-    },
-    CommandRow {
-        rule: "a run after both",
-        words: &["d.v", "t.py"],
-        design: Some(TWO_PORTS),
-        functions: "",
-        body: Some(WRITE_AND_READ),
-        failing_read: 0,
-        failing_put: 0,
-        lines: "0 TEST t\n2 PASS t\n** TESTS=1 PASS=1 FAIL=0 SKIP=0 TIME=2 **\n",
-        status: Status::Passed,
-    },
-];
-
-#[test]
-fn one_kernel(rt: HostRuntime) -> Result<(), Fail> {
-    let mut kernel = ListKernel::new(rt.alloc());
-    for row in &ON_ONE_KERNEL {
-        check_row(&rt, row, &mut kernel)?;
-        assert_eq!(rt; kernel.counts().primed, 2, "{}", row.rule);
-        assert_eq!(rt; kernel.counts().fired, 2, "{}", row.rule);
-    }
-    Ok(())
+) -> Result<String, NoMemory> {
+    let (status, sink) = outcome(alloc, row, kernel)?;
+    let counts = counts_text(alloc, kernel)?;
+    let lines = quoted(alloc, sink.bytes())?;
+    Ok(format!(in alloc; "{status:?} {counts} {lines}")?)
 }

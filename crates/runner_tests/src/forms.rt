@@ -1,40 +1,56 @@
-//! The texts that run.
+//! What texts are read as.
+ghost use Rattle.text_forms.specs.DesignForm.{ArePorts};
 
-use crate::form_rows::{DESIGNS, TESTS, TestsRow};
-use four_value::Digit;
+use crate::row::{Row, push_bytes};
+use gpi::Signal;
 use port_io::NoMemory;
 use rig_model::{Statement, TestFile};
 use std::alloc::{AllocError, Global};
-use std::test::Fail;
 use text_forms::{flat_of_ports, read_design, read_tests};
 
-#[test]
-fn designs(rt: HostRuntime) -> Result<(), Fail> {
-    for row in &DESIGNS {
-        let ports = read_design(rt.alloc(), row.text.as_bytes())?;
-        assert_eq!(rt;
-            ports.as_deref(),
-            row.ports.map(|letters| letters.as_bytes()),
-            "{}",
-            row.rule
-        );
+/// The letters of a design's ports.
+pub fn design_text(alloc: Global, row: &Row<'_>) -> Result<String, NoMemory> {
+    let text = row.text(alloc, 2)?;
+    match read_design(alloc, &text)? {
+        Some(ports) => {
+            let mut shown = String::from_str(alloc, "ports ")?;
+            push_bytes(&mut shown, &ports)?;
+            Ok(shown)
+        }
+        None => Ok(String::from_str(alloc, "no design")?),
     }
-    Ok(())
 }
 
-#[test]
-fn nets(rt: HostRuntime) -> Result<(), Fail> {
-    let alloc = rt.alloc();
-    let design = b"module top(input [7:0] c, input [7:0] a);\nendmodule\n";
-    let ports = read_design(alloc, design)?.ok_or("a design")?;
-    let flat = flat_of_ports(alloc, &ports)?;
-    assert_eq!(rt; flat.signals.len(), 2);
-    let signal = flat.signals.get(1);
-    assert_eq!(rt; signal.path.bytes(), b"top.a".as_slice());
-    assert_eq!(rt; signal.width, 8);
-    assert_eq!(rt; signal.start, Digit::Z);
-    assert_eq!(rt; flat.step_fs, 1_000_000);
-    Ok(())
+/// A signal: its path, its width and each of its digits before the first event.
+fn signal_text(alloc: Global, signal: &Signal) -> Result<String, AllocError> {
+    let mut shown = String::new(alloc);
+    push_bytes(&mut shown, signal.path.bytes())?;
+    let rest = format!(in alloc; " width={} start={:?}, ", signal.width, signal.start)?;
+    shown.push_str(&rest)?;
+    Ok(shown)
+}
+
+/// The signals of the design with these ports, and the length of a step.
+fn ports_text(alloc: Global, ports: &[u8]) -> Result<String, NoMemory>
+    requires { ArePorts ports.now }
+{
+    let flat = flat_of_ports(alloc, ports)?;
+    let mut shown = String::new(alloc);
+    for at in 0..flat.signals.len() {
+        shown.push_str(&signal_text(alloc, flat.signals.get(at))?)?;
+    }
+    let step = format!(in alloc; "step_fs={}", flat.step_fs)?;
+    shown.push_str(&step)?;
+    Ok(shown)
+}
+
+/// What is simulated for a design.
+pub fn flat_text(alloc: Global, row: &Row<'_>) -> Result<String, NoMemory> {
+    let text = row.text(alloc, 2)?;
+    match read_design(alloc, &text)? {
+        Some(ports) => ports_text(alloc, &ports),
+        None => Ok(String::from_str(alloc, "no design")?),
+    }
 }
 
 /// A statement: `0=5` for a write, `+2` for a Timer, `0?5` for an assertion, `>0` and `^0` for starts, and a log line by its
@@ -64,7 +80,7 @@ fn functions_shown(alloc: Global, file: &TestFile) -> Result<String, AllocError>
 }
 
 /// A file: its functions, and for each case its name's length and its function.
-fn shown(alloc: Global, file: &TestFile) -> Result<String, AllocError> {
+fn file_shown(alloc: Global, file: &TestFile) -> Result<String, AllocError> {
     let mut text = functions_shown(alloc, file)?;
     for at in 0..file.cases.len() {
         let case = file.cases.get(at);
@@ -74,36 +90,21 @@ fn shown(alloc: Global, file: &TestFile) -> Result<String, AllocError> {
     Ok(text)
 }
 
-/// A tests file with the lines of a row.
-fn text_of(alloc: Global, row: &TestsRow) -> Result<String, AllocError> {
-    let mut text = String::from_str(
-        alloc,
-        "import cocotb\nfrom cocotb.triggers import Timer\n\n",
-    )?;
-    text.push_str(row.functions)?;
-    text.push_str(row.head)?;
-    text.push_str(row.body)?;
-    Ok(text)
-}
-
-/// What a text is read as, for a design with the ports b and a.
-fn read(alloc: Global, text: &str) -> Result<Option<String>, NoMemory> {
-    let design = b"module top(input [7:0] b, input [7:0] a);\nendmodule\n";
-    let Some(ports) = read_design(alloc, design)? else {
-        return Ok(None);
-    };
-    match read_tests(alloc, &ports, text.as_bytes())? {
-        Some(file) => Ok(Some(shown(alloc, &file)?)),
-        None => Ok(None),
+/// What a text is read as, for a design with these ports.
+fn tests_text(alloc: Global, ports: &[u8], text: &[u8]) -> Result<String, NoMemory>
+    requires { ArePorts ports.now }
+{
+    match read_tests(alloc, ports, text)? {
+        Some(file) => Ok(file_shown(alloc, &file)?),
+        None => Ok(String::from_str(alloc, "no tests")?),
     }
 }
 
-#[test]
-fn tests_files(rt: HostRuntime) -> Result<(), Fail> {
-    for row in &TESTS {
-        let text = text_of(rt.alloc(), row)?;
-        let found = read(rt.alloc(), &text)?;
-        assert_eq!(rt; found.as_deref(), row.shown, "{}", row.rule);
+/// What a row's tests are read as beside its design.
+pub fn file_text(alloc: Global, row: &Row<'_>) -> Result<String, NoMemory> {
+    let design = row.text(alloc, 2)?;
+    match read_design(alloc, &design)? {
+        Some(ports) => tests_text(alloc, &ports, &row.text(alloc, 3)?),
+        None => Ok(String::from_str(alloc, "no design")?),
     }
-    Ok(())
 }

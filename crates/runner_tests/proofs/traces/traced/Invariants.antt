@@ -1,4 +1,4 @@
-use Rattle.runner_tests.proofs.runs.traced.Given as goal
+use Rattle.runner_tests.proofs.traces.traced.Given as goal
 
 -- the ledger of the counter is the one that was made for it
 abbrev pub ghosts-trace : goal.ghosts-trace

@@ -1,7 +1,7 @@
 use Rattle.std.proofs.Common.{ap}
 use Rattle.rig_model.specs.Rig.{Setup}
 use Rattle.regression.proofs.Stands.{opening_begins}
-use Rattle.runner_tests.proofs.runs.trace.Goals as goal
+use Rattle.runner_tests.proofs.traces.trace.Goals as goal
 
 pub run_all-requires-clause-new : goal.run_all-requires-clause-new
 run_all-requires-clause-new g c =

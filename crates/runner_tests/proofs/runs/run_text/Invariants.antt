@@ -1,4 +1,4 @@
-use Rattle.runner_tests.proofs.runs.outcome.Given as goal
+use Rattle.runner_tests.proofs.runs.run_text.Given as goal
 
 -- the ledger of the counter is the one that was made for it
 abbrev pub ghosts-run : goal.ghosts-run

@@ -1,0 +1,62 @@
+//! Runs whose told changes are written.
+ghost use Rattle.std.specs.Prelude.{◌≡◌, ◌<◌, length};
+ghost use Rattle.text_forms.specs.DesignForm.{ArePorts};
+ghost use Rattle.text_forms.specs.TestsForm.{IsOneTest};
+
+use crate::row::{Row, quoted};
+use crate::runs::decision;
+use command::Decision;
+use gpi::Gpi;
+use list_kernel::ListKernel;
+use plain_task::{TreeMaker, WaitList};
+use port_io::{MemSink, NoMemory};
+use regression::{Status, run_all};
+use rig_model::{Steps, TestFile};
+use scheduler::Engine;
+use std::alloc::Global;
+use std::marker::Brand;
+use std::sync::ledger::{Blank, Ledger};
+use text_forms::flat_of_ports;
+
+/// The status of a run whose told changes are written.
+fn trace<K: Gpi, L: Ledger>(
+    alloc: Global,
+    ports: &[u8],
+    file: &TestFile,
+    kernel: &mut K,
+    sink: &mut MemSink,
+    blank: Blank,
+) -> Result<Status, NoMemory>
+    requires ports { ArePorts ports.now }
+    requires file { IsOneTest (length ports.now) file.now }
+    requires name { blank.name ≡ L.name }
+    requires parts { blank.parts ≡ L.parts }
+    requires some { 0 < blank.parts }
+{
+    let flat = flat_of_ports(alloc, ports)?;
+    kernel.load(alloc, &flat)?;
+    let maker = TreeMaker::new(alloc, file)?;
+    let mut engine = Engine::new(alloc, maker, WaitList::new(alloc), &flat, true)?;
+    let mut steps = Steps::<L>::new(blank);
+    let case = file.cases.get(0);
+    Ok(run_all(alloc, case, &mut engine, kernel, sink, 100, &mut steps))
+}
+
+/// The same of a row, where its texts run.
+fn traced(alloc: Global, row: &Row<'_>, sink: &mut MemSink) -> Result<Status, NoMemory> {
+    match decision(alloc, row, 2)? {
+        Decision::Refused(own, _) => Ok(own),
+        Decision::Runs(ports, file) => {
+            let mut kernel = ListKernel::new(alloc);
+            trace::<ListKernel, Brand>(alloc, &ports, &file, &mut kernel, sink, Blank::new(1))
+        }
+    }
+}
+
+/// The status of such a run, and what it put.
+pub fn trace_text(alloc: Global, row: &Row<'_>) -> Result<String, NoMemory> {
+    let mut sink = MemSink::new(alloc);
+    let status = traced(alloc, row, &mut sink)?;
+    let lines = quoted(alloc, sink.bytes())?;
+    Ok(format!(in alloc; "{status:?} {lines}")?)
+}
