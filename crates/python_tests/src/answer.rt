@@ -18,7 +18,7 @@ enum Asked {
 }
 
 /// What the first letter of a word asks.
-fn asked(word: &[u8]) -> Asked {
+fn asked_by(word: &[u8]) -> Asked {
     match word {
         [b'l', ..] => Asked::Lines,
         [b't', ..] => Asked::Tree,
@@ -67,7 +67,7 @@ fn text_in(alloc: Global, asked: Asked, row: &[u8]) -> Result<Vec<u8>, AllocErro
 pub fn answer(alloc: Global, line: &[u8]) -> Result<Vec<u8>, AllocError> {
     let (word, row) = cut(line);
     let (rule, row) = cut(row);
-    let asked = asked(word);
+    let asked = asked_by(word);
     let text = text_in(alloc, asked, row)?;
     let mut out = rule.to_vec(alloc)?;
     out.extend_from_slice(b": ")?;
