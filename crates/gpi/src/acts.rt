@@ -7,7 +7,7 @@ ghost use Rattle.gpi.specs.Cases.{AreLabelCopies};
 ghost use Rattle.gpi.specs.Made.{IsCopy};
 ghost use Rattle.gpi.specs.Targets.{IsTargetCopy};
 
-use crate::boxed::{boxed, boxed_both};
+use crate::boxed::{both, boxed, boxed_both};
 use crate::targets::Target;
 use crate::terms::Term;
 pub use activation::{apply, placed};
@@ -157,9 +157,9 @@ fn copy_act(alloc: Global, act: &Act) -> Result<Act, NoMemory>
         Act::Empty => Ok(Act::Empty),
         Act::Block(list) => Ok(Act::block(copy_acts(alloc, list)?)),
         Act::If(test, a, b) => {
-            let test = test.copy(alloc)?;
-            let a = copy_boxed(alloc, a)?;
-            Ok(Act::If(test, a, copy_boxed(alloc, b)?))
+            let branches = both(copy_boxed(alloc, a), copy_boxed(alloc, b));
+            let (test, (a, b)) = both(test.copy(alloc), branches)?;
+            Ok(Act::If(test, a, b))
         }
         Act::Case(kind, value, labels, items, other) => {
             let value = value.copy(alloc)?;
@@ -192,8 +192,7 @@ fn copy_boxed(alloc: Global, act: &Act) -> Result<Box<Act>, NoMemory>
 fn copy_assignment(alloc: Global, target: &Target, value: &Term) -> Result<(Target, Term), NoMemory>
     ensures { IfOk result (λ made. IsTargetCopy target.now made.0 × IsCopy value.now made.1) }
 {
-    let target = target.copy(alloc)?;
-    Ok((target, value.copy(alloc)?))
+    both(target.copy(alloc), value.copy(alloc))
 }
 
 /// Copies of statements.

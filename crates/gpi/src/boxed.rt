@@ -1,5 +1,5 @@
 //! Values on the heap.
-ghost use Rattle.std.specs.Prelude.{◌≡◌, IfOk};
+ghost use Rattle.std.specs.Prelude.{◌≡◌, IfOk, Ok};
 
 use port_io::NoMemory;
 use std::alloc::Global;
@@ -24,4 +24,17 @@ pub(crate) fn boxed_both<A: Drop, B: Drop>(
 {
     let a = boxed(alloc, a)?;
     Ok((a, boxed(alloc, b)?))
+}
+
+/// Both values, where there are both. Want of memory of either is the error.
+///
+/// A function of its own, as `boxed` is: a caller that waits with one value for the other would have to drop it.
+pub(crate) fn both<A: Drop, B: Drop>(
+    a: Result<A, NoMemory>,
+    b: Result<B, NoMemory>,
+) -> Result<(A, B), NoMemory>
+    ensures { IfOk result (λ made. (a ≡ Ok made.0) × (b ≡ Ok made.1)) }
+{
+    let a = a?;
+    Ok((a, b?))
 }
