@@ -13,5 +13,5 @@ mod number;
 mod operation;
 
 pub use identity::is_same;
-pub use number::{Number, int, number_of, one_number};
+pub use number::{Number, int, number_of, one_number, whole};
 pub use operation::{binary, operated, unary};

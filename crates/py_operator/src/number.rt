@@ -67,7 +67,7 @@ pub(crate) fn two_numbers(a: &Value, b: &Value) -> Result<(Integer, Integer), Fa
 }
 
 /// A result as a value. One that no value can hold is an OverflowError.
-pub(crate) fn whole(number: Option<i128>) -> Result<Value, FaultKind>
+pub fn whole(number: Option<i128>) -> Result<Value, FaultKind>
     ensures { result ≡ meaning.whole number }
 {
     match number {
