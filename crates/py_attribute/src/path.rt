@@ -24,11 +24,7 @@ fn name_of_path(path: &[u8]) -> &[u8]
 
 /// `_path` and `_name` of a signal or a hierarchy with this path: the path itself, and the part of it behind its last dot, or all of
 /// it where it has none. A text of over 65,536 bytes is an OverflowError, and another name an AttributeError.
-pub fn path_attribute(
-    alloc: Global,
-    path: &[u8],
-    name: &[u8],
-) -> Result<Value, OperationFault>
+pub fn path_attribute(alloc: Global, path: &[u8], name: &[u8]) -> Result<Value, OperationFault>
     ensures { Gives (meaning.path_attribute path.now name.now) result }
 {
     if name == b"_path".as_slice() {
