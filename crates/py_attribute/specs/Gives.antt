@@ -1,0 +1,20 @@
+-- What a function of the code returned is the answer of an operation, unless memory ran out.
+use Rattle.std.specs.Prelude.{◌≡◌, ◌+◌, ◌≤◌, ◌^◌, Result, Ok, Err}
+use Rattle.py_attribute.specs.declared.fault.OperationFault.{OperationFault}
+use Rattle.py_attribute.specs.declared.fault.OperationFault.TheVariants as faults
+use Rattle.py_value.specs.Answer.{Answer}
+use Rattle.py_value.specs.declared.value.Value.{Value}
+use Rattle.py_value.specs.declared.value.Value.TheVariants.{Words}
+
+abbrev pub Fails : OperationFault → Answer Value → Type 0
+Fails (faults.Raised kind) answer = answer ≡ Err kind
+Fails faults.OutOfMemory answer = Unit {0}
+
+abbrev pub Gives : Answer Value → Result Value OperationFault → Type 0
+Gives answer (Ok v) = answer ≡ Ok v
+Gives answer (Err fault) = Fails fault answer
+
+-- the words of a memory have numbers of signals
+abbrev pub HasNumbers : Value → Type 0
+HasNumbers (Words first low count) = first.0 + count ≤ 2 ^ 32
+HasNumbers _ = Unit {0}

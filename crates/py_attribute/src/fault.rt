@@ -1,0 +1,31 @@
+//! What goes wrong in an operation that takes memory.
+ghost use Rattle.std.specs.Prelude.{◌≡◌};
+ghost use Rattle.py_attribute.specs.declared.fault.OperationFault.TheVariants.{OutOfMemory, Raised};
+
+use port_io::NoMemory;
+use py_syntax::FaultKind;
+
+/// Why an operation gives no value.
+#[derive(Clone, Copy, Debug, PartialEq, Eq)]
+pub enum OperationFault {
+    /// It raises a fault of this kind, whose text is empty.
+    Raised(FaultKind),
+    /// There is no memory for the value.
+    OutOfMemory,
+}
+
+impl From<NoMemory> for OperationFault {
+    ghost from_gives = { λ _ fault. fault ≡ OutOfMemory };
+
+    fn from(_: NoMemory) -> OperationFault {
+        OperationFault::OutOfMemory
+    }
+}
+
+impl From<FaultKind> for OperationFault {
+    ghost from_gives = { λ kind fault. fault ≡ Raised kind };
+
+    fn from(kind: FaultKind) -> OperationFault {
+        OperationFault::Raised(kind)
+    }
+}

@@ -1,0 +1,37 @@
+//! Attributes of signals and hierarchies that their paths tell.
+ghost use Rattle.std.specs.Prelude.{◌≡◌};
+ghost use Rattle.py_attribute.specs.Attribute as meaning;
+ghost use Rattle.py_attribute.specs.Gives.{Gives};
+
+use crate::OperationFault;
+use crate::text::text_value;
+use py_syntax::FaultKind;
+use py_value::Value;
+use std::alloc::Global;
+
+/// The part of a path behind its last dot, or the whole path where it has none.
+fn name_of_path(path: &[u8]) -> &[u8]
+    ensures { result.now ≡ meaning.name_of_path path.now }
+{
+    let mut name = path;
+    for at in 0..path.len() {
+        if path[at] == b'.' {
+            name = &path[at + 1..];
+        }
+    }
+    name
+}
+
+/// `_path` and `_name` of a signal or a hierarchy with this path: the path itself, and the part of it behind its last dot, or all of
+/// it where it has none. A text of over 65,536 bytes is an OverflowError, and another name an AttributeError.
+pub fn path_attribute(alloc: Global, path: &[u8], name: &[u8]) -> Result<Value, OperationFault>
+    ensures { Gives (meaning.path_attribute path.now name.now) result }
+{
+    if name == b"_path".as_slice() {
+        text_value(alloc, path)
+    } else if name == b"_name".as_slice() {
+        text_value(alloc, name_of_path(path))
+    } else {
+        Err(OperationFault::Raised(FaultKind::AttributeError))
+    }
+}

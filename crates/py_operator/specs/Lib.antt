@@ -1,0 +1,4 @@
+pub mod Number
+pub mod Means
+pub mod Identity
+pub mod Operation

@@ -1,0 +1,10 @@
+-- What number the code's enum stands for.
+use Rattle.py_integer.specs.Integer.{number}
+use Rattle.py_operator.specs.declared.number.Number.{Number}
+use Rattle.py_operator.specs.declared.number.Number.TheVariants as code
+use Rattle.py_operator.specs.Number as meaning
+
+abbrev pub means : Number → meaning.Number
+means (code.Known i) = meaning.known (number i)
+means code.Unknown = meaning.unknown
+means code.Missing = meaning.none
