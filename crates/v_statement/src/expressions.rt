@@ -3,9 +3,11 @@
 ghost use Rattle.std.specs.Prelude.{◌≡◌, ◌<◌};
 ghost use Rattle.v_syntax.specs.ExpressionTrees;
 ghost use Rattle.v_phrase.specs.Stops.{Gives};
+ghost use Rattle.v_expression.specs.Reading.{expression_of};
 ghost use Rattle.v_expression.specs.Starts;
 ghost use Rattle.v_statement.specs.Reading.{value_below};
 
+use crate::heap::boxed;
 use crate::levels::below;
 use std::alloc::Global;
 use v_expression::expression;
@@ -43,6 +45,20 @@ pub fn begins_expression(mark: Mark) -> bool
         | Mark::OpenBrace => true,
         _ => false,
     }
+}
+
+/// An expression, on the heap.
+pub fn boxed_expression(
+    alloc: Global,
+    total: usize,
+    room: usize,
+    tokens: &[Token],
+) -> Result<(Box<Expression>, &[Token]), ReadError>
+    requires { room < 1000 }
+    ensures { Gives (λ x. (ExpressionTrees.view x.0.value, x.1.now)) result (expression_of total room tokens.now) }
+{
+    let (found, rest) = expression(alloc, total, room, tokens)?;
+    Ok((boxed(alloc, found)?, rest))
 }
 
 /// An expression one level down.

@@ -6,13 +6,15 @@ ghost use Rattle.v_syntax.specs.StatementTrees.{view, view_header};
 ghost use Rattle.v_phrase.specs.Stops.{Gives};
 ghost use Rattle.v_statement.specs.Reading.{label_of, maybe_label_of, block_head_of, delay_below_of, maybe_delay_of, last_delay_of, block_end_of, condition_of, case_head_of, choices_of, default_of, matched_of, for_head_of};
 
+use crate::expressions::boxed_expression;
+use crate::heap::boxed;
 use crate::kinds::case_kind;
 use crate::levels::below;
 use crate::simple::{delay, for_header};
 use crate::trees::{block, with_delay};
 use port_io::Name;
 use std::alloc::Global;
-use v_expression::{ExpressionPhrase, expression};
+use v_expression::ExpressionPhrase;
 use v_phrase::{
     ReadError, after, after_word, listed, name, place as number_of, starts_mark, starts_word,
 };
@@ -45,64 +47,68 @@ pub fn block_head(alloc: Global, tokens: &[Token]) -> Result<(Option<Name>, &[To
 /// `# number ;` one level down
 #[tactic(auto, unfolding(crate::specs::Reading::delay_below_of, crate::specs::Reading::levels))]
 fn delay_below(
+    alloc: Global,
     total: usize,
     room: usize,
     tokens: &[Token],
-) -> Result<(Statement, &[Token]), ReadError>
-    ensures { Gives (λ x. (view x.0, x.1.now)) result (delay_below_of total room tokens.now) }
+) -> Result<(Box<Statement>, &[Token]), ReadError>
+    ensures { Gives (λ x. (view x.0.value, x.1.now)) result (delay_below_of total room tokens.now) }
 {
     let _below = below(room, tokens)?;
-    delay(total, tokens)
+    delay(alloc, total, tokens)
 }
 
 /// A delay, if one stands here.
 #[tactic(auto, unfolding(crate::specs::Reading::maybe_delay_of))]
 fn maybe_delay(
+    alloc: Global,
     total: usize,
     room: usize,
     tokens: &[Token],
-) -> Result<(Option<Statement>, &[Token]), ReadError>
-    ensures { Gives (λ x. (option_map view x.0, x.1.now)) result (maybe_delay_of total room tokens.now) }
+) -> Result<(Option<Box<Statement>>, &[Token]), ReadError>
+    ensures { Gives (λ x. (option_map (λ b. view b.value) x.0, x.1.now)) result (maybe_delay_of total room tokens.now) }
 {
     if !starts_mark(Mark::Hash, tokens) {
         return Ok((None, tokens));
     }
-    let (delay, rest) = delay_below(total, room, tokens)?;
+    let (delay, rest) = delay_below(alloc, total, room, tokens)?;
     Ok((Some(delay), rest))
 }
 
 /// The same where one may stand: only the block that is the whole statement of an `initial` ends with one.
 #[tactic(auto, unfolding(crate::specs::Reading::last_delay_of))]
 fn last_delay(
+    alloc: Global,
     total: usize,
     room: usize,
     place: StatementPlace,
     tokens: &[Token],
-) -> Result<(Option<Statement>, &[Token]), ReadError>
-    ensures { Gives (λ x. (option_map view x.0, x.1.now)) result (last_delay_of total room place tokens.now) }
+) -> Result<(Option<Box<Statement>>, &[Token]), ReadError>
+    ensures { Gives (λ x. (option_map (λ b. view b.value) x.0, x.1.now)) result (last_delay_of total room place tokens.now) }
 {
     match place {
         StatementPlace::InAlways | StatementPlace::InInitial => Ok((None, tokens)),
-        StatementPlace::WholeInitial => maybe_delay(total, room, tokens),
+        StatementPlace::WholeInitial => maybe_delay(alloc, total, room, tokens),
     }
 }
 
 /// `[# number ;] end`: what stands behind the statements of a block, and the block.
 #[tactic(auto, unfolding(crate::specs::Reading::block_end_of))]
 pub fn block_end(
+    alloc: Global,
     total: usize,
     room: usize,
     place: StatementPlace,
     label: Option<Name>,
     statements: Vec<Statement>,
     tokens: &[Token],
-) -> Result<(Statement, &[Token]), ReadError>
-    ensures { Gives (λ x. (view x.0, x.1.now)) result (block_end_of total room place label (map view statements.items) tokens.now) }
+) -> Result<(Box<Statement>, &[Token]), ReadError>
+    ensures { Gives (λ x. (view x.0.value, x.1.now)) result (block_end_of total room place label (map view statements.items) tokens.now) }
 {
-    let (last, rest) = last_delay(total, room, place, tokens)?;
+    let (last, rest) = last_delay(alloc, total, room, place, tokens)?;
     let rest = after_word(Keyword::End, rest)?;
     let statements = with_delay(statements, last)?;
-    Ok((block(label, statements), rest))
+    Ok((boxed(alloc, block(label, statements))?, rest))
 }
 
 // ---- conditional statements
@@ -114,14 +120,14 @@ pub fn condition(
     total: usize,
     room: usize,
     tokens: &[Token],
-) -> Result<(Expression, &[Token]), ReadError>
+) -> Result<(Box<Expression>, &[Token]), ReadError>
     requires { room < 1000 }
-    ensures { Gives (λ x. (ExpressionTrees.view x.0, x.1.now)) result (condition_of total room tokens.now) }
+    ensures { Gives (λ x. (ExpressionTrees.view x.0.value, x.1.now)) result (condition_of total room tokens.now) }
 {
     let below = below(room, tokens)?;
     let rest = after_word(Keyword::If, tokens)?;
     let rest = after(Mark::OpenParenthesis, rest)?;
-    let (condition, rest) = expression(alloc, total, below, rest)?;
+    let (condition, rest) = boxed_expression(alloc, total, below, rest)?;
     let rest = after(Mark::CloseParenthesis, rest)?;
     Ok((condition, rest))
 }
@@ -135,14 +141,14 @@ pub fn case_head(
     total: usize,
     room: usize,
     tokens: &[Token],
-) -> Result<((CaseKind, Expression), &[Token]), ReadError>
+) -> Result<((CaseKind, Box<Expression>), &[Token]), ReadError>
     requires { room < 1000 }
-    ensures { Gives (λ x. ((x.0.0, ExpressionTrees.view x.0.1), x.1.now)) result (case_head_of total room tokens.now) }
+    ensures { Gives (λ x. ((x.0.0, ExpressionTrees.view x.0.1.value), x.1.now)) result (case_head_of total room tokens.now) }
 {
     let below = below(room, tokens)?;
     let (kind, rest) = case_kind(tokens)?;
     let rest = after(Mark::OpenParenthesis, rest)?;
-    let (selector, rest) = expression(alloc, total, below, rest)?;
+    let (selector, rest) = boxed_expression(alloc, total, below, rest)?;
     let rest = after(Mark::CloseParenthesis, rest)?;
     Ok(((kind, selector), rest))
 }
@@ -205,9 +211,9 @@ pub fn for_head(
     total: usize,
     room: usize,
     tokens: &[Token],
-) -> Result<((usize, ForHeader), &[Token]), ReadError>
+) -> Result<((usize, Box<ForHeader>), &[Token]), ReadError>
     requires { room < 1000 }
-    ensures { Gives (λ x. ((x.0.0, view_header x.0.1), x.1.now)) result (for_head_of total room tokens.now) }
+    ensures { Gives (λ x. ((x.0.0, view_header x.0.1.value), x.1.now)) result (for_head_of total room tokens.now) }
 {
     let below = below(room, tokens)?;
     let rest = after_word(Keyword::For, tokens)?;

@@ -35,7 +35,22 @@ pub fn statement(
     // A refusal is at the first token that no partial statement within the height spells.
     ensures refused { IfErr result (λ e. IsRefusal (λ n rest. (Statements.statement total n place).front tokens.now rest) (room + 1) e) }
 {
-    statement_at(alloc, total, room, place, tokens)
+    read_statement(alloc, total, room, place, tokens)
+}
+
+/// The same, by what its reader gives alone.
+fn read_statement(
+    alloc: Global,
+    total: usize,
+    room: usize,
+    place: StatementPlace,
+    tokens: &[Token],
+) -> Result<(Statement, &[Token]), ReadError>
+    requires { room < 1000 }
+    ensures { Gives (λ x. (view x.0, x.1.now)) result (statement_of total room place tokens.now) }
+{
+    let (found, rest) = statement_at(alloc, total, room, place, tokens)?;
+    Ok((Box::into_inner(found), rest))
 }
 
 /// A text has at most one statement.

@@ -4,27 +4,38 @@ ghost use Rattle.std.specs.Prelude.{◌≡◌, ◌<◌};
 ghost use Rattle.v_syntax.specs.ExpressionTrees;
 ghost use Rattle.v_syntax.specs.StatementTrees.{view, view_variable, view_header};
 ghost use Rattle.v_phrase.specs.Stops.{Gives};
+ghost use Rattle.v_expression.specs.Reading.{target_of};
 ghost use Rattle.v_statement.specs.Reading.{delay_of, assignment_of, variable_of, header_of, null_of};
 
+use crate::expressions::boxed_expression;
+use crate::heap::boxed;
 use crate::kinds::assignment_kind;
 use crate::levels::below;
 use std::alloc::Global;
 use v_expression::{expression, target};
 use v_phrase::{ReadError, after, identifier, next, place, syntax_error};
-use v_syntax::{ForHeader, Mark, Statement, Token, VariableAssignment};
+use v_syntax::{ForHeader, Mark, Statement, Target, Token, VariableAssignment};
 
 /// `;`
 #[tactic(auto, unfolding(crate::specs::Reading::null_of))]
-pub fn null_statement(tokens: &[Token]) -> Result<(Statement, &[Token]), ReadError>
-    ensures { Gives (λ x. (view x.0, x.1.now)) result (null_of tokens.now) }
+pub fn null_statement(
+    alloc: Global,
+    tokens: &[Token],
+) -> Result<(Box<Statement>, &[Token]), ReadError>
+    ensures { Gives (λ x. (view x.0.value, x.1.now)) result (null_of tokens.now) }
 {
-    Ok((Statement::Null, after(Mark::Semicolon, tokens)?))
+    let rest = after(Mark::Semicolon, tokens)?;
+    Ok((boxed(alloc, Statement::Null)?, rest))
 }
 
 /// `# number ;` (IEEE 1364-2005, clause 9.7.1)
 #[tactic(auto, unfolding(crate::specs::Reading::delay_of))]
-pub fn delay(total: usize, tokens: &[Token]) -> Result<(Statement, &[Token]), ReadError>
-    ensures { Gives (λ x. (view x.0, x.1.now)) result (delay_of total tokens.now) }
+pub fn delay(
+    alloc: Global,
+    total: usize,
+    tokens: &[Token],
+) -> Result<(Box<Statement>, &[Token]), ReadError>
+    ensures { Gives (λ x. (view x.0.value, x.1.now)) result (delay_of total tokens.now) }
 {
     let here = after(Mark::Hash, tokens)?;
     let Some((Token::Number(delay), behind)) = next(here) else {
@@ -32,7 +43,21 @@ pub fn delay(total: usize, tokens: &[Token]) -> Result<(Statement, &[Token]), Re
     };
     let rest = after(Mark::Semicolon, behind)?;
     let at = place(total, here);
-    Ok((Statement::Delay { at, delay: *delay }, rest))
+    Ok((boxed(alloc, Statement::Delay { at, delay: *delay })?, rest))
+}
+
+/// The target of an assignment, on the heap.
+pub fn boxed_target(
+    alloc: Global,
+    total: usize,
+    room: usize,
+    tokens: &[Token],
+) -> Result<(Box<Target>, &[Token]), ReadError>
+    requires { room < 1000 }
+    ensures { Gives (λ x. (ExpressionTrees.view_target x.0.value, x.1.now)) result (target_of total room tokens.now) }
+{
+    let (found, rest) = target(alloc, total, room, tokens)?;
+    Ok((boxed(alloc, found)?, rest))
 }
 
 /// `target = expression ;` or `target <= expression ;` (clause 9.2)
@@ -42,23 +67,21 @@ pub fn assignment(
     total: usize,
     room: usize,
     tokens: &[Token],
-) -> Result<(Statement, &[Token]), ReadError>
+) -> Result<(Box<Statement>, &[Token]), ReadError>
     requires { room < 1000 }
-    ensures { Gives (λ x. (view x.0, x.1.now)) result (assignment_of total room tokens.now) }
+    ensures { Gives (λ x. (view x.0.value, x.1.now)) result (assignment_of total room tokens.now) }
 {
     let room = below(room, tokens)?;
-    let (target, rest) = target(alloc, total, room, tokens)?;
+    let (target, rest) = boxed_target(alloc, total, room, tokens)?;
     let (kind, rest) = assignment_kind(rest)?;
-    let (value, rest) = expression(alloc, total, room, rest)?;
+    let (value, rest) = boxed_expression(alloc, total, room, rest)?;
     let rest = after(Mark::Semicolon, rest)?;
-    Ok((
-        Statement::Assignment {
-            kind,
-            target,
-            value,
-        },
-        rest,
-    ))
+    let made = Statement::Assignment {
+        kind,
+        target: Box::into_inner(target),
+        value: Box::into_inner(value),
+    };
+    Ok((boxed(alloc, made)?, rest))
 }
 
 /// `name = expression`
@@ -68,14 +91,14 @@ fn variable_assignment(
     total: usize,
     room: usize,
     tokens: &[Token],
-) -> Result<(VariableAssignment, &[Token]), ReadError>
+) -> Result<(Box<VariableAssignment>, &[Token]), ReadError>
     requires { room < 1000 }
-    ensures { Gives (λ x. (view_variable x.0, x.1.now)) result (variable_of total room tokens.now) }
+    ensures { Gives (λ x. (view_variable x.0.value, x.1.now)) result (variable_of total room tokens.now) }
 {
     let (name, rest) = identifier(alloc, total, tokens)?;
     let rest = after(Mark::Assign, rest)?;
     let (value, rest) = expression(alloc, total, room, rest)?;
-    Ok((VariableAssignment { name, value }, rest))
+    Ok((boxed(alloc, VariableAssignment { name, value })?, rest))
 }
 
 /// `( name = expression ; expression ; name = expression )` (clause 9.6)
@@ -85,23 +108,21 @@ pub fn for_header(
     total: usize,
     room: usize,
     tokens: &[Token],
-) -> Result<(ForHeader, &[Token]), ReadError>
+) -> Result<(Box<ForHeader>, &[Token]), ReadError>
     requires { room < 1000 }
-    ensures { Gives (λ x. (view_header x.0, x.1.now)) result (header_of total room tokens.now) }
+    ensures { Gives (λ x. (view_header x.0.value, x.1.now)) result (header_of total room tokens.now) }
 {
     let rest = after(Mark::OpenParenthesis, tokens)?;
     let (initial, rest) = variable_assignment(alloc, total, room, rest)?;
     let rest = after(Mark::Semicolon, rest)?;
-    let (condition, rest) = expression(alloc, total, room, rest)?;
+    let (condition, rest) = boxed_expression(alloc, total, room, rest)?;
     let rest = after(Mark::Semicolon, rest)?;
     let (step, rest) = variable_assignment(alloc, total, room, rest)?;
     let rest = after(Mark::CloseParenthesis, rest)?;
-    Ok((
-        ForHeader {
-            initial,
-            condition,
-            step,
-        },
-        rest,
-    ))
+    let header = ForHeader {
+        initial: Box::into_inner(initial),
+        condition: Box::into_inner(condition),
+        step: Box::into_inner(step),
+    };
+    Ok((boxed(alloc, header)?, rest))
 }

@@ -8,6 +8,7 @@ ghost use Rattle.v_statement.specs.Reading.{lower, statement_of, statements_of, 
 
 use crate::forms::{form, starts_case, starts_statement};
 use crate::heads::{block_end, block_head, case_head, choices, condition, for_head};
+use crate::heap::boxed;
 use crate::levels::below_statement;
 use crate::simple::{assignment, delay, null_statement};
 use crate::tasks::task_enable;
@@ -24,20 +25,20 @@ pub fn statement_at(
     room: usize,
     place: StatementPlace,
     tokens: &[Token],
-) -> Result<(Statement, &[Token]), ReadError>
+) -> Result<(Box<Statement>, &[Token]), ReadError>
     requires { room < 1000 }
-    ensures { Gives (λ x. (view x.0, x.1.now)) result (statement_of total room place tokens.now) }
+    ensures { Gives (λ x. (view x.0.value, x.1.now)) result (statement_of total room place tokens.now) }
 {
     match form(place, tokens) {
         None => Err(syntax_error(tokens)),
-        Some(StatementForm::Null) => null_statement(tokens),
+        Some(StatementForm::Null) => null_statement(alloc, tokens),
         Some(StatementForm::Block) => block_at(alloc, total, room, place, tokens),
         Some(StatementForm::Assignment) => assignment(alloc, total, room, tokens),
         Some(StatementForm::If) => conditional_at(alloc, total, room, inside(place), tokens),
         Some(StatementForm::Case) => case_at(alloc, total, room, inside(place), tokens),
         Some(StatementForm::For) => for_at(alloc, total, room, inside(place), tokens),
         Some(StatementForm::TaskEnable) => task_enable(alloc, total, room, tokens),
-        Some(StatementForm::Delay) => delay(total, tokens),
+        Some(StatementForm::Delay) => delay(alloc, total, tokens),
     }
 }
 
@@ -50,9 +51,9 @@ fn lower_at(
     room: usize,
     place: StatementPlace,
     tokens: &[Token],
-) -> Result<(Statement, &[Token]), ReadError>
+) -> Result<(Box<Statement>, &[Token]), ReadError>
     requires { room < 1000 }
-    ensures { Gives (λ x. (view x.0, x.1.now)) result (lower total room place tokens.now) }
+    ensures { Gives (λ x. (view x.0.value, x.1.now)) result (lower total room place tokens.now) }
 {
     let below = below_statement(total, room, place, tokens)?;
     statement_at(alloc, total, below, place, tokens)
@@ -77,13 +78,13 @@ fn block_at(
     room: usize,
     place: StatementPlace,
     tokens: &[Token],
-) -> Result<(Statement, &[Token]), ReadError>
+) -> Result<(Box<Statement>, &[Token]), ReadError>
     requires { room < 1000 }
-    ensures { Gives (λ x. (view x.0, x.1.now)) result (block_of total room place (lower total room (Statements.inside place)) tokens.now) }
+    ensures { Gives (λ x. (view x.0.value, x.1.now)) result (block_of total room place (lower total room (Statements.inside place)) tokens.now) }
 {
     let (label, rest) = block_head(alloc, tokens)?;
     let (statements, rest) = statements_at(alloc, total, room, inside(place), rest)?;
-    block_end(total, room, place, label, statements, rest)
+    block_end(alloc, total, room, place, label, statements, rest)
 }
 
 /// The statements of a block.
@@ -106,7 +107,7 @@ fn statements_at(
             break;
         }
         let (another, others) = lower_at(alloc, total, room, place, rest)?;
-        all.push(another)?;
+        all.push(Box::into_inner(another))?;
         rest = others;
     }
     Ok((all, rest))
@@ -121,14 +122,17 @@ fn conditional_at(
     room: usize,
     place: StatementPlace,
     tokens: &[Token],
-) -> Result<(Statement, &[Token]), ReadError>
+) -> Result<(Box<Statement>, &[Token]), ReadError>
     requires { room < 1000 }
-    ensures { Gives (λ x. (view x.0, x.1.now)) result (conditional_of total room (lower total room place) tokens.now) }
+    ensures { Gives (λ x. (view x.0.value, x.1.now)) result (conditional_of total room (lower total room place) tokens.now) }
 {
     let (condition, rest) = condition(alloc, total, room, tokens)?;
     let (branch, rest) = lower_at(alloc, total, room, place, rest)?;
     let (otherwise, rest) = otherwise_at(alloc, total, room, place, rest)?;
-    Ok((if_statement(alloc, condition, branch, otherwise)?, rest))
+    Ok((
+        boxed(alloc, if_statement(condition, branch, otherwise))?,
+        rest,
+    ))
 }
 
 /// `else statement`, if it stands here: it belongs to the nearest `if`.
@@ -140,9 +144,9 @@ fn otherwise_at(
     room: usize,
     place: StatementPlace,
     tokens: &[Token],
-) -> Result<(Option<Statement>, &[Token]), ReadError>
+) -> Result<(Option<Box<Statement>>, &[Token]), ReadError>
     requires { room < 1000 }
-    ensures { Gives (λ x. (option_map view x.0, x.1.now)) result (otherwise_of (lower total room place) tokens.now) }
+    ensures { Gives (λ x. (option_map (λ b. view b.value) x.0, x.1.now)) result (otherwise_of (lower total room place) tokens.now) }
 {
     if !starts_word(Keyword::Else, tokens) {
         return Ok((None, tokens));
@@ -161,14 +165,14 @@ fn case_at(
     room: usize,
     place: StatementPlace,
     tokens: &[Token],
-) -> Result<(Statement, &[Token]), ReadError>
+) -> Result<(Box<Statement>, &[Token]), ReadError>
     requires { room < 1000 }
-    ensures { Gives (λ x. (view x.0, x.1.now)) result (case_of total room (lower total room place) tokens.now) }
+    ensures { Gives (λ x. (view x.0.value, x.1.now)) result (case_of total room (lower total room place) tokens.now) }
 {
     let (head, rest) = case_head(alloc, total, room, tokens)?;
     let (items, rest) = case_items_at(alloc, total, room, place, rest)?;
     let rest = after_word(Keyword::EndCase, rest)?;
-    Ok((case_statement(head, items), rest))
+    Ok((boxed(alloc, case_statement(head, items))?, rest))
 }
 
 /// The items of a case statement that has so many levels below its own.
@@ -226,11 +230,11 @@ fn for_at(
     room: usize,
     place: StatementPlace,
     tokens: &[Token],
-) -> Result<(Statement, &[Token]), ReadError>
+) -> Result<(Box<Statement>, &[Token]), ReadError>
     requires { room < 1000 }
-    ensures { Gives (λ x. (view x.0, x.1.now)) result (for_of total room (lower total room place) tokens.now) }
+    ensures { Gives (λ x. (view x.0.value, x.1.now)) result (for_of total room (lower total room place) tokens.now) }
 {
     let (head, rest) = for_head(alloc, total, room, tokens)?;
     let (body, rest) = lower_at(alloc, total, room, place, rest)?;
-    Ok((for_statement(alloc, head, body)?, rest))
+    Ok((boxed(alloc, for_statement(head, body))?, rest))
 }

@@ -7,6 +7,7 @@ ghost use Rattle.v_statement.specs.Firsts;
 ghost use Rattle.v_statement.specs.Reading.{argument_of, arguments_of, task_of_room};
 
 use crate::expressions::{begins_expression, expression_below, starts_expression};
+use crate::heap::boxed;
 use std::alloc::Global;
 use v_phrase::{Element, ReadError, after, listed, next, starts_mark, system_task, text};
 use v_syntax::{Mark, Statement, TaskArgument, Token};
@@ -91,18 +92,24 @@ pub fn task_enable(
     total: usize,
     room: usize,
     tokens: &[Token],
-) -> Result<(Statement, &[Token]), ReadError>
+) -> Result<(Box<Statement>, &[Token]), ReadError>
     requires { room < 1000 }
-    ensures { Gives (λ x. (view x.0, x.1.now)) result (task_of_room total room tokens.now) }
+    ensures { Gives (λ x. (view x.0.value, x.1.now)) result (task_of_room total room tokens.now) }
 {
     let (task, rest) = system_task(tokens)?;
     if !starts_mark(Mark::OpenParenthesis, rest) {
         let rest = after(Mark::Semicolon, rest)?;
         let arguments = Vec::new(alloc);
-        return Ok((Statement::TaskEnable { task, arguments }, rest));
+        return Ok((
+            boxed(alloc, Statement::TaskEnable { task, arguments })?,
+            rest,
+        ));
     }
     let (given, rest) = bracketed_arguments(alloc, total, room, rest)?;
     let rest = after(Mark::Semicolon, rest)?;
     let arguments = given.unwrap_or(Vec::new(alloc));
-    Ok((Statement::TaskEnable { task, arguments }, rest))
+    Ok((
+        boxed(alloc, Statement::TaskEnable { task, arguments })?,
+        rest,
+    ))
 }

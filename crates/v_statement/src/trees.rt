@@ -8,7 +8,7 @@ ghost use Rattle.v_syntax.specs.Statements as rules;
 ghost use Rattle.v_statement.specs.Reading.{case_item_tree, case_with};
 
 use port_io::Name;
-use std::alloc::{AllocError, AllocFailed, Global};
+use std::alloc::AllocError;
 use v_syntax::{CaseItem, CaseKind, Expression, ForHeader, Statement};
 
 /// A block of its label and its statements.
@@ -19,21 +19,22 @@ pub fn block(label: Option<Name>, statements: Vec<Statement>) -> Statement
 }
 
 /// A case statement of its first parts and its items.
-pub fn case_statement(head: (CaseKind, Expression), items: Vec<CaseItem>) -> Statement
-    ensures { view result ≡ case_with (head.0, ExpressionTrees.view head.1) (map view_case items.items) }
+pub fn case_statement(head: (CaseKind, Box<Expression>), items: Vec<CaseItem>) -> Statement
+    ensures { view result ≡ case_with (head.0, ExpressionTrees.view head.1.value) (map view_case items.items) }
 {
     let (kind, selector) = head;
     Statement::Case {
         kind,
-        selector,
+        selector: Box::into_inner(selector),
         items,
     }
 }
 
 /// An item of a case statement, with its expressions or as `default`.
-pub fn case_item(labels: Option<Vec<Expression>>, statement: Statement) -> CaseItem
-    ensures { view_case result ≡ case_item_tree (option_map (λ v. map ExpressionTrees.view v.items) labels) (view statement) }
+pub fn case_item(labels: Option<Vec<Expression>>, statement: Box<Statement>) -> CaseItem
+    ensures { view_case result ≡ case_item_tree (option_map (λ v. map ExpressionTrees.view v.items) labels) (view statement.value) }
 {
+    let statement = Box::into_inner(statement);
     match labels {
         Some(labels) => CaseItem::Match { labels, statement },
         None => CaseItem::Default { statement },
@@ -41,47 +42,45 @@ pub fn case_item(labels: Option<Vec<Expression>>, statement: Statement) -> CaseI
 }
 
 /// A loop of its first parts and its body.
-pub fn for_statement(
-    alloc: Global,
-    head: (usize, ForHeader),
-    body: Statement,
-) -> Result<Statement, AllocFailed<Statement>>
-    ensures { IfOk result (λ s. view s ≡ for_tree (head.0, view_header head.1) (view body)) }
+pub fn for_statement(head: (usize, Box<ForHeader>), body: Box<Statement>) -> Statement
+    ensures { view result ≡ for_tree (head.0, view_header head.1.value) (view body.value) }
 {
     let (at, header) = head;
-    let body = Box::new(alloc, body)?;
-    Ok(Statement::For { at, header, body })
+    Statement::For {
+        at,
+        header: Box::into_inner(header),
+        body,
+    }
 }
 
 /// With an `else` where there is one.
 pub fn if_statement(
-    alloc: Global,
-    condition: Expression,
-    branch: Statement,
-    otherwise: Option<Statement>,
-) -> Result<Statement, AllocFailed<Statement>>
-    ensures { IfOk result (λ s. view s ≡ if_tree (ExpressionTrees.view condition) (view branch, option_map view otherwise)) }
+    condition: Box<Expression>,
+    branch: Box<Statement>,
+    otherwise: Option<Box<Statement>>,
+) -> Statement
+    ensures { view result ≡ if_tree (ExpressionTrees.view condition.value) (view branch.value, option_map (λ b. view b.value) otherwise) }
 {
-    let branch = Box::new(alloc, branch)?;
+    let condition = Box::into_inner(condition);
     match otherwise {
-        None => Ok(Statement::If { condition, branch }),
-        Some(otherwise) => Ok(Statement::IfElse {
+        None => Statement::If { condition, branch },
+        Some(otherwise) => Statement::IfElse {
             condition,
             branch,
-            otherwise: Box::new(alloc, otherwise)?,
-        }),
+            otherwise,
+        },
     }
 }
 
 /// The statements of a block, and the delay behind them where there is one.
 pub fn with_delay(
     mut statements: Vec<Statement>,
-    last: Option<Statement>,
+    last: Option<Box<Statement>>,
 ) -> Result<Vec<Statement>, AllocError>
-    ensures { IfOk result (λ all. map view all.items ≡ rules.with_delay (map view statements.items) (option_map view last)) }
+    ensures { IfOk result (λ all. map view all.items ≡ rules.with_delay (map view statements.items) (option_map (λ b. view b.value) last)) }
 {
     if let Some(delay) = last {
-        statements.push(delay)?;
+        statements.push(Box::into_inner(delay))?;
     }
     Ok(statements)
 }

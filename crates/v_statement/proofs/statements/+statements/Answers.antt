@@ -1,4 +1,4 @@
-use Rattle.std.proofs.Common.{length, arith, sym, ◌∙◌}
+use Rattle.std.proofs.Common.{length, arith, sym, ap, ◌∙◌, ◌++◌, ◌∷◌, []}
 use Rattle.std.proofs.lemmas.Result.{err_from_is_err_and}
 use Rattle.v_syntax.specs.StatementTrees.{view, view_case}
 use Rattle.v_phrase.proofs.Loops.{items_stop, items_empty, items_more, items_fail}
@@ -16,7 +16,8 @@ statements_at-returns-in_err-another t c =
 pub statements_at-loop-preserved : goal.statements_at-loop-preserved
 statements_at-loop-preserved t c =
     items_more view (starts_statement c.args.place) (lower c.args.total c.args.room c.args.place) c.loop.all.items (length c.args.tokens.now) c.loop.counter c.loop.rest.now
-    _ c.in_ok-another.another _ c.loop-test.true (sym c.starts_statement.ensures ∙ c.if-not-starts_statement.false) c.in_ok-push.ensures.items c.in_ok-another.ensures ∙ c.loop.invariant
+    _ c.in_ok-another.another.value _ c.loop-test.true (sym c.starts_statement.ensures ∙ c.if-not-starts_statement.false)
+    (c.in_ok-push.ensures.items ∙ ap (λ s. c.loop.all.items ++ (s ∷ [])) c.into_inner.ensures) c.in_ok-another.ensures ∙ c.loop.invariant
 
 pub case_items_at-returns-in_err-another : goal.case_items_at-returns-in_err-another
 case_items_at-returns-in_err-another t c =
