@@ -7,8 +7,8 @@ ghost use Rattle.v_parse.specs.ItemReading.{driver_of, drivers_of};
 
 use crate::parts::value;
 use std::alloc::Global;
-use v_expression::target;
 use v_phrase::{Element, ReadError, after, after_word, listed};
+use v_statement::boxed_target;
 use v_syntax::{ContinuousAssignment, ItemKind, Keyword, Mark, Token};
 
 /// `target = expression`
@@ -22,8 +22,9 @@ fn driver(
     requires { room < 1000 }
     ensures { Gives (λ x. (view_driver x.0, x.1.now)) result (driver_of total room tokens.now) }
 {
-    let (target, rest) = target(alloc, total, room, tokens)?;
+    let (target, rest) = boxed_target(alloc, total, room, tokens)?;
     let (value, rest) = value(alloc, total, room, rest)?;
+    let target = Box::into_inner(target);
     Ok((ContinuousAssignment { target, value }, rest))
 }
 

@@ -11,7 +11,7 @@ ghost use Rattle.v_phrase.specs.Readers.{maybe, token_of};
 ghost use Rattle.v_parse.specs.ItemFirsts as firsts;
 ghost use Rattle.v_parse.specs.ItemReading.{value_of, ports_of, net_of, nets_of, tail_of, register_of, registers_of, integers_of, parameter_of, parameters_of};
 
-use crate::parts::{line, maybe_range, port_head, range, value};
+use crate::parts::{line, maybe_range, plain_range, port_head, range, value};
 use std::alloc::Global;
 use v_phrase::{
     Element, IdentifierPhrase, ReadError, after, after_word, identifier, listed, next, starts_mark,
@@ -35,6 +35,7 @@ pub fn ports(
 {
     let (head, rest) = port_head(alloc, total, room, tokens)?;
     let (names, rest) = line::<IdentifierPhrase>(alloc, total, room, rest)?;
+    let head = Box::into_inner(head);
     Ok((ItemKind::Ports { head, names }, rest))
 }
 
@@ -109,6 +110,7 @@ pub fn nets(
     let rest = after_word(Keyword::Wire, tokens)?;
     let (range, rest) = maybe_range(alloc, total, room, rest)?;
     let (declarators, rest) = line::<NetPhrase>(alloc, total, room, rest)?;
+    let range = plain_range(range);
     Ok((ItemKind::Nets { range, declarators }, rest))
 }
 
@@ -137,7 +139,7 @@ fn tail(
 {
     if starts_mark(Mark::OpenBracket, tokens) {
         let (range, rest) = range(alloc, total, room, tokens)?;
-        return Ok((RegisterTail::Words(range), rest));
+        return Ok((RegisterTail::Words(Box::into_inner(range)), rest));
     }
     let (value, rest) = value(alloc, total, room, tokens)?;
     Ok((RegisterTail::Value(value), rest))
@@ -199,6 +201,7 @@ pub fn registers(
     let rest = after_word(Keyword::Reg, tokens)?;
     let (range, rest) = maybe_range(alloc, total, room, rest)?;
     let (declarators, rest) = line::<RegisterPhrase>(alloc, total, room, rest)?;
+    let range = plain_range(range);
     Ok((ItemKind::Registers { range, declarators }, rest))
 }
 
@@ -282,6 +285,7 @@ pub fn parameters(
     let (kind, rest) = parameter_kind(tokens)?;
     let (range, rest) = maybe_range(alloc, total, room, rest)?;
     let (assignments, rest) = line::<ParameterPhrase>(alloc, total, room, rest)?;
+    let range = plain_range(range);
     Ok((
         ItemKind::Parameters {
             kind,

@@ -12,12 +12,13 @@ ghost use Rattle.v_parse.specs.ItemReading.{port_head_of};
 ghost use Rattle.v_parse.specs.Firsts as firsts;
 ghost use Rattle.v_parse.specs.Reading.{parameter_head_of, first_parameter_of, next_parameter_of, parameter_list_of, header_parameters_of, first_port_of, next_port_of, declared_ports_of, ports_of, port_list_of};
 
-use crate::parts::{maybe_range, port_head, starts_direction, value};
+use crate::parts::{maybe_range, plain_range, port_head, starts_direction, value};
 use std::alloc::Global;
 use v_phrase::{
     Element, IdentifierPhrase, ReadError, after, after_word, identifier, listed, next, others,
     starts_mark, starts_word,
 };
+use v_statement::boxed;
 use v_syntax::{
     HeaderParameter, HeaderPort, HeaderPorts, Keyword, Mark, ParameterHead, PortHead, Token,
 };
@@ -31,13 +32,14 @@ fn parameter_head(
     total: usize,
     room: usize,
     tokens: &[Token],
-) -> Result<(ParameterHead, &[Token]), ReadError>
+) -> Result<(Box<ParameterHead>, &[Token]), ReadError>
     requires { room < 1000 }
-    ensures { Gives (λ x. (view_parameter_head x.0, x.1.now)) result (parameter_head_of total room tokens.now) }
+    ensures { Gives (λ x. (view_parameter_head x.0.value, x.1.now)) result (parameter_head_of total room tokens.now) }
 {
     let rest = after_word(Keyword::Parameter, tokens)?;
     let (range, rest) = maybe_range(alloc, total, room, rest)?;
-    Ok((ParameterHead { range }, rest))
+    let range = plain_range(range);
+    Ok((boxed(alloc, ParameterHead { range })?, rest))
 }
 
 /// The same, if it stands here.
@@ -46,15 +48,25 @@ fn maybe_parameter_head(
     total: usize,
     room: usize,
     tokens: &[Token],
-) -> Result<(Option<ParameterHead>, &[Token]), ReadError>
+) -> Result<(Option<Box<ParameterHead>>, &[Token]), ReadError>
     requires { room < 1000 }
-    ensures { Gives (λ x. (option_map view_parameter_head x.0, x.1.now)) result (maybe (Readers.starts_word word.Parameter) (parameter_head_of total room) tokens.now) }
+    ensures { Gives (λ x. (option_map (λ b. view_parameter_head b.value) x.0, x.1.now)) result (maybe (Readers.starts_word word.Parameter) (parameter_head_of total room) tokens.now) }
 {
     if !starts_word(Keyword::Parameter, tokens) {
         return Ok((None, tokens));
     }
     let (head, rest) = parameter_head(alloc, total, room, tokens)?;
     Ok((Some(head), rest))
+}
+
+/// The head of a parameter where it stands in its tree.
+fn plain_parameter_head(head: Option<Box<ParameterHead>>) -> Option<ParameterHead>
+    ensures { option_map view_parameter_head result ≡ option_map (λ b. view_parameter_head b.value) head }
+{
+    match head {
+        Some(head) => Some(Box::into_inner(head)),
+        None => None,
+    }
 }
 
 /// `parameter [range] name = expression`
@@ -71,7 +83,7 @@ fn first_parameter(
     let (head, rest) = parameter_head(alloc, total, room, tokens)?;
     let (name, rest) = identifier(alloc, total, rest)?;
     let (value, rest) = value(alloc, total, room, rest)?;
-    let head = Some(head);
+    let head = Some(Box::into_inner(head));
     Ok((HeaderParameter { head, name, value }, rest))
 }
 
@@ -89,6 +101,7 @@ fn next_parameter(
     let (head, rest) = maybe_parameter_head(alloc, total, room, tokens)?;
     let (name, rest) = identifier(alloc, total, rest)?;
     let (value, rest) = value(alloc, total, room, rest)?;
+    let head = plain_parameter_head(head);
     Ok((HeaderParameter { head, name, value }, rest))
 }
 
@@ -172,15 +185,25 @@ fn maybe_port_head(
     total: usize,
     room: usize,
     tokens: &[Token],
-) -> Result<(Option<PortHead>, &[Token]), ReadError>
+) -> Result<(Option<Box<PortHead>>, &[Token]), ReadError>
     requires { room < 1000 }
-    ensures { Gives (λ x. (option_map view_head x.0, x.1.now)) result (maybe item_firsts.starts_direction (port_head_of total room) tokens.now) }
+    ensures { Gives (λ x. (option_map (λ b. view_head b.value) x.0, x.1.now)) result (maybe item_firsts.starts_direction (port_head_of total room) tokens.now) }
 {
     if !starts_direction(tokens) {
         return Ok((None, tokens));
     }
     let (head, rest) = port_head(alloc, total, room, tokens)?;
     Ok((Some(head), rest))
+}
+
+/// The head of a port where it stands in its tree.
+fn plain_port_head(head: Option<Box<PortHead>>) -> Option<PortHead>
+    ensures { option_map view_head result ≡ option_map (λ b. view_head b.value) head }
+{
+    match head {
+        Some(head) => Some(Box::into_inner(head)),
+        None => None,
+    }
 }
 
 /// A direction, `[wire | reg]`, `[range]` and a name
@@ -196,7 +219,7 @@ fn first_port(
 {
     let (head, rest) = port_head(alloc, total, room, tokens)?;
     let (name, rest) = identifier(alloc, total, rest)?;
-    let head = Some(head);
+    let head = Some(Box::into_inner(head));
     Ok((HeaderPort { head, name }, rest))
 }
 
@@ -213,6 +236,7 @@ fn next_port(
 {
     let (head, rest) = maybe_port_head(alloc, total, room, tokens)?;
     let (name, rest) = identifier(alloc, total, rest)?;
+    let head = plain_port_head(head);
     Ok((HeaderPort { head, name }, rest))
 }
 

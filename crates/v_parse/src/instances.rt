@@ -13,9 +13,9 @@ ghost use Rattle.v_parse.specs.ItemFirsts as firsts;
 ghost use Rattle.v_parse.specs.ItemReading.{bracketed_value_of, connection_of, connections_of, overrides_of, bracketed_connections_of, instance_tail_of, instance_of};
 
 use std::alloc::Global;
-use v_expression::{ExpressionPhrase, expression};
+use v_expression::ExpressionPhrase;
 use v_phrase::{Element, ReadError, after, identifier, listed, next, place, starts_mark};
-use v_statement::{begins_expression, starts_expression};
+use v_statement::{begins_expression, boxed_expression, starts_expression};
 use v_syntax::{Connections, Expression, Identifier, ItemKind, Mark, NamedConnection, Token};
 
 /// An expression, if one begins here.
@@ -24,14 +24,14 @@ fn maybe_expression(
     total: usize,
     room: usize,
     tokens: &[Token],
-) -> Result<(Option<Expression>, &[Token]), ReadError>
+) -> Result<(Option<Box<Expression>>, &[Token]), ReadError>
     requires { room < 1000 }
-    ensures { Gives (λ x. (option_map ExpressionTrees.view x.0, x.1.now)) result (maybe Starts.starts_expression (expression_of total room) tokens.now) }
+    ensures { Gives (λ x. (option_map (λ b. ExpressionTrees.view b.value) x.0, x.1.now)) result (maybe Starts.starts_expression (expression_of total room) tokens.now) }
 {
     if !starts_expression(tokens) {
         return Ok((None, tokens));
     }
-    let (value, rest) = expression(alloc, total, room, tokens)?;
+    let (value, rest) = boxed_expression(alloc, total, room, tokens)?;
     Ok((Some(value), rest))
 }
 
@@ -42,14 +42,24 @@ fn bracketed_value(
     total: usize,
     room: usize,
     tokens: &[Token],
-) -> Result<(Option<Expression>, &[Token]), ReadError>
+) -> Result<(Option<Box<Expression>>, &[Token]), ReadError>
     requires { room < 1000 }
-    ensures { Gives (λ x. (option_map ExpressionTrees.view x.0, x.1.now)) result (bracketed_value_of total room tokens.now) }
+    ensures { Gives (λ x. (option_map (λ b. ExpressionTrees.view b.value) x.0, x.1.now)) result (bracketed_value_of total room tokens.now) }
 {
     let rest = after(Mark::OpenParenthesis, tokens)?;
     let (value, rest) = maybe_expression(alloc, total, room, rest)?;
     let rest = after(Mark::CloseParenthesis, rest)?;
     Ok((value, rest))
+}
+
+/// An expression where it stands in its tree.
+fn plain_value(value: Option<Box<Expression>>) -> Option<Expression>
+    ensures { option_map ExpressionTrees.view result ≡ option_map (λ b. ExpressionTrees.view b.value) value }
+{
+    match value {
+        Some(value) => Some(Box::into_inner(value)),
+        None => None,
+    }
 }
 
 /// `. name ( [expression] )`
@@ -67,6 +77,7 @@ fn connection(
     let rest = after(Mark::Dot, tokens)?;
     let (port, rest) = identifier(alloc, total, rest)?;
     let (value, rest) = bracketed_value(alloc, total, room, rest)?;
+    let value = plain_value(value);
     Ok((NamedConnection { at, port, value }, rest))
 }
 

@@ -13,6 +13,7 @@ ghost use Rattle.v_parse.specs.ItemReading.{line_of, bound_of, range_of, maybe_r
 use std::alloc::Global;
 use v_expression::expression;
 use v_phrase::{Element, ReadError, after, listed, next, place, starts_mark, syntax_error};
+use v_statement::{boxed, boxed_expression};
 use v_syntax::{
     Direction, Expression, Identifier, Keyword, Mark, PortHead, PortKind, Range, Token,
 };
@@ -25,11 +26,11 @@ fn bound(
     room: usize,
     mark: Mark,
     tokens: &[Token],
-) -> Result<(Expression, &[Token]), ReadError>
+) -> Result<(Box<Expression>, &[Token]), ReadError>
     requires { room < 1000 }
-    ensures { Gives (λ x. (ExpressionTrees.view x.0, x.1.now)) result (bound_of total room mark tokens.now) }
+    ensures { Gives (λ x. (ExpressionTrees.view x.0.value, x.1.now)) result (bound_of total room mark tokens.now) }
 {
-    let (value, rest) = expression(alloc, total, room, tokens)?;
+    let (value, rest) = boxed_expression(alloc, total, room, tokens)?;
     let rest = after(mark, rest)?;
     Ok((value, rest))
 }
@@ -41,15 +42,17 @@ pub fn range(
     total: usize,
     room: usize,
     tokens: &[Token],
-) -> Result<(Range, &[Token]), ReadError>
+) -> Result<(Box<Range>, &[Token]), ReadError>
     requires { room < 1000 }
-    ensures { Gives (λ x. (view_range x.0, x.1.now)) result (range_of total room tokens.now) }
+    ensures { Gives (λ x. (view_range x.0.value, x.1.now)) result (range_of total room tokens.now) }
 {
     let at = place(total, tokens);
     let rest = after(Mark::OpenBracket, tokens)?;
     let (left, rest) = bound(alloc, total, room, Mark::Colon, rest)?;
     let (right, rest) = bound(alloc, total, room, Mark::CloseBracket, rest)?;
-    Ok((Range { at, left, right }, rest))
+    let left = Box::into_inner(left);
+    let right = Box::into_inner(right);
+    Ok((boxed(alloc, Range { at, left, right })?, rest))
 }
 
 /// A range, if one stands here.
@@ -59,15 +62,25 @@ pub fn maybe_range(
     total: usize,
     room: usize,
     tokens: &[Token],
-) -> Result<(Option<Range>, &[Token]), ReadError>
+) -> Result<(Option<Box<Range>>, &[Token]), ReadError>
     requires { room < 1000 }
-    ensures { Gives (λ x. (option_map view_range x.0, x.1.now)) result (maybe_range_of total room tokens.now) }
+    ensures { Gives (λ x. (option_map (λ b. view_range b.value) x.0, x.1.now)) result (maybe_range_of total room tokens.now) }
 {
     if !starts_mark(Mark::OpenBracket, tokens) {
         return Ok((None, tokens));
     }
     let (range, rest) = range(alloc, total, room, tokens)?;
     Ok((Some(range), rest))
+}
+
+/// A range where it stands in its tree.
+pub fn plain_range(range: Option<Box<Range>>) -> Option<Range>
+    ensures { option_map view_range result ≡ option_map (λ b. view_range b.value) range }
+{
+    match range {
+        Some(range) => Some(Box::into_inner(range)),
+        None => None,
+    }
 }
 
 /// `= expression`
@@ -142,19 +155,17 @@ pub fn port_head(
     total: usize,
     room: usize,
     tokens: &[Token],
-) -> Result<(PortHead, &[Token]), ReadError>
+) -> Result<(Box<PortHead>, &[Token]), ReadError>
     requires { room < 1000 }
-    ensures { Gives (λ x. (view_head x.0, x.1.now)) result (port_head_of total room tokens.now) }
+    ensures { Gives (λ x. (view_head x.0.value, x.1.now)) result (port_head_of total room tokens.now) }
 {
     let (direction, rest) = direction(tokens)?;
     let (kind, rest) = port_kind(rest);
     let (range, rest) = maybe_range(alloc, total, room, rest)?;
-    Ok((
-        PortHead {
-            direction,
-            kind,
-            range,
-        },
-        rest,
-    ))
+    let head = PortHead {
+        direction,
+        kind,
+        range: plain_range(range),
+    };
+    Ok((boxed(alloc, head)?, rest))
 }
