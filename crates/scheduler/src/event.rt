@@ -1,5 +1,5 @@
 //! Events of the simulator.
-ghost use Rattle.std.specs.Prelude.{◌≡◌, ◌≤◌, ◌<◌, ◌∷◌, ◌+◌, [], List, length, IfOk, OnOk, OnErr, Ok, true, false};
+ghost use Rattle.std.specs.Prelude.{◌≡◌, ◌≤◌, ◌<◌, ◌∷◌, ◌+◌, [], List, length, IfOk, OnOk, OnErr, Ok, None, true, false};
 ghost use Rattle.gpi.specs.Content.{IsChangeOf};
 ghost use Rattle.gpi.specs.Events.{idle};
 ghost use Rattle.gpi.specs.Keys.{among, has};
@@ -77,7 +77,7 @@ impl<'a, M: FlowMaker + Drop, W: Awaits> Engine<'a, M, W> {
         steps: &mut Steps<L>,
     ) -> Option<SinkFault>
         requires loaded { K.is_loaded kernel.old }
-        requires own { Fits (setup_of M.functions self.old) 0 self.old.ready.room (parts_of W.waiting self.old) }
+        requires own { Fits (setup_of M.functions self.old) None self.old.ready.room (parts_of W.waiting self.old) }
         requires writable { IsOpen (setup_of M.functions self.old) (K.content kernel.old) (W.waiting self.old.awaits) }
         requires sig { write.sig.0 < length self.old.flat.now.signals }
         requires keys { AreKeysBut (K.content kernel.old).keys (W.held self.old.awaits) (named (W.waiting self.old.awaits) (W.held self.old.awaits)) }
@@ -89,7 +89,7 @@ impl<'a, M: FlowMaker + Drop, W: Awaits> Engine<'a, M, W> {
             StandsAhead fired setup before c → Serves O.takes O.breaks O.told setup fired (after_put setup (put_of setup c write) c)
             (parts_of W.waiting self.new) (K.content kernel.new) fault out.old result out.new }
         ensures loaded { K.is_loaded kernel.new }
-        ensures own { Fits (setup_of M.functions self.new) 0 self.new.ready.room (parts_of W.waiting self.new) }
+        ensures own { Fits (setup_of M.functions self.new) None self.new.ready.room (parts_of W.waiting self.new) }
         ensures writable { IsOpen (setup_of M.functions self.new) (K.content kernel.new) (W.waiting self.new.awaits) }
         ensures held { (writes : List Staged) → W.held self.old.awaits ≡ staged_key writes → W.held self.new.awaits ≡ staged_key writes }
         ensures setup { setup_of M.functions self.new ≡ setup_of M.functions self.old }
@@ -114,7 +114,7 @@ impl<'a, M: FlowMaker + Drop, W: Awaits> Engine<'a, M, W> {
         steps: &mut Steps<L>,
     ) -> Option<SinkFault>
         requires loaded { K.is_loaded kernel.old }
-        requires own { Fits (setup_of M.functions self.old) 0 self.old.ready.room (parts_of W.waiting self.old) }
+        requires own { Fits (setup_of M.functions self.old) None self.old.ready.room (parts_of W.waiting self.old) }
         requires writable { IsOpen (setup_of M.functions self.old) (K.content kernel.old) (W.waiting self.old.awaits) }
         requires held { W.held self.old.awaits ≡ staged_key self.old.staged.items }
         requires keys { AreKeysBut (K.content kernel.old).keys (ReadWrite ∷ []) (named (W.waiting self.old.awaits) (W.held self.old.awaits)) }
@@ -127,7 +127,7 @@ impl<'a, M: FlowMaker + Drop, W: Awaits> Engine<'a, M, W> {
             StandsAhead fired setup before c → Serves O.takes O.breaks O.told setup fired (flushed setup self.old.staged.items c)
             (parts_of W.waiting self.new) (K.content kernel.new) fault out.old result out.new }
         ensures loaded { K.is_loaded kernel.new }
-        ensures own { Fits (setup_of M.functions self.new) 0 self.new.ready.room (parts_of W.waiting self.new) }
+        ensures own { Fits (setup_of M.functions self.new) None self.new.ready.room (parts_of W.waiting self.new) }
         ensures writable { IsOpen (setup_of M.functions self.new) (K.content kernel.new) (W.waiting self.new.awaits) }
         ensures held { (writes : List Staged) → W.held self.old.awaits ≡ staged_key writes → W.held self.new.awaits ≡ staged_key writes }
         ensures setup { setup_of M.functions self.new ≡ setup_of M.functions self.old }
@@ -151,7 +151,7 @@ impl<'a, M: FlowMaker + Drop, W: Awaits> Engine<'a, M, W> {
         steps: &mut Steps<L>,
     ) -> Option<SinkFault>
         requires loaded { K.is_loaded kernel.old }
-        requires own { Fits (setup_of M.functions self.old) 0 self.old.ready.room (parts_of W.waiting self.old) }
+        requires own { Fits (setup_of M.functions self.old) None self.old.ready.room (parts_of W.waiting self.old) }
         requires writable { IsOpen (setup_of M.functions self.old) (K.content kernel.old) (W.waiting self.old.awaits) }
         requires held { W.held self.old.awaits ≡ staged_key self.old.staged.items }
         requires alone { among ReadWrite (keys_in keys) ≡ true → keys_in keys ≡ ReadWrite ∷ [] }
@@ -165,7 +165,7 @@ impl<'a, M: FlowMaker + Drop, W: Awaits> Engine<'a, M, W> {
             StandsAhead fired setup before c → Serves O.takes O.breaks O.told setup fired (flushed_if setup (among ReadWrite fired) c)
             (parts_of W.waiting self.new) (K.content kernel.new) fault out.old result out.new }
         ensures loaded { K.is_loaded kernel.new }
-        ensures own { Fits (setup_of M.functions self.new) 0 self.new.ready.room (parts_of W.waiting self.new) }
+        ensures own { Fits (setup_of M.functions self.new) None self.new.ready.room (parts_of W.waiting self.new) }
         ensures writable { IsOpen (setup_of M.functions self.new) (K.content kernel.new) (W.waiting self.new.awaits) }
         ensures held { without_all (keys_in keys) (W.held self.new.awaits) ≡ staged_key self.new.staged.items }
         ensures free { (x : Key) → among x (staged_key self.new.staged.items) ≡ true → among x (keys_in keys) ≡ false }

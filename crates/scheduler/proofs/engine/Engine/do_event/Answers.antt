@@ -5,7 +5,7 @@ use Rattle.rig_model.proofs.KernelLaws.{but_more}
 use Rattle.scheduler.specs.Engine.{setup_of, parts_of}
 use Rattle.scheduler.specs.Serves.{IsOpen}
 use Rattle.scheduler.proofs.EventLaws.{advances_of, event_alone, event_but, event_out, event_open, event_stands_ahead, event_fits, event_evented}
-use Rattle.scheduler.proofs.FitLaws.{fits_served}
+use Rattle.scheduler.proofs.FitLaws.{fits_served, room_to_wake}
 use Rattle.scheduler.proofs.StandLaws.{keys_named}
 use Rattle.scheduler.proofs.engine.Engine.do_event.Goals as goal
 
@@ -69,6 +69,9 @@ flush_if-put-requires-clause-keys g c = event_but (setup_of g.M.FlowMaker.functi
 pub flush_if-put-requires-clause-out : goal.flush_if-put-requires-clause-out
 flush_if-put-requires-clause-out g c = event_out (setup_of g.M.FlowMaker.functions c.args.self.now) (parts_of g.W.Awaits.waiting c.args.self.now) (g.K.Gpi.content c.args.kernel.now) (g.K.Gpi.content c.advance.new.self) (g.W.Awaits.held c.args.self.now.awaits) c.requires.fits.kernel c.in-Moved.moved
     (advances_of (g.K.Gpi.content c.args.kernel.now) c.in-Moved.moved (g.K.Gpi.content c.advance.new.self) (rw c.in-Moved.is at c.in_ok-moved.ensures.is))
+
+pub fire-requires-clause-room : goal.fire-requires-clause-room
+fire-requires-clause-room g c = room_to_wake (setup_of g.M.FlowMaker.functions c.flush_if-put.new.self) _ (parts_of g.W.Awaits.waiting c.flush_if-put.new.self) c.flush_if-put.ensures.own
 
 pub fire-requires-clause-keys : goal.fire-requires-clause-keys
 fire-requires-clause-keys g c = but_more (g.K.Gpi.content c.flush_if-put.new.kernel).keys (keys_in c.in-Moved.moved.fired) (g.W.Awaits.held c.flush_if-put.new.self.awaits) _ c.flush_if-put.ensures.keys

@@ -1,4 +1,4 @@
-use Rattle.std.proofs.Common.{◌∙◌, refl, sym, ap, subst, List, [], ◌∷◌, Vec, Global}
+use Rattle.std.proofs.Common.{◌∙◌, refl, sym, ap, subst, List, [], ◌∷◌, None, Vec, Global}
 use Rattle.gpi.specs.declared.types.Key.{Key}
 use Rattle.gpi.specs.declared.types.Key.TheVariants.{ReadWrite}
 use Rattle.rig_model.specs.Keys.{AreKeysBut}
@@ -28,7 +28,7 @@ writes-init g c = record {
 pub writes-preserved : goal.writes-preserved
 writes-preserved g c = record {
   loaded = c.put_out-fault.ensures.loaded;
-  own = fits_told _ _ 0 _ _ _ (sym (c.put_out-fault.ensures.setup ∙ c.writes.invariant.setup)) refl c.put_out-fault.ensures.own;
+  own = fits_told _ _ None _ _ _ (sym (c.put_out-fault.ensures.setup ∙ c.writes.invariant.setup)) refl c.put_out-fault.ensures.own;
   writable = subst (λ (st : Setup). IsOpen st (g.K.Gpi.content c.put_out-fault.new.kernel) (g.W.Awaits.waiting c.put_out-fault.new.self.awaits)) (c.put_out-fault.ensures.setup ∙ c.writes.invariant.setup) c.put_out-fault.ensures.writable;
   held = λ writes h. c.put_out-fault.ensures.held writes (c.writes.invariant.held writes h);
   keys = subst (λ (hs : List Key). AreKeysBut (g.K.Gpi.content c.put_out-fault.new.kernel).keys hs (named (g.W.Awaits.waiting c.put_out-fault.new.self.awaits) (g.W.Awaits.held c.put_out-fault.new.self.awaits)))

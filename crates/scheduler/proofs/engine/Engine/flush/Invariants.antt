@@ -1,4 +1,4 @@
-use Rattle.std.proofs.Common.{◌≡◌, ◌∷◌, [], List, length}
+use Rattle.std.proofs.Common.{◌≡◌, ◌∷◌, [], List, None, length}
 use Rattle.gpi.specs.declared.types.Counts.{Counts}
 use Rattle.gpi.specs.declared.types.Key.TheVariants.{ReadWrite}
 use Rattle.rig_model.specs.Kernel.{StandsAhead}
@@ -15,7 +15,7 @@ use Rattle.scheduler.proofs.engine.Engine.flush.Given as goal
 abbrev pub invariant-writes : goal.invariant-writes
 invariant-writes g l = record {
   loaded : g.K.Gpi.is_loaded l.kernel;
-  own : Fits (setup_of g.M.FlowMaker.functions l.fn.self) 0 l.self.ready.room (parts_of g.W.Awaits.waiting l.self);
+  own : Fits (setup_of g.M.FlowMaker.functions l.fn.self) None l.self.ready.room (parts_of g.W.Awaits.waiting l.self);
   writable : IsOpen (setup_of g.M.FlowMaker.functions l.fn.self) (g.K.Gpi.content l.kernel) (g.W.Awaits.waiting l.self.awaits);
   held : (writes : List Staged) → g.W.Awaits.held l.fn.self.awaits ≡ staged_key writes → g.W.Awaits.held l.self.awaits ≡ staged_key writes;
   keys : AreKeysBut (g.K.Gpi.content l.kernel).keys (ReadWrite ∷ []) (named (g.W.Awaits.waiting l.self.awaits) (g.W.Awaits.held l.self.awaits));
