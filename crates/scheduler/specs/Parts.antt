@@ -61,12 +61,16 @@ pub record Fits (setup : Setup) (turn : Option TaskNo) (room : ℕ) (p : Parts) 
   pub writes : AreSoundWrites (length setup.flat.signals) p.staged
   pub functions : AreSoundFunctions (bounds_of setup) setup.functions
 
+-- No task waits for the end of the time step, and it isn't over for those who write. That holds as long as no form of a trigger is
+-- that end; with the first that is, this goes, and a write is refused where the region is End.
+pub record StaysOpen (content : Content) (waiting : List Waiting) : Type 0 where
+  pub writable : is_end content.state.region ≡ false
+  pub no_end : among ReadOnly (keys_of waiting) ≡ false
+
 -- What holds between a configuration and a simulator: the simulator stands for it, the runner holds the read-write phase
--- while a write is staged and no other key, the simulator has the signals of the design, and the time step isn't over for
--- those who write, as no task waits for its end.
+-- while a write is staged and no other key, and the simulator has the signals of the design.
 pub record FitsContent (setup : Setup) (held : List Key) (content : Content) (c : Rig) : Type 0 where
   pub stands : StandsFor setup content c
   pub held_is : held ≡ staged_key c.staged
   pub signals : length content.state.signals ≡ length setup.flat.signals
-  pub writable : is_end content.state.region ≡ false
-  pub no_end : among ReadOnly (keys_of c.waiting) ≡ false
+  pub stays_open : StaysOpen content c.waiting

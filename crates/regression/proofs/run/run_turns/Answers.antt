@@ -28,4 +28,4 @@ turns-smaller g c =
     let fits : FitsKernel g.M.FlowMaker.functions g.W.Awaits.waiting g.W.Awaits.held c.turn.new.self (g.K.Gpi.content c.turn.new.kernel)
     = subst (λ (t : Turn). FitsAfter g.M.FlowMaker.functions g.W.Awaits.waiting g.W.Awaits.held t c.turn.new.self (g.K.Gpi.content c.turn.new.kernel)) c.in-Went.is c.in_ok-turn.ensures.fits in
     let few : length c.turn.new.self.ready.entries ≤ 65536 = few_ready (setup_of g.M.FlowMaker.functions c.turn.new.self) _ (parts_of g.W.Awaits.waiting c.turn.new.self) None fits.own in
-    elim (c.turn.ensures.falls (ap Ok c.in-Went.is)) [ inl a ↦ omega (arith, a) | inr b ↦ omega (arith, b.0, b.1) ]
+    elim (c.in_ok-turn.ensures.falls (ap Ok c.in-Went.is)) [ inl a ↦ omega (arith, a) | inr b ↦ omega (arith, b.0, b.1) ]
