@@ -4,7 +4,7 @@ use Rattle.std.specs.Prelude.{nat_le, not, ◌&&◌}
 use Rattle.gpi.specs.Events.{Event}
 use Rattle.rig_model.specs.Task.{Task, Frame, Todo, run, todo_cost, first_cost, next_cost}
 use Rattle.rig_model.specs.Rig.{Running, Rig, Setup, event_of}
-use Rattle.rig_model.specs.Step.{task_at, taken, chosen, stepped, after_event, resumed}
+use Rattle.rig_model.specs.Step.{task_at, live_task, taken, chosen, stepped, after_event, resumed}
 use Rattle.rig_model.specs.Run.{Place, begins, runs, over, is_over, Run, step, step_at, step_in, cost_at, cost_in, step_cost, goes, steps, opening, IsRun}
 use Rattle.rig_model.specs.declared.file.TestCase.{TestCase}
 use Rattle.rig_model.specs.declared.task.Entry.{Entry}
@@ -26,17 +26,16 @@ next_within task (Some given.Begin) = first_within task.frames
 next_within task (Some (given.Value value)) = first_within task.frames
 next_within task (Some (given.Fault fault)) = omega arith
 
-stepped_within : (setup : Setup) (r : Running) (o : Option Task) (c : Rig) → (stepped setup r o c).cost ≤ 1
-stepped_within setup r None c = omega arith
-stepped_within setup r (Some task) c = next_within task r.given
+stepped_within : (setup : Setup) (r : Running) (task : Task) (c : Rig) → (stepped setup r task c).cost ≤ 1
+stepped_within setup r task c = next_within task r.given
 
 event_within : (setup : Setup) (e : Option Event) (c : Rig) → (after_event setup e c).cost ≤ 1
 event_within setup None c = omega arith
 event_within setup (Some e) c = omega arith
 
 chosen_within : (setup : Setup) (running : Option Running) (ready : List Entry) (c : Rig) → (chosen setup running ready c).cost ≤ 1
-chosen_within setup (Some r) ready c = stepped_within setup r (task_at r.task c.tasks) c
-chosen_within setup None (e ∷ es) c = stepped_within setup (taken e) (task_at e.task c.tasks) (resumed e es c)
+chosen_within setup (Some r) ready c = stepped_within setup r (live_task r.task (task_at r.task c.tasks)) c
+chosen_within setup None (e ∷ es) c = stepped_within setup (taken e) (live_task e.task (task_at e.task c.tasks)) (resumed e es c)
 chosen_within setup None [] c = event_within setup (event_of setup c) c
 
 in_within : (setup : Setup) (o : Option Outcome) (c : Run) → cost_in setup o c ≤ 1

@@ -12,3 +12,4 @@ pub mod Stops
 pub mod Whole
 pub mod SoundLaws
 pub mod Costs
+pub mod PlacedLaws

@@ -5,7 +5,7 @@ use Rattle.gpi.specs.Events.{Event}
 use Rattle.rig_model.specs.Task.{Task, next, next_cost}
 use Rattle.rig_model.specs.Rig.{Running, Rig, Setup, event_of, view_of}
 use Rattle.rig_model.specs.Effect.{returned, effect, effect_of}
-use Rattle.rig_model.specs.Step.{task_at, taken, Stepped, rig_step, chosen, stepped, kept, after_event, resumed}
+use Rattle.rig_model.specs.Step.{task_at, live_task, taken, Stepped, rig_step, chosen, stepped, kept, after_event, resumed}
 use Rattle.rig_model.specs.Run.{Place, runs, is_over, Run, within, step, step_at, step_in, step_cost, cost_at, cost_in, goes, steps, opening, IsRun, test_ended}
 use Rattle.rig_model.specs.Poll.{asks}
 use Rattle.rig_model.proofs.PollLaws.{Costs, next_costs}
@@ -57,9 +57,8 @@ effect_falls setup number turned.Spent c r h =
     let m : running_weight c.running ≡ 0 = ap running_weight r in
     omega arith
 
-stepped_falls : (setup : Setup) (r : Running) (o : Option Task) (c : Rig) → c.outcome ≡ None → (0 < (stepped setup r o c).cost) ⊎ (rig_weight (stepped setup r o c).rig < length c.ready + 2)
-stepped_falls setup r None c h = inr (let k : outcome_weight c.outcome ≡ 1 = ap outcome_weight h in omega arith)
-stepped_falls setup r (Some task) c h = by_turned (next task r.given (view_of c)).turned refl (next_costs task r.given (view_of c))
+stepped_falls : (setup : Setup) (r : Running) (task : Task) (c : Rig) → c.outcome ≡ None → (0 < (stepped setup r task c).cost) ⊎ (rig_weight (stepped setup r task c).rig < length c.ready + 2)
+stepped_falls setup r task c h = by_turned (next task r.given (view_of c)).turned refl (next_costs task r.given (view_of c))
   where
     by_turned : (t : Option Turned) → (next task r.given (view_of c)).turned ≡ t → Costs (next task r.given (view_of c)).turned (next_cost task r.given)
         → (0 < next_cost task r.given) ⊎ (rig_weight (effect_of setup r.task (next task r.given (view_of c)).turned (kept (next task r.given (view_of c)).task c)).rig < length c.ready + 2)
@@ -81,12 +80,12 @@ rig_falls : (setup : Setup) (running : Option Running) (ready : List Entry) (c :
 rig_falls setup (Some r) ready c e s o =
     let k : outcome_weight c.outcome ≡ 1 = ap outcome_weight o in
     let m : running_weight c.running ≡ 1 = ap running_weight e in
-    elim (stepped_falls setup r (task_at r.task c.tasks) c o) [ inl p ↦ inl p | inr q ↦ inr (omega arith) ]
+    elim (stepped_falls setup r (live_task r.task (task_at r.task c.tasks)) c o) [ inl p ↦ inl p | inr q ↦ inr (omega arith) ]
 rig_falls setup None (x ∷ xs) c e s o =
     let k : outcome_weight c.outcome ≡ 1 = ap outcome_weight o in
     let m : running_weight c.running ≡ 0 = ap running_weight e in
     let l : length c.ready ≡ length (x ∷ xs) = ap length s in
-    elim (stepped_falls setup (taken x) (task_at x.task c.tasks) (resumed x xs c) o) [ inl p ↦ inl p | inr q ↦ inr (omega arith) ]
+    elim (stepped_falls setup (taken x) (live_task x.task (task_at x.task c.tasks)) (resumed x xs c) o) [ inl p ↦ inl p | inr q ↦ inr (omega arith) ]
 rig_falls setup None [] c e s o = event_falls setup (event_of setup c) c o
 
 Stops : Setup → ℕ → Run → Type 0

@@ -136,13 +136,3 @@ module _ (setup : Setup) (number : TaskNo) where
       → task_at number b.tasks ≡ Some task → task.number ≡ number → b.outcome ≡ None → Polled (view_of b) fuel task g t fuel' task'
       → PollSteps setup number fuel g b t fuel' task'
   polled_steps b fuel task g t fuel' task' h e o p = poll_steps p.count b fuel task g t fuel' task' h e o p.polls
-
-  -- a task that isn't live loses its turn
-  pub lost_moves : (b : Rig) (fuel : ℕ) (g : Option Given) → b.outcome ≡ None → b.running ≡ None → task_at number b.tasks ≡ None
-      → Moves (FitSteps in_turn setup) fuel (goes_on number g b) [] fuel b
-  lost_moves b fuel g o r h =
-      let e : rig_step setup (goes_on number g b) ≡ record { rig = b; lines = []; cost = 0 }
-      = rw h (ap (λ (x : Option Running). record { rig = record b { running = x }; lines = []; cost = 0 }) (sym r)) in
-      let z : fuel - 0 ≡ fuel = omega arith in
-      subst (λ (f : ℕ). Moves (FitSteps in_turn setup) fuel (goes_on number g b) [] f b) z
-      (moves_one in_turn setup fuel (goes_on number g b) (record { rig = b; lines = []; cost = 0 }) refl o e (omega arith))

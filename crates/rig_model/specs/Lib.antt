@@ -10,6 +10,7 @@ pub mod Fires
 pub mod Serve
 pub mod Effect
 pub mod Step
+pub mod Placed
 pub mod FitSteps
 pub mod Run
 pub mod Sound

@@ -1,7 +1,7 @@
 -- One step of a configuration, within a test.
 use Rattle.std.specs.Prelude.{ℕ, List, [], ◌∷◌, ◌++◌, Option, None, Some, if◌then◌else◌}
 use Rattle.gpi.specs.Events.{Event}
-use Rattle.rig_model.specs.Task.{Task, next, next_cost}
+use Rattle.rig_model.specs.Task.{Task, fresh, next, next_cost}
 use Rattle.rig_model.specs.declared.task.Entry.{Entry}
 use Rattle.rig_model.specs.declared.task.Outcome.TheVariants as outcome
 use Rattle.rig_model.specs.Rig.{Rig, Setup, Running, After, event_of, view_of, told_lines}
@@ -23,6 +23,11 @@ abbrev pub task_at : TaskNo → List Task → Option Task
 task_at number [] = None
 task_at number (t ∷ ts) = if is_numbered number t then Some t else task_at number ts
 
+-- that task, where it is known to be live: a step is of no other, so it doesn't matter what stands for one that isn't
+abbrev pub live_task : TaskNo → Option Task → Task
+live_task number None = fresh number (record { body = [] })
+live_task number (Some t) = t
+
 -- with this in the place of the task of its number
 abbrev pub stored : Task → List Task → List Task
 stored task [] = []
@@ -32,16 +37,15 @@ stored task (t ∷ ts) = if is_numbered task.number t then task ∷ ts else t �
 abbrev pub kept : Task → Rig → Rig
 kept task c = record c { running = None; tasks = stored task c.tasks }
 
--- the next step of this task, and its effect; a task that isn't live loses its turn
-abbrev pub stepped : Setup → Running → Option Task → Rig → Stepped
-stepped setup r None c = record { rig = record c { running = None }; lines = []; cost = 0 }
-stepped setup r (Some task) c =
+-- the next step of this task, and its effect
+abbrev pub stepped : Setup → Running → Task → Rig → Stepped
+stepped setup r task c =
     let n = next task r.given (view_of c) in
     costing (next_cost task r.given) (effect_of setup r.task n.turned (kept n.task c))
 
--- a task does its next step
+-- a task, which is live, does its next step
 abbrev pub task_step : Setup → Running → Rig → Stepped
-task_step setup r c = stepped setup r (task_at r.task c.tasks) c
+task_step setup r c = stepped setup r (live_task r.task (task_at r.task c.tasks)) c
 
 -- an event: its change is told, and what it fired is served
 abbrev pub evented : Setup → Event → Rig → Stepped

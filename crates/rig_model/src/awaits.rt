@@ -49,7 +49,8 @@ pub trait Awaits: Drop {
     /// they began to wait, and the runner holds none of these keys any more. There must be room for every waiting task. The
     /// simulator has taken the keys out of the registered ones where they fired. Every other named key is registered, but for
     /// one that fired before and that the runner holds until it is served. After the last key is served those keys are removed
-    /// that nothing names any more, and a key that fired and that a tree waits for again is registered.
+    /// that nothing names any more, and a key that fired and that a tree waits for again is registered. That the keys differ isn't
+    /// asked: a key that stands there twice is served twice, and counted once.
     fn fire<K: Gpi, L: Ledger>(
         &mut self,
         kernel: &mut K,
@@ -101,7 +102,9 @@ pub trait Awaits: Drop {
         ensures loaded { K.is_loaded kernel.new }
         ensures unregisters { Unregisters (K.content kernel.old) (K.content kernel.new) key (named (waiting self.new) (held self.new)) };
 
-    /// No task waits any more, and the runner holds no key: none is registered.
+    /// No task waits any more, and the runner holds no key: none is registered. It is called where no fired key is still to be
+    /// served: all named keys are registered then. A keeper isn't told which of the held keys have fired, and so can't know which of
+    /// them there are to be removed before they are served.
     fn clear<K: Gpi, L: Ledger>(&mut self, kernel: &mut K, steps: &mut Steps<L>)
         requires loaded { K.is_loaded kernel.old }
         requires keys { AreKeys (K.content kernel.old).keys (named (waiting self.old) (held self.old)) }

@@ -30,7 +30,7 @@ use Rattle.rig_model.specs.Step.{evented}
 use Rattle.rig_model.specs.declared.task.Entry.{Entry}
 use Rattle.rig_model.specs.declared.task.Staged.{Staged}
 use Rattle.rig_model.specs.declared.tree.Waiting.{Waiting}
-use Rattle.scheduler.specs.Parts.{Parts, rig_amid, FitsContent}
+use Rattle.scheduler.specs.Parts.{Parts, rig_amid, StaysOpen, FitsContent}
 use Rattle.scheduler.specs.Puts.{PutsOn}
 use Rattle.scheduler.specs.Serves.{Serves, IsOpen, IsEvented}
 use Rattle.scheduler.proofs.PutLaws.{puts_on_none, puts_on_then}
@@ -138,10 +138,18 @@ module _ (setup : Setup) (p : Parts) (k k1 k2 : Content) (write : Staged) (bits 
   pub held_stays : (ws : List Staged) → held ≡ staged_key ws → held' ≡ staged_key ws
   held_stays ws h = held_is ∙ ap (without_all (keys_in fired)) h ∙ key_stays (keys_in fired) ws (ap (among ReadWrite) keys_are ∙ fires.other)
 
-  pub put_open : widths_of k1.state.signals ≡ widths_of k.state.signals → IsOpen setup k p.waiting → IsOpen setup k2 waiting'
+  region_is : is_end k2.state.region ≡ is_end k.state.region
+  region_is = ap (λ (st : State). is_end st.region) (r.state ∙ done.state) ∙ ap is_end fires.region_stays
+
+  pub put_open : widths_of k1.state.signals ≡ widths_of k.state.signals → IsOpen setup k → IsOpen setup k2
   put_open w o = record {
     signals = ap (λ (st : State). length st.signals) r.state ∙ same_length k1.state.signals k.state.signals w ∙ o.signals;
-    writable = ap (λ (st : State). is_end st.region) (r.state ∙ done.state) ∙ ap is_end fires.region_stays ∙ o.writable;
+    writable = region_is ∙ o.writable;
+  }
+
+  pub put_ends : StaysOpen k p.waiting → StaysOpen k2 waiting'
+  put_ends o = record {
+    writable = region_is ∙ o.writable;
     no_end = ap (λ (ws : List Waiting). among ReadOnly (keys_of ws)) waiting_is ∙ still_no_end (keys_in fired) p.waiting o.no_end;
   }
 
@@ -386,7 +394,7 @@ module _ (setup : Setup) (p : Parts) (k k1 : Content) (held : List Key) (f : Fit
       f.stands.keys_are ReadOnly
       ∙ ap (among ReadOnly) (awaited_held held p k.state k.counts f.held_is)
       ∙ among-append ReadOnly (keys_of p.waiting) held
-      ∙ ap (λ (b : Bool). b || among ReadOnly held) f.no_end
+      ∙ ap (λ (b : Bool). b || among ReadOnly held) f.stays_open.no_end
       ∙ ap (among ReadOnly) f.held_is
       ∙ other p.staged
     where
@@ -394,11 +402,17 @@ module _ (setup : Setup) (p : Parts) (k k1 : Content) (held : List Key) (f : Fit
       other [] = refl
       other (w ∷ ws) = refl
 
-  pub event_open : widths_of k1.state.signals ≡ widths_of k.state.signals → IsOpen setup k1 p.waiting
-  event_open w = record {
-    signals = same_length k1.state.signals k.state.signals w ∙ f.signals;
-    writable = ap (λ (st : State). is_end st.region) a.done.state ∙ event_does.stays_open no_end_key f.writable;
-    no_end = f.no_end;
+  pub event_signals : widths_of k1.state.signals ≡ widths_of k.state.signals → length k1.state.signals ≡ length setup.flat.signals
+  event_signals w = same_length k1.state.signals k.state.signals w ∙ f.signals
+
+  -- in the read-write phase writes may go out
+  pub event_writable : among ReadWrite (keys_in m.fired) ≡ true → is_end k1.state.region ≡ false
+  event_writable h = ap (λ (st : State). is_end st.region) a.done.state ∙ ap is_end (event_does.settled (sym (ap (among ReadWrite) event_keys) ∙ h))
+
+  pub event_ends : StaysOpen k1 p.waiting
+  event_ends = record {
+    writable = ap (λ (st : State). is_end st.region) a.done.state ∙ event_does.stays_open no_end_key f.stays_open.writable;
+    no_end = f.stays_open.no_end;
   }
 
   -- the keys that fired are still to be served
@@ -415,7 +429,7 @@ module _ (setup : Setup) (p : Parts) (k k1 : Content) (held : List Key) (f : Fit
   module _ {O : Type 0} (takes breaks : O → List ℕ → O → Type 0) (told : O → Option (List ℕ)) (p2 : Parts) (k2 k3 : Content) (f1 : Option SinkFault) (o1 : O) (f2 : Option SinkFault) (o2 : O)
       (fl : Serves takes breaks told setup own_keys (flushed_if setup (among ReadWrite own_keys) (rig_amid p k1.state own_keys k.counts)) p2 k2 f1 o1 f2 o2)
       (free : (x : Key) → among x (staged_key p2.staged) ≡ true → among x own_keys ≡ false) (held2 held3 : List Key) (goes : without_all own_keys held2 ≡ staged_key p2.staged)
-      (o : IsOpen setup k2 p2.waiting) (ready3 : List Entry) (waiting3 : List Waiting) (waiting_is : waiting3 ≡ all_waiting own_keys p2.waiting) (held_is : held3 ≡ without_all own_keys held2)
+      (s2 : length k2.state.signals ≡ length setup.flat.signals) (o : StaysOpen k2 p2.waiting) (ready3 : List Entry) (waiting3 : List Waiting) (waiting_is : waiting3 ≡ all_waiting own_keys p2.waiting) (held_is : held3 ≡ without_all own_keys held2)
       (ready_is : ready3 ≡ p2.ready ++ all_woken own_keys p2.waiting) (b : AreKeysBut k2.keys own_keys (named p2.waiting held2)) (out_is : AreOut k2.keys own_keys)
       (r : Reprimed k2 k3 own_keys (named p2.waiting held2) (named waiting3 held3)) where
     abbrev flush_of : List Key → State → After
@@ -458,9 +472,11 @@ module _ (setup : Setup) (p : Parts) (k k1 : Content) (held : List Key) (f : Fit
     event_fits = record {
       stands = subst (λ (d : Rig). StandsFor setup k3 d) after_is stands_after;
       held_is = held_is ∙ goes;
-      signals = ap (λ (st : State). length st.signals) r.state ∙ o.signals;
-      writable = ap (λ (st : State). is_end st.region) r.state ∙ o.writable;
-      no_end = ap (λ (ws : List Waiting). among ReadOnly (keys_of ws)) waiting_is ∙ still_no_end own_keys p2.waiting o.no_end;
+      signals = ap (λ (st : State). length st.signals) r.state ∙ s2;
+      stays_open = record {
+        writable = ap (λ (st : State). is_end st.region) r.state ∙ o.writable;
+        no_end = ap (λ (ws : List Waiting). among ReadOnly (keys_of ws)) waiting_is ∙ still_no_end own_keys p2.waiting o.no_end;
+      };
     }
 
     same_flush : flush_of a.event.fired a.event.state ≡ flush_of own_keys k1.state

@@ -1,16 +1,17 @@
 -- What holds of the engine's own parts is kept.
-use Rattle.std.proofs.Common.{◌≡◌, ℕ, ◌+◌, ◌≤◌, ◌<◌, Bool, true, false, List, [], ◌∷◌, ◌++◌, length, Some, IsSome, refl, ap, sym, subst, arith, rules, ◌∙◌, length-append, get_or, zero, suc}
+use Rattle.std.proofs.Common.{◌≡◌, ℕ, ◌+◌, ◌≤◌, ◌<◌, Bool, true, false, List, [], ◌∷◌, ◌++◌, length, Option, None, Some, IsSome, refl, ap, sym, subst, arith, rules, ◌∙◌, length-append, get_or, zero, suc}
 use Rattle.std.specs.Prelude.{nat_le, ◌||◌, not, filter, ◌==◌}
 use Rattle.gpi.specs.declared.types.Key.{Key}
 use Rattle.gpi.specs.declared.types.SigId.{SigId}
 use Rattle.rig_model.specs.Task.{Task, View, fresh}
+use Rattle.rig_model.specs.Placed.{ArePlaced, placed, in_turn}
 use Rattle.rig_model.specs.Rig.{Rig, Setup}
 use Rattle.rig_model.specs.Effect.{is_numbered, dropped, function_at, live_limit, start_limit, restaged}
 use Rattle.rig_model.specs.Step.{task_at, stored}
 use Rattle.rig_model.specs.Sound.{Bounds, IsSoundTurned, IsSoundTask, AreSoundTasks, AreSoundFunctions}
 use Rattle.rig_model.specs.Serve.{all_woken, all_waiting}
 use Rattle.rig_model.proofs.SoundLaws.{fresh_sound, append_sound, dropped_sound, stored_sound, task_at_sound, polled_sound}
-use Rattle.rig_model.proofs.WakeLaws.{length-all_woken}
+use Rattle.rig_model.proofs.PlacedLaws.{length-dropped, placed_dropped, placed_starts, placed_ready, placed_waits, placed_stored, placed_less, placed_served, few_placed}
 use Rattle.rig_model.proofs.PollLaws.{polled_number}
 use Rattle.rig_model.proofs.TaskLaws.{task_at-stored}
 use Rattle.rig_model.specs.declared.task.TaskNo.{TaskNo}
@@ -44,15 +45,6 @@ under_limits tasks started h =
     let parts : (nat_le live_limit (length tasks) ≡ false) × (nat_le start_limit started ≡ false) = either_false (nat_le live_limit (length tasks)) (nat_le start_limit started) h in
     (over (length tasks) live_limit parts.0, over started start_limit parts.1)
 
--- without a live task there is one task less
-length-dropped : (number : TaskNo) (ts : List Task) → IsSome (task_at number ts) → length (dropped number ts) + 1 ≡ length ts
-length-dropped number [] h = cc
-length-dropped number (t ∷ ts) h = decided (is_numbered number t) refl (λ k. length-dropped number ts k)
-  where
-    decided : (b : Bool) → is_numbered number t ≡ b → (IsSome (task_at number ts) → length (dropped number ts) + 1 ≡ length ts) → length (dropped number (t ∷ ts)) + 1 ≡ length (t ∷ ts)
-    decided true q more = rw q (omega arith)
-    decided false q more = let k : IsSome (task_at number ts) = rw q at h in let m : length (dropped number ts) + 1 ≡ length ts = more k in rw q (omega arith)
-
 -- a live task is sound
 pub sound_at : (bounds : Bounds) (ts : List Task) (at : ℕ) (d : Task) → at < length ts → AreSoundTasks bounds ts → IsSoundTask bounds (get_or ts at d)
 sound_at bounds [] at d h s = absurd (omega arith)
@@ -78,40 +70,38 @@ restaged_sound signals sig number ws h k =
 
 module _ (setup : Setup) (room : ℕ) (p : Parts) where
   -- a write is staged
-  pub fits_staged : (more : ℕ) (sig : SigId) (number : ℕ) → Fits setup more room p → sig.0 < length setup.flat.signals → Fits setup more room (record p { staged = restaged sig number p.staged })
-  fits_staged more sig number f k =
-      record { held = f.held; room_is = f.room_is; live = f.live; started = f.started; tasks = f.tasks; writes = restaged_sound (length setup.flat.signals) sig number p.staged f.writes k; functions = f.functions }
+  pub fits_staged : (turn : Option TaskNo) (sig : SigId) (number : ℕ) → Fits setup turn room p → sig.0 < length setup.flat.signals → Fits setup turn room (record p { staged = restaged sig number p.staged })
+  fits_staged turn sig number f k =
+      record { placed_are = f.placed_are; room_is = f.room_is; live = f.live; started = f.started; tasks = f.tasks; writes = restaged_sound (length setup.flat.signals) sig number p.staged f.writes k; functions = f.functions }
 
   -- the oldest write is taken out
-  pub fits_unstaged : (more : ℕ) (write : Staged) (writes : List Staged) → Fits setup more room p → p.staged ≡ write ∷ writes
-      → (write.sig.0 < length setup.flat.signals) × Fits setup more room (record p { staged = writes })
-  fits_unstaged more write writes f e =
+  pub fits_unstaged : (turn : Option TaskNo) (write : Staged) (writes : List Staged) → Fits setup turn room p → p.staged ≡ write ∷ writes
+      → (write.sig.0 < length setup.flat.signals) × Fits setup turn room (record p { staged = writes })
+  fits_unstaged turn write writes f e =
       let w : AreSoundWrites (length setup.flat.signals) (write ∷ writes) = rw e at f.writes in
-      (w.0, record { held = f.held; room_is = f.room_is; live = f.live; started = f.started; tasks = f.tasks; writes = w.1; functions = f.functions })
+      (w.0, record { placed_are = f.placed_are; room_is = f.room_is; live = f.live; started = f.started; tasks = f.tasks; writes = w.1; functions = f.functions })
 
   -- a task that has its turn lives no more
-  pub fits_dropped : (task : TaskNo) → Fits setup 1 room p → IsSome (task_at task p.tasks) → Fits setup 0 room (record p { tasks = dropped task p.tasks })
+  pub fits_dropped : (task : TaskNo) → Fits setup (Some task) room p → IsSome (task_at task p.tasks) → Fits setup None room (record p { tasks = dropped task p.tasks })
   fits_dropped task f h =
       let less : length (dropped task p.tasks) + 1 ≡ length p.tasks = length-dropped task p.tasks h in
-      let held : length p.ready + length p.waiting + 1 ≤ length p.tasks = f.held in
       let room_is : length p.tasks ≤ room = f.room_is in
       let live : length p.tasks ≤ live_limit = f.live in
-      record { held = omega arith; room_is = omega arith; live = omega arith; started = f.started; tasks = dropped_sound (bounds_of setup) task p.tasks f.tasks; writes = f.writes; functions = f.functions }
+      record { placed_are = placed_dropped p.tasks p.started task (placed None p.ready p.waiting) f.placed_are; room_is = omega arith; live = omega arith; started = f.started; tasks = dropped_sound (bounds_of setup) task p.tasks f.tasks; writes = f.writes; functions = f.functions }
 
   -- a task is started
-  pub fits_added : (room' more func : ℕ) (number : TaskNo) → Fits setup more room p → length p.tasks < live_limit → p.started < start_limit → length p.tasks + 1 ≤ room'
-      → Fits setup more room' (record p {
-        tasks = p.tasks ++ fresh number (function_at setup.functions func) ∷ [];
+  pub fits_added : (room' : ℕ) (turn : Option TaskNo) (func : ℕ) → Fits setup turn room p → length p.tasks < live_limit → p.started < start_limit → length p.tasks + 1 ≤ room'
+      → Fits setup turn room' (record p {
+        tasks = p.tasks ++ fresh (record { 0 = p.started }) (function_at setup.functions func) ∷ [];
         started = p.started + 1;
-        ready = p.ready ++ record { task = number; given = given.Begin } ∷ [];
+        ready = p.ready ++ record { task = record { 0 = p.started }; given = given.Begin } ∷ [];
       })
-  fits_added room' more func number f live started room_is =
-      let held : length p.ready + length p.waiting + more ≤ length p.tasks = f.held in
+  fits_added room' turn func f live started room_is =
+      let number : TaskNo = record { 0 = p.started } in
       let t : Task = fresh number (function_at setup.functions func) in
       let tasks_are : length (p.tasks ++ t ∷ []) ≡ length p.tasks + 1 = length-append p.tasks (t ∷ []) in
-      let one : (x : Entry) → length (p.ready ++ x ∷ []) ≡ length p.ready + 1 = λ x. length-append p.ready (x ∷ []) in
       record {
-        held = rw one (omega arith);
+        placed_are = placed_starts p.tasks p.started p.ready p.waiting turn t (record { task = number; given = given.Begin }) refl refl f.placed_are;
         room_is = omega arith;
         live = omega arith;
         started = omega arith;
@@ -121,26 +111,21 @@ module _ (setup : Setup) (room : ℕ) (p : Parts) where
       }
 
   -- a task that has its turn gives it up and is ready
-  pub fits_gives_way : (e : Entry) → Fits setup 1 room p → Fits setup 0 room (record p { ready = p.ready ++ e ∷ [] })
+  pub fits_gives_way : (e : Entry) → Fits setup (Some e.task) room p → Fits setup None room (record p { ready = p.ready ++ e ∷ [] })
   fits_gives_way e f =
-      let held : length p.ready + length p.waiting + 1 ≤ length p.tasks = f.held in
-      let one : length (p.ready ++ e ∷ []) ≡ length p.ready + 1 = length-append p.ready (e ∷ []) in
-      record { held = omega arith; room_is = f.room_is; live = f.live; started = f.started; tasks = f.tasks; writes = f.writes; functions = f.functions }
+      record { placed_are = placed_ready p.tasks p.started p.ready p.waiting e f.placed_are; room_is = f.room_is; live = f.live; started = f.started; tasks = f.tasks; writes = f.writes; functions = f.functions }
 
   -- a task that has its turn gives it up and waits
-  pub fits_waits : (w : Waiting) → Fits setup 1 room p → Fits setup 0 room (record p { waiting = p.waiting ++ w ∷ [] })
+  pub fits_waits : (w : Waiting) → Fits setup (Some w.task) room p → Fits setup None room (record p { waiting = p.waiting ++ w ∷ [] })
   fits_waits w f =
-      let held : length p.ready + length p.waiting + 1 ≤ length p.tasks = f.held in
-      let one : length (p.waiting ++ w ∷ []) ≡ length p.waiting + 1 = length-append p.waiting (w ∷ []) in
-      record { held = omega arith; room_is = f.room_is; live = f.live; started = f.started; tasks = f.tasks; writes = f.writes; functions = f.functions }
+      record { placed_are = placed_waits p.tasks p.started p.ready p.waiting w f.placed_are; room_is = f.room_is; live = f.live; started = f.started; tasks = f.tasks; writes = f.writes; functions = f.functions }
 
   -- a poll keeps what holds, leaves the task live, and wants what is sound
   pub fits_polled : (view : View) (fuel : ℕ) (number : TaskNo) (g : Given) (turned : Turned) (fuel' : ℕ) (tasks' : List Task)
-      → Fits setup 1 room p → PollsTask view fuel p.tasks number g turned fuel' tasks'
-      → Fits setup 1 room (record p { tasks = tasks' }) × IsSoundTurned (bounds_of setup) turned × IsSome (task_at number tasks')
+      → Fits setup (Some number) room p → PollsTask view fuel p.tasks number g turned fuel' tasks'
+      → Fits setup (Some number) room (record p { tasks = tasks' }) × IsSoundTurned (bounds_of setup) turned × IsSome (task_at number tasks')
   fits_polled view fuel number g turned fuel' tasks' f q =
       let count : length tasks' ≡ length p.tasks = ap length q.stored_is ∙ length-stored q.rest p.tasks in
-      let held : length p.ready + length p.waiting + 1 ≤ length p.tasks = f.held in
       let room_is : length p.tasks ≤ room = f.room_is in
       let live : length p.tasks ≤ live_limit = f.live in
       let old_sound : IsSoundTask (bounds_of setup) q.task = task_at_sound (bounds_of setup) number p.tasks q.task q.found f.tasks in
@@ -149,7 +134,7 @@ module _ (setup : Setup) (room : ℕ) (p : Parts) where
       let own : q.rest.number ≡ number = polled_number view fuel q.task (Some g) turned fuel' q.rest q.polled ∙ q.own in
       let there : task_at number tasks' ≡ Some q.rest = ap (task_at number) q.stored_is ∙ task_at-stored number p.tasks q.task q.rest q.found own in (
         record {
-          held = omega arith;
+          placed_are = rw q.stored_is (placed_stored p.tasks p.started (placed (Some number) p.ready p.waiting) f.placed_are q.rest);
           room_is = omega arith;
           live = omega arith;
           started = f.started;
@@ -162,42 +147,63 @@ module _ (setup : Setup) (room : ℕ) (p : Parts) where
       )
 
   -- the first that is ready gets its turn
-  pub fits_taken : (room' : ℕ) (e : Entry) (es : List Entry) → Fits setup 0 room p → p.ready ≡ e ∷ es → room' ≡ room → Fits setup 1 room' (record p { ready = es })
+  pub fits_taken : (room' : ℕ) (e : Entry) (es : List Entry) → Fits setup None room p → p.ready ≡ e ∷ es → room' ≡ room → Fits setup (Some e.task) room' (record p { ready = es })
   fits_taken room' e es f h r =
-      let held : length p.ready + length p.waiting + 0 ≤ length p.tasks = f.held in
-      let count : length p.ready ≡ length (e ∷ es) = ap length h in
       let room_is : length p.tasks ≤ room = f.room_is in
-      record { held = omega arith; room_is = omega arith; live = f.live; started = f.started; tasks = f.tasks; writes = f.writes; functions = f.functions }
+      record {
+        placed_are = subst (λ (xs : List Entry). ArePlaced p.tasks p.started (placed None xs p.waiting)) h f.placed_are;
+        room_is = omega arith;
+        live = f.live;
+        started = f.started;
+        tasks = f.tasks;
+        writes = f.writes;
+        functions = f.functions;
+      }
 
-  -- a turn is lost
-  pub fits_less : Fits setup 1 room p → Fits setup 0 room p
-  fits_less f =
-      let held : length p.ready + length p.waiting + 1 ≤ length p.tasks = f.held in
-      record { held = omega arith; room_is = f.room_is; live = f.live; started = f.started; tasks = f.tasks; writes = f.writes; functions = f.functions }
+  -- a turn ends
+  pub fits_less : (task : TaskNo) → Fits setup (Some task) room p → Fits setup None room p
+  fits_less task f =
+      record { placed_are = placed_less p.tasks p.started p.ready p.waiting task f.placed_are; room_is = f.room_is; live = f.live; started = f.started; tasks = f.tasks; writes = f.writes; functions = f.functions }
 
   -- keys are served
-  pub fits_served : (room' : ℕ) (keys : List Key) (ready' : List Entry) (waiting' : List Waiting) → Fits setup 0 room p
-      → room' ≡ room → ready' ≡ p.ready ++ all_woken keys p.waiting → waiting' ≡ all_waiting keys p.waiting → Fits setup 0 room' (record p { ready = ready'; waiting = waiting' })
+  pub fits_served : (room' : ℕ) (keys : List Key) (ready' : List Entry) (waiting' : List Waiting) → Fits setup None room p
+      → room' ≡ room → ready' ≡ p.ready ++ all_woken keys p.waiting → waiting' ≡ all_waiting keys p.waiting → Fits setup None room' (record p { ready = ready'; waiting = waiting' })
   fits_served room' keys ready' waiting' f r e w =
-      let held : length p.ready + length p.waiting + 0 ≤ length p.tasks = f.held in
       let room_is : length p.tasks ≤ room = f.room_is in
-      let ready_is : length ready' ≡ length p.ready + length (all_woken keys p.waiting) = ap length e ∙ length-append p.ready (all_woken keys p.waiting) in
-      let waiting_is : length waiting' ≡ length (all_waiting keys p.waiting) = ap length w in
-      let all : length (all_woken keys p.waiting) + length (all_waiting keys p.waiting) ≡ length p.waiting = length-all_woken keys p.waiting in
-      record { held = omega arith; room_is = omega arith; live = f.live; started = f.started; tasks = f.tasks; writes = f.writes; functions = f.functions }
+      record { placed_are = rw (e, w) (placed_served p.tasks p.started p.ready p.waiting keys f.placed_are); room_is = omega arith; live = f.live; started = f.started; tasks = f.tasks; writes = f.writes; functions = f.functions }
+
+  -- no more tasks are ready or wait than live
+  pub few_tasks : (turn : Option TaskNo) → Fits setup turn room p → length p.ready + length p.waiting ≤ length p.tasks
+  few_tasks turn f =
+      let all : length (in_turn turn) + length p.ready + length p.waiting ≤ length p.tasks = few_placed p.tasks p.started turn p.ready p.waiting f.placed_are in
+      omega arith
+
+  -- so there is room for all that wait
+  pub room_to_wake : Fits setup None room p → length p.ready + length p.waiting ≤ room
+  room_to_wake f =
+      let all : length p.ready + length p.waiting ≤ length p.tasks = few_tasks None f in
+      let room_is : length p.tasks ≤ room = f.room_is in
+      omega arith
+
+  -- at most so many tasks are ready as may live
+  pub few_ready : (turn : Option TaskNo) → Fits setup turn room p → length p.ready ≤ live_limit
+  few_ready turn f =
+      let all : length p.ready + length p.waiting ≤ length p.tasks = few_tasks turn f in
+      let live : length p.tasks ≤ live_limit = f.live in
+      omega arith
 
 -- nothing of a test is there
-pub fits_empty : (setup : Setup) (room : ℕ) → AreSoundFunctions (bounds_of setup) setup.functions → Fits setup 0 room (record { tasks = []; started = 0; ready = []; waiting = []; staged = [] })
-fits_empty setup room sound = record { held = omega arith; room_is = omega arith; live = omega arith; started = omega arith; tasks = tt; writes = tt; functions = sound }
+pub fits_empty : (setup : Setup) (room : ℕ) → AreSoundFunctions (bounds_of setup) setup.functions → Fits setup None room (record { tasks = []; started = 0; ready = []; waiting = []; staged = [] })
+fits_empty setup room sound = record { placed_are = record { live = λ n h. absurd (omega arith); once = λ n. omega arith; young = λ n h. cc }; room_is = omega arith; live = omega arith; started = omega arith; tasks = tt; writes = tt; functions = sound }
 
 -- the same, however it is told
-pub fits_told : (setup setup' : Setup) (more room : ℕ) (p p' : Parts) → setup' ≡ setup → p' ≡ p → Fits setup more room p → Fits setup' more room p'
-fits_told setup setup' more room p p' e1 e2 f = subst (λ (s : Setup). Fits s more room p') (sym e1) (subst (λ (q : Parts). Fits setup more room q) (sym e2) f)
+pub fits_told : (setup setup' : Setup) (turn : Option TaskNo) (room : ℕ) (p p' : Parts) → setup' ≡ setup → p' ≡ p → Fits setup turn room p → Fits setup' turn room p'
+fits_told setup setup' turn room p p' e1 e2 f = subst (λ (s : Setup). Fits s turn room p') (sym e1) (subst (λ (q : Parts). Fits setup turn room q) (sym e2) f)
 
 -- there is room for a task that gives way
-pub has_room : (setup : Setup) (room : ℕ) (p : Parts) → Fits setup 1 room p → length p.ready < room
-has_room setup room p f =
-    let held : length p.ready + length p.waiting + 1 ≤ length p.tasks = f.held in
+pub has_room : (setup : Setup) (room : ℕ) (p : Parts) (task : TaskNo) → Fits setup (Some task) room p → length p.ready < room
+has_room setup room p task f =
+    let all : 1 + length p.ready + length p.waiting ≤ length p.tasks = few_placed p.tasks p.started (Some task) p.ready p.waiting f.placed_are in
     let room_is : length p.tasks ≤ room = f.room_is in
     omega arith
 

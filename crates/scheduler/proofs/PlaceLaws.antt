@@ -1,5 +1,5 @@
 -- Where a task stands in a list of tasks.
-use Rattle.std.proofs.Common.{◌≡◌, ℕ, zero, suc, ◌+◌, ◌<◌, ◌≤◌, not, Bool, true, false, List, [], ◌∷◌, ◌++◌, length, take, drop, get_or, set, None, Some, refl, ap, sym, arith, rules, subst, ◌∙◌, eq-eqb, add-one, take_all}
+use Rattle.std.proofs.Common.{◌≡◌, ℕ, zero, suc, ◌+◌, ◌<◌, ◌≤◌, not, Bool, true, false, List, [], ◌∷◌, ◌++◌, length, take, drop, get_or, set, None, Some, IsSome, refl, ap, sym, arith, rules, subst, ◌∙◌, eq-eqb, add-one, take_all}
 use Rattle.std.specs.Prelude.{◌&&◌, ◌==◌, map}
 use Rattle.std.specs.List.{remove}
 use Rattle.std.proofs.lemmas.List.{take-map, drop-map, map-append, length-map, get_or-map}
@@ -85,15 +85,6 @@ none_found number (t ∷ ts) h =
     let more : (task_at number ts ≡ None) × (dropped number ts ≡ ts) = none_found number ts parts.1 in
     (rw other more.0, rw other (ap (λ (xs : List Task). t ∷ xs) more.1))
 
--- where no task has that number there is none to drop
-pub drops_none : (number : TaskNo) (tasks : List Task) → task_at number tasks ≡ None → dropped number tasks ≡ tasks
-drops_none number [] h = refl
-drops_none number (t ∷ ts) h = decided (is_numbered number t) refl h (λ k. drops_none number ts k)
-  where
-    decided : (b : Bool) → is_numbered number t ≡ b → task_at number (t ∷ ts) ≡ None → (task_at number ts ≡ None → dropped number ts ≡ ts) → dropped number (t ∷ ts) ≡ t ∷ ts
-    decided true q k more = let bad : Some t ≡ None = (rw q at k) in cc
-    decided false q k more = rw q (ap (λ (xs : List Task). t ∷ xs) (more (rw q at k)))
-
 made : ℕ → TaskNo
 made n = record { 0 = n }
 
@@ -131,3 +122,7 @@ module _ {L : Type 0} (f : L → Task) where
 
   pub not_found : (number : TaskNo) (xs : List L) (at : ℕ) → length xs ≤ at → none_numbered number (map f (take at xs)) ≡ true → task_at number (map f xs) ≡ None
   not_found number xs at h p = (none_found number (map f xs) (subst (λ (ys : List L). none_numbered number (map f ys) ≡ true) (take_all at xs h) p)).0
+
+-- a live task is found
+pub lives_nowhere : (number : TaskNo) (tasks : List Task) → task_at number tasks ≡ None → IsSome (task_at number tasks) → ⊥
+lives_nowhere number tasks e h = let z : false ≡ true = rw e at h in cc

@@ -64,8 +64,7 @@ module _ {W : Type 0} (waiting : W → List Waiting) (held : W → List Key) whe
         stands = record { procs_are = f.stands.procs_are; state_is = f.stands.state_is; keys_are = f.stands.keys_are; counts_are = f.stands.counts_are };
         held_is = f.held_is;
         signals = f.signals;
-        writable = f.writable;
-        no_end = f.no_end;
+        stays_open = record { writable = f.stays_open.writable; no_end = f.stays_open.no_end };
       })
 
 -- ---- effects that fire nothing
@@ -101,8 +100,7 @@ module _ (setup : Setup) (p : Parts) (k k' : Content) (held : List Key) (f : Fit
     stands = subst (λ (c : Rig). StandsFor setup k' c) effect_is (effect_stands setup k k' before after refl f.stands rekeyed counts_are);
     held_is = own;
     signals = ap (λ (st : State). length st.signals) r.state ∙ f.signals;
-    writable = ap (λ (st : State). is_end st.region) r.state ∙ f.writable;
-    no_end = e;
+    stays_open = record { writable = ap (λ (st : State). is_end st.region) r.state ∙ f.stays_open.writable; no_end = e };
   }
 
 -- ---- a task waits
@@ -132,7 +130,7 @@ module _ (setup : Setup) (p : Parts) (k k' : Content) (held held' : List Key) (f
   pub wait_fits : FitsContent setup held' k' (rig_between (record p { waiting = waiting' }) k')
   wait_fits =
       effect_fits setup p k k' held f (record p { waiting = waiting' }) held' (same ∙ f.held_is) r n
-      (ap (λ (ws : List Waiting). among ReadOnly (keys_of ws)) waits ∙ waits_no_end p.waiting task due trig f.no_end)
+      (ap (λ (ws : List Waiting). among ReadOnly (keys_of ws)) waits ∙ waits_no_end p.waiting task due trig f.stays_open.no_end)
 
 -- ---- a write is staged
 
@@ -165,8 +163,7 @@ module _ (setup : Setup) (p : Parts) (k : Content) (held : List Key) (f : FitsCo
       stands = subst (λ (c : Rig). StandsFor setup k c) restage_is still_stands;
       held_is = f.held_is ∙ sym same;
       signals = f.signals;
-      writable = f.writable;
-      no_end = f.no_end;
+      stays_open = f.stays_open;
     }
 
 no_write : (ws : List Staged) → (length ws == 0) ≡ true → staged_key ws ≡ []
@@ -217,7 +214,7 @@ module _ (setup : Setup) (p : Parts) (k : Content) (held : List Key) (f : FitsCo
     pub first_fits : FitsContent setup held' k' (rig_between (record p { waiting = waiting'; staged = staged' }) k')
     first_fits =
         effect_fits setup p k k' held f (record p { waiting = waiting'; staged = staged' }) held' own_is r n
-        (ap (λ (ws : List Waiting). among ReadOnly (keys_of ws)) same ∙ f.no_end)
+        (ap (λ (ws : List Waiting). among ReadOnly (keys_of ws)) same ∙ f.stays_open.no_end)
 
   -- a further write is staged
   module _ (more : (length p.staged == 0) ≡ false) where
@@ -253,6 +250,5 @@ opening_fits setup flat e = record {
   stands = record { procs_are = ap (λ (f : Flat). procs_of f.processes) (sym e); state_is = refl; keys_are = no_keys_are; counts_are = refl };
   held_is = refl;
   signals = length_start flat.signals ∙ ap (λ (f : Flat). length f.signals) (sym e);
-  writable = refl;
-  no_end = refl;
+  stays_open = record { writable = refl; no_end = refl };
 }

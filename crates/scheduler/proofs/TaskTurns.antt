@@ -11,17 +11,16 @@ use Rattle.rig_model.specs.Step.{task_at}
 use Rattle.rig_model.specs.FitSteps.{FitSteps, in_turn, Moves}
 use Rattle.rig_model.specs.Sound.{IsSoundTurned}
 use Rattle.rig_model.proofs.PollLaws.{Leaves, polled_leaves}
-use Rattle.rig_model.proofs.TaskLaws.{lost_moves}
 use Rattle.rig_model.specs.declared.task.TaskNo.{TaskNo}
 use Rattle.rig_model.specs.declared.task.Given.{Given}
 use Rattle.rig_model.specs.declared.task.Turned.{Turned}
 use Rattle.rig_model.specs.declared.task.Turned.TheVariants as turned
-use Rattle.scheduler.specs.Tasks.{Tasks, PollsTask, PollsOf}
+use Rattle.scheduler.specs.Tasks.{PollsTask}
 use Rattle.scheduler.specs.Parts.{Parts, Fits, bounds_of}
 use Rattle.scheduler.specs.Turns.{Turning, LeadsTo, PutsNext}
 use Rattle.scheduler.proofs.StandLaws.{rig_between}
 use Rattle.scheduler.proofs.FitLaws.{fits_polled}
-use Rattle.scheduler.proofs.TurnLaws.{turning_lost, turning_spent, turning_cut, turning_ends, turning_goes_on, poll_moves, poll_short}
+use Rattle.scheduler.proofs.TurnLaws.{turning_spent, turning_cut, turning_ends, turning_goes_on, poll_moves, poll_short}
 use Rattle.scheduler.specs.declared.turn.Turn.{Turn}
 use Rattle.scheduler.specs.declared.turn.Turn.TheVariants as turn
 use Rattle.scheduler.specs.declared.turn.Next.{Next}
@@ -32,29 +31,11 @@ abbrev pub Polling : Content → List Task → ℕ → TaskNo → ℕ → Given 
 Polling k tasks started number fuel g t fuel' tasks' started' =
     PollsTask (record { signals = k.state.signals }) fuel tasks number g t fuel' tasks' × (started' ≡ started)
 
--- what was answered to a poll, known
-pub polling_of : (k : Content) (old new : Tasks) (number : TaskNo) (fuel : ℕ) (g : Given) (o : Option Turned) (t : Turned) (fuel' : ℕ) → o ≡ Some t
-    → PollsOf (record { signals = k.state.signals }) fuel old number g o fuel' new → Polling k old.tasks old.started number fuel g t fuel' new.tasks new.started
-polling_of k old new number fuel g o t fuel' e p = subst (λ (x : Option Turned). PollsOf (record { signals = k.state.signals }) fuel old number g x fuel' new) e p
-
 module _ {O : Type 0} (takes breaks : O → List ℕ → O → Type 0) (told : O → Option (List ℕ)) (setup' setup : Setup) (same : setup' ≡ setup) (number : TaskNo)
     (p : Parts) (k : Content) (fuel : ℕ) (g : Given) (out : O) where
   abbrev Comes : Result Turn NoMemory → ℕ → Rig → O → Type 0
   Comes r fuel' e out' =
       Turning takes breaks told (FitSteps in_turn setup) setup fuel (goes_on number (Some g) (rig_between p k)) out r fuel' e out'
-
-  -- the task isn't live
-  pub lost : (new : Tasks) (o : Option Turned) (fuel' : ℕ) → ((t : Turned) → o ≡ Some t → ⊥) → PollsOf (record { signals = k.state.signals }) fuel (record { tasks = p.tasks; started = p.started }) number g o fuel' new
-      → Comes (Ok turn.Went) fuel' (rig_between (record p { tasks = new.tasks; started = new.started }) k) out
-  lost new (Some t) fuel' n q = absurd (n t refl)
-  lost new None fuel' n q =
-      rw (q.1, q.2) (turning_lost takes breaks told in_turn setup fuel (goes_on number (Some g) (rig_between p k)) (rig_between p k) out
-      (lost_moves setup number (rig_between p k) fuel (Some g) refl refl q.0))
-
-  pub lost_fuel : (new : Tasks) (o : Option Turned) (fuel' : ℕ) → ((t : Turned) → o ≡ Some t → ⊥) → PollsOf (record { signals = k.state.signals }) fuel (record { tasks = p.tasks; started = p.started }) number g o fuel' new
-      → (fuel' ≡ fuel) × (new ≡ record { tasks = p.tasks; started = p.started })
-  lost_fuel new (Some t) fuel' n q = absurd (n t refl)
-  lost_fuel new None fuel' n q = (q.1, q.2)
 
   module _ (t : Turned) (f : ℕ) (tasks' : List Task) (started' : ℕ) (q : Polling k p.tasks p.started number fuel g t f tasks' started') where
     abbrev after : Rig
@@ -69,9 +50,9 @@ module _ {O : Type 0} (takes breaks : O → List ℕ → O → Type 0) (told : O
     paid a = leaves.1 a
 
     -- what is needed before what the task wanted is done
-    pub still_fits : (room : ℕ) → Fits setup 1 room p → Fits setup' 1 room (record p { tasks = tasks'; started = started' }) × IsSoundTurned (bounds_of setup') t × IsSome (task_at number tasks')
+    pub still_fits : (room : ℕ) → Fits setup (Some number) room p → Fits setup' (Some number) room (record p { tasks = tasks'; started = started' }) × IsSoundTurned (bounds_of setup') t × IsSome (task_at number tasks')
     still_fits room h =
-        let fits : Fits setup 1 room (record p { tasks = tasks' }) × IsSoundTurned (bounds_of setup) t × IsSome (task_at number tasks')
+        let fits : Fits setup (Some number) room (record p { tasks = tasks' }) × IsSoundTurned (bounds_of setup) t × IsSome (task_at number tasks')
         = fits_polled setup room p (record { signals = k.state.signals }) fuel number g t f tasks' h q.0 in
         rw (same, q.1) fits
 

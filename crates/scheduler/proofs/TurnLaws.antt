@@ -78,10 +78,6 @@ module _ {O : Type 0} (takes breaks : O → List ℕ → O → Type 0) (told : O
     turning_cut fuel c out lines f d out' (Ok t) fuel' e h w p = cc
     turning_cut fuel c out lines f d out' (Err x) fuel' e h w p = record { lines = lines; turns = begins_moves from setup fuel c lines f d w; puts = p }
 
-    -- the turn is lost
-    pub turning_lost : (fuel : ℕ) (c d : Rig) (out : O) → Moves (FitSteps from setup) fuel c [] fuel d → Turning takes breaks told (FitSteps from setup) setup fuel c out (Ok Went) fuel d out
-    turning_lost fuel c d out w = record { lines = []; turns = w; puts = refl }
-
     -- the next step doesn't fit
     pub turning_spent : (fuel : ℕ) (c : Rig) (out : O) (fuel' : ℕ) (e : Rig) → Short (FitSteps from setup) setup fuel c [] fuel' e → Turning takes breaks told (FitSteps from setup) setup fuel c out (Ok turn.Spent) fuel' e out
     turning_spent fuel c out fuel' e s = record { lines = []; turns = s; puts = refl }

@@ -1,8 +1,9 @@
 -- When an engine and a simulator fit.
-use Rattle.std.specs.Prelude.{ℕ, List}
+use Rattle.std.specs.Prelude.{List, Option, None, Some}
 use Rattle.gpi.specs.Content.{Content}
 use Rattle.gpi.specs.declared.types.Key.{Key}
 use Rattle.rig_model.specs.declared.file.Function.{Function}
+use Rattle.rig_model.specs.declared.task.TaskNo.{TaskNo}
 use Rattle.rig_model.specs.declared.tree.Waiting.{Waiting}
 use Rattle.scheduler.specs.Engine.{parts_of, rig_of, setup_of}
 use Rattle.scheduler.specs.Parts.{Fits, FitsContent}
@@ -14,14 +15,14 @@ use Rattle.scheduler.specs.declared.turn.Next.TheVariants.{GoesOn, Ends}
 
 -- An engine and a simulator that holds this stand together for a configuration of the engine's design: the registered keys
 -- are the awaited ones, the state and the counts are those of the configuration, and its parts keep their limits. Within a
--- turn a task that is neither ready nor waits has its turn (more is 1).
-pub record FitsAt (more : ℕ) {M W F : Type 0} (functions : M → List Function) (waiting : W → List Waiting) (held : W → List Key) (e : Engine M W F) (content : Content) : Type 0 where
-  pub own : Fits (setup_of functions e) more e.ready.room (parts_of waiting e)
+-- turn there is a task that has it.
+pub record FitsAt (turn : Option TaskNo) {M W F : Type 0} (functions : M → List Function) (waiting : W → List Waiting) (held : W → List Key) (e : Engine M W F) (content : Content) : Type 0 where
+  pub own : Fits (setup_of functions e) turn e.ready.room (parts_of waiting e)
   pub kernel : FitsContent (setup_of functions e) (held e.awaits) content (rig_of waiting e content)
 
 -- the two fit: so it is between turns
 abbrev pub FitsKernel : {M W F : Type 0} → (M → List Function) → (W → List Waiting) → (W → List Key) → Engine M W F → Content → Type 0
-FitsKernel functions waiting held e content = FitsAt 0 functions waiting held e content
+FitsKernel functions waiting held e content = FitsAt None functions waiting held e content
 
 -- so it is after each answer but a failed put
 abbrev pub FitsAfter : {M W F : Type 0} → (M → List Function) → (W → List Waiting) → (W → List Key) → Turn → Engine M W F → Content → Type 0
@@ -31,6 +32,6 @@ FitsAfter functions waiting held Spent e content = FitsKernel functions waiting 
 FitsAfter functions waiting held WriteFault e content = Unit {0}
 
 -- after something that a task wanted it has its turn still, or the turn ends
-abbrev pub FitsNext : {M W F : Type 0} → (M → List Function) → (W → List Waiting) → (W → List Key) → Next → Engine M W F → Content → Type 0
-FitsNext functions waiting held (GoesOn given) e content = FitsAt 1 functions waiting held e content
-FitsNext functions waiting held (Ends turn) e content = FitsAfter functions waiting held turn e content
+abbrev pub FitsNext : {M W F : Type 0} → (M → List Function) → (W → List Waiting) → (W → List Key) → TaskNo → Next → Engine M W F → Content → Type 0
+FitsNext functions waiting held task (GoesOn given) e content = FitsAt (Some task) functions waiting held e content
+FitsNext functions waiting held task (Ends turn) e content = FitsAfter functions waiting held turn e content

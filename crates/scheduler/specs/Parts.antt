@@ -1,5 +1,5 @@
 -- The parts of a configuration that the engine keeps, and what holds of them.
-use Rattle.std.specs.Prelude.{◌≡◌, ℕ, ◌+◌, ◌<◌, ◌≤◌, false, List, [], ◌∷◌, length, None}
+use Rattle.std.specs.Prelude.{◌≡◌, ℕ, ◌<◌, ◌≤◌, false, List, [], ◌∷◌, length, Option, None}
 use Rattle.gpi.specs.Content.{Content}
 use Rattle.gpi.specs.Keys.{among}
 use Rattle.gpi.specs.State.{State, is_end}
@@ -8,11 +8,13 @@ use Rattle.gpi.specs.declared.types.Key.{Key}
 use Rattle.gpi.specs.declared.types.Key.TheVariants.{ReadOnly}
 use Rattle.rig_model.specs.Effect.{live_limit, start_limit}
 use Rattle.rig_model.specs.Kernel.{StandsFor}
+use Rattle.rig_model.specs.Placed.{ArePlaced, placed}
 use Rattle.rig_model.specs.Rig.{Rig, Setup, keys_of, staged_key}
 use Rattle.rig_model.specs.Sound.{Bounds, AreSoundFunctions, AreSoundTasks}
 use Rattle.rig_model.specs.Task.{Task}
 use Rattle.rig_model.specs.declared.task.Entry.{Entry}
 use Rattle.rig_model.specs.declared.task.Staged.{Staged}
+use Rattle.rig_model.specs.declared.task.TaskNo.{TaskNo}
 use Rattle.rig_model.specs.declared.tree.Waiting.{Waiting}
 
 -- all but what a simulator holds
@@ -47,10 +49,11 @@ abbrev pub AreSoundWrites : ℕ → List Staged → Type 0
 AreSoundWrites signals [] = Unit {0}
 AreSoundWrites signals (w ∷ ws) = (w.sig.0 < signals) × AreSoundWrites signals ws
 
--- What holds of the engine's own parts between turns, and within one where a task has its turn (more is 1): each task that is ready or waits is a live one of its own,
--- the ring has room for every live task, the limits are kept, and what tasks and staged writes name is there.
-pub record Fits (setup : Setup) (more : ℕ) (room : ℕ) (p : Parts) : Type 0 where
-  pub held : length p.ready + length p.waiting + more ≤ length p.tasks
+-- What holds of the engine's own parts between turns, and within one where a task has its turn: that task and each that is ready or
+-- waits is live, and none stands in two places; the ring has room for every live task, the limits are kept, and what tasks and staged
+-- writes name is there.
+pub record Fits (setup : Setup) (turn : Option TaskNo) (room : ℕ) (p : Parts) : Type 0 where
+  pub placed_are : ArePlaced p.tasks p.started (placed turn p.ready p.waiting)
   pub room_is : length p.tasks ≤ room
   pub live : length p.tasks ≤ live_limit
   pub started : p.started ≤ start_limit
@@ -58,12 +61,16 @@ pub record Fits (setup : Setup) (more : ℕ) (room : ℕ) (p : Parts) : Type 0 w
   pub writes : AreSoundWrites (length setup.flat.signals) p.staged
   pub functions : AreSoundFunctions (bounds_of setup) setup.functions
 
+-- No task waits for the end of the time step, and it isn't over for those who write. That holds as long as no form of a trigger is
+-- that end; with the first that is, this goes, and a write is refused where the region is End.
+pub record StaysOpen (content : Content) (waiting : List Waiting) : Type 0 where
+  pub writable : is_end content.state.region ≡ false
+  pub no_end : among ReadOnly (keys_of waiting) ≡ false
+
 -- What holds between a configuration and a simulator: the simulator stands for it, the runner holds the read-write phase
--- while a write is staged and no other key, the simulator has the signals of the design, and the time step isn't over for
--- those who write, as no task waits for its end.
+-- while a write is staged and no other key, and the simulator has the signals of the design.
 pub record FitsContent (setup : Setup) (held : List Key) (content : Content) (c : Rig) : Type 0 where
   pub stands : StandsFor setup content c
   pub held_is : held ≡ staged_key c.staged
   pub signals : length content.state.signals ≡ length setup.flat.signals
-  pub writable : is_end content.state.region ≡ false
-  pub no_end : among ReadOnly (keys_of c.waiting) ≡ false
+  pub stays_open : StaysOpen content c.waiting

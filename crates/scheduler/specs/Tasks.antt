@@ -1,5 +1,5 @@
 -- The live tasks, and how many were started.
-use Rattle.std.specs.Prelude.{◌≡◌, ℕ, List, length, Option, None, Some}
+use Rattle.std.specs.Prelude.{◌≡◌, ℕ, List, length, Some}
 use Rattle.rig_model.specs.Task.{Task, View}
 use Rattle.rig_model.specs.Poll.{Polled}
 use Rattle.rig_model.specs.Sound.{Bounds, AreSoundTasks}
@@ -21,10 +21,9 @@ pub record PollsTask (view : View) (fuel : ℕ) (old : List Task) (number : Task
   pub polled : Polled view fuel task (Some given) turned fuel' rest
   pub stored_is : new ≡ stored rest old
 
--- the task of that number was polled, or it isn't live
-abbrev pub PollsOf : View → ℕ → Tasks → TaskNo → Given → Option Turned → ℕ → Tasks → Type 0
-PollsOf view fuel old number given None fuel' new = (task_at number old.tasks ≡ None) × (fuel' ≡ fuel) × (new ≡ old)
-PollsOf view fuel old number given (Some turned) fuel' new = PollsTask view fuel old.tasks number given turned fuel' new.tasks × (new.started ≡ old.started)
+-- the same, where how many were started stays
+abbrev pub PollsOf : View → ℕ → Tasks → TaskNo → Given → Turned → ℕ → Tasks → Type 0
+PollsOf view fuel old number given turned fuel' new = PollsTask view fuel old.tasks number given turned fuel' new.tasks × (new.started ≡ old.started)
 
 -- the view knows the signals that these tasks name
 pub record KnowsAll (view : View) (tasks : List Task) : Type 0 where

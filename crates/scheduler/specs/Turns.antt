@@ -1,5 +1,5 @@
 -- What the answers to a turn say of its steps and of what was put.
-use Rattle.std.specs.Prelude.{◌≡◌, ◌⊎◌, ℕ, ◌≤◌, Bool, true, false, List, [], ◌∷◌, length, Option, Some, Result, Ok, Err}
+use Rattle.std.specs.Prelude.{◌≡◌, ◌⊎◌, ℕ, ◌≤◌, Bool, true, false, List, [], ◌∷◌, length, Option, None, Some, Result, Ok, Err}
 use Rattle.port_io.specs.Ports.{TakesAll, Puts}
 use Rattle.port_io.specs.PutsPart.{PutsPart}
 use Rattle.port_io.specs.declared.ports.NoMemory.{NoMemory}
@@ -76,9 +76,9 @@ is_fine (Ends Spent) = true
 is_fine (Ends WriteFault) = false
 
 -- what holds of the engine's own parts after something that a task wanted
-abbrev pub FitsOwn : Setup → ℕ → Next → Parts → Type 0
-FitsOwn setup room (GoesOn given) p = Fits setup 1 room p
-FitsOwn setup room (Ends turn) p = Fits setup 0 room p
+abbrev pub FitsOwn : Setup → TaskNo → ℕ → Next → Parts → Type 0
+FitsOwn setup task room (GoesOn given) p = Fits setup (Some task) room p
+FitsOwn setup task room (Ends turn) p = Fits setup None room p
 
 -- From c a test begins: its line is put, and its own task is ready.
 abbrev pub BeginsTo : {O : Type 0} → (O → List ℕ → O → Type 0) → (O → List ℕ → O → Type 0) → (O → Option (List ℕ)) → Setup → TestCase → Rig → Result Turn NoMemory → Rig → O → O → Type 0

@@ -1,5 +1,5 @@
 //! What each thing that a task wants does.
-ghost use Rattle.std.specs.Prelude.{◌≡◌, ◌≢◌, ◌<◌, ◌∷◌, [], length, ◌≤◌, IfOk, OnOk, OnErr, Some, None, IsSome, MatchOption, true};
+ghost use Rattle.std.specs.Prelude.{◌≡◌, ◌≢◌, ◌<◌, ◌∷◌, [], length, ◌≤◌, IfOk, OnOk, OnErr, Some, None, IsSome, MatchOption, Option, true};
 ghost use Rattle.gpi.specs.Content.{Content};
 ghost use Rattle.gpi.specs.declared.types.Key.TheVariants.{At};
 ghost use Rattle.rig_model.specs.Effect.{effect, refusal, begun, last_time};
@@ -56,7 +56,7 @@ fn due_time(form: Form, time: u64) -> Option<u64>
 
 impl<'a, M: FlowMaker + Drop, W: Awaits> Engine<'a, M, W> {
     ghost use Rattle.scheduler.specs.Engine.{parts_of, rig_of, setup_of};
-    ghost use Rattle.scheduler.specs.Parts.{Fits, bounds_of};
+    ghost use Rattle.scheduler.specs.Parts.{Fits, FitsContent, bounds_of};
     ghost use Rattle.scheduler.specs.Fits.{FitsAt, FitsNext};
     ghost use Rattle.scheduler.specs.Turns.{LeadsTo, PutsNext, IsLogged, FitsOwn, is_fine};
 
@@ -69,11 +69,11 @@ impl<'a, M: FlowMaker + Drop, W: Awaits> Engine<'a, M, W> {
         steps: &mut Steps<L>,
     ) -> Result<Next, NoMemory>
         requires loaded { K.is_loaded kernel.old }
-        requires fits { FitsAt 1 M.functions W.waiting W.held self.old (K.content kernel.old) }
+        requires fits { FitsAt (Some task) M.functions W.waiting W.held self.old (K.content kernel.old) }
         requires sound { IsSoundForm trig.form }
         ensures leads { IfOk result (λ next. LeadsTo (setup_of M.functions self.old) task (Turned.Await trig)
             (rig_of W.waiting self.old (K.content kernel.old)) next (rig_of W.waiting self.new (K.content kernel.new))) }
-        ensures fits { IfOk result (λ next. FitsNext M.functions W.waiting W.held next self.new (K.content kernel.new)) }
+        ensures fits { IfOk result (λ next. FitsNext M.functions W.waiting W.held task next self.new (K.content kernel.new)) }
         ensures fine { IfOk result (λ next. is_fine next ≡ true) }
         ensures setup { setup_of M.functions self.new ≡ setup_of M.functions self.old }
         ensures loaded { K.is_loaded kernel.new }
@@ -99,11 +99,12 @@ impl<'a, M: FlowMaker + Drop, W: Awaits> Engine<'a, M, W> {
         steps: &mut Steps<L>,
     ) -> Result<(), NoMemory>
         requires loaded { K.is_loaded kernel.old }
-        requires fits { FitsAt 1 M.functions W.waiting W.held self.old (K.content kernel.old) }
+        requires kernel { FitsContent (setup_of M.functions self.old) (W.held self.old.awaits) (K.content kernel.old) (rig_of W.waiting self.old (K.content kernel.old)) }
         requires sound { sig.0 < length self.old.flat.now.signals }
         ensures leads { OnOk result ((task : TaskNo) → LeadsTo (setup_of M.functions self.old) task (Turned.Stage sig number)
             (rig_of W.waiting self.old (K.content kernel.old)) (Next.GoesOn (Given.Value Value.Absent)) (rig_of W.waiting self.new (K.content kernel.new))) }
-        ensures fits { OnOk result (FitsAt 1 M.functions W.waiting W.held self.new (K.content kernel.new)) }
+        ensures fits { OnOk result ((turn : Option TaskNo) → Fits (setup_of M.functions self.old) turn self.old.ready.room (parts_of W.waiting self.old)
+            → FitsAt turn M.functions W.waiting W.held self.new (K.content kernel.new)) }
         ensures setup { setup_of M.functions self.new ≡ setup_of M.functions self.old }
         ensures loaded { K.is_loaded kernel.new }
         ensures keys { AreKeys (K.content kernel.new).keys (named (W.waiting self.new.awaits) (W.held self.new.awaits)) }
@@ -136,11 +137,11 @@ impl<'a, M: FlowMaker + Drop, W: Awaits> Engine<'a, M, W> {
 
     /// A task has returned: it lives no more, and where it is the test's own the test has ended.
     fn finish(&mut self, task: TaskNo) -> Next
-        requires own { Fits (setup_of M.functions self.old) 1 self.old.ready.room (parts_of W.waiting self.old) }
+        requires own { Fits (setup_of M.functions self.old) (Some task) self.old.ready.room (parts_of W.waiting self.old) }
         requires live { IsSome (task_at task self.old.live.tasks) }
         ensures leads { (content : Content) (value : Value)
             → LeadsTo (setup_of M.functions self.old) task (Turned.Done value) (rig_of W.waiting self.old content) result (rig_of W.waiting self.new content) }
-        ensures own { FitsOwn (setup_of M.functions self.new) self.new.ready.room result (parts_of W.waiting self.new) }
+        ensures own { FitsOwn (setup_of M.functions self.new) task self.new.ready.room result (parts_of W.waiting self.new) }
         ensures fine { is_fine result ≡ true }
         ensures setup { setup_of M.functions self.new ≡ setup_of M.functions self.old }
         ensures awaits { self.new.awaits ≡ self.old.awaits }
@@ -165,7 +166,7 @@ impl<'a, M: FlowMaker + Drop, W: Awaits> Engine<'a, M, W> {
         steps: &mut Steps<L>,
     ) -> Result<Next, NoMemory>
         requires loaded { K.is_loaded kernel.old }
-        requires fits { FitsAt 1 M.functions W.waiting W.held self.old (K.content kernel.old) }
+        requires fits { FitsAt (Some task) M.functions W.waiting W.held self.old (K.content kernel.old) }
         requires live { IsSome (task_at task self.old.live.tasks) }
         requires sound { IsSoundTurned (bounds_of (setup_of M.functions self.old)) turned }
         requires wanted { turned ≢ Turned.Spent }
@@ -175,7 +176,7 @@ impl<'a, M: FlowMaker + Drop, W: Awaits> Engine<'a, M, W> {
             (effect (setup_of M.functions self.old) task turned (rig_of W.waiting self.old (K.content kernel.old))).lines next out.new) }
         ensures part { OnErr result (PutsPart O.takes O.told out.old
             (effect (setup_of M.functions self.old) task turned (rig_of W.waiting self.old (K.content kernel.old))).lines out.new) }
-        ensures fits { IfOk result (λ next. FitsNext M.functions W.waiting W.held next self.new (K.content kernel.new)) }
+        ensures fits { IfOk result (λ next. FitsNext M.functions W.waiting W.held task next self.new (K.content kernel.new)) }
         ensures setup { setup_of M.functions self.new ≡ setup_of M.functions self.old }
         ensures loaded { K.is_loaded kernel.new }
         ensures keys { AreKeys (K.content kernel.new).keys (named (W.waiting self.new.awaits) (W.held self.new.awaits)) }

@@ -1,8 +1,9 @@
 //! Events of the simulator.
-ghost use Rattle.std.specs.Prelude.{◌≡◌, ◌≤◌, ◌<◌, ◌∷◌, ◌+◌, [], List, length, IfOk, OnOk, OnErr, Ok, true, false};
+ghost use Rattle.std.specs.Prelude.{◌≡◌, ◌≤◌, ◌<◌, ◌∷◌, ◌+◌, [], List, length, IfOk, OnOk, OnErr, Ok, None, true, false};
 ghost use Rattle.gpi.specs.Content.{IsChangeOf};
 ghost use Rattle.gpi.specs.Events.{idle};
 ghost use Rattle.gpi.specs.Keys.{among, has};
+ghost use Rattle.gpi.specs.State.{is_end};
 ghost use Rattle.gpi.specs.declared.types.Counts.{Counts};
 ghost use Rattle.gpi.specs.declared.types.Key.{Key};
 ghost use Rattle.gpi.specs.declared.types.Key.TheVariants.{ReadWrite};
@@ -39,7 +40,7 @@ fn settles(fired: Fired) -> bool
 
 impl<'a, M: FlowMaker + Drop, W: Awaits> Engine<'a, M, W> {
     ghost use Rattle.scheduler.specs.Engine.{parts_of, rig_of, setup_of};
-    ghost use Rattle.scheduler.specs.Parts.{Fits, rig_amid};
+    ghost use Rattle.scheduler.specs.Parts.{Fits, StaysOpen, rig_amid};
     ghost use Rattle.scheduler.specs.Puts.{PutsOn};
     ghost use Rattle.scheduler.specs.Serves.{Serves, IsOpen, IsEvented};
     ghost use Rattle.scheduler.specs.Fits.{FitsKernel, FitsAfter};
@@ -77,8 +78,8 @@ impl<'a, M: FlowMaker + Drop, W: Awaits> Engine<'a, M, W> {
         steps: &mut Steps<L>,
     ) -> Option<SinkFault>
         requires loaded { K.is_loaded kernel.old }
-        requires own { Fits (setup_of M.functions self.old) 0 self.old.ready.room (parts_of W.waiting self.old) }
-        requires writable { IsOpen (setup_of M.functions self.old) (K.content kernel.old) (W.waiting self.old.awaits) }
+        requires own { Fits (setup_of M.functions self.old) None self.old.ready.room (parts_of W.waiting self.old) }
+        requires writable { IsOpen (setup_of M.functions self.old) (K.content kernel.old) }
         requires sig { write.sig.0 < length self.old.flat.now.signals }
         requires keys { AreKeysBut (K.content kernel.old).keys (W.held self.old.awaits) (named (W.waiting self.old.awaits) (W.held self.old.awaits)) }
         ensures keys { AreKeysBut (K.content kernel.new).keys (W.held self.new.awaits) (named (W.waiting self.new.awaits) (W.held self.new.awaits)) }
@@ -89,8 +90,9 @@ impl<'a, M: FlowMaker + Drop, W: Awaits> Engine<'a, M, W> {
             StandsAhead fired setup before c → Serves O.takes O.breaks O.told setup fired (after_put setup (put_of setup c write) c)
             (parts_of W.waiting self.new) (K.content kernel.new) fault out.old result out.new }
         ensures loaded { K.is_loaded kernel.new }
-        ensures own { Fits (setup_of M.functions self.new) 0 self.new.ready.room (parts_of W.waiting self.new) }
-        ensures writable { IsOpen (setup_of M.functions self.new) (K.content kernel.new) (W.waiting self.new.awaits) }
+        ensures own { Fits (setup_of M.functions self.new) None self.new.ready.room (parts_of W.waiting self.new) }
+        ensures writable { IsOpen (setup_of M.functions self.new) (K.content kernel.new) }
+        ensures ends { StaysOpen (K.content kernel.old) (W.waiting self.old.awaits) → StaysOpen (K.content kernel.new) (W.waiting self.new.awaits) }
         ensures held { (writes : List Staged) → W.held self.old.awaits ≡ staged_key writes → W.held self.new.awaits ≡ staged_key writes }
         ensures setup { setup_of M.functions self.new ≡ setup_of M.functions self.old }
         ensures staged { self.new.staged ≡ self.old.staged }
@@ -114,8 +116,8 @@ impl<'a, M: FlowMaker + Drop, W: Awaits> Engine<'a, M, W> {
         steps: &mut Steps<L>,
     ) -> Option<SinkFault>
         requires loaded { K.is_loaded kernel.old }
-        requires own { Fits (setup_of M.functions self.old) 0 self.old.ready.room (parts_of W.waiting self.old) }
-        requires writable { IsOpen (setup_of M.functions self.old) (K.content kernel.old) (W.waiting self.old.awaits) }
+        requires own { Fits (setup_of M.functions self.old) None self.old.ready.room (parts_of W.waiting self.old) }
+        requires writable { IsOpen (setup_of M.functions self.old) (K.content kernel.old) }
         requires held { W.held self.old.awaits ≡ staged_key self.old.staged.items }
         requires keys { AreKeysBut (K.content kernel.old).keys (ReadWrite ∷ []) (named (W.waiting self.old.awaits) (W.held self.old.awaits)) }
         requires out { AreOut (K.content kernel.old).keys (ReadWrite ∷ []) }
@@ -127,8 +129,9 @@ impl<'a, M: FlowMaker + Drop, W: Awaits> Engine<'a, M, W> {
             StandsAhead fired setup before c → Serves O.takes O.breaks O.told setup fired (flushed setup self.old.staged.items c)
             (parts_of W.waiting self.new) (K.content kernel.new) fault out.old result out.new }
         ensures loaded { K.is_loaded kernel.new }
-        ensures own { Fits (setup_of M.functions self.new) 0 self.new.ready.room (parts_of W.waiting self.new) }
-        ensures writable { IsOpen (setup_of M.functions self.new) (K.content kernel.new) (W.waiting self.new.awaits) }
+        ensures own { Fits (setup_of M.functions self.new) None self.new.ready.room (parts_of W.waiting self.new) }
+        ensures writable { IsOpen (setup_of M.functions self.new) (K.content kernel.new) }
+        ensures ends { StaysOpen (K.content kernel.old) (W.waiting self.old.awaits) → StaysOpen (K.content kernel.new) (W.waiting self.new.awaits) }
         ensures held { (writes : List Staged) → W.held self.old.awaits ≡ staged_key writes → W.held self.new.awaits ≡ staged_key writes }
         ensures setup { setup_of M.functions self.new ≡ setup_of M.functions self.old }
         ensures staged { self.new.staged.items ≡ [] }
@@ -151,8 +154,9 @@ impl<'a, M: FlowMaker + Drop, W: Awaits> Engine<'a, M, W> {
         steps: &mut Steps<L>,
     ) -> Option<SinkFault>
         requires loaded { K.is_loaded kernel.old }
-        requires own { Fits (setup_of M.functions self.old) 0 self.old.ready.room (parts_of W.waiting self.old) }
-        requires writable { IsOpen (setup_of M.functions self.old) (K.content kernel.old) (W.waiting self.old.awaits) }
+        requires own { Fits (setup_of M.functions self.old) None self.old.ready.room (parts_of W.waiting self.old) }
+        requires signals { length (K.content kernel.old).state.signals ≡ length self.old.flat.now.signals }
+        requires writable { among ReadWrite (keys_in keys) ≡ true → is_end (K.content kernel.old).state.region ≡ false }
         requires held { W.held self.old.awaits ≡ staged_key self.old.staged.items }
         requires alone { among ReadWrite (keys_in keys) ≡ true → keys_in keys ≡ ReadWrite ∷ [] }
         requires keys { AreKeysBut (K.content kernel.old).keys (keys_in keys) (named (W.waiting self.old.awaits) (W.held self.old.awaits)) }
@@ -165,8 +169,9 @@ impl<'a, M: FlowMaker + Drop, W: Awaits> Engine<'a, M, W> {
             StandsAhead fired setup before c → Serves O.takes O.breaks O.told setup fired (flushed_if setup (among ReadWrite fired) c)
             (parts_of W.waiting self.new) (K.content kernel.new) fault out.old result out.new }
         ensures loaded { K.is_loaded kernel.new }
-        ensures own { Fits (setup_of M.functions self.new) 0 self.new.ready.room (parts_of W.waiting self.new) }
-        ensures writable { IsOpen (setup_of M.functions self.new) (K.content kernel.new) (W.waiting self.new.awaits) }
+        ensures own { Fits (setup_of M.functions self.new) None self.new.ready.room (parts_of W.waiting self.new) }
+        ensures signals { length (K.content kernel.new).state.signals ≡ length self.old.flat.now.signals }
+        ensures ends { StaysOpen (K.content kernel.old) (W.waiting self.old.awaits) → StaysOpen (K.content kernel.new) (W.waiting self.new.awaits) }
         ensures held { without_all (keys_in keys) (W.held self.new.awaits) ≡ staged_key self.new.staged.items }
         ensures free { (x : Key) → among x (staged_key self.new.staged.items) ≡ true → among x (keys_in keys) ≡ false }
         ensures setup { setup_of M.functions self.new ≡ setup_of M.functions self.old }

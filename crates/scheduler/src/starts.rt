@@ -1,5 +1,5 @@
 //! Tasks that are started.
-ghost use Rattle.std.specs.Prelude.{◌≡◌, ◌≤◌, ◌<◌, ◌+◌, length, IfOk, OnOk, true};
+ghost use Rattle.std.specs.Prelude.{◌≡◌, ◌≤◌, ◌<◌, ◌+◌, length, IfOk, OnOk, Some, true};
 ghost use Rattle.gpi.specs.Content.{Content};
 ghost use Rattle.rig_model.specs.Effect.{function_at, is_full, live_limit, start_limit, with_new_task};
 ghost use Rattle.rig_model.specs.declared.task.Turned.TheVariants.{Start};
@@ -33,7 +33,7 @@ impl<'a, M: FlowMaker + Drop, W: Awaits> Engine<'a, M, W> {
     /// A task of that function is live and ready: its number.
     pub fn add_task(&mut self, alloc: Global, func: u32) -> Result<TaskNo, NoMemory>
         requires func { func < length (M.functions self.old.maker) }
-        requires held { length self.old.ready.entries + length (W.waiting self.old.awaits) ≤ length self.old.live.tasks }
+        requires few { length self.old.ready.entries + length (W.waiting self.old.awaits) ≤ length self.old.live.tasks }
         requires live { length self.old.live.tasks < live_limit }
         requires started { self.old.live.started < start_limit }
         ensures number { IfOk result (λ number. number ≡ record { 0 = self.old.live.started }) }
@@ -61,11 +61,11 @@ impl<'a, M: FlowMaker + Drop, W: Awaits> Engine<'a, M, W> {
         func: u32,
         give_way: bool,
     ) -> Result<Next, NoMemory>
-        requires own { Fits (setup_of M.functions self.old) 1 self.old.ready.room (parts_of W.waiting self.old) }
+        requires own { Fits (setup_of M.functions self.old) (Some task) self.old.ready.room (parts_of W.waiting self.old) }
         requires func { func < length (M.functions self.old.maker) }
         ensures leads { (content : Content) → IfOk result (λ next. LeadsTo (setup_of M.functions self.old) task (Start func give_way)
             (rig_of W.waiting self.old content) next (rig_of W.waiting self.new content)) }
-        ensures own { IfOk result (λ next. FitsOwn (setup_of M.functions self.new) self.new.ready.room next (parts_of W.waiting self.new)) }
+        ensures own { IfOk result (λ next. FitsOwn (setup_of M.functions self.new) task self.new.ready.room next (parts_of W.waiting self.new)) }
         ensures fine { IfOk result (λ next. is_fine next ≡ true) }
         ensures setup { setup_of M.functions self.new ≡ setup_of M.functions self.old }
         ensures awaits { self.new.awaits ≡ self.old.awaits }

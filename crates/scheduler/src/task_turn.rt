@@ -31,7 +31,7 @@ impl<'a, M: FlowMaker + Drop, W: Awaits> Engine<'a, M, W> {
         steps: &mut Steps<L>,
     ) -> Result<Turn, NoMemory>
         requires loaded { K.is_loaded kernel.old }
-        requires fits { FitsAt 1 M.functions W.waiting W.held self.old (K.content kernel.old) }
+        requires fits { FitsAt (Some task) M.functions W.waiting W.held self.old (K.content kernel.old) }
         ensures turning { Turning O.takes O.breaks O.told (FitSteps in_turn (setup_of M.functions self.old)) (setup_of M.functions self.old)
             fuel.old (goes_on task (Some given) (rig_of W.waiting self.old (K.content kernel.old))) out.old result
             fuel.new (rig_of W.waiting self.new (K.content kernel.new)) out.new }
@@ -43,10 +43,7 @@ impl<'a, M: FlowMaker + Drop, W: Awaits> Engine<'a, M, W> {
     {
         let mut given = given;
         'effects: loop {
-            let polled = poll_task(alloc, &mut self.live, kernel, task, given, fuel)?;
-            let Some(turned) = polled else {
-                return Ok(Turn::Went);
-            };
+            let turned = poll_task(alloc, &mut self.live, kernel, task, given, fuel)?;
             if let Turned::Spent = turned {
                 return Ok(Turn::Spent);
             }

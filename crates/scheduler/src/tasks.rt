@@ -1,5 +1,5 @@
 //! The live tasks of a test.
-ghost use Rattle.std.specs.Prelude.{◌≡◌, ◌<◌, ◌^◌, ◌-◌, ◌+◌, ◌++◌, ◌∷◌, [], length, MatchOption, IfOk, OnOk, OnErr, Some, None};
+ghost use Rattle.std.specs.Prelude.{◌≡◌, ◌<◌, ◌^◌, ◌-◌, ◌+◌, ◌++◌, ◌∷◌, [], length, IfOk, OnOk, OnErr, IsSome};
 ghost use Rattle.rig_model.specs.Effect.{dropped};
 ghost use Rattle.rig_model.specs.Step.{task_at};
 ghost use Rattle.scheduler.specs.Tasks.{PollsOf, KnowsAll};
@@ -29,16 +29,17 @@ impl<F: Flow> Model for LiveTasks<F> {
     ghost view = { λ a. record { tasks = tasks_of a.live.items; started = a.started } };
 }
 
-/// Where the task stands among the live ones.
-fn position<F: Flow>(live: &[Live<F>], task: TaskNo) -> Option<usize>
-    ensures { MatchOption result (task_at task (tasks_of live.now) ≡ None) (λ at. StandsAt task (tasks_of live.now) at) }
+/// Where the task stands among the live ones, of which it is one.
+fn position<F: Flow>(live: &[Live<F>], task: TaskNo) -> usize
+    requires { IsSome (task_at task (tasks_of live.now)) }
+    ensures { StandsAt task (tasks_of live.now) result }
 {
     for (at, one) in live.iter().enumerate() {
         if one.number.0 == task.0 {
-            return Some(at);
+            return at;
         }
     }
-    None
+    unreachable!()
 }
 
 impl<F: Flow> LiveTasks<F> {
@@ -79,7 +80,7 @@ impl<F: Flow> LiveTasks<F> {
         Ok(())
     }
 
-    /// Polls the task of that number, or answers `None` where it isn't live.
+    /// Polls the live task of that number.
     pub fn poll<V: Look>(
         &mut self,
         alloc: Global,
@@ -87,25 +88,23 @@ impl<F: Flow> LiveTasks<F> {
         given: Given,
         view: &V,
         fuel: &mut u64,
-    ) -> Result<Option<Turned>, NoMemory>
+    ) -> Result<Turned, NoMemory>
+        requires live { IsSome (task_at task self.old.tasks) }
         requires ready { V.is_ready view.now }
         requires known { KnowsAll (V.view view.now) self.old.tasks }
         ensures { IfOk result (λ turned. PollsOf (V.view view.now) fuel.old self.old task given turned fuel.new self.new) }
     {
-        let Some(at) = position(self.live.as_slice(), task) else {
-            return Ok(None);
-        };
-        let turned = poll_at(alloc, &mut self.live, at, given, view, fuel)?;
-        Ok(Some(turned))
+        let at = position(self.live.as_slice(), task);
+        poll_at(alloc, &mut self.live, at, given, view, fuel)
     }
 
-    /// The task of that number doesn't live any more.
+    /// The live task of that number doesn't live any more.
     pub fn remove(&mut self, task: TaskNo)
+        requires { IsSome (task_at task self.old.tasks) }
         ensures { self.new ≡ record self.old { tasks = dropped task self.old.tasks } }
     {
-        if let Some(at) = position(self.live.as_slice(), task) {
-            self.live.remove(at);
-        }
+        let at = position(self.live.as_slice(), task);
+        self.live.remove(at);
     }
 
     /// No task lives and none was started.

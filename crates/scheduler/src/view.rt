@@ -1,5 +1,6 @@
 //! What a task sees of the runner.
-ghost use Rattle.std.specs.Prelude.{IfOk};
+ghost use Rattle.std.specs.Prelude.{IfOk, IsSome};
+ghost use Rattle.rig_model.specs.Step.{task_at};
 ghost use Rattle.scheduler.specs.Tasks.{KnowsAll, PollsOf};
 
 use crate::tasks::LiveTasks;
@@ -30,7 +31,7 @@ impl<'a, K: Gpi> Look for KernelView<'a, K> {
     }
 }
 
-/// The task of that number goes on until it wants something, or `None` where it isn't live.
+/// The live task of that number goes on until it wants something.
 pub fn poll_task<F: Flow, K: Gpi>(
     alloc: Global,
     live: &mut LiveTasks<F>,
@@ -38,8 +39,9 @@ pub fn poll_task<F: Flow, K: Gpi>(
     task: TaskNo,
     given: Given,
     fuel: &mut u64,
-) -> Result<Option<Turned>, NoMemory>
+) -> Result<Turned, NoMemory>
     requires loaded { K.is_loaded kernel.now }
+    requires live { IsSome (task_at task live.old.tasks) }
     requires known { KnowsAll (record { signals = (K.content kernel.now).state.signals }) live.old.tasks }
     ensures { IfOk result (λ turned. PollsOf (record { signals = (K.content kernel.now).state.signals })
         fuel.old live.old task given turned fuel.new live.new) }

@@ -1,6 +1,8 @@
-use Rattle.std.proofs.Common.{◌∙◌, ap, Ok, subst}
-use Rattle.scheduler.specs.Fits.{FitsAfter}
+use Rattle.std.proofs.Common.{◌≡◌, ◌≤◌, ◌∙◌, ap, Ok, None, subst, length, arith, inl, inr}
+use Rattle.scheduler.specs.Engine.{setup_of, parts_of}
+use Rattle.scheduler.specs.Fits.{FitsAfter, FitsKernel}
 use Rattle.scheduler.specs.declared.turn.Turn.{Turn}
+use Rattle.scheduler.proofs.FitLaws.{few_ready}
 use Rattle.scheduler.proofs.ManyTurns.{went_then, turning_anywhere, turning_err}
 use Rattle.regression.proofs.run.run_turns.Goals as goal
 
@@ -20,3 +22,10 @@ turns-preserved g c = record {
 pub returns-in-turns-clause-turning : goal.returns-in-turns-clause-turning
 returns-in-turns-clause-turning g c = c.turns.invariant.turning _ _ _ _
     (turning_anywhere g.O.Sink.takes g.O.Sink.breaks g.O.Sink.told _ _ _ _ _ _ _ _ _ c.turns.invariant.setup c.in_ok-turn.ensures.turning)
+
+pub turns-smaller : goal.turns-smaller
+turns-smaller g c =
+    let fits : FitsKernel g.M.FlowMaker.functions g.W.Awaits.waiting g.W.Awaits.held c.turn.new.self (g.K.Gpi.content c.turn.new.kernel)
+    = subst (λ (t : Turn). FitsAfter g.M.FlowMaker.functions g.W.Awaits.waiting g.W.Awaits.held t c.turn.new.self (g.K.Gpi.content c.turn.new.kernel)) c.in-Went.is c.in_ok-turn.ensures.fits in
+    let few : length c.turn.new.self.ready.entries ≤ 65536 = few_ready (setup_of g.M.FlowMaker.functions c.turn.new.self) _ (parts_of g.W.Awaits.waiting c.turn.new.self) None fits.own in
+    elim (c.in_ok-turn.ensures.falls (ap Ok c.in-Went.is)) [ inl a ↦ omega (arith, a) | inr b ↦ omega (arith, b.0, b.1) ]

@@ -1,4 +1,4 @@
-use Rattle.std.proofs.Common.{◌≡◌, ◌<◌, ◌∙◌, ap, subst, List, ℕ, length, arith}
+use Rattle.std.proofs.Common.{◌≡◌, ◌<◌, ◌∙◌, ap, subst, List, ℕ, None, length, arith}
 use Rattle.gpi.specs.Content.{no_design}
 use Rattle.port_io.specs.Ports.{AppendsPart}
 use Rattle.port_io.proofs.PartLaws.{part_one}
@@ -8,9 +8,12 @@ use Rattle.rig_model.specs.Rig.{Rig}
 use Rattle.rig_model.specs.declared.task.Staged.{Staged}
 use Rattle.std.proofs.Common.{Vec, Global}
 use Rattle.scheduler.specs.Engine.{setup_of, parts_of}
-use Rattle.scheduler.proofs.FitLaws.{fits_added, fits_told, parts_in}
+use Rattle.scheduler.proofs.FitLaws.{few_tasks, fits_added, fits_told, parts_in}
 use Rattle.scheduler.proofs.StandLaws.{stands_same}
 use Rattle.scheduler.proofs.engine.Engine.begin_test.Goals as goal
+
+pub add_task-requires-clause-few : goal.add_task-requires-clause-few
+add_task-requires-clause-few g c = few_tasks (setup_of g.M.FlowMaker.functions c.args.self.now) _ (parts_of g.W.Awaits.waiting c.args.self.now) None c.requires.fits.own
 
 pub returns-in-Ok-clause-begins : goal.returns-in-Ok-clause-begins
 returns-in-Ok-clause-begins g c =
@@ -26,8 +29,8 @@ returns-in-Ok-clause-fits g c =
     let few : length c.args.self.now.live.tasks < live_limit = omega arith in
     let young : c.args.self.now.live.started < start_limit = omega arith in
     record {
-      own = fits_told _ _ 0 _ _ _ c.add_task.ensures.setup (ap parts_in (c.in_ok-add_task.ensures.added no_design))
-          (fits_added (setup_of g.M.FlowMaker.functions c.args.self.now) _ (parts_of g.W.Awaits.waiting c.args.self.now) _ 0 c.args.case.now.func _ c.requires.fits.own few young c.in_ok-add_task.ensures.room);
+      own = fits_told _ _ None _ _ _ c.add_task.ensures.setup (ap parts_in (c.in_ok-add_task.ensures.added no_design))
+          (fits_added (setup_of g.M.FlowMaker.functions c.args.self.now) _ (parts_of g.W.Awaits.waiting c.args.self.now) _ None c.args.case.now.func c.requires.fits.own few young c.in_ok-add_task.ensures.room);
       kernel = stands_same g.W.Awaits.waiting g.W.Awaits.held _ _ _ _ _ _ _ _ _ _ _ _ _ c.add_task.ensures.setup c.add_task.ensures.awaits (ap (λ (v : Vec Staged Global). v.items) c.add_task.ensures.staged) c.requires.fits.kernel;
     }
 

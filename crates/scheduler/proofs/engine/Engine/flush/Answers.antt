@@ -1,4 +1,4 @@
-use Rattle.std.proofs.Common.{◌∙◌, refl, sym, ap, subst, List, [], ◌∷◌, Vec, Global}
+use Rattle.std.proofs.Common.{◌∙◌, refl, sym, ap, subst, List, [], ◌∷◌, None, Vec, Global}
 use Rattle.gpi.specs.declared.types.Key.{Key}
 use Rattle.gpi.specs.declared.types.Key.TheVariants.{ReadWrite}
 use Rattle.rig_model.specs.Keys.{AreKeysBut}
@@ -17,6 +17,7 @@ writes-init g c = record {
   loaded = c.requires.loaded;
   own = c.requires.own;
   writable = c.requires.writable;
+  ends = λ o. o;
   held = λ writes h. h;
   keys = c.requires.keys;
   out = c.requires.out;
@@ -28,8 +29,9 @@ writes-init g c = record {
 pub writes-preserved : goal.writes-preserved
 writes-preserved g c = record {
   loaded = c.put_out-fault.ensures.loaded;
-  own = fits_told _ _ 0 _ _ _ (sym (c.put_out-fault.ensures.setup ∙ c.writes.invariant.setup)) refl c.put_out-fault.ensures.own;
-  writable = subst (λ (st : Setup). IsOpen st (g.K.Gpi.content c.put_out-fault.new.kernel) (g.W.Awaits.waiting c.put_out-fault.new.self.awaits)) (c.put_out-fault.ensures.setup ∙ c.writes.invariant.setup) c.put_out-fault.ensures.writable;
+  own = fits_told _ _ None _ _ _ (sym (c.put_out-fault.ensures.setup ∙ c.writes.invariant.setup)) refl c.put_out-fault.ensures.own;
+  writable = subst (λ (st : Setup). IsOpen st (g.K.Gpi.content c.put_out-fault.new.kernel)) (c.put_out-fault.ensures.setup ∙ c.writes.invariant.setup) c.put_out-fault.ensures.writable;
+  ends = λ o. c.put_out-fault.ensures.ends (c.writes.invariant.ends o);
   held = λ writes h. c.put_out-fault.ensures.held writes (c.writes.invariant.held writes h);
   keys = subst (λ (hs : List Key). AreKeysBut (g.K.Gpi.content c.put_out-fault.new.kernel).keys hs (named (g.W.Awaits.waiting c.put_out-fault.new.self.awaits) (g.W.Awaits.held c.put_out-fault.new.self.awaits)))
       (c.put_out-fault.ensures.held c.args.self.now.staged.items (c.writes.invariant.held c.args.self.now.staged.items c.requires.held) ∙ one_key c.writes.self.staged.items c.args.self.now.staged.items c.in-Some.write _ c.in-Some.ensures c.writes.invariant.begun)

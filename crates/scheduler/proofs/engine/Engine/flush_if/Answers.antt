@@ -1,7 +1,7 @@
-use Rattle.std.proofs.Common.{◌∙◌, sym, ap, subst, List}
+use Rattle.std.proofs.Common.{◌∙◌, sym, ap, subst, length, List}
 use Rattle.gpi.specs.declared.types.Key.{Key}
 use Rattle.rig_model.specs.Keys.{AreKeysBut, AreOut, keys_in, without_all}
-use Rattle.rig_model.specs.Rig.{named, staged_key}
+use Rattle.rig_model.specs.Rig.{Setup, named, staged_key}
 use Rattle.scheduler.specs.Engine.{setup_of, parts_of}
 use Rattle.scheduler.proofs.EventLaws.{flushed_then, flushed_else, nothing_staged, held_free, key_goes, key_stays}
 use Rattle.scheduler.proofs.engine.Engine.flush_if.Goals as goal
@@ -47,3 +47,9 @@ returns-then-settles-clause-keys g c =
 
 pub returns-then-settles-clause-out : goal.returns-then-settles-clause-out
 returns-then-settles-clause-out g c = subst (λ (ks : List Key). AreOut (g.K.Gpi.content c.flush.new.kernel).keys ks) (sym (c.requires.alone (sym c.settles.ensures ∙ c.if-settles.true))) c.flush.ensures.out
+
+pub flush-requires-clause-writable : goal.flush-requires-clause-writable
+flush-requires-clause-writable g c = record { signals = c.requires.signals; writable = c.requires.writable (sym c.settles.ensures ∙ c.if-settles.true) }
+
+pub returns-then-settles-clause-signals : goal.returns-then-settles-clause-signals
+returns-then-settles-clause-signals g c = c.flush.ensures.writable.signals ∙ ap (λ (s : Setup). length s.flat.signals) c.flush.ensures.setup

@@ -4,8 +4,8 @@ use Rattle.four_value.specs.Vector.{vector}
 use Rattle.four_value.proofs.Numbers.{length_vector}
 use Rattle.scheduler.specs.Engine.{setup_of, parts_of}
 use Rattle.scheduler.specs.Puts.{PutsOn}
-use Rattle.scheduler.proofs.EventLaws.{put_serves, put_open, put_but, put_out_key, held_stays, told_same, change_but, change_out}
-use Rattle.scheduler.proofs.FitLaws.{fits_served}
+use Rattle.scheduler.proofs.EventLaws.{put_serves, put_open, put_ends, put_but, put_out_key, held_stays, told_same, change_but, change_out}
+use Rattle.scheduler.proofs.FitLaws.{fits_served, room_to_wake}
 use Rattle.scheduler.proofs.engine.Engine.put_out.Goals as goal
 
 pub deposit-fired-requires-clause-width : goal.deposit-fired-requires-clause-width
@@ -36,6 +36,13 @@ returns-clause-held g c = held_stays (setup_of g.M.FlowMaker.functions c.args.se
 pub returns-clause-writable : goal.returns-clause-writable
 returns-clause-writable g c = put_open (setup_of g.M.FlowMaker.functions c.args.self.now) (parts_of g.W.Awaits.waiting c.args.self.now) _ _ _ c.args.write _ _ _ _ _ _
     c.deposit-fired.ensures.is.0 c.deposit-fired.ensures.is.1 c.fire.ensures.waiting c.fire.ensures.held c.fire.ensures.ready c.requires.keys c.fire.ensures.keys c.deposit-fired.ensures.widths c.requires.writable
+
+pub returns-clause-ends : goal.returns-clause-ends
+returns-clause-ends g c = put_ends (setup_of g.M.FlowMaker.functions c.args.self.now) (parts_of g.W.Awaits.waiting c.args.self.now) _ _ _ c.args.write _ _ _ _ _ _
+    c.deposit-fired.ensures.is.0 c.deposit-fired.ensures.is.1 c.fire.ensures.waiting c.fire.ensures.held c.fire.ensures.ready c.requires.keys c.fire.ensures.keys
+
+pub fire-requires-clause-room : goal.fire-requires-clause-room
+fire-requires-clause-room g c = room_to_wake (setup_of g.M.FlowMaker.functions c.args.self.now) _ (parts_of g.W.Awaits.waiting c.args.self.now) c.requires.own
 
 pub fire-requires-clause-keys : goal.fire-requires-clause-keys
 fire-requires-clause-keys g c = change_but (g.K.Gpi.content c.args.kernel.now) _ c.args.write.sig _ _ c.deposit-fired.ensures.is.0 c.deposit-fired.ensures.is.1 _ _ c.requires.keys

@@ -1,49 +1,36 @@
 use Rattle.std.proofs.Common.{◌∙◌, refl, sym, ap, subst}
 use Rattle.scheduler.specs.Engine.{rig_of, setup_of, parts_of}
 use Rattle.scheduler.specs.Fits.{FitsNext}
-use Rattle.scheduler.specs.Parts.{Parts, bounds_of}
-use Rattle.scheduler.specs.Tasks.{Tasks}
+use Rattle.scheduler.specs.Parts.{bounds_of}
 use Rattle.scheduler.specs.declared.turn.Next.{Next}
-use Rattle.scheduler.proofs.FitLaws.{fits_less, fits_told}
+use Rattle.scheduler.proofs.FitLaws.{fits_less}
+use Rattle.rig_model.proofs.PlacedLaws.{turn_lives}
 use Rattle.scheduler.proofs.StandLaws.{keys_named, stands_same}
 use Rattle.scheduler.proofs.TurnLaws.{turning_short_of_memory}
-use Rattle.scheduler.proofs.TaskTurns.{polling_of, lost, lost_fuel, still_fits, spends, cut, ends, goes, ends_fall, goes_fall, leads_of, puts_of, ok_same, paid}
+use Rattle.scheduler.proofs.TaskTurns.{still_fits, spends, cut, ends, goes, ends_fall, goes_fall, leads_of, puts_of, ok_same, paid}
 use Rattle.scheduler.proofs.engine.Engine.run_task.Goals as goal
 
 pub poll_task-requires-clause-known : goal.poll_task-requires-clause-known
 poll_task-requires-clause-known g c = record { bounds = bounds_of (setup_of g.M.FlowMaker.functions c.effects.self); signals = sym c.effects.invariant.fits.kernel.signals; sound = c.effects.invariant.fits.own.tasks }
 
-pub returns-in_err-polled-clause-turning : goal.returns-in_err-polled-clause-turning
-returns-in_err-polled-clause-turning g c = c.effects.invariant.turning _ _ _ _ (turning_short_of_memory g.O.Sink.takes g.O.Sink.breaks g.O.Sink.told _ _ _ _ _ _ _ _ c.from_residual.ensures.0)
+pub poll_task-requires-clause-live : goal.poll_task-requires-clause-live
+poll_task-requires-clause-live g c = turn_lives c.effects.self.live.tasks c.effects.self.live.started c.args.task c.effects.self.ready.entries (g.W.Awaits.waiting c.effects.self.awaits) c.effects.invariant.fits.own.placed_are
 
-pub returns-in_err-polled-clause-keys : goal.returns-in_err-polled-clause-keys
-returns-in_err-polled-clause-keys g c = keys_named (setup_of g.M.FlowMaker.functions c.effects.self) _ _ (parts_of g.W.Awaits.waiting c.effects.self) c.effects.invariant.fits.kernel
+pub returns-in_err-turned-clause-turning : goal.returns-in_err-turned-clause-turning
+returns-in_err-turned-clause-turning g c = c.effects.invariant.turning _ _ _ _ (turning_short_of_memory g.O.Sink.takes g.O.Sink.breaks g.O.Sink.told _ _ _ _ _ _ _ _ c.from_residual.ensures.0)
 
-pub returns-in_default-clause-turning : goal.returns-in_default-clause-turning
-returns-in_default-clause-turning g c = c.effects.invariant.turning _ _ _ _
-    (lost g.O.Sink.takes g.O.Sink.breaks g.O.Sink.told _ _ c.effects.invariant.setup _ (parts_of g.W.Awaits.waiting c.effects.self) (g.K.Gpi.content c.effects.kernel) _ _ _ c.poll_task.new.live _ _ c.in_default.not-Some c.in_ok-polled.ensures)
-
-pub returns-in_default-clause-fits : goal.returns-in_default-clause-fits
-returns-in_default-clause-fits g c = record {
-  own = fits_told _ _ 0 _ _ _ refl
-      (ap (λ (t : Tasks). (let x : Parts = record (parts_of g.W.Awaits.waiting c.effects.self) { tasks = t.tasks; started = t.started } in x))
-      (lost_fuel g.O.Sink.takes g.O.Sink.breaks g.O.Sink.told (setup_of g.M.FlowMaker.functions c.effects.self) (setup_of g.M.FlowMaker.functions c.effects.self) refl c.args.task (parts_of g.W.Awaits.waiting c.effects.self) (g.K.Gpi.content c.effects.kernel) c.effects.fuel c.effects.given c.effects.out c.poll_task.new.live _ _ c.in_default.not-Some c.in_ok-polled.ensures).1)
-      (fits_less (setup_of g.M.FlowMaker.functions c.effects.self) _ (parts_of g.W.Awaits.waiting c.effects.self) c.effects.invariant.fits.own);
-  kernel = stands_same g.W.Awaits.waiting g.W.Awaits.held _ _ _ _ _ _ _ _ _ _ _ _ _ refl refl refl c.effects.invariant.fits.kernel;
-}
-
-pub returns-in_default-clause-keys : goal.returns-in_default-clause-keys
-returns-in_default-clause-keys g c = keys_named (setup_of g.M.FlowMaker.functions c.effects.self) _ _ (parts_of g.W.Awaits.waiting c.effects.self) c.effects.invariant.fits.kernel
+pub returns-in_err-turned-clause-keys : goal.returns-in_err-turned-clause-keys
+returns-in_err-turned-clause-keys g c = keys_named (setup_of g.M.FlowMaker.functions c.effects.self) _ _ (parts_of g.W.Awaits.waiting c.effects.self) c.effects.invariant.fits.kernel
 
 pub returns-in-Spent-clause-turning : goal.returns-in-Spent-clause-turning
 returns-in-Spent-clause-turning g c = c.effects.invariant.turning _ _ _ _
-    (spends g.O.Sink.takes g.O.Sink.breaks g.O.Sink.told (setup_of g.M.FlowMaker.functions c.effects.self) (setup_of g.M.FlowMaker.functions c.args.self.now) c.effects.invariant.setup c.args.task (parts_of g.W.Awaits.waiting c.effects.self) (g.K.Gpi.content c.effects.kernel) c.effects.fuel c.effects.given c.effects.out c.in-Some.turned c.poll_task.new.fuel c.poll_task.new.live.tasks c.poll_task.new.live.started
-    (polling_of (g.K.Gpi.content c.effects.kernel) c.effects.self.live c.poll_task.new.live c.args.task c.effects.fuel c.effects.given c.in_ok-polled.polled c.in-Some.turned c.poll_task.new.fuel c.in-Some.is c.in_ok-polled.ensures) c.in-Spent.is)
+    (spends g.O.Sink.takes g.O.Sink.breaks g.O.Sink.told (setup_of g.M.FlowMaker.functions c.effects.self) (setup_of g.M.FlowMaker.functions c.args.self.now) c.effects.invariant.setup c.args.task (parts_of g.W.Awaits.waiting c.effects.self) (g.K.Gpi.content c.effects.kernel) c.effects.fuel c.effects.given c.effects.out c.in_ok-turned.turned c.poll_task.new.fuel c.poll_task.new.live.tasks c.poll_task.new.live.started
+    c.in_ok-turned.ensures c.in-Spent.is)
 
 pub returns-in-Spent-clause-fits : goal.returns-in-Spent-clause-fits
 returns-in-Spent-clause-fits g c = record {
-  own = fits_less _ _ _ (still_fits g.O.Sink.takes g.O.Sink.breaks g.O.Sink.told (setup_of g.M.FlowMaker.functions c.effects.self) (setup_of g.M.FlowMaker.functions c.effects.self) refl c.args.task (parts_of g.W.Awaits.waiting c.effects.self) (g.K.Gpi.content c.effects.kernel) c.effects.fuel c.effects.given c.effects.out c.in-Some.turned c.poll_task.new.fuel c.poll_task.new.live.tasks c.poll_task.new.live.started
-      (polling_of (g.K.Gpi.content c.effects.kernel) c.effects.self.live c.poll_task.new.live c.args.task c.effects.fuel c.effects.given c.in_ok-polled.polled c.in-Some.turned c.poll_task.new.fuel c.in-Some.is c.in_ok-polled.ensures) c.effects.self.ready.room c.effects.invariant.fits.own).0;
+  own = fits_less _ _ _ c.args.task (still_fits g.O.Sink.takes g.O.Sink.breaks g.O.Sink.told (setup_of g.M.FlowMaker.functions c.effects.self) (setup_of g.M.FlowMaker.functions c.effects.self) refl c.args.task (parts_of g.W.Awaits.waiting c.effects.self) (g.K.Gpi.content c.effects.kernel) c.effects.fuel c.effects.given c.effects.out c.in_ok-turned.turned c.poll_task.new.fuel c.poll_task.new.live.tasks c.poll_task.new.live.started
+      c.in_ok-turned.ensures c.effects.self.ready.room c.effects.invariant.fits.own).0;
   kernel = stands_same g.W.Awaits.waiting g.W.Awaits.held _ _ _ _ _ _ _ _ _ _ _ _ _ refl refl refl c.effects.invariant.fits.kernel;
 }
 
@@ -52,48 +39,48 @@ returns-in-Spent-clause-keys g c = keys_named (setup_of g.M.FlowMaker.functions 
 
 pub apply-requires : goal.apply-requires
 apply-requires g c =
-    let k = (still_fits g.O.Sink.takes g.O.Sink.breaks g.O.Sink.told (setup_of g.M.FlowMaker.functions c.effects.self) (setup_of g.M.FlowMaker.functions c.effects.self) refl c.args.task (parts_of g.W.Awaits.waiting c.effects.self) (g.K.Gpi.content c.effects.kernel) c.effects.fuel c.effects.given c.effects.out c.in-Some.turned c.poll_task.new.fuel c.poll_task.new.live.tasks c.poll_task.new.live.started
-    (polling_of (g.K.Gpi.content c.effects.kernel) c.effects.self.live c.poll_task.new.live c.args.task c.effects.fuel c.effects.given c.in_ok-polled.polled c.in-Some.turned c.poll_task.new.fuel c.in-Some.is c.in_ok-polled.ensures) c.effects.self.ready.room c.effects.invariant.fits.own) in
+    let k = (still_fits g.O.Sink.takes g.O.Sink.breaks g.O.Sink.told (setup_of g.M.FlowMaker.functions c.effects.self) (setup_of g.M.FlowMaker.functions c.effects.self) refl c.args.task (parts_of g.W.Awaits.waiting c.effects.self) (g.K.Gpi.content c.effects.kernel) c.effects.fuel c.effects.given c.effects.out c.in_ok-turned.turned c.poll_task.new.fuel c.poll_task.new.live.tasks c.poll_task.new.live.started
+    c.in_ok-turned.ensures c.effects.self.ready.room c.effects.invariant.fits.own) in
     record {
       loaded = c.effects.invariant.loaded;
       fits = record { own = k.0; kernel = stands_same g.W.Awaits.waiting g.W.Awaits.held _ _ _ _ _ _ _ _ _ _ _ _ _ refl refl refl c.effects.invariant.fits.kernel };
       live = k.2;
       sound = k.1;
-      wanted = c.in_default-turned.not-Spent;
+      wanted = c.in_default.not-Spent;
     }
 
 pub returns-in_err-next-clause-turning : goal.returns-in_err-next-clause-turning
-returns-in_err-next-clause-turning g c = c.effects.invariant.turning _ _ _ _ (cut g.O.Sink.takes g.O.Sink.breaks g.O.Sink.told (setup_of g.M.FlowMaker.functions c.effects.self) (setup_of g.M.FlowMaker.functions c.args.self.now) c.effects.invariant.setup c.args.task (parts_of g.W.Awaits.waiting c.effects.self) (g.K.Gpi.content c.effects.kernel) c.effects.fuel c.effects.given c.effects.out c.in-Some.turned c.poll_task.new.fuel c.poll_task.new.live.tasks c.poll_task.new.live.started
-    (polling_of (g.K.Gpi.content c.effects.kernel) c.effects.self.live c.poll_task.new.live c.args.task c.effects.fuel c.effects.given c.in_ok-polled.polled c.in-Some.turned c.poll_task.new.fuel c.in-Some.is c.in_ok-polled.ensures) c.in_default-turned.not-Spent _ _ _ c.from_residual-in_err-next.ensures.0 c.in_err-next.ensures.part)
+returns-in_err-next-clause-turning g c = c.effects.invariant.turning _ _ _ _ (cut g.O.Sink.takes g.O.Sink.breaks g.O.Sink.told (setup_of g.M.FlowMaker.functions c.effects.self) (setup_of g.M.FlowMaker.functions c.args.self.now) c.effects.invariant.setup c.args.task (parts_of g.W.Awaits.waiting c.effects.self) (g.K.Gpi.content c.effects.kernel) c.effects.fuel c.effects.given c.effects.out c.in_ok-turned.turned c.poll_task.new.fuel c.poll_task.new.live.tasks c.poll_task.new.live.started
+    c.in_ok-turned.ensures c.in_default.not-Spent _ _ _ c.from_residual-in_err-next.ensures.0 c.in_err-next.ensures.part)
 
 pub effects-smaller : goal.effects-smaller
-effects-smaller g c = paid g.O.Sink.takes g.O.Sink.breaks g.O.Sink.told (setup_of g.M.FlowMaker.functions c.effects.self) (setup_of g.M.FlowMaker.functions c.args.self.now) c.effects.invariant.setup c.args.task (parts_of g.W.Awaits.waiting c.effects.self) (g.K.Gpi.content c.effects.kernel) c.effects.fuel c.effects.given c.effects.out c.in-Some.turned c.poll_task.new.fuel c.poll_task.new.live.tasks c.poll_task.new.live.started
-    (polling_of (g.K.Gpi.content c.effects.kernel) c.effects.self.live c.poll_task.new.live c.args.task c.effects.fuel c.effects.given c.in_ok-polled.polled c.in-Some.turned c.poll_task.new.fuel c.in-Some.is c.in_ok-polled.ensures) (leads_of (setup_of g.M.FlowMaker.functions c.effects.self) _ _ _ _ _ _ c.in-GoesOn.is c.in_ok-next.ensures.leads).0
+effects-smaller g c = paid g.O.Sink.takes g.O.Sink.breaks g.O.Sink.told (setup_of g.M.FlowMaker.functions c.effects.self) (setup_of g.M.FlowMaker.functions c.args.self.now) c.effects.invariant.setup c.args.task (parts_of g.W.Awaits.waiting c.effects.self) (g.K.Gpi.content c.effects.kernel) c.effects.fuel c.effects.given c.effects.out c.in_ok-turned.turned c.poll_task.new.fuel c.poll_task.new.live.tasks c.poll_task.new.live.started
+    c.in_ok-turned.ensures (leads_of (setup_of g.M.FlowMaker.functions c.effects.self) _ _ _ _ _ _ c.in-GoesOn.is c.in_ok-next.ensures.leads).0
 
 pub effects-preserved : goal.effects-preserved
 effects-preserved g c = record {
   turning = λ r fuel e out h. c.effects.invariant.turning r fuel e out
-      (goes g.O.Sink.takes g.O.Sink.breaks g.O.Sink.told (setup_of g.M.FlowMaker.functions c.effects.self) (setup_of g.M.FlowMaker.functions c.args.self.now) c.effects.invariant.setup c.args.task (parts_of g.W.Awaits.waiting c.effects.self) (g.K.Gpi.content c.effects.kernel) c.effects.fuel c.effects.given c.effects.out c.in-Some.turned c.poll_task.new.fuel c.poll_task.new.live.tasks c.poll_task.new.live.started
-      (polling_of (g.K.Gpi.content c.effects.kernel) c.effects.self.live c.poll_task.new.live c.args.task c.effects.fuel c.effects.given c.in_ok-polled.polled c.in-Some.turned c.poll_task.new.fuel c.in-Some.is c.in_ok-polled.ensures) c.in_default-turned.not-Spent c.in-GoesOn.next (rig_of g.W.Awaits.waiting c.apply.new.self (g.K.Gpi.content c.apply.new.kernel)) c.apply.new.out r fuel e out
+      (goes g.O.Sink.takes g.O.Sink.breaks g.O.Sink.told (setup_of g.M.FlowMaker.functions c.effects.self) (setup_of g.M.FlowMaker.functions c.args.self.now) c.effects.invariant.setup c.args.task (parts_of g.W.Awaits.waiting c.effects.self) (g.K.Gpi.content c.effects.kernel) c.effects.fuel c.effects.given c.effects.out c.in_ok-turned.turned c.poll_task.new.fuel c.poll_task.new.live.tasks c.poll_task.new.live.started
+      c.in_ok-turned.ensures c.in_default.not-Spent c.in-GoesOn.next (rig_of g.W.Awaits.waiting c.apply.new.self (g.K.Gpi.content c.apply.new.kernel)) c.apply.new.out r fuel e out
       (leads_of (setup_of g.M.FlowMaker.functions c.effects.self) _ _ _ _ _ _ c.in-GoesOn.is c.in_ok-next.ensures.leads) (puts_of g.O.Sink.takes g.O.Sink.breaks _ _ _ _ _ c.in-GoesOn.is c.in_ok-next.ensures.puts) h);
-  falls = goes_fall g.O.Sink.takes g.O.Sink.breaks g.O.Sink.told (setup_of g.M.FlowMaker.functions c.effects.self) (setup_of g.M.FlowMaker.functions c.args.self.now) c.effects.invariant.setup c.args.task (parts_of g.W.Awaits.waiting c.effects.self) (g.K.Gpi.content c.effects.kernel) c.effects.fuel c.effects.given c.effects.out c.in-Some.turned c.poll_task.new.fuel c.poll_task.new.live.tasks c.poll_task.new.live.started
-      (polling_of (g.K.Gpi.content c.effects.kernel) c.effects.self.live c.poll_task.new.live c.args.task c.effects.fuel c.effects.given c.in_ok-polled.polled c.in-Some.turned c.poll_task.new.fuel c.in-Some.is c.in_ok-polled.ensures) c.in_default-turned.not-Spent _ _ _ c.in-GoesOn.next (rig_of g.W.Awaits.waiting c.apply.new.self (g.K.Gpi.content c.apply.new.kernel)) c.effects.invariant.falls
+  falls = goes_fall g.O.Sink.takes g.O.Sink.breaks g.O.Sink.told (setup_of g.M.FlowMaker.functions c.effects.self) (setup_of g.M.FlowMaker.functions c.args.self.now) c.effects.invariant.setup c.args.task (parts_of g.W.Awaits.waiting c.effects.self) (g.K.Gpi.content c.effects.kernel) c.effects.fuel c.effects.given c.effects.out c.in_ok-turned.turned c.poll_task.new.fuel c.poll_task.new.live.tasks c.poll_task.new.live.started
+      c.in_ok-turned.ensures c.in_default.not-Spent _ _ _ c.in-GoesOn.next (rig_of g.W.Awaits.waiting c.apply.new.self (g.K.Gpi.content c.apply.new.kernel)) c.effects.invariant.falls
       (leads_of (setup_of g.M.FlowMaker.functions c.effects.self) _ _ _ _ _ _ c.in-GoesOn.is c.in_ok-next.ensures.leads);
   setup = c.apply.ensures.setup ∙ c.effects.invariant.setup;
-  fits = subst (λ (n : Next). FitsNext g.M.FlowMaker.functions g.W.Awaits.waiting g.W.Awaits.held n c.apply.new.self (g.K.Gpi.content c.apply.new.kernel)) c.in-GoesOn.is c.in_ok-next.ensures.fits;
+  fits = subst (λ (n : Next). FitsNext g.M.FlowMaker.functions g.W.Awaits.waiting g.W.Awaits.held c.args.task n c.apply.new.self (g.K.Gpi.content c.apply.new.kernel)) c.in-GoesOn.is c.in_ok-next.ensures.fits;
   loaded = c.apply.ensures.loaded;
 }
 
 pub returns-in-Ends-clause-turning : goal.returns-in-Ends-clause-turning
 returns-in-Ends-clause-turning g c = c.effects.invariant.turning _ _ _ _
-    (ends g.O.Sink.takes g.O.Sink.breaks g.O.Sink.told (setup_of g.M.FlowMaker.functions c.effects.self) (setup_of g.M.FlowMaker.functions c.args.self.now) c.effects.invariant.setup c.args.task (parts_of g.W.Awaits.waiting c.effects.self) (g.K.Gpi.content c.effects.kernel) c.effects.fuel c.effects.given c.effects.out c.in-Some.turned c.poll_task.new.fuel c.poll_task.new.live.tasks c.poll_task.new.live.started
-    (polling_of (g.K.Gpi.content c.effects.kernel) c.effects.self.live c.poll_task.new.live c.args.task c.effects.fuel c.effects.given c.in_ok-polled.polled c.in-Some.turned c.poll_task.new.fuel c.in-Some.is c.in_ok-polled.ensures) c.in_default-turned.not-Spent c.in-Ends.turn (rig_of g.W.Awaits.waiting c.apply.new.self (g.K.Gpi.content c.apply.new.kernel)) c.apply.new.out
+    (ends g.O.Sink.takes g.O.Sink.breaks g.O.Sink.told (setup_of g.M.FlowMaker.functions c.effects.self) (setup_of g.M.FlowMaker.functions c.args.self.now) c.effects.invariant.setup c.args.task (parts_of g.W.Awaits.waiting c.effects.self) (g.K.Gpi.content c.effects.kernel) c.effects.fuel c.effects.given c.effects.out c.in_ok-turned.turned c.poll_task.new.fuel c.poll_task.new.live.tasks c.poll_task.new.live.started
+    c.in_ok-turned.ensures c.in_default.not-Spent c.in-Ends.turn (rig_of g.W.Awaits.waiting c.apply.new.self (g.K.Gpi.content c.apply.new.kernel)) c.apply.new.out
     (leads_of (setup_of g.M.FlowMaker.functions c.effects.self) _ _ _ _ _ _ c.in-Ends.is c.in_ok-next.ensures.leads) (puts_of g.O.Sink.takes g.O.Sink.breaks _ _ _ _ _ c.in-Ends.is c.in_ok-next.ensures.puts))
 
 pub returns-in-Ends-clause-falls : goal.returns-in-Ends-clause-falls
-returns-in-Ends-clause-falls g c = λ h. ends_fall g.O.Sink.takes g.O.Sink.breaks g.O.Sink.told (setup_of g.M.FlowMaker.functions c.effects.self) (setup_of g.M.FlowMaker.functions c.args.self.now) c.effects.invariant.setup c.args.task (parts_of g.W.Awaits.waiting c.effects.self) (g.K.Gpi.content c.effects.kernel) c.effects.fuel c.effects.given c.effects.out c.in-Some.turned c.poll_task.new.fuel c.poll_task.new.live.tasks c.poll_task.new.live.started
-    (polling_of (g.K.Gpi.content c.effects.kernel) c.effects.self.live c.poll_task.new.live c.args.task c.effects.fuel c.effects.given c.in_ok-polled.polled c.in-Some.turned c.poll_task.new.fuel c.in-Some.is c.in_ok-polled.ensures) c.in_default-turned.not-Spent _ _ c.effects.invariant.falls c.in-Ends.turn (rig_of g.W.Awaits.waiting c.apply.new.self (g.K.Gpi.content c.apply.new.kernel))
+returns-in-Ends-clause-falls g c = λ h. ends_fall g.O.Sink.takes g.O.Sink.breaks g.O.Sink.told (setup_of g.M.FlowMaker.functions c.effects.self) (setup_of g.M.FlowMaker.functions c.args.self.now) c.effects.invariant.setup c.args.task (parts_of g.W.Awaits.waiting c.effects.self) (g.K.Gpi.content c.effects.kernel) c.effects.fuel c.effects.given c.effects.out c.in_ok-turned.turned c.poll_task.new.fuel c.poll_task.new.live.tasks c.poll_task.new.live.started
+    c.in_ok-turned.ensures c.in_default.not-Spent _ _ c.effects.invariant.falls c.in-Ends.turn (rig_of g.W.Awaits.waiting c.apply.new.self (g.K.Gpi.content c.apply.new.kernel))
     (leads_of (setup_of g.M.FlowMaker.functions c.effects.self) _ _ _ _ _ _ c.in-Ends.is c.in_ok-next.ensures.leads) (ok_same _ _ h)
 
 pub returns-in-Ends-clause-fits : goal.returns-in-Ends-clause-fits
-returns-in-Ends-clause-fits g c = subst (λ (n : Next). FitsNext g.M.FlowMaker.functions g.W.Awaits.waiting g.W.Awaits.held n c.apply.new.self (g.K.Gpi.content c.apply.new.kernel)) c.in-Ends.is c.in_ok-next.ensures.fits
+returns-in-Ends-clause-fits g c = subst (λ (n : Next). FitsNext g.M.FlowMaker.functions g.W.Awaits.waiting g.W.Awaits.held c.args.task n c.apply.new.self (g.K.Gpi.content c.apply.new.kernel)) c.in-Ends.is c.in_ok-next.ensures.fits

@@ -19,7 +19,7 @@ invariant-effects g l = record {
       l.fn.fuel (goes_on l.fn.task (Some l.fn.given) (rig_of g.W.Awaits.waiting l.fn.self (g.K.Gpi.content l.fn.kernel))) l.fn.out r fuel e out;
   falls : (l.fuel < l.fn.fuel) ⊎ ((l.fuel ≡ l.fn.fuel) × (length l.self.ready.entries ≤ length l.fn.self.ready.entries));
   setup : setup_of g.M.FlowMaker.functions l.self ≡ setup_of g.M.FlowMaker.functions l.fn.self;
-  fits : FitsAt 1 g.M.FlowMaker.functions g.W.Awaits.waiting g.W.Awaits.held l.self (g.K.Gpi.content l.kernel);
+  fits : FitsAt (Some l.task) g.M.FlowMaker.functions g.W.Awaits.waiting g.W.Awaits.held l.self (g.K.Gpi.content l.kernel);
   loaded : g.K.Gpi.is_loaded l.kernel;
 }
 

@@ -16,46 +16,46 @@ staged_len : (v : Vec Staged Global) {b : Bool} → (vec_len v == 0) ≡ b → (
 staged_len v e = let z : length v.items ≡ vec_len v = omega (arith, v.ok.0) in ap (λ (n : ℕ). n == 0) z ∙ e
 
 pub hold-requires-clause-keys : goal.hold-requires-clause-keys
-hold-requires-clause-keys g c = all_but _ _ _ (keys_named (setup_of g.M.FlowMaker.functions c.args.self.now) _ _ (parts_of g.W.Awaits.waiting c.args.self.now) c.requires.fits.kernel)
+hold-requires-clause-keys g c = all_but _ _ _ (keys_named (setup_of g.M.FlowMaker.functions c.args.self.now) _ _ (parts_of g.W.Awaits.waiting c.args.self.now) c.requires.kernel)
 
 pub returns-clause-leads : goal.returns-clause-leads
 returns-clause-leads g c = elim c.if-is_empty.branch [
   | then-is_empty+in_ok-hold w ↦ rw (w.self-is, w.kernel-is) (on_ok c.stage.result (rw w.self-is at c.stage.ensures.ok) (λ e task. (
     refl,
     ap (goes_on task (Some (Value Absent)))
-        (first_is (setup_of g.M.FlowMaker.functions c.args.self.now) (parts_of g.W.Awaits.waiting c.args.self.now) _ _ c.requires.fits.kernel c.args.sig c.args.number _ e (staged_len c.args.self.now.staged (sym c.is_empty.ensures ∙ w.if-is_empty.true)) _ _ _
+        (first_is (setup_of g.M.FlowMaker.functions c.args.self.now) (parts_of g.W.Awaits.waiting c.args.self.now) _ _ c.requires.kernel c.args.sig c.args.number _ e (staged_len c.args.self.now.staged (sym c.is_empty.ensures ∙ w.if-is_empty.true)) _ _ _
         w.hold.ensures.waiting w.in_ok-hold.ensures.ok w.in_ok-hold.ensures.registers),
   )))
   | else-is_empty w ↦ rw (w.self-is, w.kernel-is) (on_ok c.stage.result (rw w.self-is at c.stage.ensures.ok) (λ e task. (
     refl,
     ap (goes_on task (Some (Value Absent)))
-        (more_is (setup_of g.M.FlowMaker.functions c.args.self.now) (parts_of g.W.Awaits.waiting c.args.self.now) _ _ c.requires.fits.kernel c.args.sig c.args.number _ e (staged_len c.args.self.now.staged (sym c.is_empty.ensures ∙ w.if-is_empty.false))),
+        (more_is (setup_of g.M.FlowMaker.functions c.args.self.now) (parts_of g.W.Awaits.waiting c.args.self.now) _ _ c.requires.kernel c.args.sig c.args.number _ e (staged_len c.args.self.now.staged (sym c.is_empty.ensures ∙ w.if-is_empty.false))),
   )))
 ]
 
 pub returns-clause-fits : goal.returns-clause-fits
 returns-clause-fits g c = elim c.if-is_empty.branch [
-  | then-is_empty+in_ok-hold w ↦ rw (w.self-is, w.kernel-is) (on_ok c.stage.result (rw w.self-is at c.stage.ensures.ok) (λ e. record {
-    own = rw (e, w.hold.ensures.waiting) (fits_staged (setup_of g.M.FlowMaker.functions c.args.self.now) _ (parts_of g.W.Awaits.waiting c.args.self.now) 1 c.args.sig c.args.number c.requires.fits.own c.requires.sound);
-    kernel = first_fits (setup_of g.M.FlowMaker.functions c.args.self.now) (parts_of g.W.Awaits.waiting c.args.self.now) _ _ c.requires.fits.kernel c.args.sig c.args.number _ e (staged_len c.args.self.now.staged (sym c.is_empty.ensures ∙ w.if-is_empty.true)) _ _ _
+  | then-is_empty+in_ok-hold w ↦ rw (w.self-is, w.kernel-is) (on_ok c.stage.result (rw w.self-is at c.stage.ensures.ok) (λ e turn own. record {
+    own = rw (e, w.hold.ensures.waiting) (fits_staged (setup_of g.M.FlowMaker.functions c.args.self.now) _ (parts_of g.W.Awaits.waiting c.args.self.now) turn c.args.sig c.args.number own c.requires.sound);
+    kernel = first_fits (setup_of g.M.FlowMaker.functions c.args.self.now) (parts_of g.W.Awaits.waiting c.args.self.now) _ _ c.requires.kernel c.args.sig c.args.number _ e (staged_len c.args.self.now.staged (sym c.is_empty.ensures ∙ w.if-is_empty.true)) _ _ _
         w.hold.ensures.waiting w.in_ok-hold.ensures.ok w.in_ok-hold.ensures.registers;
   }))
-  | else-is_empty w ↦ rw (w.self-is, w.kernel-is) (on_ok c.stage.result (rw w.self-is at c.stage.ensures.ok) (λ e. record {
-    own = rw e (fits_staged (setup_of g.M.FlowMaker.functions c.args.self.now) _ (parts_of g.W.Awaits.waiting c.args.self.now) 1 c.args.sig c.args.number c.requires.fits.own c.requires.sound);
-    kernel = more_fits (setup_of g.M.FlowMaker.functions c.args.self.now) (parts_of g.W.Awaits.waiting c.args.self.now) _ _ c.requires.fits.kernel c.args.sig c.args.number _ e (staged_len c.args.self.now.staged (sym c.is_empty.ensures ∙ w.if-is_empty.false));
+  | else-is_empty w ↦ rw (w.self-is, w.kernel-is) (on_ok c.stage.result (rw w.self-is at c.stage.ensures.ok) (λ e turn own. record {
+    own = rw e (fits_staged (setup_of g.M.FlowMaker.functions c.args.self.now) _ (parts_of g.W.Awaits.waiting c.args.self.now) turn c.args.sig c.args.number own c.requires.sound);
+    kernel = more_fits (setup_of g.M.FlowMaker.functions c.args.self.now) (parts_of g.W.Awaits.waiting c.args.self.now) _ _ c.requires.kernel c.args.sig c.args.number _ e (staged_len c.args.self.now.staged (sym c.is_empty.ensures ∙ w.if-is_empty.false));
   }))
 ]
 
 pub returns-clause-keys : goal.returns-clause-keys
 returns-clause-keys g c = elim c.if-is_empty.branch [
-  | then-is_empty+in_ok-hold w ↦ rw (w.self-is, w.kernel-is) (first_keys (setup_of g.M.FlowMaker.functions c.args.self.now) (parts_of g.W.Awaits.waiting c.args.self.now) _ _ c.requires.fits.kernel c.args.sig c.args.number
+  | then-is_empty+in_ok-hold w ↦ rw (w.self-is, w.kernel-is) (first_keys (setup_of g.M.FlowMaker.functions c.args.self.now) (parts_of g.W.Awaits.waiting c.args.self.now) _ _ c.requires.kernel c.args.sig c.args.number
       (restaged c.args.sig c.args.number c.args.self.now.staged.items) refl (staged_len c.args.self.now.staged (sym c.is_empty.ensures ∙ w.if-is_empty.true)) _ _ _
       w.hold.ensures.waiting w.in_ok-hold.ensures.ok w.in_ok-hold.ensures.registers)
-  | else-is_empty w ↦ rw (w.self-is, w.kernel-is) (keys_named (setup_of g.M.FlowMaker.functions c.args.self.now) _ _ (parts_of g.W.Awaits.waiting c.args.self.now) c.requires.fits.kernel)
+  | else-is_empty w ↦ rw (w.self-is, w.kernel-is) (keys_named (setup_of g.M.FlowMaker.functions c.args.self.now) _ _ (parts_of g.W.Awaits.waiting c.args.self.now) c.requires.kernel)
 ]
 
 pub returns-in_err-hold-clause-keys : goal.returns-in_err-hold-clause-keys
 returns-in_err-hold-clause-keys g c =
     keys_kept (g.K.Gpi.content c.args.kernel.now) _ _ _ _ _
-    (keys_named (setup_of g.M.FlowMaker.functions c.args.self.now) _ _ (parts_of g.W.Awaits.waiting c.args.self.now) c.requires.fits.kernel)
+    (keys_named (setup_of g.M.FlowMaker.functions c.args.self.now) _ _ (parts_of g.W.Awaits.waiting c.args.self.now) c.requires.kernel)
     c.in_err-hold.ensures.kept c.hold.ensures.waiting c.in_err-hold.ensures.err
