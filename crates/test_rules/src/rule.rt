@@ -1,0 +1,20 @@
+//! The rules that a tests file must keep.
+
+/// A rule of a tests file, in the order in which those that one line breaks count.
+#[derive(Clone, Copy, Debug, PartialEq, Eq)]
+pub enum FileRule {
+    /// A module, or a name of a module, that can't be imported.
+    UnknownImport,
+    /// A name that is neither a parameter, nor assigned in the function, nor defined in the module, nor built in.
+    UnknownName,
+    /// What is known and stands where it can't: `break` outside of a loop, arguments that don't fit, a decorator without a function.
+    Misplaced,
+    /// A second definition of a name in the module, or of a parameter in a function.
+    DuplicateName,
+    /// An option of a test or of a factory that isn't there, has a wrong value, or is given twice.
+    BadOption,
+    /// More than 65,536 tests so far.
+    TooManyCases,
+    /// No test.
+    NoTests,
+}
