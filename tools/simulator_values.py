@@ -1,25 +1,20 @@
 #!/usr/bin/env python3
-"""Compares the tables of expressions and statements in crates/simulator_tests with Icarus Verilog.
+"""Compares the designs among the rows of crates/simulator_tests with Icarus Verilog.
 
     tools/simulator_values.py
 
-Each row is run by `iverilog -g2005` as its table's head says: an expression as `assign y = ..`, a statement as `always @(go) ..`,
-with the row's values of `a`, `b`, `c` and the second word of the memory `m`. A row whose value differs is printed, and the
-script then ends with the status 1. In one row the standard and Icarus differ, and the table has what the standard says (see
-`DIFFERENT`). The gate needs neither this script nor Icarus.
+Each row `assign` or `always` of `stdin` is run by `iverilog -g2005`, as `assign y = ..` or as `always @(go) ..`, with the row's
+range, its values of `a`, `b`, `c` and of the second word of the memory `m`, and its width of `y`; what is printed is compared
+with the same line of `stdout`. A row whose values differ is printed, and the script then ends with the status 1. In one row the
+standard and Icarus differ, and `stdout` has what the standard says (see `DIFFERENT`). The gate needs neither this script nor
+Icarus.
 """
-import re
 import subprocess
 import sys
 import tempfile
 from pathlib import Path
 
-TESTS = Path(__file__).resolve().parent.parent / "crates" / "simulator_tests" / "src"
-INPUTS = r'range: (?P<range>\w+),\s*inputs: Inputs \{\s*a: "(?P<a>\w+)",\s*b: "(?P<b>\w+)",\s*c: "(?P<c>\w+)",?\s*\},\s*'
-EXPRESSION = re.compile(r'Expression \{\s*verilog: "(?P<verilog>[^"]*)",\s*form: [^,]*,\s*' + INPUTS + r'wanted: "(?P<wanted>\w+)"', re.S)
-STATEMENT = re.compile(r'Statement \{\s*verilog: "(?P<verilog>[^"]*)",\s*form: [^,]*,\s*' + INPUTS
-                       + r'wanted: Ends \{\s*y: "(?P<y>\w+)",\s*z: "(?P<z>\w+)",\s*words: \[(?P<words>[^\]]*)\]', re.S)
-RANGES = {"FALLING": "[7:0]", "FALLING_FROM_TWO": "[9:2]", "RISING_FROM_TWO": "[2:9]"}
+TESTS = Path(__file__).resolve().parent.parent / "crates" / "simulator_tests"
 # Clause 5.1.5: where a digit of an operand of an arithmetic operator is x or z, the result is x. Icarus keeps the operand of `+`.
 DIFFERENT = {("+a", "0110x0z0")}
 
@@ -33,45 +28,42 @@ def run(text):
         return subprocess.run(["vvp", str(program)], check=True, capture_output=True, text=True).stdout.split()
 
 
-def values(row):
-    """The statements that give the inputs their values."""
-    return f"a = 8'b{row['a']}; b = 8'b{row['b']}; m[2] = 8'b{row['b']}; c = 4'b{row['c']};"
-
-
-def expression(row):
-    """The value of an expression, and what is wanted."""
-    declared = RANGES[row["range"]]
-    text = f"""module top;
+def assigned(verilog, declared, values, width):
+    """`y` by a continuous assignment."""
+    return run(f"""module top;
   reg {declared} a; reg [7:0] b; reg [3:0] c; reg {declared} m [1:4];
-  wire [{len(row['wanted']) - 1}:0] y;
-  assign y = {row['verilog']};
-  initial begin {values(row)} #1 $display("%b", y); end
+  wire [{width - 1}:0] y;
+  assign y = {verilog};
+  initial begin {values} #1 $display("%b", y); end
 endmodule
-"""
-    return run(text), [row["wanted"]]
+""")
 
 
-def statement(row):
-    """What a statement leaves, and what is wanted."""
-    declared = RANGES[row["range"]]
-    text = f"""module top;
+def awaited(verilog, declared, values):
+    """`y`, `z` and the words of the memory by a process that waits for `go`."""
+    return run(f"""module top;
   reg [7:0] a, b, z; reg [3:0] c; reg go; reg {declared} y; reg {declared} m [1:4];
-  always @(go) {row['verilog']}
-  initial begin {values(row)} #1 go = 1; #1 $display("%b %b %b %b %b %b", y, z, m[1], m[2], m[3], m[4]); end
+  always @(go) {verilog}
+  initial begin {values} #1 go = 1; #1 $display("%b %b %b %b %b %b", y, z, m[1], m[2], m[3], m[4]); end
 endmodule
-"""
-    return run(text), [row["y"], row["z"], *re.findall(r"\w+", row["words"])]
+""")
 
 
 def main():
     rows, wrong = 0, 0
-    for name, pattern, answer in (("expressions.rt", EXPRESSION, expression), ("statements.rt", STATEMENT, statement)):
-        for row in pattern.finditer((TESTS / name).read_text(encoding="utf-8")):
-            rows += 1
-            given, wanted = answer(row)
-            if given != wanted and (row["verilog"], row["a"]) not in DIFFERENT:
-                wrong += 1
-                print(f"{row['verilog']} with a {row['a']}, b {row['b']}, c {row['c']}: {' '.join(given)}, and not {' '.join(wanted)}")
+    lines = ((TESTS / name).read_text(encoding="utf-8").splitlines() for name in ("stdin", "stdout"))
+    for line, answer in zip(*lines):
+        asked, verilog, *parts = line.split("\t")
+        if asked not in ("assign", "always"):
+            continue
+        rows += 1
+        declared, a, b, c, width, _ = parts
+        values = f"a = 8'b{a}; b = 8'b{b}; m[2] = 8'b{b}; c = 4'b{c};"
+        given = assigned(verilog, declared, values, int(width)) if asked == "assign" else awaited(verilog, declared, values)
+        wanted = answer.removeprefix(verilog + ": ").split()
+        if given != wanted and (verilog, a) not in DIFFERENT:
+            wrong += 1
+            print(f"{verilog} with a {a}, b {b}, c {c}: {' '.join(given)}, and not {' '.join(wanted)}")
     print(f"{rows} rows, {wrong} differ")
     return 1 if wrong or not rows else 0
 

@@ -1,13 +1,15 @@
-//! Designs of one process over fixed signals, which the rows of the tables are run on.
+//! Designs of one process over fixed signals, and what they come to.
 //!
 //! In Verilog: `reg [7:0] a, b; reg [3:0] c; reg go; reg [7:0] m [1:4]; reg [7:0] y, z;`, where `y` may have another width,
 //! and `a`, `y` and the words another range.
 ghost use Rattle.std.specs.Prelude.{◌≤◌, ◌+◌};
 
+use crate::parts::Parts;
+use crate::row::{Row, push_bytes};
 use four_value::{Bits, Digit};
 use gpi::{
-    Act, Acts, Advance, Flat, Gpi, Kind, Node, Object, Process, SigId, Signal, Target, Told, Wake,
-    WakeEdge, Words,
+    Act, Acts, Advance, Flat, Gpi, Kind, Node, Object, Order, Process, Range, SigId, Signal,
+    Target, Term, Told, Wake, WakeEdge, Words,
 };
 use list_kernel::ListKernel;
 use port_io::{Name, NoMemory, Sequence};
@@ -38,17 +40,10 @@ pub const MEMORY: Words = Words {
 /// The widths of the signals but `y`.
 const WIDTHS: [u8; 10] = [8, 8, 4, 1, 8, 8, 8, 8, 8, 8];
 
-/// The values of `a`, `b` (and of the second word) and `c`, highest digit first.
-pub struct Inputs {
-    pub a: &'static str,
-    pub b: &'static str,
-    pub c: &'static str,
-}
-
 /// The vector of these digits, highest first; x where there is none.
-pub fn vector(text: &str) -> Bits {
+pub fn vector(text: &[u8]) -> Bits {
     let mut bits: Option<Bits> = None;
-    for byte in text.as_bytes() {
+    for byte in text {
         let digit = Bits::all(1, digit(*byte));
         bits = match bits {
             Some(high) if high.width() < 128 => Some(high.concat(digit)),
@@ -68,28 +63,34 @@ fn digit(byte: u8) -> Digit {
     }
 }
 
-/// Whether a vector has these digits, highest first.
-pub fn shows(bits: Bits, digits: &str) -> bool {
+/// Adds the digits of a vector, highest first.
+pub fn push_digits(out: &mut String, bits: Bits) -> Result<(), NoMemory> {
     let text = bits.text();
     let width = bits.width() as usize;
-    &text[..width] == digits.as_bytes()
+    push_bytes(out, &text[..width])?;
+    Ok(())
+}
+
+/// The digits of a vector, highest first.
+pub fn digits(alloc: Global, bits: Bits) -> Result<String, NoMemory> {
+    let mut out = String::new(alloc);
+    push_digits(&mut out, bits)?;
+    Ok(out)
 }
 
 /// A blocking assignment of a constant.
-pub fn sets(sig: SigId, digits: &str) -> Act {
-    let bits = vector(digits);
+fn sets(sig: SigId, bits: Bits) -> Act {
     let target = Target::Whole(Object::Signal(sig, bits.width()));
-    Act::Blocking(target, gpi::Term::Const(bits))
+    Act::Blocking(target, Term::Const(bits))
 }
 
 /// `initial begin a = ..; b = ..; m[2] = ..; c = ..; go = 1; end`
-fn given(alloc: Global, inputs: &Inputs) -> Result<Process, NoMemory> {
+fn given(alloc: Global, row: &Row<'_>) -> Result<Process, NoMemory> {
     let mut acts = Acts::new(alloc);
-    acts.push(sets(A, inputs.a))?;
-    acts.push(sets(B, inputs.b))?;
-    acts.push(sets(SECOND_WORD, inputs.b))?;
-    acts.push(sets(C, inputs.c))?;
-    acts.push(sets(GO, "1"))?;
+    for (sig, part) in [(A, 3), (B, 4), (SECOND_WORD, 4), (C, 5)] {
+        acts.push(sets(sig, vector(row.part(part))))?;
+    }
+    acts.push(sets(GO, Bits::all(1, Digit::One)))?;
     Ok(Process {
         kind: Kind::Initial,
         wakes: Sequence::new(alloc),
@@ -125,22 +126,57 @@ fn wakes(alloc: Global, first: u32, count: u32) -> Result<Sequence<Wake>, NoMemo
 }
 
 /// What wakes `assign y = ..`, or `always @(go) ..`.
-pub fn wakes_of(alloc: Global, kind: Kind) -> Result<Sequence<Wake>, NoMemory> {
+fn wakes_of(alloc: Global, kind: Kind) -> Result<Sequence<Wake>, NoMemory> {
     match kind {
         Kind::Assign => wakes(alloc, 0, 8),
         _ => wakes(alloc, 3, 1),
     }
 }
 
-/// The process first, and then that of the inputs.
+/// The range `[high:low]` or `[low:high]` of a text, where both have one digit.
+fn range_of(text: &[u8]) -> Range {
+    match text {
+        [b'[', left, b':', right, b']'] if left < right => Range {
+            low: u32::from(left & 15),
+            order: Order::Rising,
+        },
+        [b'[', _, b':', right, b']'] => Range {
+            low: u32::from(right & 15),
+            order: Order::Falling,
+        },
+        _ => Range {
+            low: 0,
+            order: Order::Falling,
+        },
+    }
+}
+
+/// The statement that the words of a row make, where `y` has so many digits.
+fn act_of(alloc: Global, row: &Row<'_>, width: u8) -> Result<Act, NoMemory> {
+    let mut parts = Parts::new(alloc, range_of(row.part(2)), width);
+    for word in row.part(7).rsplit(|byte| *byte == b' ') {
+        parts.take(alloc, word)?;
+    }
+    Ok(parts.whole())
+}
+
+/// The process of a row, where `y` has so many digits.
+fn asked(alloc: Global, row: &Row<'_>, kind: Kind, width: u8) -> Result<Process, NoMemory> {
+    let wakes = wakes_of(alloc, kind)?;
+    let body = act_of(alloc, row, width)?;
+    Ok(Process { kind, wakes, body })
+}
+
+/// The row's process first, and then that of the inputs.
 fn processes(
     alloc: Global,
-    inputs: &Inputs,
-    process: Process,
+    row: &Row<'_>,
+    kind: Kind,
+    width: u8,
 ) -> Result<Sequence<Process>, NoMemory> {
     let mut processes = Sequence::new(alloc);
-    processes.push(process)?;
-    processes.push(given(alloc, inputs)?)?;
+    processes.push(asked(alloc, row, kind, width)?)?;
+    processes.push(given(alloc, row)?)?;
     Ok(processes)
 }
 
@@ -154,26 +190,21 @@ fn top(alloc: Global) -> Result<Sequence<Node>, NoMemory> {
     Ok(nodes)
 }
 
-/// The design of a process and the inputs, where `y` has so many digits.
-pub fn design(
-    alloc: Global,
-    inputs: &Inputs,
-    width: u8,
-    process: Process,
-) -> Result<Flat, NoMemory> {
-    let processes = processes(alloc, inputs, process)?;
+/// The design of a row's process and its inputs, where `y` has so many digits.
+fn design(alloc: Global, row: &Row<'_>, kind: Kind, width: u8) -> Result<Flat, NoMemory> {
+    let signals = signals(alloc, width)?;
     let nodes = top(alloc)?;
     Ok(Flat {
-        signals: signals(alloc, width)?,
+        signals,
         nodes,
-        processes,
+        processes: processes(alloc, row, kind, width)?,
         step_fs: 1,
     })
 }
 
 /// The last values that were told, by the signals' numbers.
 #[derive(Drop)]
-pub struct Seen {
+struct Seen {
     values: Vec<Option<Bits>>,
 }
 
@@ -195,12 +226,16 @@ impl Seen {
         }
     }
 
-    /// Whether the signal has these digits, or was never told and they are all x.
-    pub fn is(&self, sig: SigId, digits: &str) -> bool {
-        let at = sig.0 as usize;
-        match self.values.get(at) {
-            Some(Some(bits)) => shows(*bits, digits),
-            _ => digits.as_bytes().iter().all(|byte| *byte == b'x'),
+    /// Adds the digits of a signal with so many: all x where nothing was told.
+    fn push(&self, out: &mut String, sig: SigId, width: u8) -> Result<(), NoMemory> {
+        match self.values.get(sig.0 as usize) {
+            Some(Some(bits)) => push_digits(out, *bits),
+            _ => {
+                for _ in 0..width {
+                    out.push('x')?;
+                }
+                Ok(())
+            }
         }
     }
 }
@@ -223,7 +258,7 @@ fn settle<K: Gpi>(kernel: &mut K, seen: &mut Seen) -> Result<bool, NoMemory>
 }
 
 /// What a design comes to; none where it isn't sound or doesn't come to rest.
-pub fn rest(alloc: Global, flat: &Flat) -> Result<Option<Seen>, NoMemory> {
+fn rest(alloc: Global, flat: &Flat) -> Result<Option<Seen>, NoMemory> {
     if !flat.is_sound() {
         return Ok(None);
     }
@@ -232,4 +267,27 @@ pub fn rest(alloc: Global, flat: &Flat) -> Result<Option<Seen>, NoMemory> {
     let mut seen = Seen::new(alloc, flat.signals.len())?;
     let rests = settle(&mut kernel, &mut seen)?;
     Ok(if rests { Some(seen) } else { None })
+}
+
+/// The values that a kind of row shows: `y`, or that and `z` and the words of the memory.
+fn values_text(alloc: Global, kind: Kind, seen: &Seen, width: u8) -> Result<String, NoMemory> {
+    let mut out = String::new(alloc);
+    seen.push(&mut out, Y, width)?;
+    if kind == Kind::Always {
+        for sig in [9, 4, 5, 6, 7] {
+            out.push(' ')?;
+            seen.push(&mut out, SigId(sig), 8)?;
+        }
+    }
+    Ok(out)
+}
+
+/// What the design of a row comes to, whose process has this kind.
+pub fn design_text(alloc: Global, row: &Row<'_>, kind: Kind) -> Result<String, NoMemory> {
+    let width = row.number(6).clamp(1, 128) as u8;
+    let flat = design(alloc, row, kind, width)?;
+    match rest(alloc, &flat)? {
+        Some(seen) => values_text(alloc, kind, &seen, width),
+        None => Ok(format!(in alloc; "no rest")?),
+    }
 }

@@ -3,11 +3,11 @@ ghost use Rattle.std.specs.Prelude.{◌≡◌, ◌≤◌, length, slice_index};
 ghost use Rattle.gpi.specs.Content.{opening};
 ghost use Rattle.gpi.specs.Design.{widths};
 
-use crate::designs::shows;
+use crate::designs::digits;
 use four_value::{Bits, Digit};
 use gpi::{
-    Act, Advance, Arith, Counts, Fired, Flat, Gpi, Key, Kind, Node, Object, Process, Region, SigId,
-    Signal, Spot, Target, Term, Told, Unary, Wake, WakeEdge,
+    Act, Advance, Arith, Fired, Flat, Gpi, Key, Kind, Moved, Node, Object, Process, SigId, Signal,
+    Spot, Target, Term, Unary, Wake, WakeEdge,
 };
 use list_kernel::ListKernel;
 use port_io::{Name, NoMemory, Sequence};
@@ -91,75 +91,51 @@ fn flip_flops(alloc: Global) -> Result<Flat, NoMemory> {
     design(alloc, signals, process)
 }
 
-/// What a call for an event is to answer: that nothing is left, or an event that tells a signal and its digits, highest
-/// first, or nothing, and that fires a key alone, or none.
-#[derive(Clone, Copy)]
-enum Answer {
-    Idle,
-    Event(Option<(u32, &'static str)>, Option<Key>),
-}
-
-/// Whether a change is the one that is wanted.
-fn tells(told: Option<Told>, wanted: Option<(u32, &'static str)>) -> bool {
-    match (told, wanted) {
-        (None, None) => true,
-        (Some(told), Some((sig, digits))) => told.sig == SigId(sig) && shows(told.bits, digits),
-        _ => false,
+/// Adds what an event told and fired.
+fn push_moved(alloc: Global, out: &mut String, moved: &Moved) -> Result<(), NoMemory> {
+    out.push_str("event")?;
+    if let Some(told) = moved.change {
+        let sig = told.sig.0;
+        let told = digits(alloc, told.bits)?;
+        let change = format!(in alloc; " {sig}={told}")?;
+        out.push_str(&change)?;
     }
+    push_fired(alloc, out, moved.fired, " ")
 }
 
-/// Whether this key alone fired, or none.
-fn fires(fired: Fired, wanted: Option<Key>) -> bool {
-    fired.first == wanted && fired.second == None
-}
-
-/// Whether the next call for an event answers this.
-fn answers<K: Gpi>(kernel: &mut K, wanted: Answer) -> Result<bool, NoMemory>
-    requires { K.is_loaded kernel.old }
-    ensures { K.is_loaded kernel.new }
-{
-    let advance = kernel.advance()?;
-    Ok(match (advance, wanted) {
-        (Advance::Idle, Answer::Idle) => true,
-        (Advance::Moved(moved), Answer::Event(change, key)) => {
-            tells(moved.change, change) && fires(moved.fired, key)
-        }
-        _ => false,
-    })
-}
-
-/// Whether the next calls for an event answer these, one after the other.
-fn all_answer<K: Gpi>(kernel: &mut K, wanted: &[Answer]) -> Result<bool, NoMemory>
-    requires { K.is_loaded kernel.old }
-    ensures { K.is_loaded kernel.new }
-{
-    for answer in wanted {
-        if !answers(kernel, *answer)? {
-            return Ok(false);
+/// Adds the keys that fired, each behind a mark.
+fn push_fired(alloc: Global, out: &mut String, fired: Fired, mark: &str) -> Result<(), NoMemory> {
+    for key in [fired.first, fired.second] {
+        if let Some(key) = key {
+            let shown = format!(in alloc; "{mark}{key:?}")?;
+            out.push_str(&shown)?;
         }
     }
-    Ok(true)
+    Ok(())
 }
 
-/// The oscillator's process runs, the digit of `y` is told, the process runs again, and nothing is left.
-static LOOP: [Answer; 4] = [
-    Answer::Event(None, None),
-    Answer::Event(Some((1, "x")), None),
-    Answer::Event(None, None),
-    Answer::Idle,
-];
-
-/// The flip-flop's process runs, its update is told, time moves on, and nothing is left.
-static FLIP_FLOP: [Answer; 4] = [
-    Answer::Event(None, None),
-    Answer::Event(Some((2, "zzzzzzzz")), None),
-    Answer::Event(None, Some(Key::At(5))),
-    Answer::Idle,
-];
+/// Adds the events of a simulator until nothing is left, 99 at most.
+fn push_events<K: Gpi>(alloc: Global, out: &mut String, kernel: &mut K) -> Result<(), NoMemory>
+    requires { K.is_loaded kernel.old }
+{
+    for _ in 0..99u8 {
+        match kernel.advance()? {
+            Advance::Idle => {
+                out.push_str("idle")?;
+                return Ok(());
+            }
+            Advance::Moved(moved) => {
+                push_moved(alloc, out, &moved)?;
+                out.push_str("; ")?;
+            }
+        }
+    }
+    Ok(())
+}
 
 /// The worked calls of the flip-flop, from the opening state on: two keys, a rise of the clock, a key that is removed, and events.
 #[tactic(auto, using(gpi::proofs::Widths::widths, list_kernel::proofs::Opening::start_length, list_kernel::proofs::Opening::start_widths))]
-fn flip_flop_calls<K: Gpi>(kernel: &mut K, flat: &Flat) -> Result<bool, NoMemory>
+fn flip_flop_calls<K: Gpi>(kernel: &mut K, flat: &Flat) -> Result<Fired, NoMemory>
     requires loaded { K.is_loaded kernel.old }
     requires opening { K.content kernel.old ≡ opening flat.now }
     requires three { 3 ≤ length flat.now.signals }
@@ -171,42 +147,75 @@ fn flip_flop_calls<K: Gpi>(kernel: &mut K, flat: &Flat) -> Result<bool, NoMemory
     let fired = kernel.deposit(SigId(0), Bits::all(1, Digit::One));
     kernel.register(Key::Fall(SigId(0)))?;
     kernel.remove(Key::Fall(SigId(0)));
-    Ok(fires(fired, Some(Key::Rise(SigId(0)))) && all_answer(kernel, &FLIP_FLOP)?)
+    Ok(fired)
 }
 
-#[test]
-fn a_loop_comes_to_rest(rt: HostRuntime) -> Result<(), NoMemory> {
-    let alloc = rt.alloc();
+/// The time, the region and the counts.
+fn push_state<K: Gpi>(alloc: Global, out: &mut String, kernel: &K) -> Result<(), NoMemory> {
+    let time = kernel.now();
+    let region = kernel.region();
+    let counts = kernel.counts();
+    let shown = format!(in alloc;
+        "; time {time} {region:?}; primed {}, removed {}, fired {}",
+        counts.primed, counts.removed, counts.fired
+    )?;
+    out.push_str(&shown)?;
+    Ok(())
+}
+
+/// The events of a design from its opening state on; nothing where it isn't sound.
+fn events_text(alloc: Global, kernel: &mut ListKernel, flat: &Flat) -> Result<String, NoMemory> {
+    let mut out = String::new(alloc);
+    if flat.is_sound() {
+        kernel.load(alloc, flat)?;
+        push_events(alloc, &mut out, kernel)?;
+    }
+    Ok(out)
+}
+
+/// The events of the oscillator.
+pub fn oscillator_text(alloc: Global) -> Result<String, NoMemory> {
     let flat = oscillator(alloc)?;
-    let mut kernel = ListKernel::new(alloc);
-    let sound = flat.is_sound();
-    assert!(rt; sound);
-    kernel.load(alloc, &flat)?;
-    assert!(rt; !kernel.idle());
-    assert!(rt; all_answer(&mut kernel, &LOOP)?);
-    Ok(())
+    events_text(alloc, &mut ListKernel::new(alloc), &flat)
 }
 
-#[test]
+/// The calls and the events of the flip-flop, and the state that they leave.
+fn calls_text<K: Gpi>(alloc: Global, kernel: &mut K, flat: &Flat) -> Result<String, NoMemory>
+    requires loaded { K.is_loaded kernel.old }
+    requires opening { K.content kernel.old ≡ opening flat.now }
+    requires three { 3 ≤ length flat.now.signals }
+    requires bit { slice_index (widths flat.now.signals) 0 ≡ 1 }
+{
+    let mut out = String::new(alloc);
+    let fired = flip_flop_calls(kernel, flat)?;
+    push_fired(alloc, &mut out, fired, "")?;
+    out.push_str("; ")?;
+    push_events(alloc, &mut out, kernel)?;
+    push_state(alloc, &mut out, kernel)?;
+    Ok(out)
+}
+
+/// The same on a simulator that is given the design; nothing where it isn't that of the flip-flop.
 #[tactic(auto, using(gpi::proofs::Sound::signals))]
-fn a_flip_flop_takes_its_value(rt: HostRuntime) -> Result<(), NoMemory> {
-    let alloc = rt.alloc();
-    let flat = flip_flops(alloc)?;
-    let mut kernel = ListKernel::new(alloc);
+fn loaded_text(alloc: Global, kernel: &mut ListKernel, flat: &Flat) -> Result<String, NoMemory> {
     let sound = flat.is_sound();
-    assert!(rt; sound);
+    if !sound {
+        return Ok(String::new(alloc));
+    }
     let three = flat.signals.len() == 3;
-    assert!(rt; three);
+    if !three {
+        return Ok(String::new(alloc));
+    }
     let bit = flat.signals.get(0).width == 1;
-    assert!(rt; bit);
-    kernel.load(alloc, &flat)?;
-    assert!(rt; flip_flop_calls(&mut kernel, &flat)?);
-    assert!(rt; kernel.now() == 5 && kernel.region() == Region::Begin);
-    let counts = Counts {
-        primed: 3,
-        removed: 1,
-        fired: 2,
-    };
-    assert!(rt; kernel.counts() == counts);
-    Ok(())
+    if !bit {
+        return Ok(String::new(alloc));
+    }
+    kernel.load(alloc, flat)?;
+    calls_text(alloc, kernel, flat)
+}
+
+/// What the flip-flop does when its clock rises.
+pub fn flip_flop_text(alloc: Global) -> Result<String, NoMemory> {
+    let flat = flip_flops(alloc)?;
+    loaded_text(alloc, &mut ListKernel::new(alloc), &flat)
 }

@@ -1,0 +1,91 @@
+//! Answers rows of the simulator, of the vectors and of the runner's edge: its standard input has one row in each line, and it
+//! prints a line for each.
+//!
+//! A row is parted by tabs: what is asked, the rule that the row shows, and what is given (`row.rt` tells the escapes in it).
+//! Asked is one of:
+//!
+//! - `assign`, `always`: what a design comes to, whose process `assign y = ..` or `always @(go) ..` is; the rule is what Verilog
+//!   writes for it, and given are the range of `a`, `y` and the words, the values of `a`, `b` and `c`, the width of `y`, and the
+//!   process (`word.rt` tells how it is written);
+//! - `oscillator`, `flip_flop`: the events of these two designs;
+//! - `reductions`, `rem`, `shl`, `ne`: operators on vectors;
+//! - `store`, `sink`: reads of a store in memory (names and limits), and puts into a sink in memory; `current`, `folder`: a read
+//!   of the current folder, and of one whose reader gives so many bytes at a time and fails at that read; `writer`: a put into
+//!   a writer with so much room that may be interrupted;
+//! - `name`, `sequence`, `place`: the small types.
+//!
+//! The gate compares what is printed with `stdout`.
+#![tactic(auto)]
+
+mod designs;
+mod files;
+mod kernel;
+mod lines;
+mod parts;
+mod row;
+mod vectors;
+mod word;
+
+use anyhow::{Result, ensure};
+use designs::design_text;
+use files::{current_text, folder_text, store_text};
+use gpi::Kind;
+use kernel::{flip_flop_text, oscillator_text};
+use lines::{name_text, place_text, sequence_text, sink_text, writer_text};
+use port_io::NoMemory;
+use row::{Row, push_bytes};
+use std::alloc::Global;
+use std::io::Read;
+use std::rt::Files;
+use vectors::vector_text;
+
+/// What a row of the simulator or of the vectors comes to.
+fn simulated(alloc: Global, row: &Row<'_>) -> Result<String, NoMemory> {
+    match row.part(0) {
+        b"assign" => design_text(alloc, row, Kind::Assign),
+        b"always" => design_text(alloc, row, Kind::Always),
+        b"oscillator" => oscillator_text(alloc),
+        b"flip_flop" => flip_flop_text(alloc),
+        _ => vector_text(alloc, row),
+    }
+}
+
+/// What a row comes to.
+fn shown<R: Files>(rt: &R, alloc: Global, row: &Row<'_>) -> Result<String, NoMemory> {
+    match row.part(0) {
+        b"store" => store_text(alloc, row),
+        b"sink" => sink_text(alloc, row),
+        b"current" => current_text(rt, alloc, row),
+        b"folder" => folder_text(alloc, row),
+        b"writer" => writer_text(alloc, row),
+        b"name" => name_text(alloc, row),
+        b"sequence" => sequence_text(alloc, row),
+        b"place" => place_text(alloc, row),
+        _ => simulated(alloc, row),
+    }
+}
+
+/// The answer for a row: its rule, and what it comes to.
+fn answer<R: Files>(rt: &R, alloc: Global, line: &[u8]) -> Result<String, NoMemory> {
+    let row = Row::of(alloc, line)?;
+    let mut out = String::new(alloc);
+    push_bytes(&mut out, row.part(1))?;
+    out.push_str(": ")?;
+    let shown = shown(rt, alloc, &row)?;
+    out.push_str(&shown)?;
+    Ok(out)
+}
+
+fn main(rt: HostRuntime) -> Result<()> {
+    let alloc = rt.alloc();
+    let mut rows = Vec::new(alloc);
+    rt.reader().read_to_end(&mut rows)?;
+    ensure!(rows.len() <= 1_048_576, "the rows are too long");
+    for line in rows.split(|byte| *byte == b'\n') {
+        if !line.is_empty() {
+            let shown = answer(&rt, alloc, line)?;
+            println!(rt; "{shown}")?;
+        }
+    }
+    Ok(())
+}
