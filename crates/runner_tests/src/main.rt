@@ -8,6 +8,7 @@
 //! - `kept`: the same, where all these rows have one simulator;
 //! - `run`: a run within a budget, of a design and tests; `trace`: a run whose told changes are written;
 //! - `design`, `flat`: what a design is read as, and what is simulated; `tests`: what tests are read as beside a design;
+//! - `release`: a key that the runner holds and lets go, at a simulator of the design, with the counts of keys;
 //! - `engine`: the path of the design's first signal, and the turn of an engine without a test;
 //! - `sig`, `stalled`, `fault`, `closing`: lines.
 //!
@@ -18,6 +19,7 @@ mod commands;
 mod engines;
 mod forms;
 mod lines;
+mod releases;
 mod row;
 mod runs;
 mod traces;
@@ -29,6 +31,7 @@ use forms::{design_text, file_text, flat_text};
 use lines::line_text;
 use list_kernel::ListKernel;
 use port_io::NoMemory;
+use releases::release_text;
 use row::{Row, push_bytes};
 use runs::run_text;
 use std::alloc::Global;
@@ -46,6 +49,7 @@ fn shown(alloc: Global, row: &Row<'_>, kernel: &mut ListKernel) -> Result<String
         b"flat" => flat_text(alloc, row),
         b"tests" => file_text(alloc, row),
         b"engine" => engine_text(alloc, row),
+        b"release" => release_text(alloc, row),
         _ => line_text(alloc, row),
     }
 }
