@@ -1,5 +1,5 @@
 -- Attributes of values, words of memories, and the calls `str`, `bool` and `len`.
-use Rattle.std.specs.Prelude.{ℕ, ◌+◌, ◌-◌, ◌^◌, ◌==◌, ◌&&◌, nat_lt, nat_le, Bool, true, false, List, [], ◌∷◌, length, codes, Option, Some, None, is_some, unwrap_or, if◌then◌else◌, Ok, Err, ℤ, pos, negsuc, ◌-ℤ◌}
+use Rattle.std.specs.Prelude.{ℕ, ◌+◌, ◌-◌, ◌^◌, ◌==◌, ◌&&◌, nat_lt, nat_le, List, [], ◌∷◌, length, codes, Option, Some, None, is_some, unwrap_or, if◌then◌else◌, Ok, Err, ℤ, pos, negsuc, ◌-ℤ◌}
 use Rattle.std.specs.Str.{bytes_eq}
 use Rattle.four_value.specs.declared.Digit.{Digit}
 use Rattle.four_value.specs.Vector.{number}
@@ -10,7 +10,7 @@ use Rattle.py_value.specs.Answer.{Answer, and_then}
 use Rattle.py_value.specs.Places.{Places}
 use Rattle.py_value.specs.Shown.{shown, digits_text}
 use Rattle.py_value.specs.declared.value.Value.{Value}
-use Rattle.py_value.specs.declared.value.Value.TheVariants.{Truth, Whole, Text, Vector, Words, Signal}
+use Rattle.py_value.specs.declared.value.Value.TheVariants.{Truth, Text, Vector, Words, Signal}
 use Rattle.py_operator.specs.Number.{one_number, whole}
 
 -- ---- texts

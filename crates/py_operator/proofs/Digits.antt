@@ -1,5 +1,5 @@
 -- Two vectors are one exactly where their digits are the same.
-use Rattle.std.proofs.Common.{◌≡◌, Bool, true, false, List, [], ◌∷◌, refl, sym, ap, ◌∙◌}
+use Rattle.std.proofs.Common.{◌≡◌, Bool, true, false, List, [], ◌∷◌, refl, sym}
 use Rattle.std.proofs.lemmas.Bool.{false_from_ne_true, and_parts}
 use mathlib.Core.Logic.{◌↔◌}
 use Rattle.four_value.specs.declared.Digit.{Digit}

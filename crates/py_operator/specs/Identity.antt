@@ -1,5 +1,5 @@
 -- Which values are the same (the language reference, 6.10.3, as far as values have an identity of their own).
-use Rattle.std.specs.Prelude.{ℕ, ◌==◌, Bool, true, false, not, ◌&&◌, List, [], ◌∷◌}
+use Rattle.std.specs.Prelude.{◌==◌, Bool, true, false, not, ◌&&◌}
 use Rattle.std.specs.Str.{bytes_eq}
 use Rattle.four_value.specs.Vector.{same_digits}
 use Rattle.py_integer.specs.Integer.{same_number}

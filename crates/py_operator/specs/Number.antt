@@ -1,6 +1,5 @@
 -- The numbers of values, and the results that a value can hold.
-use Rattle.std.specs.Prelude.{ℕ, Bool, List, Option, Some, None, Ok, Err, ℤ, pos}
-use Rattle.four_value.specs.declared.Digit.{Digit}
+use Rattle.std.specs.Prelude.{ℕ, Option, Some, None, Ok, Err, ℤ, pos}
 use Rattle.four_value.specs.Vector.{number}
 use Rattle.py_integer.specs.Integer.{truth_number}
 use Rattle.py_syntax.specs.declared.fault_kind.FaultKind.TheVariants.{TypeError, ValueError, OverflowError}

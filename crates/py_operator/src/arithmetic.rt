@@ -1,5 +1,5 @@
 //! Operators on two numbers.
-ghost use Rattle.std.specs.Prelude.{◌≡◌, Ok, Option};
+ghost use Rattle.std.specs.Prelude.{◌≡◌, Ok};
 ghost use Rattle.py_integer.specs.Integer.{number, held, held_shift, shifted_right, floor_quotient, floor_rest};
 ghost use Rattle.py_operator.specs.Operation as meaning;
 

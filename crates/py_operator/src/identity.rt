@@ -1,6 +1,5 @@
 //! Which values are the same.
 ghost use Rattle.std.specs.Prelude.{◌≡◌};
-ghost use Rattle.std.specs.Str.{bytes_eq};
 ghost use Rattle.four_value.specs.Vector.{same_digits};
 ghost use Rattle.py_operator.specs.Identity.{same_value, same_trigger, same_kind, same_id};
 

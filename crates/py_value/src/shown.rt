@@ -1,5 +1,5 @@
 //! The texts of values.
-ghost use Rattle.std.specs.Prelude.{◌≡◌, ◌++◌, IfOk};
+ghost use Rattle.std.specs.Prelude.{◌≡◌, IfOk};
 ghost use Rattle.std.specs.Fmt.{signed_decimal};
 ghost use Rattle.py_value.specs.Shown.{shown, digits_text, numbered, IsOf};
 
