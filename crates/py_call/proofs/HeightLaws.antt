@@ -7,68 +7,68 @@ use Rattle.py_call.specs.Kept.{kept, of_one, of_two, kept_optional, kept_list, g
 use Rattle.py_call.proofs.ValueLaws.{lowered_low, lowered_high}
 
 -- of a form of this height this is kept
-pub record Fits {A : Type 0} (x : A) (h : ℕ) (v : A × ℕ) : Type 0 where
-  pub whole : h ≤ 64 → v ≡ (x, h)
-  pub over : 64 < h → 64 < v.1
+pub record Fits (limit : ℕ) {A : Type 0} (x : A) (h : ℕ) (v : A × ℕ) : Type 0 where
+  pub whole : h ≤ limit → v ≡ (x, h)
+  pub over : limit < h → limit < v.1
 
-pub kept_fits : (e : Tree) → Fits e (height e) (kept e)
-kept_fits e = record {
-  whole = λ l. lowered_low 0 e (height e) (omega arith) ∙ ap (λ n. (e, n)) (let k : height e - 0 ≡ height e = omega arith in k);
-  over = λ l. rw (lowered_high 0 e (height e) (omega arith)) (omega arith);
+pub kept_fits : (limit : ℕ) (e : Tree) → Fits limit e (height e) (kept limit e)
+kept_fits limit e = record {
+  whole = λ l. lowered_low limit 0 e (height e) (omega arith) ∙ ap (λ n. (e, n)) (let k : height e - 0 ≡ height e = omega arith in k);
+  over = λ l. rw (lowered_high limit 0 e (height e) (omega arith)) (omega arith);
 }
 
-pub none_fits : {A : Type 0} (x : A) → Fits x 0 (x, 0)
-none_fits x = record { whole = λ l. refl; over = λ l. absurd (omega arith) }
+pub none_fits : (limit : ℕ) → {A : Type 0} (x : A) → Fits limit x 0 (x, 0)
+none_fits limit x = record { whole = λ l. refl; over = λ l. absurd (omega arith) }
 
-pub one_fits : {A B : Type 0} (make : A → B) (x : A) (h : ℕ) (v : A × ℕ) → Fits x h v → Fits (make x) h (of_one make v)
-one_fits make x h v f = record { whole = λ l. ap (λ w. of_one make w) (f.whole l); over = λ l. f.over l }
+pub one_fits : (limit : ℕ) → {A B : Type 0} (make : A → B) (x : A) (h : ℕ) (v : A × ℕ) → Fits limit x h v → Fits limit (make x) h (of_one make v)
+one_fits limit make x h v f = record { whole = λ l. ap (λ w. of_one make w) (f.whole l); over = λ l. f.over l }
 
-pub two_fits : {A B C : Type 0} (make : A → B → C) (x : A) (y : B) (g h : ℕ) (v : A × ℕ) (w : B × ℕ) → Fits x g v → Fits y h w → Fits (make x y) (max g h) (of_two make v w)
-two_fits make x y g h v w a b = record {
+pub two_fits : (limit : ℕ) → {A B C : Type 0} (make : A → B → C) (x : A) (y : B) (g h : ℕ) (v : A × ℕ) (w : B × ℕ) → Fits limit x g v → Fits limit y h w → Fits limit (make x y) (max g h) (of_two make v w)
+two_fits limit make x y g h v w a b = record {
   whole = λ l. ap (λ z. of_two make z w) (a.whole (omega arith)) ∙ ap (λ z. of_two make (x, g) z) (b.whole (omega arith));
-  over = λ l. go (at_most_or_more g 64) l;
+  over = λ l. go (at_most_or_more g limit) l;
 }
   where
-    go : (g ≤ 64) ⊎ (64 < g) → 64 < max g h → 64 < max v.1 w.1
-    go (inl k) l = let m : 64 < w.1 = b.over (omega arith) in omega arith
-    go (inr k) l = let m : 64 < v.1 = a.over k in omega arith
+    go : (g ≤ limit) ⊎ (limit < g) → limit < max g h → limit < max v.1 w.1
+    go (inl k) l = let m : limit < w.1 = b.over (omega arith) in omega arith
+    go (inr k) l = let m : limit < v.1 = a.over k in omega arith
 
-pub optional_fits : {A : Type 0} (of : A → ℕ) (keep : A → A × ℕ) → ((x : A) → Fits x (of x) (keep x)) → (o : Option A) → Fits o (optional_height of o) (kept_optional keep o)
-optional_fits of keep each None = none_fits None
-optional_fits of keep each (Some x) = one_fits (λ y. Some y) x (of x) (keep x) (each x)
+pub optional_fits : (limit : ℕ) → {A : Type 0} (of : A → ℕ) (keep : A → A × ℕ) → ((x : A) → Fits limit x (of x) (keep x)) → (o : Option A) → Fits limit o (optional_height of o) (kept_optional keep o)
+optional_fits limit of keep each None = none_fits limit None
+optional_fits limit of keep each (Some x) = one_fits limit (λ y. Some y) x (of x) (keep x) (each x)
 
-pub list_fits : {A : Type 0} (of : A → ℕ) (keep : A → A × ℕ) → ((x : A) → Fits x (of x) (keep x)) → (xs : List A) → Fits xs (greatest of xs) (kept_list keep xs)
+pub list_fits : (limit : ℕ) → {A : Type 0} (of : A → ℕ) (keep : A → A × ℕ) → ((x : A) → Fits limit x (of x) (keep x)) → (xs : List A) → Fits limit xs (greatest of xs) (kept_list keep xs)
 unfolding kept_list
-list_fits of keep each [] = none_fits []
-list_fits of keep each (x ∷ xs) = two_fits (λ y ys. y ∷ ys) x xs (of x) (greatest of xs) (keep x) (kept_list keep xs) (each x) (list_fits of keep each xs)
+list_fits limit of keep each [] = none_fits limit []
+list_fits limit of keep each (x ∷ xs) = two_fits limit (λ y ys. y ∷ ys) x xs (of x) (greatest of xs) (keep x) (kept_list keep xs) (each x) (list_fits limit of keep each xs)
 
-argument_fits : (x : Argument) → Fits x (argument_height x) (kept_argument x)
-argument_fits x = one_fits (given_as x.name) x.value (height x.value) (kept x.value) (kept_fits x.value)
+argument_fits : (limit : ℕ) (x : Argument) → Fits limit x (argument_height x) (kept_argument limit x)
+argument_fits limit x = one_fits limit (given_as x.name) x.value (height x.value) (kept limit x.value) (kept_fits limit x.value)
 
-arguments_fit : (xs : List Argument) → Fits xs (greatest argument_height xs) (kept_arguments xs)
-arguments_fit xs = list_fits argument_height kept_argument argument_fits xs
+arguments_fit : (limit : ℕ) (xs : List Argument) → Fits limit xs (greatest argument_height xs) (kept_arguments limit xs)
+arguments_fit limit xs = list_fits limit argument_height (kept_argument limit) (argument_fits limit) xs
 
-pub started_fits : (f : StartedCall) → Fits f (started_height f) (kept_started f)
-started_fits (FunctionCall n xs) = one_fits (FunctionCall n) xs _ _ (arguments_fit xs)
-started_fits (ClockStart e xs) = two_fits ClockStart e xs _ _ _ _ (kept_fits e) (arguments_fit xs)
+pub started_fits : (limit : ℕ) (f : StartedCall) → Fits limit f (started_height f) (kept_started limit f)
+started_fits limit (FunctionCall n xs) = one_fits limit (FunctionCall n) xs _ _ (arguments_fit limit xs)
+started_fits limit (ClockStart e xs) = two_fits limit ClockStart e xs _ _ _ _ (kept_fits limit e) (arguments_fit limit xs)
 
-timed_fits : (x : Timed) → Fits x (timed_height x) (kept_timed x)
-timed_fits (TimedValue e) = one_fits TimedValue e _ _ (kept_fits e)
-timed_fits (TimedCall f) = one_fits TimedCall f _ _ (started_fits f)
+timed_fits : (limit : ℕ) (x : Timed) → Fits limit x (timed_height x) (kept_timed limit x)
+timed_fits limit (TimedValue e) = one_fits limit TimedValue e _ _ (kept_fits limit e)
+timed_fits limit (TimedCall f) = one_fits limit TimedCall f _ _ (started_fits limit f)
 
-times_fit : (e : Tree) (u : Option Tree) → Fits (e, u) (max (height e) (optional_height height u)) (kept_times e u)
-times_fit e u = two_fits (λ t v. (t, v)) e u _ _ _ _ (kept_fits e) (optional_fits height kept kept_fits u)
+times_fit : (limit : ℕ) (e : Tree) (u : Option Tree) → Fits limit (e, u) (max (height e) (optional_height height u)) (kept_times limit e u)
+times_fit limit e u = two_fits limit (λ t v. (t, v)) e u _ _ _ _ (kept_fits limit e) (optional_fits limit height (kept limit) (kept_fits limit) u)
 
-pub awaited_fits : (a : Awaited) → Fits a (awaited_height a) (kept_awaited a)
-awaited_fits (AwaitedValue e) = one_fits AwaitedValue e _ _ (kept_fits e)
-awaited_fits (AwaitedCall f) = one_fits AwaitedCall f _ _ (started_fits f)
-awaited_fits (AwaitedStart f) = one_fits AwaitedStart f _ _ (started_fits f)
-awaited_fits (WithTimeout x e u) = two_fits timeout_of x (e, u) _ _ _ _ (timed_fits x) (times_fit e u)
+pub awaited_fits : (limit : ℕ) (a : Awaited) → Fits limit a (awaited_height a) (kept_awaited limit a)
+awaited_fits limit (AwaitedValue e) = one_fits limit AwaitedValue e _ _ (kept_fits limit e)
+awaited_fits limit (AwaitedCall f) = one_fits limit AwaitedCall f _ _ (started_fits limit f)
+awaited_fits limit (AwaitedStart f) = one_fits limit AwaitedStart f _ _ (started_fits limit f)
+awaited_fits limit (WithTimeout x e u) = two_fits limit timeout_of x (e, u) _ _ _ _ (timed_fits limit x) (times_fit limit e u)
 
-pub right_fits : (s : RightSide) → Fits s (right_height s) (kept_right s)
-right_fits (RightValue e) = one_fits RightValue e _ _ (kept_fits e)
-right_fits (RightAwait a) = one_fits RightAwait a _ _ (awaited_fits a)
-right_fits (RightStart f) = one_fits RightStart f _ _ (started_fits f)
-right_fits NewEvent = none_fits NewEvent
-right_fits NewLock = none_fits NewLock
-right_fits (RandomInt a b) = two_fits RandomInt a b _ _ _ _ (kept_fits a) (kept_fits b)
+pub right_fits : (limit : ℕ) (s : RightSide) → Fits limit s (right_height s) (kept_right limit s)
+right_fits limit (RightValue e) = one_fits limit RightValue e _ _ (kept_fits limit e)
+right_fits limit (RightAwait a) = one_fits limit RightAwait a _ _ (awaited_fits limit a)
+right_fits limit (RightStart f) = one_fits limit RightStart f _ _ (started_fits limit f)
+right_fits limit NewEvent = none_fits limit NewEvent
+right_fits limit NewLock = none_fits limit NewLock
+right_fits limit (RandomInt a b) = two_fits limit RandomInt a b _ _ _ _ (kept_fits limit a) (kept_fits limit b)

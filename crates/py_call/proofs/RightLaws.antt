@@ -62,68 +62,68 @@ two_is (a ∷ b ∷ c ∷ es) k h = absurd (not_some h)
 both_same : (a b c d : Tree) → a ∷ b ∷ [] ≡ c ∷ d ∷ [] → (a ≡ c) × (b ≡ d)
 both_same a b c d h = (cc, cc)
 
-both_kept : (es : List Tree) (k : Tree × Tree) → (kept_list kept es).0 ≡ k.0 ∷ k.1 ∷ [] → (a : Tree) × (b : Tree) × (es ≡ a ∷ b ∷ []) × ((RandomInt k.0 k.1, (kept_list kept es).1) ≡ kept_right (RandomInt a b))
+both_kept : (limit : ℕ) (es : List Tree) (k : Tree × Tree) → (kept_list (kept limit) es).0 ≡ k.0 ∷ k.1 ∷ [] → (a : Tree) × (b : Tree) × (es ≡ a ∷ b ∷ []) × ((RandomInt k.0 k.1, (kept_list (kept limit) es).1) ≡ kept_right limit (RandomInt a b))
 unfolding kept_list
-both_kept [] k h = absurd cc
-both_kept (a ∷ []) k h = absurd cc
-both_kept (a ∷ b ∷ []) k h =
-    let (p, q) = both_same (kept a).0 (kept b).0 k.0 k.1 h in (
+both_kept limit [] k h = absurd cc
+both_kept limit (a ∷ []) k h = absurd cc
+both_kept limit (a ∷ b ∷ []) k h =
+    let (p, q) = both_same (kept limit a).0 (kept limit b).0 k.0 k.1 h in (
       a,
       b,
       refl,
-      ap (λ n. (RandomInt k.0 k.1, n)) (let e : max (kept a).1 (max (kept b).1 0) ≡ max (kept a).1 (kept b).1 = omega arith in e)
-          ∙ ap (λ t. (RandomInt t k.1, max (kept a).1 (kept b).1)) (sym p)
-          ∙ ap (λ t. (RandomInt (kept a).0 t, max (kept a).1 (kept b).1)) (sym q),
+      ap (λ n. (RandomInt k.0 k.1, n)) (let e : max (kept limit a).1 (max (kept limit b).1 0) ≡ max (kept limit a).1 (kept limit b).1 = omega arith in e)
+          ∙ ap (λ t. (RandomInt t k.1, max (kept limit a).1 (kept limit b).1)) (sym p)
+          ∙ ap (λ t. (RandomInt (kept limit a).0 t, max (kept limit a).1 (kept limit b).1)) (sym q),
     )
-both_kept (a ∷ b ∷ c ∷ es) k h = absurd cc
+both_kept limit (a ∷ b ∷ c ∷ es) k h = absurd cc
 
-random_int_sound : (ts : List Token) (v : RightSide × ℕ) → random_int_of ts ≡ Some v → (a : Tree) × (b : Tree) × SpellsValues (a ∷ b ∷ []) ts [] × (v ≡ kept_right (RandomInt a b))
+random_int_sound : (limit : ℕ) (ts : List Token) (v : RightSide × ℕ) → random_int_of limit ts ≡ Some v → (a : Tree) × (b : Tree) × SpellsValues (a ∷ b ∷ []) ts [] × (v ≡ kept_right limit (RandomInt a b))
 unfolding random_int_of
-random_int_sound ts v h =
-    let (x, a, b) = also_is (values_of ts) (λ y. also (two_of y.0.0) (λ e. ended (RandomInt e.0 e.1, y.0.1) y.1)) v h in
+random_int_sound limit ts v h =
+    let (x, a, b) = also_is (values_of limit ts) (λ y. also (two_of y.0.0) (λ e. ended (RandomInt e.0 e.1, y.0.1) y.1)) v h in
     let (k, c, d) = also_is (two_of x.0.0) (λ e. ended (RandomInt e.0 e.1, x.0.1) x.1) v b in
     let (end, same) = ended_is (RandomInt k.0 k.1, x.0.1) v x.1 d in
-    let (es, s, is) = values_sound ts x.1 x.0 a in
-    let (e, f, list, kept) = both_kept es k (ap (λ (w : List Tree × ℕ). w.0) (sym is) ∙ two_is x.0.0 k c) in (
+    let (es, s, is) = values_sound limit ts x.1 x.0 a in
+    let (e, f, list, is_kept) = both_kept limit es k (ap (λ (w : List Tree × ℕ). w.0) (sym is) ∙ two_is x.0.0 k c) in (
       e,
       f,
       subst (λ us. SpellsValues (e ∷ f ∷ []) ts us) end (subst (λ zs. SpellsValues zs ts x.1) list s),
-      sym same ∙ ap (λ (w : List Tree × ℕ). (RandomInt k.0 k.1, w.1)) is ∙ kept,
+      sym same ∙ ap (λ (w : List Tree × ℕ). (RandomInt k.0 k.1, w.1)) is ∙ is_kept,
     )
 
-random_int_again : (a b : Tree) (ts : List Token) → SpellsValues (a ∷ b ∷ []) ts [] → random_int_of ts ≡ Some (kept_right (RandomInt a b))
+random_int_again : (limit : ℕ) (a b : Tree) (ts : List Token) → SpellsValues (a ∷ b ∷ []) ts [] → random_int_of limit ts ≡ Some (kept_right limit (RandomInt a b))
 unfolding random_int_of kept_list
-random_int_again a b ts s = rw (values_again (a ∷ b ∷ []) ts [] s)
-    (ap (λ n. Some (RandomInt (kept a).0 (kept b).0, n)) (let e : max (kept a).1 (max (kept b).1 0) ≡ max (kept a).1 (kept b).1 = omega arith in e))
+random_int_again limit a b ts s = rw (values_again limit (a ∷ b ∷ []) ts [] s)
+    (ap (λ n. Some (RandomInt (kept limit a).0 (kept limit b).0, n)) (let e : max (kept limit a).1 (max (kept limit b).1 0) ≡ max (kept limit a).1 (kept limit b).1 = omega arith in e))
 
 -- ---- all forms
 
-pub right_sound : (ts : List Token) (v : RightSide × ℕ) → right_of ts ≡ Some v → (s : RightSide) × SpellsRight s ts × (v ≡ kept_right s)
+pub right_sound : (limit : ℕ) (ts : List Token) (v : RightSide × ℕ) → right_of limit ts ≡ Some v → (s : RightSide) × SpellsRight s ts × (v ≡ kept_right limit s)
 unfolding right_of call_or_value_of start_soon_of right_value_of after
-right_sound ts v h = go (after_await ts) refl h
+right_sound limit ts v h = go (after_await ts) refl h
   where
     others : (a b c d : Option (List Token)) → after_member (codes "cocotb") (codes "start_soon") ts ≡ a → after_member (codes "random") (codes "randint") ts ≡ b
-        → after_call (codes "Event") ts ≡ c → after_call (codes "Lock") ts ≡ d → right_by ts a b c d ≡ Some v → (s : RightSide) × SpellsRight s ts × (v ≡ kept_right s)
+        → after_call (codes "Event") ts ≡ c → after_call (codes "Lock") ts ≡ d → right_by limit ts a b c d ≡ Some v → (s : RightSide) × SpellsRight s ts × (v ≡ kept_right limit s)
     others (Some us) b c d qa qb qc qd k =
-        let (w, i, j) = made_is (closed_start_of us) (of_one RightStart) v k in
-        let (f, vs, s, closes, same) = closed_start_sound us w i in
+        let (w, i, j) = made_is (closed_start_of limit us) (of_one RightStart) v k in
+        let (f, vs, s, closes, same) = closed_start_sound limit us w i in
         (RightStart f, (us, vs, after_member_is (codes "cocotb") (codes "start_soon") ts us qa, s, closes), sym j ∙ ap (λ z. of_one RightStart z) same)
     others None (Some us) c d qa qb qc qd k =
-        let (a, b, s, same) = random_int_sound us v k in
+        let (a, b, s, same) = random_int_sound limit us v k in
         (RandomInt a b, (us, after_member_is (codes "random") (codes "randint") ts us qb, s), same)
     others None None (Some us) d qa qb qc qd k =
         let (s, same) = new_sound NewEvent us v k in (NewEvent, new_spells (codes "Event") ts us (after_call_is (codes "Event") ts us qc) s, same)
     others None None None (Some us) qa qb qc qd k =
         let (s, same) = new_sound NewLock us v k in (NewLock, new_spells (codes "Lock") ts us (after_call_is (codes "Lock") ts us qd) s, same)
     others None None None None qa qb qc qd k =
-        let (w, i, j) = made_is (whole_value_of ts) (of_one RightValue) v k in
-        let (e, s, same) = whole_value_sound ts w i in
+        let (w, i, j) = made_is (whole_value_of limit ts) (of_one RightValue) v k in
+        let (e, s, same) = whole_value_sound limit ts w i in
         (RightValue e, s, sym j ∙ ap (λ z. of_one RightValue z) same)
 
-    go : (o : Option (List Token)) → after_await ts ≡ o → await_by ts o ≡ Some v → (s : RightSide) × SpellsRight s ts × (v ≡ kept_right s)
+    go : (o : Option (List Token)) → after_await ts ≡ o → await_by limit ts o ≡ Some v → (s : RightSide) × SpellsRight s ts × (v ≡ kept_right limit s)
     go (Some us) q k =
-        let (w, i, j) = made_is (awaited_of us) (of_one RightAwait) v k in
-        let (a, s, same) = awaited_sound us w i in
+        let (w, i, j) = made_is (awaited_of limit us) (of_one RightAwait) v k in
+        let (a, s, same) = awaited_sound limit us w i in
         (RightAwait a, (us, after_await_is ts us q, s), sym j ∙ ap (λ z. of_one RightAwait z) same)
     go None q k = others (after_member (codes "cocotb") (codes "start_soon") ts) (after_member (codes "random") (codes "randint") ts)
         (after_call (codes "Event") ts) (after_call (codes "Lock") ts) refl refl refl refl k
@@ -132,29 +132,29 @@ no_await : (ts us : List Token) → starts_expression ts ≡ true → after_awai
 unfolding after
 no_await ts us s h = let e : starts_expression (token.Keyword keyword.Await ∷ us) ≡ true = subst (λ zs. starts_expression zs ≡ true) (after_await_is ts us h) s in cc
 
-right_value_again : (e : Tree) (ts : List Token) → Spells e ts [] → right_of ts ≡ Some (kept_right (RightValue e))
+right_value_again : (limit : ℕ) (e : Tree) (ts : List Token) → Spells e ts [] → right_of limit ts ≡ Some (kept_right limit (RightValue e))
 unfolding right_of call_or_value_of right_value_of function_of method_of after
-right_value_again e ts s =
+right_value_again limit e ts s =
     let a : after_await ts ≡ None = fails (after_await ts) (λ us h. no_await ts us (begins e ts [] s) h) in
     let b : after_member (codes "cocotb") (codes "start_soon") ts ≡ None = fails (after_member (codes "cocotb") (codes "start_soon") ts)
-    (λ us h. no_value_member (codes "cocotb") (codes "start_soon") us e refl (subst (λ zs. Spells e zs []) (after_member_is (codes "cocotb") (codes "start_soon") ts us h) s)) in
+    (λ us h. no_value_member limit (codes "cocotb") (codes "start_soon") us e refl (subst (λ zs. Spells e zs []) (after_member_is (codes "cocotb") (codes "start_soon") ts us h) s)) in
     let c : after_member (codes "random") (codes "randint") ts ≡ None = fails (after_member (codes "random") (codes "randint") ts)
-    (λ us h. no_value_member (codes "random") (codes "randint") us e refl (subst (λ zs. Spells e zs []) (after_member_is (codes "random") (codes "randint") ts us h) s)) in
+    (λ us h. no_value_member limit (codes "random") (codes "randint") us e refl (subst (λ zs. Spells e zs []) (after_member_is (codes "random") (codes "randint") ts us h) s)) in
     let d : after_call (codes "Event") ts ≡ None = fails (after_call (codes "Event") ts)
-    (λ us h. no_value_call (codes "Event") us e refl (subst (λ zs. Spells e zs []) (after_call_is (codes "Event") ts us h) s)) in
+    (λ us h. no_value_call limit (codes "Event") us e refl (subst (λ zs. Spells e zs []) (after_call_is (codes "Event") ts us h) s)) in
     let f : after_call (codes "Lock") ts ≡ None = fails (after_call (codes "Lock") ts)
-    (λ us h. no_value_call (codes "Lock") us e refl (subst (λ zs. Spells e zs []) (after_call_is (codes "Lock") ts us h) s)) in
-    rw (a, b, c, d, f, whole_value_again e ts s)
+    (λ us h. no_value_call limit (codes "Lock") us e refl (subst (λ zs. Spells e zs []) (after_call_is (codes "Lock") ts us h) s)) in
+    rw (a, b, c, d, f, whole_value_again limit e ts s)
 
 new_reads : (name : List ℕ) (ts : List Token) → SpellsNew name ts → (us : List Token) × (ts ≡ call_tokens name us) × NewEnds us
 new_reads name ts (inl e) = (token.Close bracket.Round ∷ [], e, inl refl)
 new_reads name ts (inr (text, us, e, closes)) = (token.Text text ∷ us, e, inr (text, us, refl, closes))
 
-pub right_again : (s : RightSide) (ts : List Token) → SpellsRight s ts → right_of ts ≡ Some (kept_right s)
+pub right_again : (limit : ℕ) (s : RightSide) (ts : List Token) → SpellsRight s ts → right_of limit ts ≡ Some (kept_right limit s)
 unfolding right_of call_or_value_of start_soon_of after
-right_again (RightValue e) ts s = right_value_again e ts s
-right_again (RightAwait a) ts (us, e, s) = rw (e, awaited_again a us s)
-right_again (RightStart f) ts (us, vs, e, s, closes) = rw (e, closed_start_again f us vs s closes)
-right_again NewEvent ts s = let (us, e, ends) = new_reads (codes "Event") ts s in rw (e, new_again NewEvent us ends)
-right_again NewLock ts s = let (us, e, ends) = new_reads (codes "Lock") ts s in rw (e, new_again NewLock us ends)
-right_again (RandomInt a b) ts (us, e, s) = rw (e, random_int_again a b us s)
+right_again limit (RightValue e) ts s = right_value_again limit e ts s
+right_again limit (RightAwait a) ts (us, e, s) = rw (e, awaited_again limit a us s)
+right_again limit (RightStart f) ts (us, vs, e, s, closes) = rw (e, closed_start_again limit f us vs s closes)
+right_again limit NewEvent ts s = let (us, e, ends) = new_reads (codes "Event") ts s in rw (e, new_again NewEvent us ends)
+right_again limit NewLock ts s = let (us, e, ends) = new_reads (codes "Lock") ts s in rw (e, new_again NewLock us ends)
+right_again limit (RandomInt a b) ts (us, e, s) = rw (e, random_int_again limit a b us s)

@@ -1,5 +1,5 @@
 -- The laws of reading started calls.
-use Rattle.std.proofs.Common.{◌≡◌, ℕ, ◌+◌, List, [], ◌∷◌, Option, Some, None, refl, sym, ap, ◌∙◌, arith, ◌⊎◌, inl, inr, subst, true, false, Bool, ◌&&◌}
+use Rattle.std.proofs.Common.{◌≡◌, ℕ, ◌+◌, List, [], ◌∷◌, Option, Some, None, refl, sym, ap, ◌∙◌, arith, ◌⊎◌, inl, inr, subst, true, false, Bool, ◌&&◌, if◌then◌else◌}
 use Rattle.std.specs.Prelude.{codes}
 use Rattle.std.specs.Str.{bytes_eq}
 use Rattle.py_syntax.specs.ExpressionTrees.{Tree, Constant, FormatString, Name, Bracketed, Attribute, Subscript, Call, MethodCall, Unary, Infix, Trees, NoTree, Then}
@@ -13,6 +13,8 @@ use Rattle.py_syntax.specs.declared.operator.Bracket.TheVariants as bracket
 use Rattle.py_syntax.specs.declared.token.Token.{Token}
 use Rattle.py_syntax.specs.declared.token.Token.TheVariants as token
 use Rattle.py_expression.specs.Shown.{Shown, shown}
+use Rattle.py_expression.specs.Attributes.{split_of}
+use Rattle.py_expression.proofs.AttributeLaws.{split_is}
 use Rattle.py_phrase.specs.Marks.{after, after_open}
 use Rattle.py_expression.specs.Reading.{primary_of}
 use Rattle.py_expression.specs.Ends.{IsPlain, IsRead}
@@ -30,92 +32,85 @@ use Rattle.py_call.proofs.WordLaws.{call_at_is, closes_end}
 
 -- ---- what is kept of arguments has their names
 
-in_order_kept : (named : Bool) (xs : List Argument) → in_order_behind named (kept_arguments xs).0 ≡ in_order_behind named xs
+in_order_kept : (limit : ℕ) (named : Bool) (xs : List Argument) → in_order_behind named (kept_arguments limit xs).0 ≡ in_order_behind named xs
 unfolding in_order_behind kept_list
-in_order_kept named [] = refl
-in_order_kept named (x ∷ xs) = rw (in_order_kept true xs, in_order_kept false xs)
+in_order_kept limit named [] = refl
+in_order_kept limit named (x ∷ xs) = rw (in_order_kept limit true xs, in_order_kept limit false xs)
 
-clock_kept : (xs : List Argument) → starts_clock (kept_arguments xs).0 ≡ starts_clock xs
+clock_kept : (limit : ℕ) (xs : List Argument) → starts_clock (kept_arguments limit xs).0 ≡ starts_clock xs
 unfolding starts_clock kept_list
-clock_kept [] = refl
-clock_kept (x ∷ []) = refl
-clock_kept (x ∷ y ∷ []) = refl
-clock_kept (x ∷ y ∷ z ∷ xs) = refl
+clock_kept limit [] = refl
+clock_kept limit (x ∷ []) = refl
+clock_kept limit (x ∷ y ∷ []) = refl
+clock_kept limit (x ∷ y ∷ z ∷ xs) = refl
 
 -- ---- the call of a function
 
-function_call_is : (ts rest : List Token) (v : StartedCall × ℕ) → function_call_of ts ≡ Some (v, rest)
+function_call_is : (limit : ℕ) (ts rest : List Token) (v : StartedCall × ℕ) → function_call_of limit ts ≡ Some (v, rest)
     → (n : List ℕ) × (us : List Token) × (xs : List Argument) × (ts ≡ call_tokens n us) × SpellsArguments xs us rest × (in_order xs ≡ true) × (is_end rest ≡ true)
-    × (v ≡ kept_started (FunctionCall n xs))
+    × (v ≡ kept_started limit (FunctionCall n xs))
 unfolding function_call_of function_call_by after
-function_call_is ts rest v h =
-    let (c, a, b) = also_is (call_at ts) (λ d. also (arguments_of d.1) (function_call_by d.0)) (v, rest) h in
-    let (y, d, e) = also_is (arguments_of c.1) (function_call_by c.0) (v, rest) b in
+function_call_is limit ts rest v h =
+    let (c, a, b) = also_is (call_at ts) (λ d. also (arguments_of limit d.1) (function_call_by d.0)) (v, rest) h in
+    let (y, d, e) = also_is (arguments_of limit c.1) (function_call_by c.0) (v, rest) b in
     let (p, same) = choice_is (in_order y.0.0 && is_end y.1) (of_one (FunctionCall c.0) y.0, y.1) (v, rest) e in
     let (order, end) = and_is (in_order y.0.0) (is_end y.1) p in
-    let (xs, s, k) = arguments_sound c.1 y.1 y.0 d in
+    let (xs, s, k) = arguments_sound limit c.1 y.1 y.0 d in
     let rests : y.1 ≡ rest = ap (λ (w : (StartedCall × ℕ) × List Token). w.1) same in (
       c.0,
       c.1,
       xs,
       call_at_is ts c a,
       subst (λ us. SpellsArguments xs c.1 us) rests s,
-      sym (in_order_kept false xs) ∙ ap (λ (w : List Argument × ℕ). in_order w.0) (sym k) ∙ order,
+      sym (in_order_kept limit false xs) ∙ ap (λ (w : List Argument × ℕ). in_order w.0) (sym k) ∙ order,
       ap is_end (sym rests) ∙ end,
       sym (ap (λ (w : (StartedCall × ℕ) × List Token). w.0) same) ∙ ap (λ w. of_one (FunctionCall c.0) w) k,
     )
 
-function_call_sound : (ts rest : List Token) (v : StartedCall × ℕ) → function_call_of ts ≡ Some (v, rest) → (f : StartedCall) × SpellsStarted f ts rest × (v ≡ kept_started f)
-function_call_sound ts rest v h =
-    let (n, us, xs, e, s, order, end, k) = function_call_is ts rest v h in (FunctionCall n xs, (us, e, s, order), k)
+function_call_sound : (limit : ℕ) (ts rest : List Token) (v : StartedCall × ℕ) → function_call_of limit ts ≡ Some (v, rest) → (f : StartedCall) × SpellsStarted f ts rest × (v ≡ kept_started limit f)
+function_call_sound limit ts rest v h =
+    let (n, us, xs, e, s, order, end, k) = function_call_is limit ts rest v h in (FunctionCall n xs, (us, e, s, order), k)
 
-function_call_again : (n : List ℕ) (xs : List Argument) (ts rest : List Token) → SpellsStarted (FunctionCall n xs) ts rest → is_end rest ≡ true
-    → function_call_of ts ≡ Some (kept_started (FunctionCall n xs), rest)
+function_call_again : (limit : ℕ) (n : List ℕ) (xs : List Argument) (ts rest : List Token) → SpellsStarted (FunctionCall n xs) ts rest → is_end rest ≡ true
+    → function_call_of limit ts ≡ Some (kept_started limit (FunctionCall n xs), rest)
 unfolding function_call_of function_call_by after
-function_call_again n xs ts rest (us, e, s, order) end = rw (e, arguments_again xs us rest s, in_order_kept false xs, order, end)
+function_call_again limit n xs ts rest (us, e, s, order) end = rw (e, arguments_again limit xs us rest s, in_order_kept limit false xs, order, end)
 
 -- ---- the start of a clock
 
 owner_is : (name : List ℕ) (t e : Tree) → owner_of name t ≡ Some e → t ≡ Attribute e name
 unfolding owner_of
-owner_is name (Attribute b n) e h =
-    let (p, same) = choice_is (bytes_eq n name) b e h in ap (λ m. Attribute b m) (bytes_are n name p) ∙ ap (λ c. Attribute c name) same
-owner_is name (Constant c) e h = absurd (not_some h)
-owner_is name (FormatString ps) e h = absurd (not_some h)
-owner_is name (Name m) e h = absurd (not_some h)
-owner_is name (Bracketed b) e h = absurd (not_some h)
-owner_is name (Subscript b i) e h = absurd (not_some h)
-owner_is name (Call f es) e h = absurd (not_some h)
-owner_is name (MethodCall b m) e h = absurd (not_some h)
-owner_is name (Unary op b) e h = absurd (not_some h)
-owner_is name (Infix op l r) e h = absurd (not_some h)
+owner_is name t e h =
+    let (x, a, b) = also_is (split_of t) (λ y. if bytes_eq y.1 name then Some y.0 else None) e h in
+    let (p, same) = choice_is (bytes_eq x.1 name) x.0 e b in
+    split_is t x a ∙ ap (λ m. Attribute x.0 m) (bytes_are x.1 name p) ∙ ap (λ c. Attribute c name) same
 
 -- an attribute that is read, and the tokens after it
-pub attribute_read : (ts rest : List Token) (x : Shown) (b : Tree) (name : List ℕ) → primary_of ts ≡ Some (x, rest) → x.tree ≡ Attribute b name
-    → (e : Tree) × Spells e ts (token.Operator operator.Dot ∷ token.Name name ∷ rest) × (level e ≡ 12) × (lowered 1 b x.height ≡ kept e) × (x ≡ shown (Attribute e name))
+pub attribute_read : (limit : ℕ) (ts rest : List Token) (x : Shown) (b : Tree) (name : List ℕ) → primary_of limit ts ≡ Some (x, rest) → x.tree ≡ Attribute b name
+    → (e : Tree) × Spells e ts (token.Operator operator.Dot ∷ token.Name name ∷ rest) × (level e ≡ 12) × (lowered limit 1 b x.height ≡ kept limit e) × (x ≡ shown limit (Attribute e name))
 unfolding Spells
-attribute_read ts rest x b name h at =
-    let is : IsRead 12 ts x rest = primary_sound ts rest x h in
-    let (e, tree) = shown_is_attribute is.tree b name (ap (λ (s : Shown). s.tree) (sym is.kept) ∙ at) in
-    let same : x ≡ shown (Attribute e name) = is.kept ∙ ap shown tree in
+attribute_read limit ts rest x b name h at =
+    let is : IsRead limit 12 ts x rest = primary_sound limit ts rest x h in
+    let (e, tree) = shown_is_attribute limit is.tree b name (ap (λ (s : Shown). s.tree) (sym is.kept) ∙ at) in
+    let same : x ≡ shown limit (Attribute e name) = is.kept ∙ ap (shown limit) tree in
     let (us, s, l, eq) = subst (λ t. Spells t ts rest) tree is.spells in (
       e,
       subst (λ vs. Spells e ts vs) eq s,
       l,
-      ap (λ (s : Shown). lowered 1 b s.height) same ∙ kept_attribute e name b name (ap (λ (s : Shown). s.tree) (sym same) ∙ at),
+      ap (λ (s : Shown). lowered limit 1 b s.height) same ∙ kept_attribute limit e name b name (ap (λ (s : Shown). s.tree) (sym same) ∙ at),
       same,
     )
 
-clock_start_sound : (ts rest : List Token) (v : StartedCall × ℕ) → clock_start_of ts ≡ Some (v, rest) → (f : StartedCall) × SpellsStarted f ts rest × (v ≡ kept_started f)
+clock_start_sound : (limit : ℕ) (ts rest : List Token) (v : StartedCall × ℕ) → clock_start_of limit ts ≡ Some (v, rest) → (f : StartedCall) × SpellsStarted f ts rest × (v ≡ kept_started limit f)
 unfolding clock_start_of clock_start_from clock_start_by after
-clock_start_sound ts rest v h =
-    let (x, a, b) = also_is (primary_of ts) clock_start_from (v, rest) h in
-    let (c, d, e) = also_is (owner_of (codes "start") x.0.tree) (λ k. also (after_open x.1) (λ us. also (arguments_of us) (clock_start_by (lowered 1 k x.0.height)))) (v, rest) b in
-    let (us, f, g) = also_is (after_open x.1) (λ ws. also (arguments_of ws) (clock_start_by (lowered 1 c x.0.height))) (v, rest) e in
-    let (y, i, j) = also_is (arguments_of us) (clock_start_by (lowered 1 c x.0.height)) (v, rest) g in
-    let (p, same) = choice_is (starts_clock y.0.0) (of_two ClockStart (lowered 1 c x.0.height) y.0, y.1) (v, rest) j in
-    let (xs, s, k) = arguments_sound us y.1 y.0 i in
-    let (t, st, l, low, is) = attribute_read ts x.1 x.0 c (codes "start") a (owner_is (codes "start") x.0.tree c d) in (
+clock_start_sound limit ts rest v h =
+    let (x, a, b) = also_is (primary_of limit ts) (clock_start_from limit) (v, rest) h in
+    let (c, d, e) = also_is (owner_of (codes "start") x.0.tree) (λ k. also (after_open x.1) (λ us. also (arguments_of limit us) (clock_start_by (lowered limit 1 k x.0.height)))) (v, rest) b in
+    let (us, f, g) = also_is (after_open x.1) (λ ws. also (arguments_of limit ws) (clock_start_by (lowered limit 1 c x.0.height))) (v, rest) e in
+    let (y, i, j) = also_is (arguments_of limit us) (clock_start_by (lowered limit 1 c x.0.height)) (v, rest) g in
+    let (p, same) = choice_is (starts_clock y.0.0) (of_two ClockStart (lowered limit 1 c x.0.height) y.0, y.1) (v, rest) j in
+    let (xs, s, k) = arguments_sound limit us y.1 y.0 i in
+    let (t, st, l, low, is) = attribute_read limit ts x.1 x.0 c (codes "start") a (owner_is (codes "start") x.0.tree c d) in (
       ClockStart t xs,
       (
         token.Operator operator.Dot ∷ token.Name (codes "start") ∷ x.1,
@@ -124,35 +119,35 @@ clock_start_sound ts rest v h =
         l,
         ap (λ ws. token.Operator operator.Dot ∷ token.Name (codes "start") ∷ ws) (after_open_is x.1 us f),
         subst (λ ws. SpellsArguments xs us ws) (ap (λ (w : (StartedCall × ℕ) × List Token). w.1) same) s,
-        sym (clock_kept xs) ∙ ap (λ (w : List Argument × ℕ). starts_clock w.0) (sym k) ∙ p,
+        sym (clock_kept limit xs) ∙ ap (λ (w : List Argument × ℕ). starts_clock w.0) (sym k) ∙ p,
       ),
-      sym (ap (λ (w : (StartedCall × ℕ) × List Token). w.0) same) ∙ ap (λ w. of_two ClockStart w y.0) low ∙ ap (λ w. of_two ClockStart (kept t) w) k,
+      sym (ap (λ (w : (StartedCall × ℕ) × List Token). w.0) same) ∙ ap (λ w. of_two ClockStart w y.0) low ∙ ap (λ w. of_two ClockStart (kept limit t) w) k,
     )
 
 -- an attribute that an opening bracket follows is read
-pub attribute_again : (e : Tree) (name : List ℕ) (ts us : List Token) → Spells e ts (method_tokens name us) → level e ≡ 12 → IsPlain (Attribute e name)
-    → primary_of ts ≡ Some (shown (Attribute e name), token.Open bracket.Round ∷ us)
+pub attribute_again : (limit : ℕ) (e : Tree) (name : List ℕ) (ts us : List Token) → Spells e ts (method_tokens name us) → level e ≡ 12 → IsPlain (Attribute e name)
+    → primary_of limit ts ≡ Some (shown limit (Attribute e name), token.Open bracket.Round ∷ us)
 unfolding Spells level
-attribute_again e name ts us s l p =
-    primary_again (Attribute e name) ts (token.Open bracket.Round ∷ us) (method_tokens name us, s, l, refl) (omega arith) (stops_open 12 (Attribute e name) us (omega arith) p)
+attribute_again limit e name ts us s l p =
+    primary_again limit (Attribute e name) ts (token.Open bracket.Round ∷ us) (method_tokens name us, s, l, refl) (omega arith) (stops_open 12 (Attribute e name) us (omega arith) p)
 
 start_plain : (e : Tree) → IsPlain (Attribute e (codes "start"))
 unfolding IsPlain method_of
 start_plain e = refl
 
-clock_from : (e b : Tree) (xs : List Argument) (vs rest : List Token) → (shown (Attribute e (codes "start"))).tree ≡ Attribute b (codes "start")
+clock_from : (limit : ℕ) (e b : Tree) (xs : List Argument) (vs rest : List Token) → (shown limit (Attribute e (codes "start"))).tree ≡ Attribute b (codes "start")
     → SpellsArguments xs vs rest → starts_clock xs ≡ true
-    → clock_start_from (shown (Attribute e (codes "start")), token.Open bracket.Round ∷ vs) ≡ Some (kept_started (ClockStart e xs), rest)
-unfolding clock_start_from clock_start_by owner_of after
-clock_from e b xs vs rest at s fits =
-    rw (at, arguments_again xs vs rest s, clock_kept xs, fits, kept_attribute e (codes "start") b (codes "start") at)
+    → clock_start_from limit (shown limit (Attribute e (codes "start")), token.Open bracket.Round ∷ vs) ≡ Some (kept_started limit (ClockStart e xs), rest)
+unfolding clock_start_from clock_start_by owner_of split_of after
+clock_from limit e b xs vs rest at s fits =
+    rw (at, arguments_again limit xs vs rest s, clock_kept limit xs, fits, kept_attribute limit e (codes "start") b (codes "start") at)
 
-clock_start_again : (e : Tree) (xs : List Argument) (ts rest : List Token) → SpellsStarted (ClockStart e xs) ts rest
-    → clock_start_of ts ≡ Some (kept_started (ClockStart e xs), rest)
+clock_start_again : (limit : ℕ) (e : Tree) (xs : List Argument) (ts rest : List Token) → SpellsStarted (ClockStart e xs) ts rest
+    → clock_start_of limit ts ≡ Some (kept_started limit (ClockStart e xs), rest)
 unfolding clock_start_of after
-clock_start_again e xs ts rest (us, vs, s, l, eq, sa, fits) =
-    let (b, at) = attribute_is_shown e (codes "start") in
-    rw (attribute_again e (codes "start") ts vs (subst (λ ws. Spells e ts ws) eq s) l (start_plain e)) (clock_from e b xs vs rest at sa fits)
+clock_start_again limit e xs ts rest (us, vs, s, l, eq, sa, fits) =
+    let (b, at) = attribute_is_shown limit e (codes "start") in
+    rw (attribute_again limit e (codes "start") ts vs (subst (λ ws. Spells e ts ws) eq s) l (start_plain e)) (clock_from limit e b xs vs rest at sa fits)
 
 -- ---- a call at the front of a clock's start
 
@@ -214,15 +209,15 @@ heads (Unary op x) n us rest l s = go (prefix_range op)
 heads (Infix op x y) n us rest l s = absurd (omega (arith, (level_below op).1))
 
 -- Where a clock's start stands, no call of a function stands that ends as a started call does.
-no_function_call : (e : Tree) (ts vs rest : List Token) (v : StartedCall × ℕ) → Spells e ts (method_tokens (codes "start") vs) → level e ≡ 12
-    → function_call_of ts ≡ Some (v, rest) → ⊥
-no_function_call e ts vs rest v s l h =
-    let (n, us, xs, eq, sa, order, end, k) = function_call_is ts rest v h in
+no_function_call : (limit : ℕ) (e : Tree) (ts vs rest : List Token) (v : StartedCall × ℕ) → Spells e ts (method_tokens (codes "start") vs) → level e ≡ 12
+    → function_call_of limit ts ≡ Some (v, rest) → ⊥
+no_function_call limit e ts vs rest v s l h =
+    let (n, us, xs, eq, sa, order, end, k) = function_call_is limit ts rest v h in
     go us xs sa end (heads e n us (method_tokens (codes "start") vs) l (subst (λ ws. Spells e ws (method_tokens (codes "start") vs)) eq s))
   where
     ends : (us mid : List Token) (xs ys : List Argument) → SpellsArguments xs us rest → SpellsArguments ys us mid → is_end rest ≡ true → is_end mid ≡ false → ⊥
     ends us mid xs ys a b does never =
-        let same : rest ≡ mid = ap (λ (w : (List Argument × ℕ) × List Token). w.1) (some_same (sym (arguments_again xs us rest a) ∙ arguments_again ys us mid b)) in
+        let same : rest ≡ mid = ap (λ (w : (List Argument × ℕ) × List Token). w.1) (some_same (sym (arguments_again limit xs us rest a) ∙ arguments_again limit ys us mid b)) in
         let both : true ≡ false = sym does ∙ ap is_end same ∙ never in cc
 
     go : (us : List Token) (xs : List Argument) → SpellsArguments xs us rest → is_end rest ≡ true → Heads us (method_tokens (codes "start") vs) → ⊥
@@ -232,34 +227,34 @@ no_function_call e ts vs rest v s l h =
 
 -- ---- a started call
 
-pub started_sound : (ts rest : List Token) (v : StartedCall × ℕ) → started_of ts ≡ Some (v, rest) → (f : StartedCall) × SpellsStarted f ts rest × (v ≡ kept_started f)
+pub started_sound : (limit : ℕ) (ts rest : List Token) (v : StartedCall × ℕ) → started_of limit ts ≡ Some (v, rest) → (f : StartedCall) × SpellsStarted f ts rest × (v ≡ kept_started limit f)
 unfolding started_of
-started_sound ts rest v h = go (or_is (function_call_of ts) (clock_start_of ts) (v, rest) h)
+started_sound limit ts rest v h = go (or_is (function_call_of limit ts) (clock_start_of limit ts) (v, rest) h)
   where
-    go : (function_call_of ts ≡ Some (v, rest)) ⊎ ((function_call_of ts ≡ None) × (clock_start_of ts ≡ Some (v, rest)))
-        → (f : StartedCall) × SpellsStarted f ts rest × (v ≡ kept_started f)
-    go (inl k) = function_call_sound ts rest v k
-    go (inr k) = clock_start_sound ts rest v k.1
+    go : (function_call_of limit ts ≡ Some (v, rest)) ⊎ ((function_call_of limit ts ≡ None) × (clock_start_of limit ts ≡ Some (v, rest)))
+        → (f : StartedCall) × SpellsStarted f ts rest × (v ≡ kept_started limit f)
+    go (inl k) = function_call_sound limit ts rest v k
+    go (inr k) = clock_start_sound limit ts rest v k.1
 
-pub started_again : (f : StartedCall) (ts rest : List Token) → SpellsStarted f ts rest → is_end rest ≡ true → started_of ts ≡ Some (kept_started f, rest)
+pub started_again : (limit : ℕ) (f : StartedCall) (ts rest : List Token) → SpellsStarted f ts rest → is_end rest ≡ true → started_of limit ts ≡ Some (kept_started limit f, rest)
 unfolding started_of
-started_again (FunctionCall n xs) ts rest s end = rw (function_call_again n xs ts rest s end)
-started_again (ClockStart e xs) ts rest s end = go (function_call_of ts) refl
+started_again limit (FunctionCall n xs) ts rest s end = rw (function_call_again limit n xs ts rest s end)
+started_again limit (ClockStart e xs) ts rest s end = go (function_call_of limit ts) refl
   where
-    go : (o : Option ((StartedCall × ℕ) × List Token)) → function_call_of ts ≡ o → or_else o (clock_start_of ts) ≡ Some (kept_started (ClockStart e xs), rest)
-    go None q = clock_start_again e xs ts rest s
+    go : (o : Option ((StartedCall × ℕ) × List Token)) → function_call_of limit ts ≡ o → or_else o (clock_start_of limit ts) ≡ Some (kept_started limit (ClockStart e xs), rest)
+    go None q = clock_start_again limit e xs ts rest s
     go (Some y) q =
         let (us, vs, sp, l, eq, sa, fits) = s in
-        absurd (no_function_call e ts vs y.1 y.0 (subst (λ ws. Spells e ts ws) eq sp) l q)
+        absurd (no_function_call limit e ts vs y.1 y.0 (subst (λ ws. Spells e ts ws) eq sp) l q)
 
-pub closed_start_sound : (ts : List Token) (v : StartedCall × ℕ) → closed_start_of ts ≡ Some v → (f : StartedCall) × (us : List Token) × SpellsStarted f ts us × Closes us [] × (v ≡ kept_started f)
+pub closed_start_sound : (limit : ℕ) (ts : List Token) (v : StartedCall × ℕ) → closed_start_of limit ts ≡ Some v → (f : StartedCall) × (us : List Token) × SpellsStarted f ts us × Closes us [] × (v ≡ kept_started limit f)
 unfolding closed_start_of
-closed_start_sound ts v h =
-    let (x, a, b) = also_is (started_of ts) (λ y. closed y.0 y.1) v h in
+closed_start_sound limit ts v h =
+    let (x, a, b) = also_is (started_of limit ts) (λ y. closed y.0 y.1) v h in
     let (closes, same) = closed_is x.0 v x.1 b in
-    let (f, s, k) = started_sound ts x.1 x.0 a in
+    let (f, s, k) = started_sound limit ts x.1 x.0 a in
     (f, x.1, s, closes, sym same ∙ k)
 
-pub closed_start_again : (f : StartedCall) (ts us : List Token) → SpellsStarted f ts us → Closes us [] → closed_start_of ts ≡ Some (kept_started f)
+pub closed_start_again : (limit : ℕ) (f : StartedCall) (ts us : List Token) → SpellsStarted f ts us → Closes us [] → closed_start_of limit ts ≡ Some (kept_started limit f)
 unfolding closed_start_of
-closed_start_again f ts us s closes = rw (started_again f ts us s (closes_end us [] closes)) (closed_again (kept_started f) us closes)
+closed_start_again limit f ts us s closes = rw (started_again limit f ts us s (closes_end us [] closes)) (closed_again (kept_started limit f) us closes)

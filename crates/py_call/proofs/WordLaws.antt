@@ -83,18 +83,18 @@ closes_end ts rest (inl e) = rw e
 closes_end ts rest (inr e) = rw e
 
 -- an expression that nothing goes on with, and another one that reaches to the end of the line
-pub no_other : (e f : Tree) (ts us : List Token) → Spells e ts (token.Open bracket.Round ∷ us) → IsPlain e → Spells f ts [] → ⊥
+pub no_other : (limit : ℕ) (e f : Tree) (ts us : List Token) → Spells e ts (token.Open bracket.Round ∷ us) → IsPlain e → Spells f ts [] → ⊥
 unfolding after
-no_other e f ts us s p t =
-    let a = expression_again e ts (token.Open bracket.Round ∷ us) s (stops_open 1 e us (omega arith) p) in
-    let b = expression_again f ts [] t (stops_quiet 1 f [] (omega arith) quiet_end) in
+no_other limit e f ts us s p t =
+    let a = expression_again limit e ts (token.Open bracket.Round ∷ us) s (stops_open 1 e us (omega arith) p) in
+    let b = expression_again limit f ts [] t (stops_quiet 1 f [] (omega arith) quiet_end) in
     let same : token.Open bracket.Round ∷ us ≡ [] = ap (λ (x : Shown × List Token). x.1) (some_same (sym a ∙ b)) in
     cc
 
-pub no_value_call : (name : List ℕ) (us : List Token) (e : Tree) → function_of name ≡ None → Spells e (call_tokens name us) [] → ⊥
+pub no_value_call : (limit : ℕ) (name : List ℕ) (us : List Token) (e : Tree) → function_of name ≡ None → Spells e (call_tokens name us) [] → ⊥
 unfolding Spells IsPlain
-no_value_call name us e h s = no_other (Name name) e (call_tokens name us) us refl h s
+no_value_call limit name us e h s = no_other limit (Name name) e (call_tokens name us) us refl h s
 
-pub no_value_member : (owner name : List ℕ) (us : List Token) (e : Tree) → method_of name ≡ None → Spells e (member_tokens owner name us) [] → ⊥
+pub no_value_member : (limit : ℕ) (owner name : List ℕ) (us : List Token) (e : Tree) → method_of name ≡ None → Spells e (member_tokens owner name us) [] → ⊥
 unfolding Spells IsPlain level
-no_value_member owner name us e h s = no_other (Attribute (Name owner) name) e (member_tokens owner name us) us (method_tokens name us, refl, refl, refl) h s
+no_value_member limit owner name us e h s = no_other limit (Attribute (Name owner) name) e (member_tokens owner name us) us (method_tokens name us, refl, refl, refl) h s

@@ -1,16 +1,16 @@
--- What is kept of a form while a line is read, and the greatest height of its expressions. In the place of an expression over the limit,
--- 64, another stands, and its height counts as 65.
+-- What is kept of a form while a line is read, and the greatest height of its expressions. In the place of an expression over the limit
+-- on heights another stands, and its height counts as one above the limit.
 use Rattle.std.specs.Prelude.{ℕ, ◌+◌, ◌-◌, max, nat_le, List, [], ◌∷◌, Option, Some, None, if◌then◌else◌}
 use Rattle.py_syntax.specs.ExpressionTrees.{Tree, height}
 use Rattle.py_syntax.specs.StatementTrees.{Argument, StartedCall, FunctionCall, ClockStart, Timed, TimedValue, TimedCall, Awaited, AwaitedValue, AwaitedCall, AwaitedStart, WithTimeout, RightSide, RightValue, RightAwait, RightStart, NewEvent, NewLock, RandomInt}
 use Rattle.py_expression.specs.Shown.{nothing}
 
 -- an expression of this height less so many attributes, which are taken off it
-unfoldable pub lowered : ℕ → Tree → ℕ → Tree × ℕ
-lowered n e h = if nat_le h (64 + n) then (e, h - n) else (nothing, 65)
+unfoldable pub lowered : ℕ → ℕ → Tree → ℕ → Tree × ℕ
+lowered limit n e h = if nat_le h (limit + n) then (e, h - n) else (nothing, limit + 1)
 
-abbrev pub kept : Tree → Tree × ℕ
-kept e = lowered 0 e (height e)
+abbrev pub kept : ℕ → Tree → Tree × ℕ
+kept limit e = lowered limit 0 e (height e)
 
 -- made of one, or of two
 
@@ -31,36 +31,36 @@ kept_list keep (x ∷ xs) = of_two (λ y ys. y ∷ ys) (keep x) (kept_list keep 
 abbrev pub given_as : Option (List ℕ) → Tree → Argument
 given_as name e = record { name = name; value = e }
 
-abbrev pub kept_argument : Argument → Argument × ℕ
-kept_argument x = of_one (given_as x.name) (kept x.value)
+abbrev pub kept_argument : ℕ → Argument → Argument × ℕ
+kept_argument limit x = of_one (given_as x.name) (kept limit x.value)
 
-abbrev pub kept_arguments : List Argument → List Argument × ℕ
-kept_arguments xs = kept_list kept_argument xs
+abbrev pub kept_arguments : ℕ → List Argument → List Argument × ℕ
+kept_arguments limit xs = kept_list (kept_argument limit) xs
 
-abbrev pub kept_started : StartedCall → StartedCall × ℕ
-kept_started (FunctionCall n xs) = of_one (FunctionCall n) (kept_arguments xs)
-kept_started (ClockStart e xs) = of_two ClockStart (kept e) (kept_arguments xs)
+abbrev pub kept_started : ℕ → StartedCall → StartedCall × ℕ
+kept_started limit (FunctionCall n xs) = of_one (FunctionCall n) (kept_arguments limit xs)
+kept_started limit (ClockStart e xs) = of_two ClockStart (kept limit e) (kept_arguments limit xs)
 
-abbrev pub kept_timed : Timed → Timed × ℕ
-kept_timed (TimedValue e) = of_one TimedValue (kept e)
-kept_timed (TimedCall f) = of_one TimedCall (kept_started f)
+abbrev pub kept_timed : ℕ → Timed → Timed × ℕ
+kept_timed limit (TimedValue e) = of_one TimedValue (kept limit e)
+kept_timed limit (TimedCall f) = of_one TimedCall (kept_started limit f)
 
 abbrev pub timeout_of : Timed → Tree × Option Tree → Awaited
 timeout_of x t = WithTimeout x t.0 t.1
 
-abbrev pub kept_times : Tree → Option Tree → (Tree × Option Tree) × ℕ
-kept_times e u = of_two (λ t v. (t, v)) (kept e) (kept_optional kept u)
+abbrev pub kept_times : ℕ → Tree → Option Tree → (Tree × Option Tree) × ℕ
+kept_times limit e u = of_two (λ t v. (t, v)) (kept limit e) (kept_optional (kept limit) u)
 
-abbrev pub kept_awaited : Awaited → Awaited × ℕ
-kept_awaited (AwaitedValue e) = of_one AwaitedValue (kept e)
-kept_awaited (AwaitedCall f) = of_one AwaitedCall (kept_started f)
-kept_awaited (AwaitedStart f) = of_one AwaitedStart (kept_started f)
-kept_awaited (WithTimeout x e u) = of_two timeout_of (kept_timed x) (kept_times e u)
+abbrev pub kept_awaited : ℕ → Awaited → Awaited × ℕ
+kept_awaited limit (AwaitedValue e) = of_one AwaitedValue (kept limit e)
+kept_awaited limit (AwaitedCall f) = of_one AwaitedCall (kept_started limit f)
+kept_awaited limit (AwaitedStart f) = of_one AwaitedStart (kept_started limit f)
+kept_awaited limit (WithTimeout x e u) = of_two timeout_of (kept_timed limit x) (kept_times limit e u)
 
-abbrev pub kept_right : RightSide → RightSide × ℕ
-kept_right (RightValue e) = of_one RightValue (kept e)
-kept_right (RightAwait a) = of_one RightAwait (kept_awaited a)
-kept_right (RightStart f) = of_one RightStart (kept_started f)
-kept_right NewEvent = (NewEvent, 0)
-kept_right NewLock = (NewLock, 0)
-kept_right (RandomInt a b) = of_two RandomInt (kept a) (kept b)
+abbrev pub kept_right : ℕ → RightSide → RightSide × ℕ
+kept_right limit (RightValue e) = of_one RightValue (kept limit e)
+kept_right limit (RightAwait a) = of_one RightAwait (kept_awaited limit a)
+kept_right limit (RightStart f) = of_one RightStart (kept_started limit f)
+kept_right limit NewEvent = (NewEvent, 0)
+kept_right limit NewLock = (NewLock, 0)
+kept_right limit (RandomInt a b) = of_two RandomInt (kept limit a) (kept limit b)

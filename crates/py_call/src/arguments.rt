@@ -1,5 +1,6 @@
 //! The arguments of a call.
 
+ghost use Rattle.py_expression.specs.Shown.{height_limit};
 ghost use Rattle.std.specs.Prelude.{◌≡◌, [], map, Some, None, IfOk, MatchOption};
 ghost use Rattle.py_syntax.specs.ExpressionTrees.{view};
 ghost use Rattle.py_syntax.specs.StatementTrees.{view_argument};
@@ -65,7 +66,7 @@ fn begin<'a>(alloc: Global, tokens: &'a [Token]) -> Result<(Option<Name>, &'a [T
 /// One argument with the height of its value, and the tokens after it.
 #[tactic(auto, unfolding(crate::specs::Reading::argument_of))]
 fn argument(alloc: Global, tokens: &[Token]) -> Result<((Argument, usize), &[Token]), ReadError>
-    ensures { Gives (ahead view_argument) result (Reading.argument_of tokens.now) }
+    ensures { Gives (ahead view_argument) result (Reading.argument_of height_limit tokens.now) }
 {
     let (name, rest) = begin(alloc, tokens)?;
     let ((value, height), rest) = value(alloc, rest)?;
@@ -90,7 +91,7 @@ fn behind<'a>(all: Arguments, tokens: &'a [Token]) -> Result<Step<'a>, ReadError
 /// One argument more.
 #[tactic(auto, unfolding(crate::specs::Reading::step_of))]
 fn advance<'a>(alloc: Global, all: Arguments, tokens: &'a [Token]) -> Result<Step<'a>, ReadError>
-    ensures { Gives step_in result (Reading.step_of (arguments_in all) tokens.now) }
+    ensures { Gives step_in result (Reading.step_of height_limit (arguments_in all) tokens.now) }
 {
     let ((argument, height), rest) = argument(alloc, tokens)?;
     behind(all.with(argument, height)?, rest)
@@ -98,7 +99,7 @@ fn advance<'a>(alloc: Global, all: Arguments, tokens: &'a [Token]) -> Result<Ste
 
 /// One argument at least.
 fn some_arguments(alloc: Global, tokens: &[Token]) -> Result<(Arguments, &[Token]), ReadError>
-    ensures { Gives arguments_ahead result (Reading.some_arguments_of tokens.now) }
+    ensures { Gives arguments_ahead result (Reading.some_arguments_of height_limit tokens.now) }
 {
     let mut all = Arguments::new(alloc);
     let mut rest = tokens;
@@ -117,7 +118,7 @@ fn some_arguments(alloc: Global, tokens: &[Token]) -> Result<(Arguments, &[Token
 /// The arguments behind an opening bracket, and the tokens after the closing one, before which a comma may stand.
 #[tactic(auto, unfolding(crate::specs::Reading::arguments_of))]
 pub fn argument_list(alloc: Global, tokens: &[Token]) -> Result<(Arguments, &[Token]), ReadError>
-    ensures { Gives arguments_ahead result (Reading.arguments_of tokens.now) }
+    ensures { Gives arguments_ahead result (Reading.arguments_of height_limit tokens.now) }
 {
     match after(Mark::Close(Bracket::Round), tokens) {
         Some(rest) => Ok((Arguments::new(alloc), rest)),

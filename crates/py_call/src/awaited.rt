@@ -1,5 +1,6 @@
 //! What stands behind `await`.
 
+ghost use Rattle.py_expression.specs.Shown.{height_limit};
 ghost use Rattle.std.specs.Prelude.{◌≡◌, codes, Some, None, MatchOption};
 ghost use Rattle.py_syntax.specs.ExpressionTrees.{view};
 ghost use Rattle.py_syntax.specs.StatementTrees.{optional, view_started, view_timed, view_awaited};
@@ -20,7 +21,7 @@ type Times = (Expression, Option<Expression>);
 /// A started call, and then `)` at the end of the line, before which a comma may stand.
 #[tactic(auto, unfolding(crate::specs::Reading::closed_start_of))]
 pub fn closed_start(alloc: Global, tokens: &[Token]) -> Result<(StartedCall, usize), ReadError>
-    ensures { Gives (tall view_started) result (Reading.closed_start_of tokens.now) }
+    ensures { Gives (tall view_started) result (Reading.closed_start_of height_limit tokens.now) }
 {
     let (call, rest) = started(alloc, tokens)?;
     close_of_line(rest)?;
@@ -30,7 +31,7 @@ pub fn closed_start(alloc: Global, tokens: &[Token]) -> Result<(StartedCall, usi
 /// `cocotb.start(call)`
 #[tactic(auto, unfolding(crate::specs::Reading::awaited_start_of))]
 fn awaited_start(alloc: Global, tokens: &[Token]) -> Result<(Awaited, usize), ReadError>
-    ensures { Gives (tall view_awaited) result (Reading.awaited_start_of tokens.now) }
+    ensures { Gives (tall view_awaited) result (Reading.awaited_start_of height_limit tokens.now) }
 {
     let Some(rest) = after_member(b"cocotb", b"start", tokens) else {
         return Err(ReadError::Wrong);
@@ -42,7 +43,7 @@ fn awaited_start(alloc: Global, tokens: &[Token]) -> Result<(Awaited, usize), Re
 /// An expression before a comma.
 #[tactic(auto, unfolding(crate::specs::Reading::timed_value_of, crate::specs::Reading::before_comma))]
 fn timed_value(alloc: Global, tokens: &[Token]) -> Result<((Timed, usize), &[Token]), ReadError>
-    ensures { Gives (ahead view_timed) result (Reading.timed_value_of tokens.now) }
+    ensures { Gives (ahead view_timed) result (Reading.timed_value_of height_limit tokens.now) }
 {
     let ((value, height), rest) = value(alloc, tokens)?;
     match after(Mark::Operator(Operator::Comma), rest) {
@@ -54,7 +55,7 @@ fn timed_value(alloc: Global, tokens: &[Token]) -> Result<((Timed, usize), &[Tok
 /// A started call before a comma.
 #[tactic(auto, unfolding(crate::specs::Reading::timed_call_of, crate::specs::Reading::before_comma))]
 fn timed_call(alloc: Global, tokens: &[Token]) -> Result<((Timed, usize), &[Token]), ReadError>
-    ensures { Gives (ahead view_timed) result (Reading.timed_call_of tokens.now) }
+    ensures { Gives (ahead view_timed) result (Reading.timed_call_of height_limit tokens.now) }
 {
     let ((call, height), rest) = started(alloc, tokens)?;
     match after(Mark::Operator(Operator::Comma), rest) {
@@ -66,7 +67,7 @@ fn timed_call(alloc: Global, tokens: &[Token]) -> Result<((Timed, usize), &[Toke
 /// What `with_timeout` waits for, and the tokens after its comma.
 #[tactic(auto, unfolding(crate::specs::Reading::timed_of))]
 fn timed(alloc: Global, tokens: &[Token]) -> Result<((Timed, usize), &[Token]), ReadError>
-    ensures { Gives (ahead view_timed) result (Reading.timed_of tokens.now) }
+    ensures { Gives (ahead view_timed) result (Reading.timed_of height_limit tokens.now) }
 {
     match timed_value(alloc, tokens) {
         Err(ReadError::Wrong) => timed_call(alloc, tokens),
@@ -88,7 +89,7 @@ fn after_argument_comma(tokens: &[Token]) -> Option<&[Token]>
 /// The unit, by its place or by its name, if there is one, and `)` at the end of the line.
 #[tactic(auto, unfolding(crate::specs::Reading::unit_of))]
 fn unit(alloc: Global, tokens: &[Token]) -> Result<(Option<Expression>, usize), ReadError>
-    ensures { Gives (tall (optional view)) result (Reading.unit_of tokens.now) }
+    ensures { Gives (tall (optional view)) result (Reading.unit_of height_limit tokens.now) }
 {
     match after_argument_comma(tokens) {
         Some(rest) => {
@@ -106,7 +107,7 @@ fn unit(alloc: Global, tokens: &[Token]) -> Result<(Option<Expression>, usize), 
 /// A time and perhaps its unit, up to the end of the line.
 #[tactic(auto, unfolding(crate::specs::Reading::times_of))]
 fn times(alloc: Global, tokens: &[Token]) -> Result<(Times, usize), ReadError>
-    ensures { Gives (tall times_in) result (Reading.times_of tokens.now) }
+    ensures { Gives (tall times_in) result (Reading.times_of height_limit tokens.now) }
 {
     let ((time, height), rest) = value(alloc, tokens)?;
     let (unit, unit_height) = unit(alloc, rest)?;
@@ -116,7 +117,7 @@ fn times(alloc: Global, tokens: &[Token]) -> Result<(Times, usize), ReadError>
 /// `with_timeout(value, timeout_time, timeout_unit)`
 #[tactic(auto, unfolding(crate::specs::Reading::with_timeout_of))]
 fn with_timeout(alloc: Global, tokens: &[Token]) -> Result<(Awaited, usize), ReadError>
-    ensures { Gives (tall view_awaited) result (Reading.with_timeout_of tokens.now) }
+    ensures { Gives (tall view_awaited) result (Reading.with_timeout_of height_limit tokens.now) }
 {
     let Some(rest) = after_call(b"with_timeout", tokens) else {
         return Err(ReadError::Wrong);
@@ -132,7 +133,7 @@ fn with_timeout(alloc: Global, tokens: &[Token]) -> Result<(Awaited, usize), Rea
 /// A started call up to the end of the line.
 #[tactic(auto, unfolding(crate::specs::Reading::awaited_call_of))]
 fn awaited_call(alloc: Global, tokens: &[Token]) -> Result<(Awaited, usize), ReadError>
-    ensures { Gives (tall view_awaited) result (Reading.awaited_call_of tokens.now) }
+    ensures { Gives (tall view_awaited) result (Reading.awaited_call_of height_limit tokens.now) }
 {
     let ((call, height), rest) = started(alloc, tokens)?;
     end_of_line(rest)?;
@@ -142,7 +143,7 @@ fn awaited_call(alloc: Global, tokens: &[Token]) -> Result<(Awaited, usize), Rea
 /// A primary up to the end of the line.
 #[tactic(auto, unfolding(crate::specs::Reading::awaited_value_of))]
 fn awaited_value(alloc: Global, tokens: &[Token]) -> Result<(Awaited, usize), ReadError>
-    ensures { Gives (tall view_awaited) result (Reading.awaited_value_of tokens.now) }
+    ensures { Gives (tall view_awaited) result (Reading.awaited_value_of height_limit tokens.now) }
 {
     let (value, height) = whole_primary(alloc, tokens)?;
     Ok((Awaited::Value(value), height))
@@ -151,7 +152,7 @@ fn awaited_value(alloc: Global, tokens: &[Token]) -> Result<(Awaited, usize), Re
 /// `with_timeout` or a started call.
 #[tactic(auto, unfolding(crate::specs::Reading::timeout_or_call_of))]
 fn timeout_or_call(alloc: Global, tokens: &[Token]) -> Result<(Awaited, usize), ReadError>
-    ensures { Gives (tall view_awaited) result (Reading.timeout_or_call_of tokens.now) }
+    ensures { Gives (tall view_awaited) result (Reading.timeout_or_call_of height_limit tokens.now) }
 {
     match with_timeout(alloc, tokens) {
         Err(ReadError::Wrong) => awaited_call(alloc, tokens),
@@ -162,7 +163,7 @@ fn timeout_or_call(alloc: Global, tokens: &[Token]) -> Result<(Awaited, usize), 
 /// A call up to the end of the line that is no expression.
 #[tactic(auto, unfolding(crate::specs::Reading::calls_of))]
 fn calls(alloc: Global, tokens: &[Token]) -> Result<(Awaited, usize), ReadError>
-    ensures { Gives (tall view_awaited) result (Reading.calls_of tokens.now) }
+    ensures { Gives (tall view_awaited) result (Reading.calls_of height_limit tokens.now) }
 {
     match awaited_start(alloc, tokens) {
         Err(ReadError::Wrong) => timeout_or_call(alloc, tokens),
@@ -173,7 +174,7 @@ fn calls(alloc: Global, tokens: &[Token]) -> Result<(Awaited, usize), ReadError>
 /// What these tokens, which stand behind `await`, stand for, with its height.
 #[tactic(auto, unfolding(crate::specs::Reading::awaited_of))]
 pub fn await_operand(alloc: Global, tokens: &[Token]) -> Result<(Awaited, usize), ReadError>
-    ensures { Gives (tall view_awaited) result (Reading.awaited_of tokens.now) }
+    ensures { Gives (tall view_awaited) result (Reading.awaited_of height_limit tokens.now) }
 {
     match awaited_value(alloc, tokens) {
         Err(ReadError::Wrong) => calls(alloc, tokens),

@@ -1,5 +1,6 @@
 //! Calls that are started.
 
+ghost use Rattle.py_expression.specs.Shown.{height_limit};
 ghost use Rattle.std.specs.Prelude.{◌≡◌, [], map, List, Some, None, MatchOption};
 ghost use Rattle.py_syntax.specs.ExpressionTrees.{view};
 ghost use Rattle.py_syntax.specs.StatementTrees.{view_argument, view_started};
@@ -14,7 +15,7 @@ use crate::arguments::{Arguments, argument_list};
 use crate::tokens::{call_at, is_end};
 use crate::values::within;
 use port_io::Name;
-use py_expression::{Measured, primary};
+use py_expression::{Measured, primary, split};
 use py_phrase::{Mark, ReadError, after};
 use py_syntax::{Argument, Bracket, Expression, StartedCall, Token};
 use std::alloc::Global;
@@ -90,7 +91,7 @@ fn function_call(
     alloc: Global,
     tokens: &[Token],
 ) -> Result<((StartedCall, usize), &[Token]), ReadError>
-    ensures { Gives (ahead view_started) result (Reading.function_call_of tokens.now) }
+    ensures { Gives (ahead view_started) result (Reading.function_call_of height_limit tokens.now) }
 {
     let Some((name, rest)) = call_at(tokens) else {
         return Err(ReadError::Wrong);
@@ -105,14 +106,8 @@ fn function_call(
 fn owner(tree: Expression, wanted: &[u8]) -> Option<Expression>
     ensures { MatchOption result (Reading.owner_of wanted.now (view tree) ≡ None) (λ e. Reading.owner_of wanted.now (view tree) ≡ Some (view e)) }
 {
-    match tree {
-        Expression::Attribute(base, name) => {
-            if name.bytes() == wanted {
-                Some(Box::into_inner(base))
-            } else {
-                None
-            }
-        }
+    match split(tree) {
+        Some((base, name)) if name.bytes() == wanted => Some(base),
         _ => None,
     }
 }
@@ -142,7 +137,7 @@ fn clock_start_from<'a>(
     callee: Measured,
     tokens: &'a [Token],
 ) -> Result<((StartedCall, usize), &'a [Token]), ReadError>
-    ensures { Gives (ahead view_started) result (Reading.clock_start_from (measured callee, tokens.now)) }
+    ensures { Gives (ahead view_started) result (Reading.clock_start_from height_limit (measured callee, tokens.now)) }
 {
     let height = callee.height;
     let (Some(clock), Some(rest)) = (
@@ -161,7 +156,7 @@ fn clock_start(
     alloc: Global,
     tokens: &[Token],
 ) -> Result<((StartedCall, usize), &[Token]), ReadError>
-    ensures { Gives (ahead view_started) result (Reading.clock_start_of tokens.now) }
+    ensures { Gives (ahead view_started) result (Reading.clock_start_of height_limit tokens.now) }
 {
     let (callee, rest) = primary(alloc, tokens)?;
     clock_start_from(alloc, callee, rest)
@@ -174,7 +169,7 @@ pub fn started(
     alloc: Global,
     tokens: &[Token],
 ) -> Result<((StartedCall, usize), &[Token]), ReadError>
-    ensures { Gives (ahead view_started) result (Reading.started_of tokens.now) }
+    ensures { Gives (ahead view_started) result (Reading.started_of height_limit tokens.now) }
 {
     match function_call(alloc, tokens) {
         Err(ReadError::Wrong) => clock_start(alloc, tokens),

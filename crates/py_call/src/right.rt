@@ -1,5 +1,6 @@
 //! Right sides.
 
+ghost use Rattle.py_expression.specs.Shown.{height_limit};
 ghost use Rattle.std.specs.Prelude.{◌≡◌, codes, map, Some, None, IfOk, MatchOption};
 ghost use Rattle.py_syntax.specs.declared.call.Argument as argument;
 ghost use Rattle.py_syntax.specs.ExpressionTrees.{view};
@@ -49,7 +50,7 @@ pub fn value_list(
     alloc: Global,
     tokens: &[Token],
 ) -> Result<((Vec<Expression>, usize), &[Token]), ReadError>
-    ensures { Gives values_ahead result (Reading.values_of tokens.now) }
+    ensures { Gives values_ahead result (Reading.values_of height_limit tokens.now) }
 {
     let (arguments, rest) = argument_list(alloc, tokens)?;
     if !are_placed(&arguments.list) {
@@ -75,7 +76,7 @@ fn two(mut list: Vec<Expression>) -> Option<(Expression, Expression)>
 /// `random.randint(low, high)`, behind the bracket.
 #[tactic(auto, unfolding(crate::specs::Reading::random_int_of))]
 fn random_int(alloc: Global, tokens: &[Token]) -> Result<(RightSide, usize), ReadError>
-    ensures { Gives (tall view_right) result (Reading.random_int_of tokens.now) }
+    ensures { Gives (tall view_right) result (Reading.random_int_of height_limit tokens.now) }
 {
     let ((list, height), rest) = value_list(alloc, tokens)?;
     match two(list) {
@@ -115,7 +116,7 @@ fn new(side: RightSide, tokens: &[Token]) -> Result<(RightSide, usize), ReadErro
 /// `cocotb.start_soon(call)`, behind the bracket.
 #[tactic(auto, unfolding(crate::specs::Reading::start_soon_of))]
 fn start_soon(alloc: Global, tokens: &[Token]) -> Result<(RightSide, usize), ReadError>
-    ensures { Gives (tall view_right) result (Reading.start_soon_of tokens.now) }
+    ensures { Gives (tall view_right) result (Reading.start_soon_of height_limit tokens.now) }
 {
     let (call, height) = closed_start(alloc, tokens)?;
     Ok((RightSide::StartSoon(call), height))
@@ -124,7 +125,7 @@ fn start_soon(alloc: Global, tokens: &[Token]) -> Result<(RightSide, usize), Rea
 /// An expression.
 #[tactic(auto, unfolding(crate::specs::Reading::right_value_of))]
 fn right_value(alloc: Global, tokens: &[Token]) -> Result<(RightSide, usize), ReadError>
-    ensures { Gives (tall view_right) result (Reading.right_value_of tokens.now) }
+    ensures { Gives (tall view_right) result (Reading.right_value_of height_limit tokens.now) }
 {
     let (value, height) = whole_value(alloc, tokens)?;
     Ok((RightSide::Value(value), height))
@@ -133,7 +134,7 @@ fn right_value(alloc: Global, tokens: &[Token]) -> Result<(RightSide, usize), Re
 /// A right side that begins with no `await`.
 #[tactic(auto, unfolding(crate::specs::Reading::call_or_value_of))]
 fn call_or_value(alloc: Global, tokens: &[Token]) -> Result<(RightSide, usize), ReadError>
-    ensures { Gives (tall view_right) result (Reading.call_or_value_of tokens.now) }
+    ensures { Gives (tall view_right) result (Reading.call_or_value_of height_limit tokens.now) }
 {
     if let Some(rest) = after_member(b"cocotb", b"start_soon", tokens) {
         return start_soon(alloc, rest);
@@ -153,7 +154,7 @@ fn call_or_value(alloc: Global, tokens: &[Token]) -> Result<(RightSide, usize), 
 /// The right side that these tokens are, with its height.
 #[tactic(auto, unfolding(crate::specs::Reading::right_of))]
 pub fn right_side(alloc: Global, tokens: &[Token]) -> Result<(RightSide, usize), ReadError>
-    ensures { Gives (tall view_right) result (Reading.right_of tokens.now) }
+    ensures { Gives (tall view_right) result (Reading.right_of height_limit tokens.now) }
 {
     match after(Mark::Keyword(Keyword::Await), tokens) {
         Some(rest) => {

@@ -1,5 +1,6 @@
 //! Expressions within the limit on their height.
 
+ghost use Rattle.py_expression.specs.Shown.{height_limit};
 ghost use Rattle.std.specs.Prelude.{◌≡◌, ◌≤◌};
 ghost use Rattle.py_syntax.specs.ExpressionTrees.{view};
 ghost use Rattle.py_phrase.specs.Gives.{Gives};
@@ -20,7 +21,7 @@ pub const LIMIT: usize = 64;
 #[tactic(auto, unfolding(crate::specs::Kept::lowered))]
 pub fn within(tree: Expression, height: usize, attributes: usize) -> (Expression, usize)
     requires { attributes ≤ 2 }
-    ensures { tall view result ≡ Kept.lowered attributes (view tree) height }
+    ensures { tall view result ≡ Kept.lowered height_limit attributes (view tree) height }
 {
     if height <= LIMIT + attributes {
         (tree, height.saturating_sub(attributes))
@@ -32,7 +33,7 @@ pub fn within(tree: Expression, height: usize, attributes: usize) -> (Expression
 /// The expression at the front with its height, and the tokens after it.
 #[tactic(auto, unfolding(crate::specs::Reading::value_of))]
 pub fn value(alloc: Global, tokens: &[Token]) -> Result<((Expression, usize), &[Token]), ReadError>
-    ensures { Gives (ahead view) result (Reading.value_of tokens.now) }
+    ensures { Gives (ahead view) result (Reading.value_of height_limit tokens.now) }
 {
     let (found, rest) = expression(alloc, tokens)?;
     Ok((within(found.tree, found.height, 0), rest))
@@ -41,7 +42,7 @@ pub fn value(alloc: Global, tokens: &[Token]) -> Result<((Expression, usize), &[
 /// The expression that these tokens are, with its height.
 #[tactic(auto, unfolding(crate::specs::Reading::whole_value_of))]
 pub fn whole_value(alloc: Global, tokens: &[Token]) -> Result<(Expression, usize), ReadError>
-    ensures { Gives (tall view) result (Reading.whole_value_of tokens.now) }
+    ensures { Gives (tall view) result (Reading.whole_value_of height_limit tokens.now) }
 {
     let (found, rest) = value(alloc, tokens)?;
     end_of_line(rest)?;
@@ -51,7 +52,7 @@ pub fn whole_value(alloc: Global, tokens: &[Token]) -> Result<(Expression, usize
 /// The primary that these tokens are, with its height.
 #[tactic(auto, unfolding(crate::specs::Reading::whole_primary_of))]
 pub fn whole_primary(alloc: Global, tokens: &[Token]) -> Result<(Expression, usize), ReadError>
-    ensures { Gives (tall view) result (Reading.whole_primary_of tokens.now) }
+    ensures { Gives (tall view) result (Reading.whole_primary_of height_limit tokens.now) }
 {
     let (found, rest) = primary(alloc, tokens)?;
     end_of_line(rest)?;

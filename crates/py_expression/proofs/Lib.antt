@@ -9,3 +9,4 @@ pub mod Again
 pub mod TokenFacts
 pub mod Sound
 pub mod ReaderLaws
+pub mod AttributeLaws

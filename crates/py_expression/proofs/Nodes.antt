@@ -12,33 +12,33 @@ pub at_most_or_more : (a b : ℕ) → (a ≤ b) ⊎ (b < a)
 at_most_or_more a b = grind arith
 
 -- a tree within the limit is kept whole
-pub shown_whole : (e : Tree) → height e ≤ 66 → shown e ≡ record { tree = e; height = height e }
+pub shown_whole : (limit : ℕ) (e : Tree) → height e ≤ limit + 2 → shown limit e ≡ record { tree = e; height = height e }
 unfolding shown
-shown_whole e h = grind arith
+shown_whole limit e h = grind arith
 
-pub shown_high : (e : Tree) → 66 < height e → shown e ≡ record { tree = hollow e; height = 67 }
+pub shown_high : (limit : ℕ) (e : Tree) → limit + 2 < height e → shown limit e ≡ record { tree = hollow e; height = limit + 3 }
 unfolding shown
-shown_high e h = grind arith
+shown_high limit e h = grind arith
 
-pub fitted_whole : (e : Tree) (h : ℕ) → h < 66 → fitted e h ≡ record { tree = e; height = h + 1 }
+pub fitted_whole : (limit : ℕ) (e : Tree) (h : ℕ) → h < limit + 2 → fitted limit e h ≡ record { tree = e; height = h + 1 }
 unfolding fitted
-fitted_whole e h l = grind arith
+fitted_whole limit e h l = grind arith
 
-pub fitted_high : (e : Tree) (h : ℕ) → 66 ≤ h → fitted e h ≡ record { tree = hollow e; height = 67 }
+pub fitted_high : (limit : ℕ) (e : Tree) (h : ℕ) → limit + 2 ≤ h → fitted limit e h ≡ record { tree = hollow e; height = limit + 3 }
 unfolding fitted
-fitted_high e h l = grind arith
+fitted_high limit e h l = grind arith
 
 -- a node of parts that are kept whole
-pub fitted_shown : (e : Tree) (h : ℕ) → height e ≡ 1 + h → fitted e h ≡ shown e
-fitted_shown e h eq = go (at_most_or_more (height e) 66)
+pub fitted_shown : (limit : ℕ) (e : Tree) (h : ℕ) → height e ≡ 1 + h → fitted limit e h ≡ shown limit e
+fitted_shown limit e h eq = go (at_most_or_more (height e) (limit + 2))
   where
-    go : (height e ≤ 66) ⊎ (66 < height e) → fitted e h ≡ shown e
-    go (inl l) = fitted_whole e h (omega arith) ∙ ap (λ n. record { tree = e; height = n }) (let k : h + 1 ≡ height e = omega arith in k) ∙ sym (shown_whole e l)
-    go (inr l) = fitted_high e h (omega arith) ∙ sym (shown_high e l)
+    go : (height e ≤ limit + 2) ⊎ (limit + 2 < height e) → fitted limit e h ≡ shown limit e
+    go (inl l) = fitted_whole limit e h (omega arith) ∙ ap (λ n. record { tree = e; height = n }) (let k : h + 1 ≡ height e = omega arith in k) ∙ sym (shown_whole limit e l)
+    go (inr l) = fitted_high limit e h (omega arith) ∙ sym (shown_high limit e l)
 
 -- a node of which a part is too high
-pub fitted_over : (e f : Tree) (h : ℕ) → 66 ≤ h → 66 < height f → hollow e ≡ hollow f → fitted e h ≡ shown f
-fitted_over e f h l m eq = fitted_high e h l ∙ ap (λ t. record { tree = t; height = 67 }) eq ∙ sym (shown_high f m)
+pub fitted_over : (limit : ℕ) (e f : Tree) (h : ℕ) → limit + 2 ≤ h → limit + 2 < height f → hollow e ≡ hollow f → fitted limit e h ≡ shown limit f
+fitted_over limit e f h l m eq = fitted_high limit e h l ∙ ap (λ t. record { tree = t; height = limit + 3 }) eq ∙ sym (shown_high limit f m)
 
 pub cut_hollow : (e : Tree) → cut (hollow e) ≡ cut e
 unfolding cut hollow
@@ -53,65 +53,65 @@ cut_hollow (MethodCall e m) = refl
 cut_hollow (Unary op e) = refl
 cut_hollow (Infix op l r) = refl
 
-pub shown_constant : (c : Const) → constant c ≡ shown (Constant c)
+pub shown_constant : (limit : ℕ) (c : Const) → constant c ≡ shown limit (Constant c)
 unfolding shown height
-shown_constant c = refl
+shown_constant limit c = sym (shown_whole limit (Constant c) (omega arith))
 
-pub shown_name : (n : List ℕ) → name n ≡ shown (Name n)
+pub shown_name : (limit : ℕ) (n : List ℕ) → name n ≡ shown limit (Name n)
 unfolding shown height
-shown_name n = refl
+shown_name limit n = sym (shown_whole limit (Name n) (omega arith))
 
-pub shown_bracketed : (e : Tree) → bracketed (shown e) ≡ shown (Bracketed e)
+pub shown_bracketed : (limit : ℕ) (e : Tree) → bracketed limit (shown limit e) ≡ shown limit (Bracketed e)
 unfolding bracketed height hollow
-shown_bracketed e = go (at_most_or_more (height e) 66)
+shown_bracketed limit e = go (at_most_or_more (height e) (limit + 2))
   where
-    go : (height e ≤ 66) ⊎ (66 < height e) → bracketed (shown e) ≡ shown (Bracketed e)
-    go (inl l) = rw (shown_whole e l) (fitted_shown (Bracketed e) (height e) refl)
-    go (inr l) = rw (shown_high e l) (fitted_over (Bracketed (hollow e)) (Bracketed e) 67 (omega arith) (omega arith) refl)
+    go : (height e ≤ limit + 2) ⊎ (limit + 2 < height e) → bracketed limit (shown limit e) ≡ shown limit (Bracketed e)
+    go (inl l) = rw (shown_whole limit e l) (fitted_shown limit (Bracketed e) (height e) refl)
+    go (inr l) = rw (shown_high limit e l) (fitted_over limit (Bracketed (hollow e)) (Bracketed e) (limit + 3) (omega arith) (omega arith) refl)
 
-pub shown_attribute : (e : Tree) (n : List ℕ) → attribute (shown e) n ≡ shown (Attribute e n)
+pub shown_attribute : (limit : ℕ) (e : Tree) (n : List ℕ) → attribute limit (shown limit e) n ≡ shown limit (Attribute e n)
 unfolding attribute height hollow
-shown_attribute e n = go (at_most_or_more (height e) 66)
+shown_attribute limit e n = go (at_most_or_more (height e) (limit + 2))
   where
-    go : (height e ≤ 66) ⊎ (66 < height e) → attribute (shown e) n ≡ shown (Attribute e n)
-    go (inl l) = rw (shown_whole e l) (fitted_shown (Attribute e n) (height e) refl)
-    go (inr l) = rw (shown_high e l) (fitted_over (Attribute (hollow e) n) (Attribute e n) 67 (omega arith) (omega arith) (ap (λ t. Attribute t n) (cut_hollow e)))
+    go : (height e ≤ limit + 2) ⊎ (limit + 2 < height e) → attribute limit (shown limit e) n ≡ shown limit (Attribute e n)
+    go (inl l) = rw (shown_whole limit e l) (fitted_shown limit (Attribute e n) (height e) refl)
+    go (inr l) = rw (shown_high limit e l) (fitted_over limit (Attribute (hollow e) n) (Attribute e n) (limit + 3) (omega arith) (omega arith) (ap (λ t. Attribute t n) (cut_hollow e)))
 
-pub shown_method_call : (e : Tree) (m : Method) → method_call (shown e) m ≡ shown (MethodCall e m)
+pub shown_method_call : (limit : ℕ) (e : Tree) (m : Method) → method_call limit (shown limit e) m ≡ shown limit (MethodCall e m)
 unfolding method_call height hollow
-shown_method_call e m = go (at_most_or_more (height e) 66)
+shown_method_call limit e m = go (at_most_or_more (height e) (limit + 2))
   where
-    go : (height e ≤ 66) ⊎ (66 < height e) → method_call (shown e) m ≡ shown (MethodCall e m)
-    go (inl l) = rw (shown_whole e l) (fitted_shown (MethodCall e m) (height e) refl)
-    go (inr l) = rw (shown_high e l) (fitted_over (MethodCall (hollow e) m) (MethodCall e m) 67 (omega arith) (omega arith) refl)
+    go : (height e ≤ limit + 2) ⊎ (limit + 2 < height e) → method_call limit (shown limit e) m ≡ shown limit (MethodCall e m)
+    go (inl l) = rw (shown_whole limit e l) (fitted_shown limit (MethodCall e m) (height e) refl)
+    go (inr l) = rw (shown_high limit e l) (fitted_over limit (MethodCall (hollow e) m) (MethodCall e m) (limit + 3) (omega arith) (omega arith) refl)
 
-pub shown_unary : (op : UnOp) (e : Tree) → unary op (shown e) ≡ shown (Unary op e)
+pub shown_unary : (limit : ℕ) (op : UnOp) (e : Tree) → unary limit op (shown limit e) ≡ shown limit (Unary op e)
 unfolding unary height hollow
-shown_unary op e = go (at_most_or_more (height e) 66)
+shown_unary limit op e = go (at_most_or_more (height e) (limit + 2))
   where
-    go : (height e ≤ 66) ⊎ (66 < height e) → unary op (shown e) ≡ shown (Unary op e)
-    go (inl l) = rw (shown_whole e l) (fitted_shown (Unary op e) (height e) refl)
-    go (inr l) = rw (shown_high e l) (fitted_over (Unary op (hollow e)) (Unary op e) 67 (omega arith) (omega arith) refl)
+    go : (height e ≤ limit + 2) ⊎ (limit + 2 < height e) → unary limit op (shown limit e) ≡ shown limit (Unary op e)
+    go (inl l) = rw (shown_whole limit e l) (fitted_shown limit (Unary op e) (height e) refl)
+    go (inr l) = rw (shown_high limit e l) (fitted_over limit (Unary op (hollow e)) (Unary op e) (limit + 3) (omega arith) (omega arith) refl)
 
-pub shown_infix : (op : Operation) (l r : Tree) → infix_of op (shown l) (shown r) ≡ shown (Infix op l r)
+pub shown_infix : (limit : ℕ) (op : Operation) (l r : Tree) → infix_of limit op (shown limit l) (shown limit r) ≡ shown limit (Infix op l r)
 unfolding infix_of height hollow
-shown_infix op l r = go (at_most_or_more (height l) 66) (at_most_or_more (height r) 66)
+shown_infix limit op l r = go (at_most_or_more (height l) (limit + 2)) (at_most_or_more (height r) (limit + 2))
   where
-    go : (height l ≤ 66) ⊎ (66 < height l) → (height r ≤ 66) ⊎ (66 < height r) → infix_of op (shown l) (shown r) ≡ shown (Infix op l r)
-    go (inl hl) (inl hr) = rw (shown_whole l hl, shown_whole r hr) (fitted_shown (Infix op l r) (max (height l) (height r)) refl)
-    go (inl hl) (inr hr) = rw (shown_whole l hl, shown_high r hr) (fitted_over (Infix op l (hollow r)) (Infix op l r) (max (height l) 67) (omega arith) (omega arith) refl)
-    go (inr hl) (inl hr) = rw (shown_high l hl, shown_whole r hr) (fitted_over (Infix op (hollow l) r) (Infix op l r) (max 67 (height r)) (omega arith) (omega arith) refl)
-    go (inr hl) (inr hr) = rw (shown_high l hl, shown_high r hr) (fitted_over (Infix op (hollow l) (hollow r)) (Infix op l r) 67 (omega arith) (omega arith) refl)
+    go : (height l ≤ limit + 2) ⊎ (limit + 2 < height l) → (height r ≤ limit + 2) ⊎ (limit + 2 < height r) → infix_of limit op (shown limit l) (shown limit r) ≡ shown limit (Infix op l r)
+    go (inl hl) (inl hr) = rw (shown_whole limit l hl, shown_whole limit r hr) (fitted_shown limit (Infix op l r) (max (height l) (height r)) refl)
+    go (inl hl) (inr hr) = rw (shown_whole limit l hl, shown_high limit r hr) (fitted_over limit (Infix op l (hollow r)) (Infix op l r) (max (height l) (limit + 3)) (omega arith) (omega arith) refl)
+    go (inr hl) (inl hr) = rw (shown_high limit l hl, shown_whole limit r hr) (fitted_over limit (Infix op (hollow l) r) (Infix op l r) (max (limit + 3) (height r)) (omega arith) (omega arith) refl)
+    go (inr hl) (inr hr) = rw (shown_high limit l hl, shown_high limit r hr) (fitted_over limit (Infix op (hollow l) (hollow r)) (Infix op l r) (max (limit + 3) (limit + 3)) (omega arith) (omega arith) refl)
 
-pub shown_subscript : (e i : Tree) → subscript (shown e) (shown i) ≡ shown (Subscript e i)
+pub shown_subscript : (limit : ℕ) (e i : Tree) → subscript limit (shown limit e) (shown limit i) ≡ shown limit (Subscript e i)
 unfolding subscript height hollow
-shown_subscript e i = go (at_most_or_more (height e) 66) (at_most_or_more (height i) 66)
+shown_subscript limit e i = go (at_most_or_more (height e) (limit + 2)) (at_most_or_more (height i) (limit + 2))
   where
-    go : (height e ≤ 66) ⊎ (66 < height e) → (height i ≤ 66) ⊎ (66 < height i) → subscript (shown e) (shown i) ≡ shown (Subscript e i)
-    go (inl he) (inl hi) = rw (shown_whole e he, shown_whole i hi) (fitted_shown (Subscript e i) (max (height e) (height i)) refl)
-    go (inl he) (inr hi) = rw (shown_whole e he, shown_high i hi) (fitted_over (Subscript e (hollow i)) (Subscript e i) (max (height e) 67) (omega arith) (omega arith) refl)
-    go (inr he) (inl hi) = rw (shown_high e he, shown_whole i hi) (fitted_over (Subscript (hollow e) i) (Subscript e i) (max 67 (height i)) (omega arith) (omega arith) refl)
-    go (inr he) (inr hi) = rw (shown_high e he, shown_high i hi) (fitted_over (Subscript (hollow e) (hollow i)) (Subscript e i) 67 (omega arith) (omega arith) refl)
+    go : (height e ≤ limit + 2) ⊎ (limit + 2 < height e) → (height i ≤ limit + 2) ⊎ (limit + 2 < height i) → subscript limit (shown limit e) (shown limit i) ≡ shown limit (Subscript e i)
+    go (inl he) (inl hi) = rw (shown_whole limit e he, shown_whole limit i hi) (fitted_shown limit (Subscript e i) (max (height e) (height i)) refl)
+    go (inl he) (inr hi) = rw (shown_whole limit e he, shown_high limit i hi) (fitted_over limit (Subscript e (hollow i)) (Subscript e i) (max (height e) (limit + 3)) (omega arith) (omega arith) refl)
+    go (inr he) (inl hi) = rw (shown_high limit e he, shown_whole limit i hi) (fitted_over limit (Subscript (hollow e) i) (Subscript e i) (max (limit + 3) (height i)) (omega arith) (omega arith) refl)
+    go (inr he) (inr hi) = rw (shown_high limit e he, shown_high limit i hi) (fitted_over limit (Subscript (hollow e) (hollow i)) (Subscript e i) (max (limit + 3) (limit + 3)) (omega arith) (omega arith) refl)
 
 -- Arguments.
 
@@ -120,136 +120,136 @@ count_of NoTree = 0
 count_of (Then e es) = count_of es + 1
 
 -- each as it is kept
-unfoldable pub each_shown : Trees → Trees
-each_shown NoTree = NoTree
-each_shown (Then e es) = Then (shown e).tree (each_shown es)
+unfoldable pub each_shown : ℕ → Trees → Trees
+each_shown limit NoTree = NoTree
+each_shown limit (Then e es) = Then (shown limit e).tree (each_shown limit es)
 
-unfoldable pub greatest : Trees → ℕ
-greatest NoTree = 0
-greatest (Then e es) = max (shown e).height (greatest es)
+unfoldable pub greatest : ℕ → Trees → ℕ
+greatest limit NoTree = 0
+greatest limit (Then e es) = max (shown limit e).height (greatest limit es)
 
-abbrev pub shown_trees : Trees → ShownTrees
-shown_trees es = record { trees = each_shown es; count = count_of es; height = greatest es }
+abbrev pub shown_trees : ℕ → Trees → ShownTrees
+shown_trees limit es = record { trees = each_shown limit es; count = count_of es; height = greatest limit es }
 
 pub count_snoc : (es : Trees) (e : Tree) → count_of (snoc es e) ≡ count_of es + 1
 unfolding count_of snoc
 count_snoc NoTree e = refl
 count_snoc (Then x es) e = ap (λ n. n + 1) (count_snoc es e)
 
-each_snoc : (es : Trees) (e : Tree) → each_shown (snoc es e) ≡ snoc (each_shown es) (shown e).tree
+each_snoc : (limit : ℕ) (es : Trees) (e : Tree) → each_shown limit (snoc es e) ≡ snoc (each_shown limit es) (shown limit e).tree
 unfolding each_shown snoc
-each_snoc NoTree e = refl
-each_snoc (Then x es) e = ap (λ t. Then (shown x).tree t) (each_snoc es e)
+each_snoc limit NoTree e = refl
+each_snoc limit (Then x es) e = ap (λ t. Then (shown limit x).tree t) (each_snoc limit es e)
 
-greatest_snoc : (es : Trees) (e : Tree) → greatest (snoc es e) ≡ max (greatest es) (shown e).height
+greatest_snoc : (limit : ℕ) (es : Trees) (e : Tree) → greatest limit (snoc es e) ≡ max (greatest limit es) (shown limit e).height
 unfolding greatest snoc
-greatest_snoc NoTree e = omega arith
-greatest_snoc (Then x es) e = omega (arith, greatest_snoc es e)
+greatest_snoc limit NoTree e = omega arith
+greatest_snoc limit (Then x es) e = omega (arith, greatest_snoc limit es e)
 
-pub shown_with_tree : (es : Trees) (e : Tree) → with_tree (shown_trees es) (shown e) ≡ shown_trees (snoc es e)
+pub shown_with_tree : (limit : ℕ) (es : Trees) (e : Tree) → with_tree (shown_trees limit es) (shown limit e) ≡ shown_trees limit (snoc es e)
 unfolding with_tree
-shown_with_tree es e = rw (count_snoc es e, each_snoc es e, greatest_snoc es e)
+shown_with_tree limit es e = rw (count_snoc es e, each_snoc limit es e, greatest_snoc limit es e)
 
-height_whole : (e : Tree) → height e ≤ 66 → (shown e).height ≡ height e
-height_whole e h = ap (λ (s : Shown). s.height) (shown_whole e h)
+height_whole : (limit : ℕ) (e : Tree) → height e ≤ limit + 2 → (shown limit e).height ≡ height e
+height_whole limit e h = ap (λ (s : Shown). s.height) (shown_whole limit e h)
 
-tree_whole : (e : Tree) → height e ≤ 66 → (shown e).tree ≡ e
-tree_whole e h = ap (λ (s : Shown). s.tree) (shown_whole e h)
+tree_whole : (limit : ℕ) (e : Tree) → height e ≤ limit + 2 → (shown limit e).tree ≡ e
+tree_whole limit e h = ap (λ (s : Shown). s.tree) (shown_whole limit e h)
 
-height_high : (e : Tree) → 66 < height e → (shown e).height ≡ 67
-height_high e h = ap (λ (s : Shown). s.height) (shown_high e h)
+height_high : (limit : ℕ) (e : Tree) → limit + 2 < height e → (shown limit e).height ≡ limit + 3
+height_high limit e h = ap (λ (s : Shown). s.height) (shown_high limit e h)
 
-greatest_whole : (es : Trees) → all_height es ≤ 66 → greatest es ≡ all_height es
+greatest_whole : (limit : ℕ) (es : Trees) → all_height es ≤ limit + 2 → greatest limit es ≡ all_height es
 unfolding greatest all_height
-greatest_whole NoTree h = refl
-greatest_whole (Then e es) h = let a : height e ≤ 66 = omega arith in rw (height_whole e a, greatest_whole es (omega arith))
+greatest_whole limit NoTree h = refl
+greatest_whole limit (Then e es) h = let a : height e ≤ (limit + 2) = omega arith in rw (height_whole limit e a, greatest_whole limit es (omega arith))
 
-each_whole : (es : Trees) → all_height es ≤ 66 → each_shown es ≡ es
+each_whole : (limit : ℕ) (es : Trees) → all_height es ≤ limit + 2 → each_shown limit es ≡ es
 unfolding each_shown all_height
-each_whole NoTree h = refl
-each_whole (Then e es) h = let a : height e ≤ 66 = omega arith in rw (tree_whole e a, each_whole es (omega arith))
+each_whole limit NoTree h = refl
+each_whole limit (Then e es) h = let a : height e ≤ (limit + 2) = omega arith in rw (tree_whole limit e a, each_whole limit es (omega arith))
 
-greatest_high : (es : Trees) → 66 < all_height es → 66 < greatest es
+greatest_high : (limit : ℕ) (es : Trees) → limit + 2 < all_height es → limit + 2 < greatest limit es
 unfolding greatest all_height
-greatest_high NoTree h = absurd (omega arith)
-greatest_high (Then e es) h = go (at_most_or_more (height e) 66) (λ k. greatest_high es k)
+greatest_high limit NoTree h = absurd (omega arith)
+greatest_high limit (Then e es) h = go (at_most_or_more (height e) (limit + 2)) (λ k. greatest_high limit es k)
   where
-    go : (height e ≤ 66) ⊎ (66 < height e) → (66 < all_height es → 66 < greatest es) → 66 < max (shown e).height (greatest es)
-    go (inl l) ih = let k : 66 < greatest es = ih (omega arith) in omega arith
-    go (inr l) ih = omega (arith, height_high e l)
+    go : (height e ≤ limit + 2) ⊎ (limit + 2 < height e) → (limit + 2 < all_height es → limit + 2 < greatest limit es) → limit + 2 < max (shown limit e).height (greatest limit es)
+    go (inl l) ih = let k : limit + 2 < greatest limit es = ih (omega arith) in omega arith
+    go (inr l) ih = omega (arith, height_high limit e l)
 
-pub shown_call : (f : Function) (es : Trees) → call f (shown_trees es) ≡ shown (Call f es)
+pub shown_call : (limit : ℕ) (f : Function) (es : Trees) → call limit f (shown_trees limit es) ≡ shown limit (Call f es)
 unfolding call height hollow
-shown_call f es = go (at_most_or_more (all_height es) 66)
+shown_call limit f es = go (at_most_or_more (all_height es) (limit + 2))
   where
-    go : (all_height es ≤ 66) ⊎ (66 < all_height es) → call f (shown_trees es) ≡ shown (Call f es)
-    go (inl l) = rw (greatest_whole es l, each_whole es l) (fitted_shown (Call f es) (all_height es) refl)
-    go (inr l) = fitted_over (Call f (each_shown es)) (Call f es) (greatest es) (omega (arith, greatest_high es l)) (omega arith) refl
+    go : (all_height es ≤ limit + 2) ⊎ (limit + 2 < all_height es) → call limit f (shown_trees limit es) ≡ shown limit (Call f es)
+    go (inl l) = rw (greatest_whole limit es l, each_whole limit es l) (fitted_shown limit (Call f es) (all_height es) refl)
+    go (inr l) = fitted_over limit (Call f (each_shown limit es)) (Call f es) (greatest limit es) (omega (arith, greatest_high limit es l)) (omega arith) refl
 
 -- Parts of an f-string.
 
-unfoldable pub each_part : Parts → Parts
-each_part NoPart = NoPart
-each_part (TextThen t ps) = TextThen t (each_part ps)
-each_part (FormattedThen e ps) = FormattedThen (shown e).tree (each_part ps)
+unfoldable pub each_part : ℕ → Parts → Parts
+each_part limit NoPart = NoPart
+each_part limit (TextThen t ps) = TextThen t (each_part limit ps)
+each_part limit (FormattedThen e ps) = FormattedThen (shown limit e).tree (each_part limit ps)
 
-unfoldable pub greatest_part : Parts → ℕ
-greatest_part NoPart = 0
-greatest_part (TextThen t ps) = greatest_part ps
-greatest_part (FormattedThen e ps) = max (shown e).height (greatest_part ps)
+unfoldable pub greatest_part : ℕ → Parts → ℕ
+greatest_part limit NoPart = 0
+greatest_part limit (TextThen t ps) = greatest_part limit ps
+greatest_part limit (FormattedThen e ps) = max (shown limit e).height (greatest_part limit ps)
 
-abbrev pub shown_parts : Parts → ShownParts
-shown_parts ps = record { parts = each_part ps; height = greatest_part ps }
+abbrev pub shown_parts : ℕ → Parts → ShownParts
+shown_parts limit ps = record { parts = each_part limit ps; height = greatest_part limit ps }
 
-each_joined : (ps qs : Parts) → each_part (joined ps qs) ≡ joined (each_part ps) (each_part qs)
+each_joined : (limit : ℕ) (ps qs : Parts) → each_part limit (joined ps qs) ≡ joined (each_part limit ps) (each_part limit qs)
 unfolding each_part joined
-each_joined NoPart qs = refl
-each_joined (TextThen t ps) qs = ap (λ z. TextThen t z) (each_joined ps qs)
-each_joined (FormattedThen e ps) qs = ap (λ z. FormattedThen (shown e).tree z) (each_joined ps qs)
+each_joined limit NoPart qs = refl
+each_joined limit (TextThen t ps) qs = ap (λ z. TextThen t z) (each_joined limit ps qs)
+each_joined limit (FormattedThen e ps) qs = ap (λ z. FormattedThen (shown limit e).tree z) (each_joined limit ps qs)
 
-greatest_joined : (ps qs : Parts) → greatest_part (joined ps qs) ≡ max (greatest_part ps) (greatest_part qs)
+greatest_joined : (limit : ℕ) (ps qs : Parts) → greatest_part limit (joined ps qs) ≡ max (greatest_part limit ps) (greatest_part limit qs)
 unfolding greatest_part joined
-greatest_joined NoPart qs = omega arith
-greatest_joined (TextThen t ps) qs = greatest_joined ps qs
-greatest_joined (FormattedThen e ps) qs = omega (arith, greatest_joined ps qs)
+greatest_joined limit NoPart qs = omega arith
+greatest_joined limit (TextThen t ps) qs = greatest_joined limit ps qs
+greatest_joined limit (FormattedThen e ps) qs = omega (arith, greatest_joined limit ps qs)
 
-pub shown_with_text : (ps : Parts) (t : List ℕ) → with_text (shown_parts ps) t ≡ shown_parts (joined ps (TextThen t NoPart))
+pub shown_with_text : (limit : ℕ) (ps : Parts) (t : List ℕ) → with_text (shown_parts limit ps) t ≡ shown_parts limit (joined ps (TextThen t NoPart))
 unfolding with_text each_part greatest_part
-shown_with_text ps t = rw (each_joined ps (TextThen t NoPart), greatest_joined ps (TextThen t NoPart)) (ap (λ n. record { parts = joined (each_part ps) (TextThen t NoPart); height = n }) (omega arith))
+shown_with_text limit ps t = rw (each_joined limit ps (TextThen t NoPart), greatest_joined limit ps (TextThen t NoPart)) (ap (λ n. record { parts = joined (each_part limit ps) (TextThen t NoPart); height = n }) (omega arith))
 
-pub shown_with_formatted : (ps : Parts) (e : Tree) → with_formatted (shown_parts ps) (shown e) ≡ shown_parts (joined ps (FormattedThen e NoPart))
+pub shown_with_formatted : (limit : ℕ) (ps : Parts) (e : Tree) → with_formatted (shown_parts limit ps) (shown limit e) ≡ shown_parts limit (joined ps (FormattedThen e NoPart))
 unfolding with_formatted each_part greatest_part
-shown_with_formatted ps e = rw (each_joined ps (FormattedThen e NoPart), greatest_joined ps (FormattedThen e NoPart)) (ap (λ n. record { parts = joined (each_part ps) (FormattedThen (shown e).tree NoPart); height = n }) (omega arith))
+shown_with_formatted limit ps e = rw (each_joined limit ps (FormattedThen e NoPart), greatest_joined limit ps (FormattedThen e NoPart)) (ap (λ n. record { parts = joined (each_part limit ps) (FormattedThen (shown limit e).tree NoPart); height = n }) (omega arith))
 
-part_whole : (ps : Parts) → parts_height ps ≤ 66 → greatest_part ps ≡ parts_height ps
+part_whole : (limit : ℕ) (ps : Parts) → parts_height ps ≤ limit + 2 → greatest_part limit ps ≡ parts_height ps
 unfolding greatest_part parts_height
-part_whole NoPart h = refl
-part_whole (TextThen t ps) h = part_whole ps h
-part_whole (FormattedThen e ps) h = let a : height e ≤ 66 = omega arith in rw (height_whole e a, part_whole ps (omega arith))
+part_whole limit NoPart h = refl
+part_whole limit (TextThen t ps) h = part_whole limit ps h
+part_whole limit (FormattedThen e ps) h = let a : height e ≤ (limit + 2) = omega arith in rw (height_whole limit e a, part_whole limit ps (omega arith))
 
-each_part_whole : (ps : Parts) → parts_height ps ≤ 66 → each_part ps ≡ ps
+each_part_whole : (limit : ℕ) (ps : Parts) → parts_height ps ≤ limit + 2 → each_part limit ps ≡ ps
 unfolding each_part parts_height
-each_part_whole NoPart h = refl
-each_part_whole (TextThen t ps) h = ap (λ z. TextThen t z) (each_part_whole ps h)
-each_part_whole (FormattedThen e ps) h = let a : height e ≤ 66 = omega arith in rw (tree_whole e a, each_part_whole ps (omega arith))
+each_part_whole limit NoPart h = refl
+each_part_whole limit (TextThen t ps) h = ap (λ z. TextThen t z) (each_part_whole limit ps h)
+each_part_whole limit (FormattedThen e ps) h = let a : height e ≤ (limit + 2) = omega arith in rw (tree_whole limit e a, each_part_whole limit ps (omega arith))
 
-part_high : (ps : Parts) → 66 < parts_height ps → 66 < greatest_part ps
+part_high : (limit : ℕ) (ps : Parts) → limit + 2 < parts_height ps → limit + 2 < greatest_part limit ps
 unfolding greatest_part parts_height
-part_high NoPart h = absurd (omega arith)
-part_high (TextThen t ps) h = part_high ps h
-part_high (FormattedThen e ps) h = go (at_most_or_more (height e) 66) (λ k. part_high ps k)
+part_high limit NoPart h = absurd (omega arith)
+part_high limit (TextThen t ps) h = part_high limit ps h
+part_high limit (FormattedThen e ps) h = go (at_most_or_more (height e) (limit + 2)) (λ k. part_high limit ps k)
   where
-    go : (height e ≤ 66) ⊎ (66 < height e) → (66 < parts_height ps → 66 < greatest_part ps) → 66 < max (shown e).height (greatest_part ps)
-    go (inl l) ih = let k : 66 < greatest_part ps = ih (omega arith) in omega arith
-    go (inr l) ih = omega (arith, height_high e l)
+    go : (height e ≤ limit + 2) ⊎ (limit + 2 < height e) → (limit + 2 < parts_height ps → limit + 2 < greatest_part limit ps) → limit + 2 < max (shown limit e).height (greatest_part limit ps)
+    go (inl l) ih = let k : limit + 2 < greatest_part limit ps = ih (omega arith) in omega arith
+    go (inr l) ih = omega (arith, height_high limit e l)
 
-pub shown_format : (ps : Parts) → format_string (shown_parts ps) ≡ shown (FormatString ps)
+pub shown_format : (limit : ℕ) (ps : Parts) → format_string limit (shown_parts limit ps) ≡ shown limit (FormatString ps)
 unfolding format_string height hollow
-shown_format ps = go (at_most_or_more (parts_height ps) 66)
+shown_format limit ps = go (at_most_or_more (parts_height ps) (limit + 2))
   where
-    go : (parts_height ps ≤ 66) ⊎ (66 < parts_height ps) → format_string (shown_parts ps) ≡ shown (FormatString ps)
-    go (inl l) = rw (part_whole ps l, each_part_whole ps l) (fitted_shown (FormatString ps) (parts_height ps) refl)
-    go (inr l) = fitted_over (FormatString (each_part ps)) (FormatString ps) (greatest_part ps) (omega (arith, part_high ps l)) (omega arith) refl
+    go : (parts_height ps ≤ limit + 2) ⊎ (limit + 2 < parts_height ps) → format_string limit (shown_parts limit ps) ≡ shown limit (FormatString ps)
+    go (inl l) = rw (part_whole limit ps l, each_part_whole limit ps l) (fitted_shown limit (FormatString ps) (parts_height ps) refl)
+    go (inr l) = fitted_over limit (FormatString (each_part limit ps)) (FormatString ps) (greatest_part limit ps) (omega (arith, part_high limit ps l)) (omega arith) refl
 
 -- Lists that are put together.
 

@@ -32,162 +32,162 @@ Given f acc us here = (e : Tree) (more : Trees) (xs rest : List Token) → Spell
     → SpellArguments f (followed acc (Then e more)) us rest
 
 -- an opened node stands from one place to another, where an operand is awaited
-abbrev pub Opens : Opened → ℕ → ℕ → List Token → List Token → Type 0
-Opens (prefix op) outer inner mid here = (mid ≡ prefix_token op ∷ here) × (inner ≡ prefix_level op) × (outer ≤ prefix_level op)
-Opens (infix_op op v) outer inner mid here =
-    (l : Tree) × (us : List Token) × (v ≡ shown l) × Spells l mid us × (left_level op ≤ level l) × (us ≡ operation_tokens op ++ here)
+abbrev pub Opens : ℕ → Opened → ℕ → ℕ → List Token → List Token → Type 0
+Opens limit (prefix op) outer inner mid here = (mid ≡ prefix_token op ∷ here) × (inner ≡ prefix_level op) × (outer ≤ prefix_level op)
+Opens limit (infix_op op v) outer inner mid here =
+    (l : Tree) × (us : List Token) × (v ≡ shown limit l) × Spells l mid us × (left_level op ≤ level l) × (us ≡ operation_tokens op ++ here)
     × (inner ≡ level_of op + 1) × (outer ≤ level_of op)
-Opens brackets outer inner mid here = (inner ≡ 1) × (mid ≡ token.Open bracket.Round ∷ here)
-Opens (subscript v) outer inner mid here =
-    (e : Tree) × (us : List Token) × (v ≡ shown e) × Spells e mid us × (level e ≡ 12) × (us ≡ token.Open bracket.Square ∷ here) × (inner ≡ 1)
-Opens (call f v) outer inner mid here =
-    (acc : Trees) × (us : List Token) × (v ≡ shown_trees acc) × (mid ≡ token.Name (function_name f) ∷ token.Open bracket.Round ∷ us)
+Opens limit brackets outer inner mid here = (inner ≡ 1) × (mid ≡ token.Open bracket.Round ∷ here)
+Opens limit (subscript v) outer inner mid here =
+    (e : Tree) × (us : List Token) × (v ≡ shown limit e) × Spells e mid us × (level e ≡ 12) × (us ≡ token.Open bracket.Square ∷ here) × (inner ≡ 1)
+Opens limit (call f v) outer inner mid here =
+    (acc : Trees) × (us : List Token) × (v ≡ shown_trees limit acc) × (mid ≡ token.Name (function_name f) ∷ token.Open bracket.Round ∷ us)
     × Given f acc us here × (inner ≡ 1)
-Opens (format v) outer inner mid here =
-    (acc : Parts) × (us : List Token) × (v ≡ shown_parts acc) × (mid ≡ token.FormatStart ∷ us)
+Opens limit (format v) outer inner mid here =
+    (acc : Parts) × (us : List Token) × (v ≡ shown_parts limit acc) × (mid ≡ token.FormatStart ∷ us)
     × ((more : Parts) (rest : List Token) → SpellParts more (token.FormatOpen ∷ here) rest → SpellParts (joined acc more) us rest) × (inner ≡ 1)
 
 -- the opened nodes stand from the text's beginning up to here, where an operand is awaited
-unfoldable pub Stands : ℕ → List Frame → ℕ → List Token → List Token → Type 0
-Stands m [] least text here = (least ≡ m) × (text ≡ here)
-Stands m (f ∷ stack) least text here = (mid : List Token) × Stands m stack f.least text mid × Opens f.opened f.least least mid here
+unfoldable pub Stands : ℕ → ℕ → List Frame → ℕ → List Token → List Token → Type 0
+Stands limit m [] least text here = (least ≡ m) × (text ≡ here)
+Stands limit m (f ∷ stack) least text here = (mid : List Token) × Stands limit m stack f.least text mid × Opens limit f.opened f.least least mid here
 
-abbrev pub IsAt : ℕ → List Token → List Frame → ℕ → List Token → Point → Type 0
-IsAt m text stack least here wanted = Stands m stack least text here
-IsAt m text stack least here (primary v) =
-    (mid : List Token) × (e : Tree) × Stands m stack least text mid × (v ≡ shown e) × Spells e mid here × (level e ≡ 12)
-IsAt m text stack least here (operand v n) =
-    (mid : List Token) × (e : Tree) × Stands m stack least text mid × (v ≡ shown e) × Spells e mid here × (n ≡ level e) × (least ≤ level e)
-IsAt m text stack least here (parts v) =
-    (mid : List Token) × (acc : Parts) × (us : List Token) × Stands m stack least text mid × (mid ≡ token.FormatStart ∷ us) × (v ≡ shown_parts acc)
+abbrev pub IsAt : ℕ → ℕ → List Token → List Frame → ℕ → List Token → Point → Type 0
+IsAt limit m text stack least here wanted = Stands limit m stack least text here
+IsAt limit m text stack least here (primary v) =
+    (mid : List Token) × (e : Tree) × Stands limit m stack least text mid × (v ≡ shown limit e) × Spells e mid here × (level e ≡ 12)
+IsAt limit m text stack least here (operand v n) =
+    (mid : List Token) × (e : Tree) × Stands limit m stack least text mid × (v ≡ shown limit e) × Spells e mid here × (n ≡ level e) × (least ≤ level e)
+IsAt limit m text stack least here (parts v) =
+    (mid : List Token) × (acc : Parts) × (us : List Token) × Stands limit m stack least text mid × (mid ≡ token.FormatStart ∷ us) × (v ≡ shown_parts limit acc)
     × ((more : Parts) (rest : List Token) → SpellParts more here rest → SpellParts (joined acc more) us rest)
 
-abbrev pub IsAtSpot : ℕ → List Token → Spot → Type 0
-IsAtSpot m text s = IsAt m text s.stack s.least s.rest s.point
+abbrev pub IsAtSpot : ℕ → ℕ → List Token → Spot → Type 0
+IsAtSpot limit m text s = IsAt limit m text s.stack s.least s.rest s.point
 
-abbrev pub FineSpot : ℕ → List Token → Option Spot → Type 0
-FineSpot m text None = Unit {0}
-FineSpot m text (Some s) = IsAtSpot m text s
+abbrev pub FineSpot : ℕ → ℕ → List Token → Option Spot → Type 0
+FineSpot limit m text None = Unit {0}
+FineSpot limit m text (Some s) = IsAtSpot limit m text s
 
-abbrev pub FineStep : ℕ → List Token → Option Step → Type 0
-FineStep m text None = Unit {0}
-FineStep m text (Some (going s)) = IsAtSpot m text s
-FineStep m text (Some (done v rest)) = IsRead m text v rest
+abbrev pub FineStep : ℕ → ℕ → List Token → Option Step → Type 0
+FineStep limit m text None = Unit {0}
+FineStep limit m text (Some (going s)) = IsAtSpot limit m text s
+FineStep limit m text (Some (done v rest)) = IsRead limit m text v rest
 
-fine_onward : (m : ℕ) (text : List Token) (o : Option Spot) → FineSpot m text o → FineStep m text (onward o)
-fine_onward m text None h = tt
-fine_onward m text (Some s) h = h
+fine_onward : (limit m : ℕ) (text : List Token) (o : Option Spot) → FineSpot limit m text o → FineStep limit m text (onward o)
+fine_onward limit m text None h = tt
+fine_onward limit m text (Some s) h = h
 
-inner_small : (o : Opened) (outer inner : ℕ) (mid here : List Token) → Opens o outer inner mid here → inner ≤ 12
-inner_small (prefix op) outer inner mid here h = omega (arith, h.1, prefix_range op)
-inner_small (infix_op op v) outer inner mid here h = omega (arith, h.6, (level_below op).1)
-inner_small brackets outer inner mid here h = omega (arith, h.0)
-inner_small (subscript v) outer inner mid here h = omega (arith, h.6)
-inner_small (call f v) outer inner mid here h = omega (arith, h.5)
-inner_small (format v) outer inner mid here h = omega (arith, h.5)
+inner_small : (limit : ℕ) (o : Opened) (outer inner : ℕ) (mid here : List Token) → Opens limit o outer inner mid here → inner ≤ 12
+inner_small limit (prefix op) outer inner mid here h = omega (arith, h.1, prefix_range op)
+inner_small limit (infix_op op v) outer inner mid here h = omega (arith, h.6, (level_below op).1)
+inner_small limit brackets outer inner mid here h = omega (arith, h.0)
+inner_small limit (subscript v) outer inner mid here h = omega (arith, h.6)
+inner_small limit (call f v) outer inner mid here h = omega (arith, h.5)
+inner_small limit (format v) outer inner mid here h = omega (arith, h.5)
 
-least_small : (m : ℕ) (stack : List Frame) (least : ℕ) (text here : List Token) → m ≤ 12 → Stands m stack least text here → least ≤ 12
+least_small : (limit m : ℕ) (stack : List Frame) (least : ℕ) (text here : List Token) → m ≤ 12 → Stands limit m stack least text here → least ≤ 12
 unfolding Stands after
-least_small m [] least text here h s = omega (arith, s.0)
-least_small m (f ∷ stack) least text here h s = inner_small f.opened f.least least s.0 here s.2
+least_small limit m [] least text here h s = omega (arith, s.0)
+least_small limit m (f ∷ stack) least text here h s = inner_small limit f.opened f.least least s.0 here s.2
 
-module _ (m : ℕ) (text : List Token) (small : m ≤ 12) where
+module _ (limit : ℕ) (m : ℕ) (text : List Token) (small : m ≤ 12) where
   -- Calls.
 
-  call_end_fine : (stack : List Frame) (least : ℕ) (f : Function) (acc : Trees) (mid us ts : List Token) → Stands m stack least text mid
+  call_end_fine : (stack : List Frame) (least : ℕ) (f : Function) (acc : Trees) (mid us ts : List Token) → Stands limit m stack least text mid
       → mid ≡ token.Name (function_name f) ∷ token.Open bracket.Round ∷ us
-      → (has_enough f (count_of acc) ≡ true → SpellArguments f acc us ts) → FineSpot m text (call_end stack least f (shown_trees acc) ts)
+      → (has_enough f (count_of acc) ≡ true → SpellArguments f acc us ts) → FineSpot limit m text (call_end limit stack least f (shown_trees limit acc) ts)
   unfolding call_end Spells level
   call_end_fine stack least f acc mid us ts st em ends = go (has_enough f (count_of acc)) refl
     where
       go : (b : Bool) → has_enough f (count_of acc) ≡ b
-          → FineSpot m text (if b then Some (behind_primary stack least (node.call f (shown_trees acc)) ts) else None)
-      go true q = (mid, Call f acc, st, shown_call f acc, (us, em, ends q), refl)
+          → FineSpot limit m text (if b then Some (behind_primary stack least (node.call limit f (shown_trees limit acc)) ts) else None)
+      go true q = (mid, Call f acc, st, shown_call limit f acc, (us, em, ends q), refl)
       go false q = tt
 
-  argument_fine : (stack : List Frame) (least : ℕ) (f : Function) (acc : Trees) (mid us ts : List Token) → Stands m stack least text mid
+  argument_fine : (stack : List Frame) (least : ℕ) (f : Function) (acc : Trees) (mid us ts : List Token) → Stands limit m stack least text mid
       → mid ≡ token.Name (function_name f) ∷ token.Open bracket.Round ∷ us
       → ((here : List Token) → takes_argument f (count_of acc) ≡ true → Begins f (count_of acc) ts here → Given f acc us here)
-      → FineSpot m text (argument_of stack least f (shown_trees acc) ts)
+      → FineSpot limit m text (argument_of stack least f (shown_trees limit acc) ts)
   unfolding argument_of Stands
   argument_fine stack least f acc mid us ts st em given = go (takes_argument f (count_of acc)) refl
     where
       go : (b : Bool) → takes_argument f (count_of acc) ≡ b
-          → FineSpot m text (if b then Some (opened stack (frame (call f (shown_trees acc)) least) 1 (argument_begin f (count_of acc) ts)) else None)
+          → FineSpot limit m text (if b then Some (opened stack (frame (call f (shown_trees limit acc)) least) 1 (argument_begin f (count_of acc) ts)) else None)
       go true q = (mid, st, (acc, us, refl, em, given (argument_begin f (count_of acc) ts) q (argument_begins f (count_of acc) ts), refl))
       go false q = tt
 
-  call_fine : (stack : List Frame) (least : ℕ) (f : Function) (mid us : List Token) → Stands m stack least text mid
-      → mid ≡ token.Name (function_name f) ∷ token.Open bracket.Round ∷ us → FineSpot m text (call_of stack least f us)
+  call_fine : (stack : List Frame) (least : ℕ) (f : Function) (mid us : List Token) → Stands limit m stack least text mid
+      → mid ≡ token.Name (function_name f) ∷ token.Open bracket.Round ∷ us → FineSpot limit m text (call_of limit stack least f us)
   unfolding call_of count_of each_shown greatest SpellArguments followed
   call_fine stack least f mid us st em = go (after_close us) refl
     where
-      go : (o : Option (List Token)) → after_close us ≡ o → FineSpot m text (call_by stack least f us o)
+      go : (o : Option (List Token)) → after_close us ≡ o → FineSpot limit m text (call_by limit stack least f us o)
       go None q = argument_fine stack least f NoTree mid us us st em (λ here takes begins e more xs rest s o. (here, xs, takes, begins, s, o))
       go (Some vs) q = call_end_fine stack least f NoTree mid us vs st em (λ enough. (enough, after_close_is us vs q))
 
   -- Before an operand.
 
-  name_fine : (stack : List Frame) (least : ℕ) (n : List ℕ) (ts : List Token) → Stands m stack least text (token.Name n ∷ ts) → FineSpot m text (name_of stack least n ts)
+  name_fine : (stack : List Frame) (least : ℕ) (n : List ℕ) (ts : List Token) → Stands limit m stack least text (token.Name n ∷ ts) → FineSpot limit m text (name_of limit stack least n ts)
   unfolding name_of Spells level
   name_fine stack least n ts st = go (function_of n) refl (after_open ts) refl
     where
-      plain : FineSpot m text (Some (behind_primary stack least (node.name n) ts))
-      plain = (token.Name n ∷ ts, Name n, st, shown_name n, refl, refl)
+      plain : FineSpot limit m text (Some (behind_primary stack least (node.name n) ts))
+      plain = (token.Name n ∷ ts, Name n, st, shown_name limit n, refl, refl)
 
-      go : (o : Option Function) → function_of n ≡ o → (p : Option (List Token)) → after_open ts ≡ p → FineSpot m text (name_by stack least n ts o p)
+      go : (o : Option Function) → function_of n ≡ o → (p : Option (List Token)) → after_open ts ≡ p → FineSpot limit m text (name_by limit stack least n ts o p)
       go (Some f) q (Some us) r = call_fine stack least f (token.Name n ∷ ts) us st
           (ap (λ x. token.Name x ∷ ts) (function_is n f q) ∙ ap (λ x. token.Name (function_name f) ∷ x) (after_open_is ts us r))
       go (Some f) q None r = plain
       go None q p r = plain
 
-  constant_fine : (stack : List Frame) (least : ℕ) (t : Token) (ts : List Token) → Stands m stack least text (t ∷ ts) → FineSpot m text (constant_by stack least ts (constant_of t))
+  constant_fine : (stack : List Frame) (least : ℕ) (t : Token) (ts : List Token) → Stands limit m stack least text (t ∷ ts) → FineSpot limit m text (constant_by stack least ts (constant_of t))
   unfolding Spells level
   constant_fine stack least t ts st = go (constant_of t) refl
     where
-      go : (o : Option Const) → constant_of t ≡ o → FineSpot m text (constant_by stack least ts o)
+      go : (o : Option Const) → constant_of t ≡ o → FineSpot limit m text (constant_by stack least ts o)
       go None q = tt
-      go (Some c) q = (t ∷ ts, Constant c, st, shown_constant c, (t, constant_is t c q, refl), refl)
+      go (Some c) q = (t ∷ ts, Constant c, st, shown_constant limit c, (t, constant_is t c q, refl), refl)
 
-  begin_fine : (stack : List Frame) (least : ℕ) (t : Token) (ts : List Token) → Stands m stack least text (t ∷ ts) → FineSpot m text (begin_of stack least t ts)
+  begin_fine : (stack : List Frame) (least : ℕ) (t : Token) (ts : List Token) → Stands limit m stack least text (t ∷ ts) → FineSpot limit m text (begin_of limit stack least t ts)
   unfolding begin_of Stands each_part greatest_part joined
   begin_fine stack least (token.Open bracket.Round) ts st = (token.Open bracket.Round ∷ ts, st, (refl, refl))
   begin_fine stack least token.FormatStart ts st = (token.FormatStart ∷ ts, NoPart, ts, st, refl, refl, λ more rest s. s)
   begin_fine stack least (token.Name n) ts st = name_fine stack least n ts st
   begin_fine stack least t ts st = constant_fine stack least t ts st
 
-  wanted_fine : (stack : List Frame) (least : ℕ) (ts : List Token) → Stands m stack least text ts → FineSpot m text (wanted_of stack least ts)
+  wanted_fine : (stack : List Frame) (least : ℕ) (ts : List Token) → Stands limit m stack least text ts → FineSpot limit m text (wanted_of limit stack least ts)
   unfolding wanted_of Stands
   wanted_fine stack least [] st = tt
   wanted_fine stack least (t ∷ ts) st = go (prefix_of t) refl
     where
       taken : (op : UnOp) → prefix_of t ≡ Some op → (b : Bool) → nat_le least (prefix_level op) ≡ b
-          → FineSpot m text (if b then Some (opened stack (frame (prefix op) least) (prefix_level op) ts) else None)
+          → FineSpot limit m text (if b then Some (opened stack (frame (prefix op) least) (prefix_level op) ts) else None)
       taken op q true h = (t ∷ ts, st, (ap (λ x. x ∷ ts) (prefix_is t op q), refl, grind (arith, h)))
       taken op q false h = tt
 
-      go : (o : Option UnOp) → prefix_of t ≡ o → FineSpot m text (wanted_by stack least t ts o)
+      go : (o : Option UnOp) → prefix_of t ≡ o → FineSpot limit m text (wanted_by limit stack least t ts o)
       go None q = begin_fine stack least t ts st
       go (Some op) q = taken op q (nat_le least (prefix_level op)) refl
 
   -- Behind a primary.
 
-  follow_fine : (stack : List Frame) (least : ℕ) (e : Tree) (mid ts : List Token) → Stands m stack least text mid → Spells e mid ts → level e ≡ 12
-      → IsAtSpot m text (follow_of stack least (shown e) ts)
+  follow_fine : (stack : List Frame) (least : ℕ) (e : Tree) (mid ts : List Token) → Stands limit m stack least text mid → Spells e mid ts → level e ≡ 12
+      → IsAtSpot limit m text (follow_of limit stack least (shown limit e) ts)
   unfolding follow_of attribute_of Spells level Stands
   follow_fine stack least e mid ts st s l = go (attribute_at ts) refl
     where
-      subscripted : (o : Option (List Token)) → after_open_square ts ≡ o → IsAtSpot m text (subscript_by stack least (shown e) ts o)
-      subscripted None q = (mid, e, st, refl, s, sym l, omega (arith, least_small m stack least text mid small st))
+      subscripted : (o : Option (List Token)) → after_open_square ts ≡ o → IsAtSpot limit m text (subscript_by stack least (shown limit e) ts o)
+      subscripted None q = (mid, e, st, refl, s, sym l, omega (arith, least_small limit m stack least text mid small st))
       subscripted (Some us) q = (mid, st, (e, ts, refl, s, l, after_open_square_is ts us q, refl))
 
       attributed : (x : List ℕ × List Token) → attribute_at ts ≡ Some x → (o : Option Method) → method_of x.0 ≡ o → (p : Option (List Token)) → after_empty_call x.1 ≡ p
-          → IsAtSpot m text (attribute_by stack least (shown e) x.0 x.1 o p)
+          → IsAtSpot limit m text (attribute_by limit stack least (shown limit e) x.0 x.1 o p)
       attributed x q (Some c) r (Some us) t = (
         mid,
         MethodCall e c,
         st,
-        shown_method_call e c,
+        shown_method_call limit e c,
         (
           ts,
           s,
@@ -197,23 +197,23 @@ module _ (m : ℕ) (text : List Token) (small : m ≤ 12) where
         ),
         refl,
       )
-      attributed x q (Some c) r None t = (mid, Attribute e x.0, st, shown_attribute e x.0, (ts, s, l, attribute_at_is ts x q), refl)
-      attributed x q None r p t = (mid, Attribute e x.0, st, shown_attribute e x.0, (ts, s, l, attribute_at_is ts x q), refl)
+      attributed x q (Some c) r None t = (mid, Attribute e x.0, st, shown_attribute limit e x.0, (ts, s, l, attribute_at_is ts x q), refl)
+      attributed x q None r p t = (mid, Attribute e x.0, st, shown_attribute limit e x.0, (ts, s, l, attribute_at_is ts x q), refl)
 
-      go : (o : Option (List ℕ × List Token)) → attribute_at ts ≡ o → IsAtSpot m text (follow_by stack least (shown e) ts o)
+      go : (o : Option (List ℕ × List Token)) → attribute_at ts ≡ o → IsAtSpot limit m text (follow_by limit stack least (shown limit e) ts o)
       go None q = subscripted (after_open_square ts) refl
       go (Some x) q = attributed x q (method_of x.0) refl (after_empty_call x.1) refl
 
   -- Behind an operand.
 
   primary_fine : (stack : List Frame) (least : ℕ) (v : Shown) (o : Option (List Token))
-      → ((us : List Token) → o ≡ Some us → IsAtSpot m text (behind_primary stack least v us)) → FineSpot m text (primary_by stack least v o)
+      → ((us : List Token) → o ≡ Some us → IsAtSpot limit m text (behind_primary stack least v us)) → FineSpot limit m text (primary_by stack least v o)
   primary_fine stack least v None h = tt
   primary_fine stack least v (Some us) h = h us refl
 
-  arguments_fine : (stack : List Frame) (least : ℕ) (f : Function) (acc : Trees) (mid us here ts : List Token) (e : Tree) → Stands m stack least text mid
+  arguments_fine : (stack : List Frame) (least : ℕ) (f : Function) (acc : Trees) (mid us here ts : List Token) (e : Tree) → Stands limit m stack least text mid
       → mid ≡ token.Name (function_name f) ∷ token.Open bracket.Round ∷ us → Given f acc us here → Spells e here ts
-      → FineSpot m text (behind_argument stack least f (shown_trees (snoc acc e)) ts)
+      → FineSpot limit m text (behind_argument limit stack least f (shown_trees limit (snoc acc e)) ts)
   unfolding behind_argument SpellOthers
   arguments_fine stack least f acc mid us here ts e st em given s = go (after_last ts) refl
     where
@@ -227,56 +227,56 @@ module _ (m : ℕ) (text : List Token) (small : m ≤ 12) where
           subst (λ es. SpellArguments f es us rest) (sym (followed_snoc acc e (Then e2 more)))
           (given e (Then e2 more) ts rest s (vs, next, xs, after_comma_is ts vs q, rw (count_snoc acc e) at takes, rw (count_snoc acc e) at begins, s2, rw (count_snoc acc e) at o))
 
-      onto : (o : Option (List Token)) → after_comma ts ≡ o → FineSpot m text (comma_by stack least f (shown_trees (snoc acc e)) o)
+      onto : (o : Option (List Token)) → after_comma ts ≡ o → FineSpot limit m text (comma_by stack least f (shown_trees limit (snoc acc e)) o)
       onto None q = tt
       onto (Some vs) q = argument_fine stack least f (snoc acc e) mid us vs st em (λ next takes begins. more_given vs q next takes begins)
 
-      go : (o : Option (List Token)) → after_last ts ≡ o → FineSpot m text (behind_by stack least f (shown_trees (snoc acc e)) ts o)
+      go : (o : Option (List Token)) → after_last ts ≡ o → FineSpot limit m text (behind_by limit stack least f (shown_trees limit (snoc acc e)) ts o)
       go None q = onto (after_comma ts) refl
       go (Some vs) q = call_end_fine stack least f (snoc acc e) mid us vs st em (λ enough. ended vs q enough)
 
   format_fine : (stack : List Frame) (least : ℕ) (v : ShownParts) (o : Option (List Token))
-      → ((us : List Token) → o ≡ Some us → IsAtSpot m text (in_format stack least v us)) → FineSpot m text (format_by stack least v o)
+      → ((us : List Token) → o ≡ Some us → IsAtSpot limit m text (in_format stack least v us)) → FineSpot limit m text (format_by stack least v o)
   format_fine stack least v None h = tt
   format_fine stack least v (Some us) h = h us refl
 
-  close_fine : (stack : List Frame) (outer inner : ℕ) (o : Opened) (e : Tree) (mid here ts : List Token) → Stands m stack outer text mid → Opens o outer inner mid here
-      → Spells e here ts → inner ≤ level e → FineSpot m text (close_of stack outer o (shown e) ts)
+  close_fine : (stack : List Frame) (outer inner : ℕ) (o : Opened) (e : Tree) (mid here ts : List Token) → Stands limit m stack outer text mid → Opens limit o outer inner mid here
+      → Spells e here ts → inner ≤ level e → FineSpot limit m text (close_of limit stack outer o (shown limit e) ts)
   unfolding close_of Spells SpellParts level joined
   close_fine stack outer inner (prefix op) e mid here ts st (em, ei, eo) s b =
-      (mid, Unary op e, st, shown_unary op e, (here, em, s, omega arith), refl, eo)
+      (mid, Unary op e, st, shown_unary limit op e, (here, em, s, omega arith), refl, eo)
   close_fine stack outer inner (infix_op op v) e mid here ts st (l, us, ev, sl, ll, eu, ei, eo) s b =
-      (mid, Infix op l e, st, rw ev (shown_infix op l e), (us, here, sl, ll, eu, s, omega arith), refl, eo)
+      (mid, Infix op l e, st, rw ev (shown_infix limit op l e), (us, here, sl, ll, eu, s, omega arith), refl, eo)
   close_fine stack outer inner brackets e mid here ts st (ei, em) s b =
-      primary_fine stack outer (node.bracketed (shown e)) (after_close ts)
-      (λ us q. (mid, Bracketed e, st, shown_bracketed e, (here, ts, em, s, after_close_is ts us q), refl))
+      primary_fine stack outer (node.bracketed limit (shown limit e)) (after_close ts)
+      (λ us q. (mid, Bracketed e, st, shown_bracketed limit e, (here, ts, em, s, after_close_is ts us q), refl))
   close_fine stack outer inner (subscript v) e mid here ts st (base, us, ev, sb, lb, eu, ei) s b =
-      primary_fine stack outer (node.subscript v (shown e)) (after_close_square ts)
-      (λ vs q. (mid, Subscript base e, st, rw ev (shown_subscript base e), (us, here, ts, sb, lb, eu, s, after_close_square_is ts vs q), refl))
+      primary_fine stack outer (node.subscript limit v (shown limit e)) (after_close_square ts)
+      (λ vs q. (mid, Subscript base e, st, rw ev (shown_subscript limit base e), (us, here, ts, sb, lb, eu, s, after_close_square_is ts vs q), refl))
   close_fine stack outer inner (call f v) e mid here ts st (acc, us, ev, em, given, ei) s b =
-      rw (ev, shown_with_tree acc e) (arguments_fine stack outer f acc mid us here ts e st em given s)
+      rw (ev, shown_with_tree limit acc e) (arguments_fine stack outer f acc mid us here ts e st em given s)
   close_fine stack outer inner (format v) e mid here ts st (acc, us, ev, em, given, ei) s b =
-      format_fine stack outer (node.with_formatted v (shown e)) (after_format_close ts)
+      format_fine stack outer (node.with_formatted v (shown limit e)) (after_format_close ts)
       (λ vs q. (
         mid,
         joined acc (FormattedThen e NoPart),
         us,
         st,
         em,
-        rw ev (shown_with_formatted acc e),
+        rw ev (shown_with_formatted limit acc e),
         λ more rest sm. subst (λ ps. SpellParts ps us rest) (sym (joined_assoc acc (FormattedThen e NoPart) more))
             (given (FormattedThen e more) rest (here, ts, vs, refl, s, after_format_close_is ts vs q, sm)),
       ))
 
-  leave_fine : (stack : List Frame) (least : ℕ) (e : Tree) (mid ts : List Token) → Stands m stack least text mid → Spells e mid ts → least ≤ level e
-      → FineStep m text (leave_of stack (shown e) ts)
+  leave_fine : (stack : List Frame) (least : ℕ) (e : Tree) (mid ts : List Token) → Stands limit m stack least text mid → Spells e mid ts → least ≤ level e
+      → FineStep limit m text (leave_of limit stack (shown limit e) ts)
   unfolding leave_of Stands
   leave_fine [] least e mid ts st s b = record { tree = e; spells = rw st.1 s; binds = omega (arith, st.0); kept = refl }
   leave_fine (f ∷ stack) least e mid ts st s b =
-      fine_onward m text (close_of stack f.least f.opened (shown e) ts) (close_fine stack f.least least f.opened e st.0 mid ts st.1 st.2 s b)
+      fine_onward limit m text (close_of limit stack f.least f.opened (shown limit e) ts) (close_fine stack f.least least f.opened e st.0 mid ts st.1 st.2 s b)
 
-  operand_fine : (stack : List Frame) (least : ℕ) (e : Tree) (mid ts : List Token) → Stands m stack least text mid → Spells e mid ts → least ≤ level e
-      → FineStep m text (operand_of stack least (shown e) (level e) ts)
+  operand_fine : (stack : List Frame) (least : ℕ) (e : Tree) (mid ts : List Token) → Stands limit m stack least text mid → Spells e mid ts → least ≤ level e
+      → FineStep limit m text (operand_of limit stack least (shown limit e) (level e) ts)
   unfolding operand_of Stands
   operand_fine stack least e mid ts st s b = go (operation_at ts) refl
     where
@@ -284,18 +284,18 @@ module _ (m : ℕ) (text : List Token) (small : m ≤ 12) where
       fits_is op h = grind arith
 
       taken : (x : Operation × List Token) → operation_at ts ≡ Some x → (c : Bool) → fits least (level e) x.0 ≡ c
-          → FineStep m text (if c then Some (going (opened stack (frame (infix_op x.0 (shown e)) least) (level_of x.0 + 1) x.1)) else leave_of stack (shown e) ts)
+          → FineStep limit m text (if c then Some (going (opened stack (frame (infix_op x.0 (shown limit e)) least) (level_of x.0 + 1) x.1)) else leave_of limit stack (shown limit e) ts)
       taken x q true h = let k = fits_is x.0 h in (mid, st, (e, ts, refl, s, k.1, operation_is ts x q, refl, k.0))
       taken x q false h = leave_fine stack least e mid ts st s b
 
-      go : (o : Option (Operation × List Token)) → operation_at ts ≡ o → FineStep m text (operand_by stack least (shown e) (level e) ts o)
+      go : (o : Option (Operation × List Token)) → operation_at ts ≡ o → FineStep limit m text (operand_by limit stack least (shown limit e) (level e) ts o)
       go None q = leave_fine stack least e mid ts st s b
       go (Some x) q = taken x q (fits least (level e) x.0) refl
 
   -- In an f-string.
 
-  parts_fine : (stack : List Frame) (least : ℕ) (acc : Parts) (mid us ts : List Token) → Stands m stack least text mid → mid ≡ token.FormatStart ∷ us
-      → ((more : Parts) (rest : List Token) → SpellParts more ts rest → SpellParts (joined acc more) us rest) → FineSpot m text (parts_of stack least (shown_parts acc) ts)
+  parts_fine : (stack : List Frame) (least : ℕ) (acc : Parts) (mid us ts : List Token) → Stands limit m stack least text mid → mid ≡ token.FormatStart ∷ us
+      → ((more : Parts) (rest : List Token) → SpellParts more ts rest → SpellParts (joined acc more) us rest) → FineSpot limit m text (parts_of limit stack least (shown_parts limit acc) ts)
   unfolding parts_of Spells SpellParts level Stands joined
   parts_fine stack least acc mid us (token.FormatText t ∷ ts) st em given = (
     mid,
@@ -303,33 +303,33 @@ module _ (m : ℕ) (text : List Token) (small : m ≤ 12) where
     us,
     st,
     em,
-    shown_with_text acc t,
+    shown_with_text limit acc t,
     λ more rest s. subst (λ ps. SpellParts ps us rest) (sym (joined_assoc acc (TextThen t NoPart) more)) (given (TextThen t more) rest (ts, refl, s)),
   )
   parts_fine stack least acc mid us (token.FormatOpen ∷ ts) st em given = (mid, st, (acc, us, refl, em, given, refl))
   parts_fine stack least acc mid us (token.FormatEnd ∷ ts) st em given =
-      (mid, FormatString acc, st, shown_format acc, (us, em, subst (λ ps. SpellParts ps us ts) (joined_none acc) (given NoPart ts refl)), refl)
+      (mid, FormatString acc, st, shown_format limit acc, (us, em, subst (λ ps. SpellParts ps us ts) (joined_none acc) (given NoPart ts refl)), refl)
   parts_fine stack least acc mid us _ st em given = tt
 
   -- Steps and runs.
 
-  step_fine : (stack : List Frame) (least : ℕ) (ts : List Token) (p : Point) → IsAt m text stack least ts p → FineStep m text (step_at stack least ts p)
-  step_fine stack least ts wanted h = fine_onward m text (wanted_of stack least ts) (wanted_fine stack least ts h)
+  step_fine : (stack : List Frame) (least : ℕ) (ts : List Token) (p : Point) → IsAt limit m text stack least ts p → FineStep limit m text (step_at limit stack least ts p)
+  step_fine stack least ts wanted h = fine_onward limit m text (wanted_of limit stack least ts) (wanted_fine stack least ts h)
   step_fine stack least ts (primary v) (mid, e, st, ev, s, l) = rw ev (follow_fine stack least e mid ts st s l)
   step_fine stack least ts (operand v n) (mid, e, st, ev, s, en, b) = rw (ev, en) (operand_fine stack least e mid ts st s b)
   step_fine stack least ts (parts v) (mid, acc, us, st, em, ev, given) =
-      fine_onward m text (parts_of stack least v ts) (rw ev (parts_fine stack least acc mid us ts st em given))
+      fine_onward limit m text (parts_of limit stack least v ts) (rw ev (parts_fine stack least acc mid us ts st em given))
 
-  run_sound : (n : ℕ) (s : Spot) → IsAtSpot m text s → (x : Shown × List Token) → run n s ≡ Some x → IsRead m text x.0 x.1
+  run_sound : (n : ℕ) (s : Spot) → IsAtSpot limit m text s → (x : Shown × List Token) → run limit n s ≡ Some x → IsRead limit m text x.0 x.1
   unfolding run step_of
   run_sound zero s h x e = cc
-  run_sound (suc n) s h x e = go (step_of s) (step_fine s.stack s.least s.rest s.point h) (λ t k q. run_sound n t k x q) e
+  run_sound (suc n) s h x e = go (step_of limit s) (step_fine s.stack s.least s.rest s.point h) (λ t k q. run_sound n t k x q) e
     where
-      go : (o : Option Step) → FineStep m text o → ((t : Spot) → IsAtSpot m text t → run n t ≡ Some x → IsRead m text x.0 x.1) → run_by (run n) o ≡ Some x → IsRead m text x.0 x.1
+      go : (o : Option Step) → FineStep limit m text o → ((t : Spot) → IsAtSpot limit m text t → run limit n t ≡ Some x → IsRead limit m text x.0 x.1) → run_by (run limit n) o ≡ Some x → IsRead limit m text x.0 x.1
       go None k ih q = cc
       go (Some (going t)) k ih q = ih t k q
-      go (Some (done v rest)) k ih q = subst (λ (y : Shown × List Token). IsRead m text y.0 y.1) (some_same q) k
+      go (Some (done v rest)) k ih q = subst (λ (y : Shown × List Token). IsRead limit m text y.0 y.1) (some_same q) k
 
-  pub read_sound : (x : Shown × List Token) → read_of m text ≡ Some x → IsRead m text x.0 x.1
+  pub read_sound : (x : Shown × List Token) → read_of limit m text ≡ Some x → IsRead limit m text x.0 x.1
   unfolding read_of Stands
   read_sound x e = run_sound (2 * length text + 1) (start m text) (refl, refl) x e

@@ -74,13 +74,13 @@ pub record Stops (least : ℕ) (e : Tree) (rest : List Token) : Type 0 where
   pub uncalled : IsUncalled e rest
 
 -- A tree that binds so tightly at least stands at the front, and this is what is kept of it.
-pub record IsRead (least : ℕ) (ts : List Token) (v : Shown) (rest : List Token) : Type 0 where
+pub record IsRead (limit least : ℕ) (ts : List Token) (v : Shown) (rest : List Token) : Type 0 where
   pub tree : Tree
   pub spells : Spells tree ts rest
   pub binds : least ≤ level tree
-  pub kept : v ≡ shown tree
+  pub kept : v ≡ shown limit tree
 
 -- what is kept of this tree, and this rest, unless memory ran out
-abbrev pub IsFound : Tree → List Token → Result (Measured × Bor (List Token)) ReadError → Type 0
-IsFound e rest (Ok x) = (measured x.0 ≡ shown e) × (x.1.now ≡ rest)
-IsFound e rest (Err f) = f ≡ errors.OutOfMemory
+abbrev pub IsFound : ℕ → Tree → List Token → Result (Measured × Bor (List Token)) ReadError → Type 0
+IsFound limit e rest (Ok x) = (measured x.0 ≡ shown limit e) × (x.1.now ≡ rest)
+IsFound limit e rest (Err f) = f ≡ errors.OutOfMemory

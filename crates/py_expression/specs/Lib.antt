@@ -6,3 +6,4 @@ pub mod Frames
 pub mod Spots
 pub mod Reading
 pub mod Ends
+pub mod Attributes

@@ -8,6 +8,10 @@ use Rattle.py_syntax.specs.declared.expression.Operation.{Operation}
 use Rattle.py_syntax.specs.declared.expression.Function.{Function}
 use Rattle.py_syntax.specs.declared.expression.Method.{Method}
 
+-- the greatest height of a line that is accepted
+abbrev pub height_limit : ℕ
+height_limit = 64
+
 pub record Shown : Type 0 where
   pub tree : Tree
   pub height : ℕ
@@ -25,14 +29,14 @@ unfoldable pub hollow : Tree → Tree
 hollow (Attribute e n) = Attribute (cut e) n
 hollow _ = nothing
 
--- What is kept of a tree. A height over 66 counts as 67: two above the limit on an expression's height, since a statement may take two
--- attributes off its first expression.
-unfoldable pub shown : Tree → Shown
-shown e = if nat_le (height e) 66 then record { tree = e; height = height e } else record { tree = hollow e; height = 67 }
+-- What is kept of a tree. It is kept whole up to two above the limit on an expression's height, since a statement may take two
+-- attributes off its first expression. A greater height counts as one above that.
+unfoldable pub shown : ℕ → Tree → Shown
+shown limit e = if nat_le (height e) (limit + 2) then record { tree = e; height = height e } else record { tree = hollow e; height = limit + 3 }
 
 -- a tree whose highest part has the height h, or what is kept of it
-unfoldable pub fitted : Tree → ℕ → Shown
-fitted e h = if nat_lt h 66 then record { tree = e; height = h + 1 } else record { tree = hollow e; height = 67 }
+unfoldable pub fitted : ℕ → Tree → ℕ → Shown
+fitted limit e h = if nat_lt h (limit + 2) then record { tree = e; height = h + 1 } else record { tree = hollow e; height = limit + 3 }
 
 -- the nodes, of parts as they are kept
 
@@ -42,23 +46,23 @@ constant c = record { tree = Constant c; height = 1 }
 abbrev pub name : List ℕ → Shown
 name n = record { tree = Name n; height = 1 }
 
-unfoldable pub bracketed : Shown → Shown
-bracketed e = fitted (Bracketed e.tree) e.height
+unfoldable pub bracketed : ℕ → Shown → Shown
+bracketed limit e = fitted limit (Bracketed e.tree) e.height
 
-unfoldable pub attribute : Shown → List ℕ → Shown
-attribute e n = fitted (Attribute e.tree n) e.height
+unfoldable pub attribute : ℕ → Shown → List ℕ → Shown
+attribute limit e n = fitted limit (Attribute e.tree n) e.height
 
-unfoldable pub subscript : Shown → Shown → Shown
-subscript e i = fitted (Subscript e.tree i.tree) (max e.height i.height)
+unfoldable pub subscript : ℕ → Shown → Shown → Shown
+subscript limit e i = fitted limit (Subscript e.tree i.tree) (max e.height i.height)
 
-unfoldable pub method_call : Shown → Method → Shown
-method_call e m = fitted (MethodCall e.tree m) e.height
+unfoldable pub method_call : ℕ → Shown → Method → Shown
+method_call limit e m = fitted limit (MethodCall e.tree m) e.height
 
-unfoldable pub unary : UnOp → Shown → Shown
-unary op e = fitted (Unary op e.tree) e.height
+unfoldable pub unary : ℕ → UnOp → Shown → Shown
+unary limit op e = fitted limit (Unary op e.tree) e.height
 
-unfoldable pub infix_of : Operation → Shown → Shown → Shown
-infix_of op l r = fitted (Infix op l.tree r.tree) (max l.height r.height)
+unfoldable pub infix_of : ℕ → Operation → Shown → Shown → Shown
+infix_of limit op l r = fitted limit (Infix op l.tree r.tree) (max l.height r.height)
 
 -- arguments, how many they are, and the greatest height
 pub record ShownTrees : Type 0 where
@@ -76,8 +80,8 @@ no_trees = record { trees = NoTree; count = 0; height = 0 }
 unfoldable pub with_tree : ShownTrees → Shown → ShownTrees
 with_tree es e = record { trees = snoc es.trees e.tree; count = es.count + 1; height = max es.height e.height }
 
-unfoldable pub call : Function → ShownTrees → Shown
-call f es = fitted (Call f es.trees) es.height
+unfoldable pub call : ℕ → Function → ShownTrees → Shown
+call limit f es = fitted limit (Call f es.trees) es.height
 
 -- parts of an f-string, and the greatest height
 pub record ShownParts : Type 0 where
@@ -99,5 +103,5 @@ with_text ps t = record { parts = joined ps.parts (TextThen t NoPart); height = 
 unfoldable pub with_formatted : ShownParts → Shown → ShownParts
 with_formatted ps e = record { parts = joined ps.parts (FormattedThen e.tree NoPart); height = max ps.height e.height }
 
-unfoldable pub format_string : ShownParts → Shown
-format_string ps = fitted (FormatString ps.parts) ps.height
+unfoldable pub format_string : ℕ → ShownParts → Shown
+format_string limit ps = fitted limit (FormatString ps.parts) ps.height

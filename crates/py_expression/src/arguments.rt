@@ -11,20 +11,20 @@ use port_io::NoMemory;
 use py_syntax::{Expression, Function};
 use std::alloc::Global;
 
-/// Arguments, and the greatest height among them.
+/// Arguments of a known function, and the greatest height among them.
 #[derive(Drop)]
-pub struct Arguments {
+pub struct FunctionArguments {
     pub trees: Vec<Expression>,
     /// 0 where there is no argument.
     pub height: usize,
 }
 
-impl Arguments {
+impl FunctionArguments {
     /// No arguments.
     pub fn new(alloc: Global) -> Self
         ensures { arguments_in result ≡ Shown.no_trees }
     {
-        Arguments {
+        FunctionArguments {
             trees: Vec::new(alloc),
             height: 0,
         }
@@ -39,7 +39,7 @@ impl Arguments {
 
     /// These and one more.
     #[tactic(auto, using(crate::proofs::RowLaws::trees_of_more), unfolding(crate::specs::Shown::with_tree))]
-    pub fn with(mut self, argument: Measured) -> Result<Arguments, NoMemory>
+    pub fn with(mut self, argument: Measured) -> Result<FunctionArguments, NoMemory>
         ensures { IfOk result (λ all. arguments_in all ≡ Shown.with_tree (arguments_in self) (measured argument)) }
     {
         self.height = self.height.max(argument.height);

@@ -1,12 +1,13 @@
 //! How an operand begins.
 
+ghost use Rattle.py_expression.specs.Shown.{height_limit};
 ghost use Rattle.std.specs.Prelude.{◌≡◌, ◌∷◌};
 ghost use Rattle.py_phrase.specs.Gives.{Gives};
 ghost use Rattle.py_expression.specs.Kept.{arguments_in};
 ghost use Rattle.py_expression.specs.Spots.{stack_in, spot_in};
 ghost use Rattle.py_expression.specs.Reading;
 
-use crate::arguments::Arguments;
+use crate::arguments::FunctionArguments;
 use crate::frame::{Frame, Opened, Point, Spot, behind_primary, open};
 use crate::measured::Measured;
 use crate::parts::Parts;
@@ -32,7 +33,7 @@ pub fn argument<'a>(
     stack: Vec<Frame>,
     least: usize,
     function: Function,
-    arguments: Arguments,
+    arguments: FunctionArguments,
     tokens: &'a [Token],
 ) -> Result<Spot<'a>, ReadError>
     ensures { Gives spot_in result (Reading.argument_of (stack_in stack.items) least function (arguments_in arguments) tokens.now) }
@@ -53,10 +54,10 @@ pub fn call_end<'a>(
     stack: Vec<Frame>,
     least: usize,
     function: Function,
-    arguments: Arguments,
+    arguments: FunctionArguments,
     tokens: &'a [Token],
 ) -> Result<Spot<'a>, ReadError>
-    ensures { Gives spot_in result (Reading.call_end (stack_in stack.items) least function (arguments_in arguments) tokens.now) }
+    ensures { Gives spot_in result (Reading.call_end height_limit (stack_in stack.items) least function (arguments_in arguments) tokens.now) }
 {
     if !function.has_enough(arguments.len()) {
         return Err(ReadError::Wrong);
@@ -74,11 +75,24 @@ fn call<'a>(
     function: Function,
     tokens: &'a [Token],
 ) -> Result<Spot<'a>, ReadError>
-    ensures { Gives spot_in result (Reading.call_of (stack_in stack.items) least function tokens.now) }
+    ensures { Gives spot_in result (Reading.call_of height_limit (stack_in stack.items) least function tokens.now) }
 {
     match after(Mark::Close(Bracket::Round), tokens) {
-        Some(rest) => call_end(alloc, stack, least, function, Arguments::new(alloc), rest),
-        None => argument(stack, least, function, Arguments::new(alloc), tokens),
+        Some(rest) => call_end(
+            alloc,
+            stack,
+            least,
+            function,
+            FunctionArguments::new(alloc),
+            rest,
+        ),
+        None => argument(
+            stack,
+            least,
+            function,
+            FunctionArguments::new(alloc),
+            tokens,
+        ),
     }
 }
 
@@ -91,7 +105,7 @@ fn name<'a>(
     name: &Name,
     tokens: &'a [Token],
 ) -> Result<Spot<'a>, ReadError>
-    ensures { Gives spot_in result (Reading.name_of (stack_in stack.items) least name.now tokens.now) }
+    ensures { Gives spot_in result (Reading.name_of height_limit (stack_in stack.items) least name.now tokens.now) }
 {
     match (
         Function::of(name.bytes()),
@@ -114,7 +128,7 @@ fn begin<'a>(
     first: &Token,
     rest: &'a [Token],
 ) -> Result<Spot<'a>, ReadError>
-    ensures { Gives spot_in result (Reading.begin_of (stack_in stack.items) least first.now rest.now) }
+    ensures { Gives spot_in result (Reading.begin_of height_limit (stack_in stack.items) least first.now rest.now) }
 {
     match first {
         Token::Open(Bracket::Round) => {
@@ -143,7 +157,7 @@ pub fn wanted<'a>(
     least: usize,
     tokens: &'a [Token],
 ) -> Result<Spot<'a>, ReadError>
-    ensures { Gives spot_in result (Reading.wanted_of (stack_in stack.items) least tokens.now) }
+    ensures { Gives spot_in result (Reading.wanted_of height_limit (stack_in stack.items) least tokens.now) }
 {
     let Some((first, rest)) = tokens.split_first() else {
         return Err(ReadError::Wrong);

@@ -1,12 +1,13 @@
 //! What may stand behind an operand: an operator, or the end of the innermost node.
 
+ghost use Rattle.py_expression.specs.Shown.{height_limit};
 ghost use Rattle.std.specs.Prelude.{◌≡◌, ◌∷◌, Some};
 ghost use Rattle.py_phrase.specs.Gives.{Gives};
 ghost use Rattle.py_expression.specs.Kept.{measured, arguments_in, parts_in};
 ghost use Rattle.py_expression.specs.Spots.{stack_in, spot_in, step_in, opened_in};
 ghost use Rattle.py_expression.specs.Reading;
 
-use crate::arguments::Arguments;
+use crate::arguments::FunctionArguments;
 use crate::begin::{argument, call_end};
 use crate::frame::{Frame, Opened, Point, Spot, Step, behind_primary, innermost, open};
 use crate::measured::Measured;
@@ -24,10 +25,10 @@ fn behind_argument<'a>(
     stack: Vec<Frame>,
     least: usize,
     function: Function,
-    arguments: Arguments,
+    arguments: FunctionArguments,
     tokens: &'a [Token],
 ) -> Result<Spot<'a>, ReadError>
-    ensures { Gives spot_in result (Reading.behind_argument (stack_in stack.items) least function (arguments_in arguments) tokens.now) }
+    ensures { Gives spot_in result (Reading.behind_argument height_limit (stack_in stack.items) least function (arguments_in arguments) tokens.now) }
 {
     if let Some(rest) = after_last(tokens) {
         return call_end(alloc, stack, least, function, arguments, rest);
@@ -47,7 +48,7 @@ fn brackets<'a>(
     inner: Measured,
     tokens: &'a [Token],
 ) -> Result<Spot<'a>, ReadError>
-    ensures { Gives spot_in result (Reading.close_of (stack_in stack.items) least (opened_in Opened.Brackets) (measured inner) tokens.now) }
+    ensures { Gives spot_in result (Reading.close_of height_limit (stack_in stack.items) least (opened_in Opened.Brackets) (measured inner) tokens.now) }
 {
     match after(Mark::Close(Bracket::Round), tokens) {
         Some(rest) => {
@@ -68,7 +69,7 @@ fn subscript<'a>(
     index: Measured,
     tokens: &'a [Token],
 ) -> Result<Spot<'a>, ReadError>
-    ensures { Gives spot_in result (Reading.close_of (stack_in stack.items) least (opened_in (Opened.Subscript base)) (measured index) tokens.now) }
+    ensures { Gives spot_in result (Reading.close_of height_limit (stack_in stack.items) least (opened_in (Opened.Subscript base)) (measured index) tokens.now) }
 {
     match after(Mark::Close(Bracket::Square), tokens) {
         Some(rest) => {
@@ -89,7 +90,7 @@ fn formatted<'a>(
     expression: Measured,
     tokens: &'a [Token],
 ) -> Result<Spot<'a>, ReadError>
-    ensures { Gives spot_in result (Reading.close_of (stack_in stack.items) least (opened_in (Opened.Format parts)) (measured expression) tokens.now) }
+    ensures { Gives spot_in result (Reading.close_of height_limit (stack_in stack.items) least (opened_in (Opened.Format parts)) (measured expression) tokens.now) }
 {
     match after_format_close(tokens) {
         Some(rest) => Ok(Spot {
@@ -111,7 +112,7 @@ fn close<'a>(
     operand: Measured,
     rest: &'a [Token],
 ) -> Result<Spot<'a>, ReadError>
-    ensures { Gives spot_in result (Reading.close_of (stack_in stack.items) frame.least (opened_in frame.opened) (measured operand) rest.now) }
+    ensures { Gives spot_in result (Reading.close_of height_limit (stack_in stack.items) frame.least (opened_in frame.opened) (measured operand) rest.now) }
 {
     let Frame { opened, least } = frame;
     let (operand, level) = match opened {
@@ -141,7 +142,7 @@ fn leave<'a>(
     operand: Measured,
     rest: &'a [Token],
 ) -> Result<Step<'a>, ReadError>
-    ensures { Gives step_in result (Reading.leave_of (stack_in stack.items) (measured operand) rest.now) }
+    ensures { Gives step_in result (Reading.leave_of height_limit (stack_in stack.items) (measured operand) rest.now) }
 {
     match innermost(&mut stack) {
         Some(frame) => Ok(Step::Going(close(alloc, stack, frame, operand, rest)?)),
@@ -159,7 +160,7 @@ pub fn behind_operand<'a>(
     level: usize,
     tokens: &'a [Token],
 ) -> Result<Step<'a>, ReadError>
-    ensures { Gives step_in result (Reading.operand_of (stack_in stack.items) least (measured operand) level tokens.now) }
+    ensures { Gives step_in result (Reading.operand_of height_limit (stack_in stack.items) least (measured operand) level tokens.now) }
 {
     match operation_at(tokens) {
         Some((op, rest)) if least <= op.level() && op.left_level() <= level => {
@@ -180,7 +181,7 @@ pub fn in_format<'a>(
     parts: Parts,
     tokens: &'a [Token],
 ) -> Result<Spot<'a>, ReadError>
-    ensures { Gives spot_in result (Reading.parts_of (stack_in stack.items) least (parts_in parts) tokens.now) }
+    ensures { Gives spot_in result (Reading.parts_of height_limit (stack_in stack.items) least (parts_in parts) tokens.now) }
 {
     match tokens.split_first() {
         Some((Token::FormatText(text), rest)) => Ok(Spot {

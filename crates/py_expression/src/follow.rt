@@ -1,5 +1,6 @@
 //! What may follow a primary: attributes, subscripts and calls of methods.
 
+ghost use Rattle.py_expression.specs.Shown.{height_limit};
 ghost use Rattle.std.specs.Prelude.{◌≡◌, ◌∷◌};
 ghost use Rattle.py_phrase.specs.Gives.{Gives};
 ghost use Rattle.py_expression.specs.Kept.{measured};
@@ -24,7 +25,7 @@ fn attribute<'a>(
     name: &Name,
     tokens: &'a [Token],
 ) -> Result<Spot<'a>, ReadError>
-    ensures { Gives spot_in result (Some (Reading.attribute_of (stack_in stack.items) least (measured base) name.now tokens.now)) }
+    ensures { Gives spot_in result (Some (Reading.attribute_of height_limit (stack_in stack.items) least (measured base) name.now tokens.now)) }
 {
     match (Method::of(name.bytes()), after_empty_call(tokens)) {
         (Some(method), Some(rest)) => {
@@ -47,7 +48,7 @@ pub fn follow<'a>(
     base: Measured,
     tokens: &'a [Token],
 ) -> Result<Spot<'a>, ReadError>
-    ensures { Gives spot_in result (Some (Reading.follow_of (stack_in stack.items) least (measured base) tokens.now)) }
+    ensures { Gives spot_in result (Some (Reading.follow_of height_limit (stack_in stack.items) least (measured base) tokens.now)) }
 {
     if let Some((name, rest)) = attribute_at(tokens) {
         return attribute(alloc, stack, least, base, name, rest);

@@ -5,7 +5,7 @@ ghost use Rattle.py_expression.specs.Kept.{measured};
 ghost use Rattle.py_expression.specs.Spots.{frame_in, stack_in, spot_in};
 ghost use Rattle.py_expression.specs.Reading;
 
-use crate::arguments::Arguments;
+use crate::arguments::FunctionArguments;
 use crate::measured::Measured;
 use crate::parts::Parts;
 use port_io::NoMemory;
@@ -18,7 +18,7 @@ pub enum Opened {
     Infix(Operation, Measured),
     Brackets,
     Subscript(Measured),
-    Call(Function, Arguments),
+    Call(Function, FunctionArguments),
     Format(Parts),
 }
 

@@ -2,6 +2,7 @@
 #![tactic(auto)]
 
 mod arguments;
+mod attribute;
 mod begin;
 mod close;
 mod follow;
@@ -12,6 +13,7 @@ mod parts;
 mod reader;
 mod tokens;
 
+pub use attribute::split;
 pub use laws::one_expression;
 pub use measured::{KEPT, Measured};
 pub use reader::{expression, primary};

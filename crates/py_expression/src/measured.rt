@@ -1,11 +1,12 @@
 //! A tree with its height, and what is kept of a tree that is too high.
 
+ghost use Rattle.py_expression.specs.Shown.{height_limit};
 ghost use Rattle.std.specs.Prelude.{◌≡◌, max, IfOk};
 ghost use Rattle.py_syntax.specs.ExpressionTrees.{Tree, Constant, Name, view};
 ghost use Rattle.py_expression.specs.Kept.{measured, arguments_in, parts_in};
 ghost use Rattle.py_expression.specs.Shown;
 
-use crate::arguments::Arguments;
+use crate::arguments::FunctionArguments;
 use crate::parts::Parts;
 use port_io::{Name, NoMemory};
 use py_syntax::{Const, Expression, Function, Method, Operation, UnOp};
@@ -67,7 +68,7 @@ fn hollow(alloc: Global, tree: Expression) -> Result<Expression, NoMemory>
 /// A tree whose greatest part has this height, or what is kept of it.
 #[tactic(auto, unfolding(crate::specs::Shown::fitted))]
 fn fitted(alloc: Global, tree: Expression, part: usize) -> Result<Measured, NoMemory>
-    ensures { IfOk result (λ m. measured m ≡ Shown.fitted (view tree) part) }
+    ensures { IfOk result (λ m. measured m ≡ Shown.fitted height_limit (view tree) part) }
 {
     if part < KEPT {
         return Ok(Measured {
@@ -105,7 +106,7 @@ impl Measured {
     /// `(inner)`
     #[tactic(auto, unfolding(crate::specs::Shown::bracketed))]
     pub fn bracketed(alloc: Global, inner: Measured) -> Result<Measured, NoMemory>
-        ensures { IfOk result (λ m. measured m ≡ Shown.bracketed (measured inner)) }
+        ensures { IfOk result (λ m. measured m ≡ Shown.bracketed height_limit (measured inner)) }
     {
         let height = inner.height;
         fitted(
@@ -118,7 +119,7 @@ impl Measured {
     /// `base.name`
     #[tactic(auto, unfolding(crate::specs::Shown::attribute))]
     pub fn attribute(alloc: Global, base: Measured, name: Name) -> Result<Measured, NoMemory>
-        ensures { IfOk result (λ m. measured m ≡ Shown.attribute (measured base) name) }
+        ensures { IfOk result (λ m. measured m ≡ Shown.attribute height_limit (measured base) name) }
     {
         let height = base.height;
         fitted(
@@ -131,7 +132,7 @@ impl Measured {
     /// `base[index]`
     #[tactic(auto, unfolding(crate::specs::Shown::subscript))]
     pub fn subscript(alloc: Global, base: Measured, index: Measured) -> Result<Measured, NoMemory>
-        ensures { IfOk result (λ m. measured m ≡ Shown.subscript (measured base) (measured index)) }
+        ensures { IfOk result (λ m. measured m ≡ Shown.subscript height_limit (measured base) (measured index)) }
     {
         let height = base.height.max(index.height);
         fitted(
@@ -144,7 +145,7 @@ impl Measured {
     /// `base.method()`
     #[tactic(auto, unfolding(crate::specs::Shown::method_call))]
     pub fn method_call(alloc: Global, base: Measured, method: Method) -> Result<Measured, NoMemory>
-        ensures { IfOk result (λ m. measured m ≡ Shown.method_call (measured base) method) }
+        ensures { IfOk result (λ m. measured m ≡ Shown.method_call height_limit (measured base) method) }
     {
         let height = base.height;
         fitted(
@@ -157,7 +158,7 @@ impl Measured {
     /// An operator and its operand.
     #[tactic(auto, unfolding(crate::specs::Shown::unary))]
     pub fn unary(alloc: Global, op: UnOp, operand: Measured) -> Result<Measured, NoMemory>
-        ensures { IfOk result (λ m. measured m ≡ Shown.unary op (measured operand)) }
+        ensures { IfOk result (λ m. measured m ≡ Shown.unary height_limit op (measured operand)) }
     {
         let height = operand.height;
         fitted(
@@ -175,7 +176,7 @@ impl Measured {
         left: Measured,
         right: Measured,
     ) -> Result<Measured, NoMemory>
-        ensures { IfOk result (λ m. measured m ≡ Shown.infix_of op (measured left) (measured right)) }
+        ensures { IfOk result (λ m. measured m ≡ Shown.infix_of height_limit op (measured left) (measured right)) }
     {
         let height = left.height.max(right.height);
         let left = Box::new(alloc, left.tree)?;
@@ -192,9 +193,9 @@ impl Measured {
     pub fn call(
         alloc: Global,
         function: Function,
-        arguments: Arguments,
+        arguments: FunctionArguments,
     ) -> Result<Measured, NoMemory>
-        ensures { IfOk result (λ m. measured m ≡ Shown.call function (arguments_in arguments)) }
+        ensures { IfOk result (λ m. measured m ≡ Shown.call height_limit function (arguments_in arguments)) }
     {
         let height = arguments.height;
         fitted(alloc, arguments.into_call(function), height)
@@ -203,7 +204,7 @@ impl Measured {
     /// An f-string of these parts.
     #[tactic(auto, unfolding(crate::specs::Shown::format_string))]
     pub fn format_string(alloc: Global, parts: Parts) -> Result<Measured, NoMemory>
-        ensures { IfOk result (λ m. measured m ≡ Shown.format_string (parts_in parts)) }
+        ensures { IfOk result (λ m. measured m ≡ Shown.format_string height_limit (parts_in parts)) }
     {
         let height = parts.height;
         fitted(alloc, parts.into_format_string(), height)

@@ -1,5 +1,6 @@
 //! Reading expressions.
 
+ghost use Rattle.py_expression.specs.Shown.{height_limit};
 ghost use Rattle.std.specs.Prelude.{◌≡◌, ◌+◌, ◌*◌, ◌≤◌, List, length, IfOk};
 ghost use Rattle.py_syntax.specs.ExpressionTrees.{Tree};
 ghost use Rattle.py_syntax.specs.ExpressionSpells.{Spells, level};
@@ -22,7 +23,7 @@ use std::alloc::Global;
 /// One step of reading.
 #[tactic(auto, unfolding(crate::specs::Reading::step_of))]
 fn step<'a>(alloc: Global, spot: Spot<'a>) -> Result<Step<'a>, ReadError>
-    ensures { Gives step_in result (Reading.step_of (spot_in spot.entry)) }
+    ensures { Gives step_in result (Reading.step_of height_limit (spot_in spot.entry)) }
 {
     let Spot {
         stack,
@@ -59,7 +60,7 @@ fn read<'a>(
     least: usize,
     tokens: &'a [Token],
 ) -> Result<(Measured, &'a [Token]), ReadError>
-    ensures { Gives (λ x. (measured x.0, x.1.now)) result (Reading.read_of least tokens.now) }
+    ensures { Gives (λ x. (measured x.0, x.1.now)) result (Reading.read_of height_limit least tokens.now) }
 {
     let mut spot = start(alloc, least, tokens);
     for _ in 0..2 * tokens.len() + 1 {
@@ -74,9 +75,9 @@ fn read<'a>(
 /// The expression at the front of the tokens, and the tokens after it: the tree that spells what stands before them, where nothing
 /// follows that goes on with it. Wrong where none stands there, whatever its height.
 pub fn expression(alloc: Global, tokens: &[Token]) -> Result<(Measured, &[Token]), ReadError>
-    ensures gives { Gives (λ x. (measured x.0, x.1.now)) result (Reading.expression_of tokens.now) }
-    ensures found { IfOk result (λ x. IsRead 1 tokens.now (measured x.0) x.1.now) }
-    ensures only { (e : Tree) (rest : List Token) → Spells e tokens.now rest → Stops 1 e rest → IsFound e rest result }
+    ensures gives { Gives (λ x. (measured x.0, x.1.now)) result (Reading.expression_of height_limit tokens.now) }
+    ensures found { IfOk result (λ x. IsRead height_limit 1 tokens.now (measured x.0) x.1.now) }
+    ensures only { (e : Tree) (rest : List Token) → Spells e tokens.now rest → Stops 1 e rest → IsFound height_limit e rest result }
 {
     read(alloc, 1, tokens)
 }
@@ -84,9 +85,9 @@ pub fn expression(alloc: Global, tokens: &[Token]) -> Result<(Measured, &[Token]
 /// The primary at the front of the tokens (the language reference, 6.3), and the tokens after it, in the same way. An operator may
 /// follow it.
 pub fn primary(alloc: Global, tokens: &[Token]) -> Result<(Measured, &[Token]), ReadError>
-    ensures gives { Gives (λ x. (measured x.0, x.1.now)) result (Reading.primary_of tokens.now) }
-    ensures found { IfOk result (λ x. IsRead 12 tokens.now (measured x.0) x.1.now) }
-    ensures only { (e : Tree) (rest : List Token) → Spells e tokens.now rest → 12 ≤ level e → Stops 12 e rest → IsFound e rest result }
+    ensures gives { Gives (λ x. (measured x.0, x.1.now)) result (Reading.primary_of height_limit tokens.now) }
+    ensures found { IfOk result (λ x. IsRead height_limit 12 tokens.now (measured x.0) x.1.now) }
+    ensures only { (e : Tree) (rest : List Token) → Spells e tokens.now rest → 12 ≤ level e → Stops 12 e rest → IsFound height_limit e rest result }
 {
     read(alloc, 12, tokens)
 }

@@ -5,7 +5,7 @@ use Rattle.std.proofs.lemmas.List.{map-append}
 use Rattle.py_syntax.specs.Modules.{placed}
 use Rattle.py_syntax.specs.Outline.{Content, Placed, view_placed}
 use Rattle.py_syntax.specs.declared.outline.PlacedLine.{PlacedLine}
-use Rattle.py_parse.specs.Nesting.{Nest, add, all_from, item_of, block_under, levels_over, with_item}
+use Rattle.py_parse.specs.Nesting.{Nest, add, all_from, item_of, block_under, blocks_over, with_item}
 
 pub all_from_more : (ps qs : List Placed) (nest : Nest) → all_from (ps ++ qs) nest ≡ all_from ps (all_from qs nest)
 all_from_more [] qs nest = refl
@@ -23,6 +23,6 @@ suc_not_zero d = go (cases_Bool (eqb (suc d) 0))
 
 -- a line of a block
 pub add_is : (d n : ℕ) (c : Content) (nest : Nest)
-    → add (placed (suc d) n c) nest ≡ record { items = nest.items; levels = with_item (suc d) (item_of n c (block_under (suc d) nest.levels)) (levels_over (suc d) nest.levels) }
+    → add (placed (suc d) n c) nest ≡ record { items = nest.items; blocks = with_item (suc d) (item_of n c (block_under (suc d) nest.blocks)) (blocks_over (suc d) nest.blocks) }
 unfolding add
 add_is d n c nest = rw (suc_not_zero d) refl

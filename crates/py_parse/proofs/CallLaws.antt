@@ -63,6 +63,3 @@ only_refused_law ls ms (Err (fault.BadLine n)) s e g h = err_same s (bad_line n)
 only_refused_law ls ms (Err (fault.NoBlock n)) s e g h = err_same s (no_block n) (sym (broken ls s h) ∙ gives_law ls ms (Err (fault.NoBlock n)) e g)
 only_refused_law ls ms (Err (fault.TooDeep n)) s e g h = err_same s (too_deep n) (sym (broken ls s h) ∙ gives_law ls ms (Err (fault.TooDeep n)) e g)
 only_refused_law ls ms (Err fault.OutOfMemory) s e g h = tt
-
-pub one_outline_law : (ls : List Line) (ps qs : List Placed) → SpellsOutline at_start ps ls → AreWithinLimits ps → SpellsOutline at_start qs ls → AreWithinLimits qs → ps ≡ qs
-one_outline_law ls ps qs a v b w = ok_same ps qs (sym (again ls ps a v) ∙ again ls qs b w)

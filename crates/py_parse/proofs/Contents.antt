@@ -5,6 +5,7 @@ use Rattle.py_syntax.specs.ModuleTrees.{ModuleLine}
 use Rattle.py_syntax.specs.StatementTrees.{BodyLine}
 use Rattle.py_syntax.specs.Outline.{Content, Docstring, InModule, InBody, Says, content_height}
 use Rattle.py_syntax.specs.declared.token.Token.{Token}
+use Rattle.py_expression.specs.Shown.{height_limit}
 use Rattle.py_module_line.specs.Reading.{line_of}
 use Rattle.py_module_line.proofs.LineLaws.{line_sound, line_again}
 use Rattle.py_statement.specs.Lines as body
@@ -34,15 +35,15 @@ said_says d l c e = by d l.is_docstring refl e
     module_line q None r h = cc
     module_line q (Some m) r h = said_as zero (InModule m) h ((q, line_sound l.tokens m r), omega arith)
 
-    body_line : (n : ℕ) → l.is_docstring ≡ false → (a : LineForm) → body.line_of l.tokens ≡ a → said_body a ≡ says c → Right (suc n) c
-    body_line n q (fits m) r h = let k = line_fits_is l.tokens m r in said_as (suc n) (InBody m) h ((q, k.0), k.1)
+    body_line : (n : ℕ) → l.is_docstring ≡ false → (a : LineForm) → body.line_of height_limit l.tokens ≡ a → said_body a ≡ says c → Right (suc n) c
+    body_line n q (fits m) r h = let k = line_fits_is height_limit (omega arith) l.tokens m r in said_as (suc n) (InBody m) h ((q, k.0), k.1)
     body_line n q too_high r h = cc
     body_line n q no_form r h = cc
 
     by : (n : ℕ) (b : Bool) → l.is_docstring ≡ b → said_by n l.tokens b ≡ says c → Right n c
     by n true q h = text n q l.tokens refl h
     by zero false q h = module_line q (line_of l.tokens) refl h
-    by (suc n) false q h = body_line n q (body.line_of l.tokens) refl h
+    by (suc n) false q h = body_line n q (body.line_of height_limit l.tokens) refl h
 
 pub said_high : (d : ℕ) (l : Line) → said_of d l ≡ high → (c : Content) × Says d c l × (64 < content_height c)
 unfolding said_of Says content_height
@@ -56,15 +57,15 @@ said_high d l e = by d l.is_docstring refl e
     module_line None h = cc
     module_line (Some m) h = cc
 
-    body_line : (n : ℕ) → l.is_docstring ≡ false → (a : LineForm) → body.line_of l.tokens ≡ a → said_body a ≡ high → (c : Content) × Says (suc n) c l × (64 < content_height c)
+    body_line : (n : ℕ) → l.is_docstring ≡ false → (a : LineForm) → body.line_of height_limit l.tokens ≡ a → said_body a ≡ high → (c : Content) × Says (suc n) c l × (64 < content_height c)
     body_line n q (fits m) r h = cc
-    body_line n q too_high r h = let (m, s, k) = line_high_is l.tokens r in (InBody m, (q, s), k)
+    body_line n q too_high r h = let (m, s, k) = line_high_is height_limit (omega arith) l.tokens r in (InBody m, (q, s), k)
     body_line n q no_form r h = cc
 
     by : (n : ℕ) (b : Bool) → l.is_docstring ≡ b → said_by n l.tokens b ≡ high → (c : Content) × Says n c l × (64 < content_height c)
     by n true q h = text n l.tokens h
     by zero false q h = module_line (line_of l.tokens) h
-    by (suc n) false q h = body_line n q (body.line_of l.tokens) refl h
+    by (suc n) false q h = body_line n q (body.line_of height_limit l.tokens) refl h
 
 pub said_again : (d : ℕ) (l : Line) (c : Content) → Says d c l → content_height c ≤ 64 → said_of d l ≡ says c
 unfolding said_of Says content_height
@@ -73,7 +74,7 @@ said_again (suc d) l Docstring h k = rw (h.0, h.1) refl
 said_again zero l (InModule m) h k = rw (h.0, line_again l.tokens m h.1) refl
 said_again (suc d) l (InModule m) h k = absurd h
 said_again zero l (InBody b) h k = absurd h
-said_again (suc d) l (InBody b) h k = rw (h.0, body_laws.line_again b l.tokens h.1 k) refl
+said_again (suc d) l (InBody b) h k = rw (h.0, body_laws.line_again height_limit (omega arith) b l.tokens h.1 k) refl
 
 pub said_nothing : (d : ℕ) (l : Line) (c : Content) → said_of d l ≡ nothing → Says d c l → ⊥
 unfolding said_of Says content_height
@@ -86,22 +87,30 @@ said_nothing d l (InModule m) e h = differs (sym (said_again d l (InModule m) h 
     differs : says (InModule m) ≡ nothing → ⊥
     differs q = cc
 said_nothing zero l (InBody b) e h = absurd h
-said_nothing (suc d) l (InBody b) e h = by (body.line_of l.tokens) refl (sym (ap (λ (x : Bool). said_by (suc d) l.tokens x) h.0) ∙ e)
+said_nothing (suc d) l (InBody b) e h = by (body.line_of height_limit l.tokens) refl (sym (ap (λ (x : Bool). said_by (suc d) l.tokens x) h.0) ∙ e)
   where
-    by : (a : LineForm) → body.line_of l.tokens ≡ a → said_body a ≡ nothing → ⊥
+    by : (a : LineForm) → body.line_of height_limit l.tokens ≡ a → said_body a ≡ nothing → ⊥
     by (fits m) q r = cc
     by too_high q r = cc
-    by no_form q r = line_none_is l.tokens q b h.1
+    by no_form q r = line_none_is height_limit (omega arith) l.tokens q b h.1
 
--- a line that says something within the limit says nothing else
-pub content_one : (d : ℕ) (l : Line) (a b : Content) → Says d a l → content_height a ≤ 64 → Says d b l → a ≡ b
+true_not_false : true ≡ false → ⊥
+true_not_false e = cc
+
+-- a line that says something says nothing else
+pub content_one : (d : ℕ) (l : Line) (a b : Content) → Says d a l → Says d b l → a ≡ b
 unfolding Says content_height
-content_one d l a Docstring ha k hb = says_same a Docstring (sym (said_again d l a ha k) ∙ said_again d l Docstring hb (omega arith))
-content_one d l a (InModule m) ha k hb = says_same a (InModule m) (sym (said_again d l a ha k) ∙ said_again d l (InModule m) hb (omega arith))
-content_one zero l a (InBody b) ha k hb = absurd hb
-content_one (suc d) l Docstring (InBody b) ha k hb = absurd (differ (sym ha.0 ∙ hb.0))
-  where
-    differ : true ≡ false → ⊥
-    differ e = cc
-content_one (suc d) l (InModule m) (InBody b) ha k hb = absurd ha
-content_one (suc d) l (InBody a) (InBody b) ha k hb = ap (λ (x : BodyLine). InBody x) (one_line_law a b l.tokens ha.1 hb.1 k)
+content_one d l Docstring Docstring ha hb = refl
+content_one zero l Docstring (InModule m) ha hb = absurd (true_not_false (sym ha.0 ∙ hb.0))
+content_one (suc d) l Docstring (InModule m) ha hb = absurd hb
+content_one zero l Docstring (InBody b) ha hb = absurd hb
+content_one (suc d) l Docstring (InBody b) ha hb = absurd (true_not_false (sym ha.0 ∙ hb.0))
+content_one zero l (InModule m) Docstring ha hb = absurd (true_not_false (sym hb.0 ∙ ha.0))
+content_one zero l (InModule m) (InModule n) ha hb =
+    says_same (InModule m) (InModule n) (sym (said_again zero l (InModule m) ha (omega arith)) ∙ said_again zero l (InModule n) hb (omega arith))
+content_one zero l (InModule m) (InBody b) ha hb = absurd hb
+content_one (suc d) l (InModule m) b ha hb = absurd ha
+content_one zero l (InBody a) b ha hb = absurd ha
+content_one (suc d) l (InBody a) Docstring ha hb = absurd (true_not_false (sym hb.0 ∙ ha.0))
+content_one (suc d) l (InBody a) (InModule m) ha hb = absurd hb
+content_one (suc d) l (InBody a) (InBody b) ha hb = ap (λ (x : BodyLine). InBody x) (one_line_law a b l.tokens ha.1 hb.1)

@@ -7,9 +7,9 @@ use Rattle.py_syntax.specs.StatementTrees.{BodyLine, Simple, Heads}
 use Rattle.py_syntax.specs.BlockTrees.{Block, BlockItem, NoItem, Then}
 use Rattle.py_syntax.specs.Modules.{placed, is_function, block_lines, item_lines, module_item_lines, module_lines}
 use Rattle.py_syntax.specs.Outline.{Content, Docstring, InModule, InBody, Placed}
-use Rattle.py_parse.specs.Nesting.{Level, Nest, nothing, block_under, levels_over, with_item, item_of, module_item_of, add, all_from, module_of}
+use Rattle.py_parse.specs.Nesting.{PartialBlock, Nest, nothing, block_under, blocks_over, with_item, item_of, module_item_of, add, all_from, module_of}
 use Rattle.py_parse.proofs.AddLaws.{add_is}
-use Rattle.py_parse.proofs.Shape.{heads_body, heads, MayStand, MayFollow, AreBelow, IsUnder, level_lines, nest_lines}
+use Rattle.py_parse.proofs.Shape.{heads_body, heads, MayStand, MayFollow, AreBelow, IsUnder, blocks_lines, nest_lines}
 
 -- ---- one line with its block
 
@@ -57,13 +57,13 @@ module_item_flat n Docstring (Then x b) m f = no_head (f (λ e. let g : Then x b
 -- ---- the blocks that are open
 
 -- What stands under a line, and what is left: their lines are all lines, and a block under it is one deeper.
-pub record Taken (d : ℕ) (is_head : Bool) (ls : List Level) (b : Block) (rest : List Level) : Type 0 where
-  pub lines : block_lines (suc d) b ++ level_lines rest ≡ level_lines ls
+pub record Taken (d : ℕ) (is_head : Bool) (ls : List PartialBlock) (b : Block) (rest : List PartialBlock) : Type 0 where
+  pub lines : block_lines (suc d) b ++ blocks_lines rest ≡ blocks_lines ls
   pub headed : (b ≡ NoItem → ⊥) → is_head ≡ true
   pub below : AreBelow (suc d) rest
 
-taken_deeper : (d : ℕ) (is_head : Bool) (l : Level) (ls : List Level) → AreBelow (suc (suc d)) (l ∷ ls) → IsUnder d is_head (l ∷ ls) → d < l.depth → Taken d is_head (l ∷ ls) l.block ls
-unfolding AreBelow level_lines
+taken_deeper : (d : ℕ) (is_head : Bool) (l : PartialBlock) (ls : List PartialBlock) → AreBelow (suc (suc d)) (l ∷ ls) → IsUnder d is_head (l ∷ ls) → d < l.depth → Taken d is_head (l ∷ ls) l.block ls
+unfolding AreBelow blocks_lines
 taken_deeper d is_head l ls (a, o, b) u h =
     let e : l.depth ≡ suc d = omega (arith, a, h) in record {
       lines = rw e refl;
@@ -71,25 +71,25 @@ taken_deeper d is_head l ls (a, o, b) u h =
       below = rw e at b;
     }
 
-taken_other : (d : ℕ) (is_head : Bool) (ls : List Level) → AreBelow (suc d) ls → Taken d is_head ls NoItem ls
+taken_other : (d : ℕ) (is_head : Bool) (ls : List PartialBlock) → AreBelow (suc d) ls → Taken d is_head ls NoItem ls
 unfolding block_lines
 taken_other d is_head ls b = record { lines = refl; headed = λ x. absurd (x refl); below = b }
 
-pub taken : (d : ℕ) (is_head : Bool) (ls : List Level) → AreBelow (suc (suc d)) ls → IsUnder d is_head ls → Taken d is_head ls (block_under d ls) (levels_over d ls)
+pub taken : (d : ℕ) (is_head : Bool) (ls : List PartialBlock) → AreBelow (suc (suc d)) ls → IsUnder d is_head ls → Taken d is_head ls (block_under d ls) (blocks_over d ls)
 unfolding AreBelow
 taken d is_head [] b u = taken_other d is_head [] tt
 taken d is_head (l ∷ ls) (a, o, b) u = go (cases_Bool (ltb d l.depth))
   where
-    go : (ltb d l.depth ≡ true) ⊎ (ltb d l.depth ≡ false) → Taken d is_head (l ∷ ls) (block_under d (l ∷ ls)) (levels_over d (l ∷ ls))
+    go : (ltb d l.depth ≡ true) ⊎ (ltb d l.depth ≡ false) → Taken d is_head (l ∷ ls) (block_under d (l ∷ ls)) (blocks_over d (l ∷ ls))
     go (inl h) = rw h (taken_deeper d is_head l ls (a, o, b) u (ltb-true d l.depth h))
     go (inr h) = rw h (taken_other d is_head (l ∷ ls) (omega (arith, ltb-false d l.depth h), o, b))
 
-below_one : (ls : List Level) → AreBelow 1 ls → ls ≡ []
+below_one : (ls : List PartialBlock) → AreBelow 1 ls → ls ≡ []
 unfolding AreBelow
 below_one [] b = refl
 below_one (l ∷ ls) (a, o, b) = absurd (omega (arith, a, o))
 
-below_more : (d e : ℕ) (ls : List Level) → d ≤ e → AreBelow d ls → AreBelow e ls
+below_more : (d e : ℕ) (ls : List PartialBlock) → d ≤ e → AreBelow d ls → AreBelow e ls
 unfolding AreBelow
 below_more d e [] h b = tt
 below_more d e (l ∷ ls) h (a, o, b) = (omega (arith, a, h), o, b)
@@ -100,17 +100,17 @@ first_lines : (d : ℕ) (x : BlockItem) (ps : List Placed) → block_lines d (Th
 unfolding block_lines
 first_lines d x ps = ap (λ qs. qs ++ ps) (append-nil (item_lines d x))
 
-put_lines : (d : ℕ) (x : BlockItem) (ls : List Level) → level_lines (with_item d x ls) ≡ item_lines d x ++ level_lines ls
-unfolding level_lines block_lines
+put_lines : (d : ℕ) (x : BlockItem) (ls : List PartialBlock) → blocks_lines (with_item d x ls) ≡ item_lines d x ++ blocks_lines ls
+unfolding blocks_lines block_lines
 put_lines d x [] = first_lines d x []
 put_lines d x (l ∷ ls) = go (cases_Bool (eqb l.depth d))
   where
-    same : l.depth ≡ d → (item_lines d x ++ block_lines d l.block) ++ level_lines ls ≡ item_lines d x ++ (block_lines l.depth l.block ++ level_lines ls)
-    same e = rw e (append_assoc (item_lines d x) (block_lines d l.block) (level_lines ls))
+    same : l.depth ≡ d → (item_lines d x ++ block_lines d l.block) ++ blocks_lines ls ≡ item_lines d x ++ (block_lines l.depth l.block ++ blocks_lines ls)
+    same e = rw e (append_assoc (item_lines d x) (block_lines d l.block) (blocks_lines ls))
 
-    go : (eqb l.depth d ≡ true) ⊎ (eqb l.depth d ≡ false) → level_lines (with_item d x (l ∷ ls)) ≡ item_lines d x ++ level_lines (l ∷ ls)
+    go : (eqb l.depth d ≡ true) ⊎ (eqb l.depth d ≡ false) → blocks_lines (with_item d x (l ∷ ls)) ≡ item_lines d x ++ blocks_lines (l ∷ ls)
     go (inl h) = rw h (same (eqb-true l.depth d h))
-    go (inr h) = rw h (first_lines d x (level_lines (l ∷ ls)))
+    go (inr h) = rw h (first_lines d x (blocks_lines (l ∷ ls)))
 
 less_or_same : (a d : ℕ) → a < suc d → (eqb a d ≡ false) → a < d
 less_or_same a d h e = go (cases_Bool (ltb a d))
@@ -119,7 +119,7 @@ less_or_same a d h e = go (cases_Bool (ltb a d))
     go (inl k) = ltb-true a d k
     go (inr k) = no_head (let q : a ≡ d = omega (arith, ltb-false a d k, h) in sym e ∙ eq-eqb a d q)
 
-put_below : (d : ℕ) (x : BlockItem) (ls : List Level) → AreBelow (suc (suc d)) ls → AreBelow (suc (suc d)) (with_item (suc d) x ls)
+put_below : (d : ℕ) (x : BlockItem) (ls : List PartialBlock) → AreBelow (suc (suc d)) ls → AreBelow (suc (suc d)) (with_item (suc d) x ls)
 unfolding AreBelow
 put_below d x [] b = (omega arith, omega arith, tt)
 put_below d x (l ∷ ls) (a, o, b) = go (cases_Bool (eqb l.depth (suc d)))
@@ -128,7 +128,7 @@ put_below d x (l ∷ ls) (a, o, b) = go (cases_Bool (eqb l.depth (suc d)))
     go (inl h) = rw h (omega arith, omega arith, rw (eqb-true l.depth (suc d) h) at b)
     go (inr h) = rw h (omega arith, omega arith, (less_or_same l.depth (suc d) a h, o, b))
 
-put_under : (e : ℕ) (is_head : Bool) (d : ℕ) (x : BlockItem) (ls : List Level) → (e < d → is_head ≡ true) → IsUnder e is_head (with_item d x ls)
+put_under : (e : ℕ) (is_head : Bool) (d : ℕ) (x : BlockItem) (ls : List PartialBlock) → (e < d → is_head ≡ true) → IsUnder e is_head (with_item d x ls)
 put_under e is_head d x [] h = h
 put_under e is_head d x (l ∷ ls) h = go (cases_Bool (eqb l.depth d))
   where
@@ -140,16 +140,16 @@ put_under e is_head d x (l ∷ ls) h = go (cases_Bool (eqb l.depth d))
 
 pub record Made (d : ℕ) (is_head : Bool) (ps : List Placed) (nest : Nest) : Type 0 where
   pub lines : nest_lines nest ≡ ps
-  pub below : AreBelow (suc (suc d)) nest.levels
-  pub under : IsUnder d is_head nest.levels
+  pub below : AreBelow (suc (suc d)) nest.blocks
+  pub under : IsUnder d is_head nest.blocks
 
 added_to_module : (d n : ℕ) (is_head : Bool) (c : Content) (ps : List Placed) (nest : Nest) → MayStand 0 c → Made 0 (heads c) ps nest → Made d is_head (placed 0 n c ∷ ps) (add (placed 0 n c) nest)
-unfolding add nest_lines module_lines level_lines AreBelow
+unfolding add nest_lines module_lines blocks_lines AreBelow
 added_to_module d n is_head c ps nest m ih =
-    let t = taken 0 (heads c) nest.levels ih.below ih.under in
-    let b = block_under 0 nest.levels in
-    let e : levels_over 0 nest.levels ≡ [] = below_one (levels_over 0 nest.levels) t.below in
-    let k : block_lines 1 b ≡ level_lines nest.levels = sym (append-nil (block_lines 1 b)) ∙ (rw e at t.lines) in
+    let t = taken 0 (heads c) nest.blocks ih.below ih.under in
+    let b = block_under 0 nest.blocks in
+    let e : blocks_over 0 nest.blocks ≡ [] = below_one (blocks_over 0 nest.blocks) t.below in
+    let k : block_lines 1 b ≡ blocks_lines nest.blocks = sym (append-nil (block_lines 1 b)) ∙ (rw e at t.lines) in
     record {
       lines = rw (e, module_item_flat n c b m t.headed, k) (ap (λ qs. placed 0 n c ∷ qs) ih.lines);
       below = rw e tt;
@@ -159,11 +159,11 @@ added_to_module d n is_head c ps nest m ih =
 added_to_block : (d e n : ℕ) (is_head : Bool) (c : Content) (ps : List Placed) (nest : Nest) → suc e ≤ suc d → (d < suc e → is_head ≡ true) → MayStand (suc e) c → Made (suc e) (heads c) ps nest → Made d is_head (placed (suc e) n c ∷ ps) (add (placed (suc e) n c) nest)
 unfolding nest_lines
 added_to_block d e n is_head c ps nest h f m ih =
-    let t = taken (suc e) (heads c) nest.levels ih.below ih.under in
-    let b = block_under (suc e) nest.levels in
-    let rest = levels_over (suc e) nest.levels in
+    let t = taken (suc e) (heads c) nest.blocks ih.below ih.under in
+    let b = block_under (suc e) nest.blocks in
+    let rest = blocks_over (suc e) nest.blocks in
     let x = item_of n c b in
-    let k : item_lines (suc e) x ++ level_lines rest ≡ placed (suc e) n c ∷ level_lines nest.levels = rw (item_flat e n c b m t.headed) (ap (λ qs. placed (suc e) n c ∷ qs) t.lines) in
+    let k : item_lines (suc e) x ++ blocks_lines rest ≡ placed (suc e) n c ∷ blocks_lines nest.blocks = rw (item_flat e n c b m t.headed) (ap (λ qs. placed (suc e) n c ∷ qs) t.lines) in
     rw (add_is e n c nest) (record {
       lines = rw (put_lines (suc e) x rest, k) (ap (λ qs. placed (suc e) n c ∷ qs) ih.lines);
       below = below_more (suc (suc e)) (suc (suc d)) (with_item (suc e) x rest) (omega (arith, h)) (put_below e x rest t.below);
@@ -175,21 +175,21 @@ added d zero n is_head c ps nest h f m ih = added_to_module d n is_head c ps nes
 added d (suc e) n is_head c ps nest h f m ih = added_to_block d e n is_head c ps nest h f m ih
 
 pub made : (d : ℕ) (is_head : Bool) (ps : List Placed) → MayFollow d is_head ps → Made d is_head ps (all_from ps nothing)
-unfolding MayFollow nest_lines level_lines module_lines AreBelow
+unfolding MayFollow nest_lines blocks_lines module_lines AreBelow
 made d is_head [] m = record { lines = refl; below = tt; under = tt }
 made d is_head (p ∷ ps) (a, b, s, m) = added d p.depth p.number is_head p.content ps (all_from ps nothing) a b s (made p.depth (heads p.content) ps m)
 
 -- ---- the module
 
-none_open : (ls : List Level) → AreBelow 2 ls → IsUnder 0 false ls → ls ≡ []
+none_open : (ls : List PartialBlock) → AreBelow 2 ls → IsUnder 0 false ls → ls ≡ []
 unfolding AreBelow
 none_open [] b u = refl
 none_open (l ∷ ls) (a, o, b) u = no_head (u o)
 
 pub module_lines_are : (ps : List Placed) → MayFollow 0 false ps → module_lines (module_of ps) ≡ ps
-unfolding module_of nest_lines level_lines
+unfolding module_of nest_lines blocks_lines
 module_lines_are ps m =
     let k = made 0 false ps m in
     let nest = all_from ps nothing in
-    let e : nest.levels ≡ [] = none_open nest.levels k.below k.under in
+    let e : nest.blocks ≡ [] = none_open nest.blocks k.below k.under in
     rw e at k.lines

@@ -86,10 +86,10 @@ over_within d c w (inl h) = omega (arith, w.blocks, h)
 over_within d c w (inr h) = omega (arith, w.height, h)
 
 -- in its place a line says one thing
-same_place : (bs cs ds : List OpenBlock) (l : Line) (c e : Content) → HasForm bs l cs c → HasForm bs l ds e → content_height c ≤ 64 → (cs ≡ ds) × (c ≡ e)
-same_place bs cs ds l c e f g k =
+same_place : (bs cs ds : List OpenBlock) (l : Line) (c e : Content) → HasForm bs l cs c → HasForm bs l ds e → (cs ≡ ds) × (c ≡ e)
+same_place bs cs ds l c e f g =
     let q : cs ≡ ds = some_same (sym f.0 ∙ g.0) in
-    let P : List OpenBlock → Type 0 = λ x. Says (depth x) e l in (q, content_one (depth cs) l c e f.1 k (subst P (sym q) g.1))
+    let P : List OpenBlock → Type 0 = λ x. Says (depth x) e l in (q, content_one (depth cs) l c e f.1 (subst P (sym q) g.1))
 
 stands_unbroken : (bs cs : List OpenBlock) (c : Content) (l : Line) (ls : List Line) (r : Refusal) → HasForm bs l cs c → has_block l ls ≡ true → IsWithinLimits (depth cs) c
     → Breaks bs l ls r → ⊥
@@ -97,7 +97,7 @@ unfolding Breaks
 stands_unbroken bs cs c l ls (bad_line n) f hb w b = b.1 cs c f.0 f.1
 stands_unbroken bs cs c l ls (no_block n) f hb w b = true_false hb b.4
 stands_unbroken bs cs c l ls (too_deep n) f hb w (x, ds, e, g, hb2, o) =
-    let k = same_place bs cs ds l c e f g w.height in
+    let k = same_place bs cs ds l c e f g in
     let P : List OpenBlock → Type 0 = λ y. IsOverLimits (depth y) c in let Q : Content → Type 0 = λ y. IsOverLimits (depth ds) y in
     over_within (depth cs) c w (subst P (sym k.0) (subst Q (sym k.1) o))
 
@@ -160,3 +160,22 @@ outline_refused_again [] ps bs r h = absurd h
 outline_refused_again (l ∷ ls) ps bs r (inl b) = rw (outcome_broken bs l ls r b) refl
 outline_refused_again (l ∷ ls) ps bs r (inr (cs, c, f, hb, w, more)) =
     rw (outcome_again bs cs c l ls f hb w) (outline_refused_again ls (ps ++ (placed_line l cs c ∷ [])) (with_last (word_of l.tokens) cs) r more)
+
+placed_same : (p q : Placed) → p.depth ≡ q.depth → p.number ≡ q.number → p.content ≡ q.content → p ≡ q
+placed_same p q a b c =
+    ap (λ d. record { depth = d; number = p.number; content = p.content }) a ∙ ap (λ n. record { depth = q.depth; number = n; content = p.content }) b
+    ∙ ap (λ x. record { depth = q.depth; number = q.number; content = x }) c
+
+-- lines stand in their places in one way alone
+pub one_outline : (bs : List OpenBlock) (ls : List Line) (ps qs : List Placed) → SpellsOutline bs ps ls → SpellsOutline bs qs ls → ps ≡ qs
+unfolding SpellsOutline
+one_outline bs [] [] [] a b = refl
+one_outline bs [] [] (q ∷ qs) a b = absurd b
+one_outline bs [] (p ∷ ps) qs a b = absurd a
+one_outline bs (l ∷ ls) [] qs a b = absurd a
+one_outline bs (l ∷ ls) (p ∷ ps) [] a b = absurd b
+one_outline bs (l ∷ ls) (p ∷ ps) (q ∷ qs) (cs, f, ed, en, s, hb, more) (ds, g, fd, fn, t, hc, others) =
+    let k = same_place bs cs ds l p.content q.content (f, s) (g, t) in
+    let P : List OpenBlock → Type 0 = λ x. SpellsOutline (with_last (word_of l.tokens) x) qs ls in
+    ap (λ x. x ∷ ps) (placed_same p q (ed ∙ ap depth k.0 ∙ sym fd) (en ∙ sym fn) k.1)
+    ∙ ap (λ xs. q ∷ xs) (one_outline (with_last (word_of l.tokens) cs) ls ps qs more (subst P (sym k.0) others))

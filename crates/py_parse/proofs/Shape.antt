@@ -3,7 +3,7 @@ use Rattle.std.proofs.Common.{◌≡◌, ℕ, zero, suc, ◌<◌, ◌≤◌, Boo
 use Rattle.py_syntax.specs.StatementTrees.{BodyLine, Simple, Heads}
 use Rattle.py_syntax.specs.Modules.{is_function, block_lines, module_lines}
 use Rattle.py_syntax.specs.Outline.{Content, Docstring, InModule, InBody, Placed}
-use Rattle.py_parse.specs.Nesting.{Level, Nest}
+use Rattle.py_parse.specs.Nesting.{PartialBlock, Nest}
 
 abbrev pub heads_body : BodyLine → Bool
 heads_body (Simple s) = false
@@ -30,19 +30,19 @@ MayFollow d is_head (p ∷ ps) =
     (p.depth ≤ suc d) × (d < p.depth → is_head ≡ true) × MayStand p.depth p.content × MayFollow p.depth (heads p.content) ps
 
 -- blocks that stand in fewer than so many blocks, each in fewer than the one before it
-unfoldable pub AreBelow : ℕ → List Level → Type 0
+unfoldable pub AreBelow : ℕ → List PartialBlock → Type 0
 AreBelow d [] = Unit {0}
 AreBelow d (l ∷ ls) = (l.depth < d) × (1 ≤ l.depth) × AreBelow l.depth ls
 
 -- the innermost block may stand behind such a line
-abbrev pub IsUnder : ℕ → Bool → List Level → Type 0
+abbrev pub IsUnder : ℕ → Bool → List PartialBlock → Type 0
 IsUnder d is_head [] = Unit {0}
 IsUnder d is_head (l ∷ ls) = d < l.depth → is_head ≡ true
 
 -- the lines that were made to blocks, and to a module
-unfoldable pub level_lines : List Level → List Placed
-level_lines [] = []
-level_lines (l ∷ ls) = block_lines l.depth l.block ++ level_lines ls
+unfoldable pub blocks_lines : List PartialBlock → List Placed
+blocks_lines [] = []
+blocks_lines (l ∷ ls) = block_lines l.depth l.block ++ blocks_lines ls
 
 unfoldable pub nest_lines : Nest → List Placed
-nest_lines nest = level_lines nest.levels ++ module_lines nest.items
+nest_lines nest = blocks_lines nest.blocks ++ module_lines nest.items

@@ -6,43 +6,43 @@ use Rattle.py_syntax.specs.Outline.{Content, Docstring, InModule, InBody, Placed
 use Rattle.py_syntax.specs.BlockTrees.{BlockItem, DocstringAt, StatementAt, ClauseAt, Block, NoItem, Then, ModuleItem, TextAt, LineAt, FunctionAt}
 
 -- a block whose last lines have been read, and in how many blocks its lines stand
-pub record Level : Type 0 where
+pub record PartialBlock : Type 0 where
   pub depth : ℕ
   pub block : Block
 
-abbrev pub no_levels : List Level
-no_levels = []
+abbrev pub no_blocks : List PartialBlock
+no_blocks = []
 
 -- whether the innermost block is deeper
-abbrev pub is_deeper : ℕ → List Level → Bool
+abbrev pub is_deeper : ℕ → List PartialBlock → Bool
 is_deeper d [] = false
 is_deeper d (l ∷ ls) = nat_lt d l.depth
 
 -- whether it stands in so many
-abbrev pub is_at : ℕ → List Level → Bool
+abbrev pub is_at : ℕ → List PartialBlock → Bool
 is_at d [] = false
 is_at d (l ∷ ls) = l.depth == d
 
-abbrev pub innermost : List Level → Block
+abbrev pub innermost : List PartialBlock → Block
 innermost [] = NoItem
 innermost (l ∷ ls) = l.block
 
-abbrev pub outer : List Level → List Level
+abbrev pub outer : List PartialBlock → List PartialBlock
 outer [] = []
 outer (l ∷ ls) = ls
 
 -- the block of a line that stands in so many blocks
-abbrev pub block_under : ℕ → List Level → Block
+abbrev pub block_under : ℕ → List PartialBlock → Block
 block_under d ls = if is_deeper d ls then innermost ls else NoItem
 
-abbrev pub levels_over : ℕ → List Level → List Level
-levels_over d ls = if is_deeper d ls then outer ls else ls
+abbrev pub blocks_over : ℕ → List PartialBlock → List PartialBlock
+blocks_over d ls = if is_deeper d ls then outer ls else ls
 
-abbrev pub level_with : ℕ → BlockItem → Block → Level
-level_with d x b = record { depth = d; block = Then x b }
+abbrev pub block_with : ℕ → BlockItem → Block → PartialBlock
+block_with d x b = record { depth = d; block = Then x b }
 
-abbrev pub with_item : ℕ → BlockItem → List Level → List Level
-with_item d x ls = if is_at d ls then level_with d x (innermost ls) ∷ outer ls else level_with d x NoItem ∷ ls
+abbrev pub with_item : ℕ → BlockItem → List PartialBlock → List PartialBlock
+with_item d x ls = if is_at d ls then block_with d x (innermost ls) ∷ outer ls else block_with d x NoItem ∷ ls
 
 -- a line of a block, with the block that it heads
 unfoldable pub item_of : ℕ → Content → Block → BlockItem
@@ -67,16 +67,16 @@ module_item_of n (InModule (Function f ps)) b = FunctionAt n f ps b
 -- what was made of the lines behind a place: what stands in the module, and the blocks that have been read in part, the innermost first
 pub record Nest : Type 0 where
   pub items : List ModuleItem
-  pub levels : List Level
+  pub blocks : List PartialBlock
 
 abbrev pub nothing : Nest
-nothing = record { items = []; levels = [] }
+nothing = record { items = []; blocks = [] }
 
 -- with one line more before
 unfoldable pub add : Placed → Nest → Nest
 add p nest =
-    if p.depth == 0 then record { items = module_item_of p.number p.content (block_under 0 nest.levels) ∷ nest.items; levels = levels_over 0 nest.levels }
-    else record { items = nest.items; levels = with_item p.depth (item_of p.number p.content (block_under p.depth nest.levels)) (levels_over p.depth nest.levels) }
+    if p.depth == 0 then record { items = module_item_of p.number p.content (block_under 0 nest.blocks) ∷ nest.items; blocks = blocks_over 0 nest.blocks }
+    else record { items = nest.items; blocks = with_item p.depth (item_of p.number p.content (block_under p.depth nest.blocks)) (blocks_over p.depth nest.blocks) }
 
 abbrev pub all_from : List Placed → Nest → Nest
 all_from [] nest = nest

@@ -6,6 +6,7 @@ use Rattle.py_syntax.specs.ModuleTrees.{ModuleLine}
 use Rattle.py_syntax.specs.Outline.{Content, Docstring, InModule, InBody, Placed, Refusal, bad_line, no_block, too_deep, at_start, place, depth, has_block, with_last, word_of}
 use Rattle.py_syntax.specs.declared.outline.OpenBlock.{OpenBlock}
 use Rattle.py_syntax.specs.declared.token.Token.{Token}
+use Rattle.py_expression.specs.Shown.{height_limit}
 use Rattle.py_module_line.specs.Reading.{line_of}
 use Rattle.py_statement.specs.Lines as body
 use Rattle.py_statement.specs.Lines.{LineForm, fits, too_high, no_form}
@@ -32,7 +33,7 @@ said_body no_form = nothing
 abbrev pub said_by : ℕ → List Token → Bool → Said
 said_by d ts true = said_docstring ts
 said_by zero ts false = said_module (line_of ts)
-said_by (suc d) ts false = said_body (body.line_of ts)
+said_by (suc d) ts false = said_body (body.line_of height_limit ts)
 
 -- what a line says that stands in so many blocks
 unfoldable pub said_of : ℕ → Line → Said

@@ -1,5 +1,6 @@
 //! What a line says.
 
+ghost use Rattle.py_expression.specs.Shown.{height_limit};
 ghost use Rattle.py_statement.specs.Lines;
 ghost use Rattle.py_module_line.specs.Reading.{line_of};
 ghost use Rattle.py_parse.specs.Reading;
@@ -35,7 +36,7 @@ fn in_module(alloc: Global, tokens: &[Token]) -> Result<Content, ContentFault>
 
 /// What a line of a function's body says.
 fn in_body(alloc: Global, tokens: &[Token]) -> Result<Content, ContentFault>
-    ensures { IsSaid result (Reading.said_body (Lines.line_of tokens.now)) }
+    ensures { IsSaid result (Reading.said_body (Lines.line_of height_limit tokens.now)) }
 {
     match statement_line(alloc, tokens) {
         Ok(line) => Ok(Content::Body(line)),

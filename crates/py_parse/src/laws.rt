@@ -3,12 +3,12 @@
 ghost use Rattle.std.specs.Prelude.{◌≡◌, List};
 ghost use Rattle.py_syntax.specs.Line.{Line};
 ghost use Rattle.py_syntax.specs.BlockTrees.{ModuleItem};
-ghost use Rattle.py_syntax.specs.Modules.{AreItems, module_lines, SpellsModule, IsWithinLimits};
-ghost use Rattle.py_syntax.specs.Outline.{Placed, SpellsOutline, AreWithinLimits, at_start};
+ghost use Rattle.py_syntax.specs.Modules.{AreItems, module_lines, SpellsModule};
+ghost use Rattle.py_syntax.specs.Outline.{Placed, SpellsOutline, at_start};
 
-/// The lines of a text stand in their places in one way alone.
+/// The lines of a text stand in their places in one way alone, however deep and high.
 pub fn one_outline()
-    ensures { (text : List Line) (lines others : List Placed) → SpellsOutline at_start lines text → AreWithinLimits lines → SpellsOutline at_start others text → AreWithinLimits others → lines ≡ others }
+    ensures { (text : List Line) (lines others : List Placed) → SpellsOutline at_start lines text → SpellsOutline at_start others text → lines ≡ others }
 {}
 
 /// Lines are those of at most one module.
@@ -16,7 +16,7 @@ pub fn one_tree()
     ensures { (m n : List ModuleItem) → AreItems m → AreItems n → module_lines m ≡ module_lines n → m ≡ n }
 {}
 
-/// A text has at most one module within the limits.
+/// A text has at most one module, however deep and high.
 pub fn one_module()
-    ensures { (m n : List ModuleItem) (text : List Line) → SpellsModule m text → IsWithinLimits m → SpellsModule n text → IsWithinLimits n → m ≡ n }
+    ensures { (m n : List ModuleItem) (text : List Line) → SpellsModule m text → SpellsModule n text → m ≡ n }
 {}

@@ -11,7 +11,7 @@ ghost use Rattle.py_syntax.specs.Modules.{AreItems, module_lines, SpellsModule};
 ghost use Rattle.py_parse.specs.Kept.{nest_in};
 ghost use Rattle.py_parse.specs.Nesting;
 
-use crate::level::Levels;
+use crate::partial_block::PartialBlocks;
 use port_io::NoMemory;
 use py_syntax::{BlockItem, BodyLine, Content, Header, Module, ModuleItem, ModuleLine, PlacedLine};
 use std::alloc::Global;
@@ -81,7 +81,7 @@ fn module_item_of(number: u32, content: Content, body: Vec<BlockItem>) -> Module
 struct Nest {
     /// What stands in the module, the last first.
     items: Vec<ModuleItem>,
-    levels: Levels,
+    blocks: PartialBlocks,
 }
 
 impl Nest {
@@ -91,7 +91,7 @@ impl Nest {
     {
         Nest {
             items: Vec::new(alloc),
-            levels: Levels::new(alloc),
+            blocks: PartialBlocks::new(alloc),
         }
     }
 
@@ -105,12 +105,12 @@ impl Nest {
             number,
             content,
         } = line;
-        let block = self.levels.take_under(alloc, depth);
+        let block = self.blocks.take_under(alloc, depth);
         if depth == 0 {
             self.items.push(module_item_of(number, content, block))?;
             Ok(())
         } else {
-            self.levels
+            self.blocks
                 .put(alloc, depth, item_of(number, content, block))
         }
     }

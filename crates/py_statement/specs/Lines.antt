@@ -13,12 +13,12 @@ pub data LineForm : Type 0 where
   too_high : LineForm
   no_form : LineForm
 
-abbrev pub form_by : Option (BodyLine × ℕ) → LineForm
-form_by None = no_form
-form_by (Some x) = if nat_le x.1 64 then fits x.0 else too_high
+abbrev pub form_by : ℕ → Option (BodyLine × ℕ) → LineForm
+form_by limit None = no_form
+form_by limit (Some x) = if nat_le x.1 limit then fits x.0 else too_high
 
-unfoldable pub line_of : List Token → LineForm
-line_of ts = form_by (body_of ts)
+unfoldable pub line_of : ℕ → List Token → LineForm
+line_of limit ts = form_by limit (body_of limit ts)
 
 abbrev pub Answers : Result code.BodyLine LineError → LineForm → Type 0
 Answers (Ok l) form = form ≡ fits (view_line l)

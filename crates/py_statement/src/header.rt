@@ -1,11 +1,14 @@
 //! The headers of blocks.
 
+ghost use Rattle.py_expression.specs.Shown.{height_limit};
 ghost use Rattle.std.specs.Prelude.{◌≡◌, List, [], ◌∷◌, ◌++◌, map, codes, Some, None, IfOk};
 ghost use Rattle.py_syntax.specs.ExpressionTrees.{view};
 ghost use Rattle.py_syntax.specs.StatementTrees.{view_caught, view_span, view_header};
 ghost use Rattle.py_phrase.specs.Gives.{Gives};
+ghost use Rattle.py_call.specs.Chosen.{made};
 ghost use Rattle.py_call.specs.Views.{tall};
 ghost use Rattle.py_statement.specs.Reading;
+ghost use Rattle.py_statement.specs.Words.{colon_of};
 
 use crate::tree::{kind, range};
 use crate::words::{colon_of_line, kind_at};
@@ -18,24 +21,31 @@ use std::alloc::Global;
 /// An expression and `:` at the end of the line.
 #[tactic(auto, unfolding(crate::specs::Reading::test_of))]
 pub fn test(alloc: Global, tokens: &[Token]) -> Result<(Expression, usize), ReadError>
-    ensures { Gives (tall view) result (Reading.test_of tokens.now) }
+    ensures { Gives (tall view) result (Reading.test_of height_limit tokens.now) }
 {
     let (found, rest) = value(alloc, tokens)?;
     colon_of_line(rest)?;
     Ok(found)
 }
 
+/// What a `for` goes over, of this height, where `:` alone follows.
+fn before_colon(span: Span, height: usize, rest: &[Token]) -> Result<(Span, usize), ReadError>
+    ensures { Gives (tall view_span) result (made (λ _. (view_span span, height)) (colon_of rest.now)) }
+{
+    match colon_of_line(rest) {
+        Ok(()) => Ok((span, height)),
+        Err(error) => Err(error),
+    }
+}
+
 /// `range(..):`, behind the `(`.
 #[tactic(auto, unfolding(crate::specs::Reading::range_span_of))]
 fn range_span(alloc: Global, tokens: &[Token]) -> Result<(Span, usize), ReadError>
-    ensures { Gives (tall view_span) result (Reading.range_span_of tokens.now) }
+    ensures { Gives (tall view_span) result (Reading.range_span_of height_limit tokens.now) }
 {
     let ((list, height), rest) = value_list(alloc, tokens)?;
     match range(list) {
-        Some(span) => {
-            colon_of_line(rest)?;
-            Ok((span, height))
-        }
+        Some(span) => before_colon(span, height, rest),
         None => Err(ReadError::Wrong),
     }
 }
@@ -46,14 +56,13 @@ fn constants_span(alloc: Global, tokens: &[Token]) -> Result<(Span, usize), Read
     ensures { Gives (tall view_span) result (Reading.constants_span_of tokens.now) }
 {
     let (list, rest) = constants(alloc, tokens)?;
-    colon_of_line(rest)?;
-    Ok((Span::Constants(list), 0))
+    before_colon(Span::Constants(list), 0, rest)
 }
 
 /// Behind `for name in`.
 #[tactic(auto, unfolding(crate::specs::Reading::span_of))]
 fn span(alloc: Global, tokens: &[Token]) -> Result<(Span, usize), ReadError>
-    ensures { Gives (tall view_span) result (Reading.span_of tokens.now) }
+    ensures { Gives (tall view_span) result (Reading.span_of height_limit tokens.now) }
 {
     if let Some(rest) = after_call(b"range", tokens) {
         return range_span(alloc, rest);
@@ -67,7 +76,7 @@ fn span(alloc: Global, tokens: &[Token]) -> Result<(Span, usize), ReadError>
 /// Behind `for`.
 #[tactic(auto, unfolding(crate::specs::Reading::for_of))]
 pub fn for_header(alloc: Global, tokens: &[Token]) -> Result<(Header, usize), ReadError>
-    ensures { Gives (tall view_header) result (Reading.for_of tokens.now) }
+    ensures { Gives (tall view_header) result (Reading.for_of height_limit tokens.now) }
 {
     let Some((name, rest)) = name_at(tokens) else {
         return Err(ReadError::Wrong);
@@ -106,7 +115,7 @@ fn kinds(alloc: Global, list: &[Expression]) -> Result<Vec<FaultKind>, ReadError
 /// `(kind, ..):`, behind the `(`.
 #[tactic(auto, unfolding(crate::specs::Reading::caught_kinds_of))]
 fn caught_kinds(alloc: Global, tokens: &[Token]) -> Result<Caught, ReadError>
-    ensures { Gives view_caught result (Reading.caught_kinds_of tokens.now) }
+    ensures { Gives view_caught result (Reading.caught_kinds_of height_limit tokens.now) }
 {
     let ((list, _), rest) = value_list(alloc, tokens)?;
     let kinds = kinds(alloc, &list)?;
@@ -146,7 +155,7 @@ fn caught_kind(alloc: Global, kind: FaultKind, tokens: &[Token]) -> Result<Caugh
 /// What an `except` catches, behind the word.
 #[tactic(auto, unfolding(crate::specs::Reading::caught_of))]
 fn caught(alloc: Global, tokens: &[Token]) -> Result<Caught, ReadError>
-    ensures { Gives view_caught result (Reading.caught_of tokens.now) }
+    ensures { Gives view_caught result (Reading.caught_of height_limit tokens.now) }
 {
     if let Some(rest) = after(Mark::Open(Bracket::Round), tokens) {
         return caught_kinds(alloc, rest);
@@ -163,7 +172,7 @@ fn caught(alloc: Global, tokens: &[Token]) -> Result<Caught, ReadError>
 /// Behind `except`.
 #[tactic(auto, unfolding(crate::specs::Reading::except_of))]
 pub fn except_header(alloc: Global, tokens: &[Token]) -> Result<(Header, usize), ReadError>
-    ensures { Gives (tall view_header) result (Reading.except_of tokens.now) }
+    ensures { Gives (tall view_header) result (Reading.except_of height_limit tokens.now) }
 {
     Ok((Header::Except(caught(alloc, tokens)?), 0))
 }
@@ -189,7 +198,7 @@ pub fn try_header(tokens: &[Token]) -> Result<(Header, usize), ReadError>
 /// Behind `async`.
 #[tactic(auto, unfolding(crate::specs::Reading::with_of))]
 pub fn with_header(alloc: Global, tokens: &[Token]) -> Result<(Header, usize), ReadError>
-    ensures { Gives (tall view_header) result (Reading.with_of tokens.now) }
+    ensures { Gives (tall view_header) result (Reading.with_of height_limit tokens.now) }
 {
     match after(Mark::Keyword(Keyword::With), tokens) {
         Some(rest) => {

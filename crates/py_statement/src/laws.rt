@@ -1,21 +1,21 @@
 //! Laws of the definitions.
 
-ghost use Rattle.std.specs.Prelude.{◌≡◌, ◌≤◌, ◌<◌, List};
+ghost use Rattle.std.specs.Prelude.{◌≡◌, ℕ, ◌≤◌, ◌<◌, List};
 ghost use Rattle.py_syntax.specs.StatementTrees.{BodyLine, line_height};
 ghost use Rattle.py_syntax.specs.StatementForms.{SpellsLine};
 ghost use Rattle.py_syntax.specs.declared.token.Token.{Token};
 ghost use Rattle.py_statement.specs.Lines.{fits, too_high, no_form, line_of};
 
-/// A logical line has the form that spells it. Where its height is over 64, some form spells it that is so high; and where it has
-/// none, no form spells it.
+/// Whatever the limit on heights is, 1 at least, a logical line has the form that spells it. Where its height is over the limit,
+/// some form spells it that is so high; and where it has none, no form spells it.
 pub fn lines_have_their_forms()
-    ensures fits { (ts : List Token) (l : BodyLine) → line_of ts ≡ fits l → SpellsLine l ts × (line_height l ≤ 64) }
-    ensures again { (l : BodyLine) (ts : List Token) → SpellsLine l ts → line_height l ≤ 64 → line_of ts ≡ fits l }
-    ensures high { (ts : List Token) → line_of ts ≡ too_high → (l : BodyLine) × SpellsLine l ts × (64 < line_height l) }
-    ensures none { (ts : List Token) → line_of ts ≡ no_form → (l : BodyLine) → SpellsLine l ts → ⊥ }
+    ensures fits { (limit : ℕ) → 1 ≤ limit → (ts : List Token) (l : BodyLine) → line_of limit ts ≡ fits l → SpellsLine l ts × (line_height l ≤ limit) }
+    ensures again { (limit : ℕ) → 1 ≤ limit → (l : BodyLine) (ts : List Token) → SpellsLine l ts → line_height l ≤ limit → line_of limit ts ≡ fits l }
+    ensures high { (limit : ℕ) → 1 ≤ limit → (ts : List Token) → line_of limit ts ≡ too_high → (l : BodyLine) × SpellsLine l ts × (limit < line_height l) }
+    ensures none { (limit : ℕ) → 1 ≤ limit → (ts : List Token) → line_of limit ts ≡ no_form → (l : BodyLine) → SpellsLine l ts → ⊥ }
 {}
 
-/// At most one form spells a line.
+/// At most one form spells a line, however high.
 pub fn one_form()
-    ensures { (l m : BodyLine) (ts : List Token) → SpellsLine l ts → SpellsLine m ts → line_height l ≤ 64 → l ≡ m }
+    ensures { (l m : BodyLine) (ts : List Token) → SpellsLine l ts → SpellsLine m ts → l ≡ m }
 {}

@@ -1,5 +1,6 @@
 //! Lines of a function's body.
 
+ghost use Rattle.py_expression.specs.Shown.{height_limit};
 ghost use Rattle.std.specs.Prelude.{ℕ, Option};
 ghost use Rattle.py_syntax.specs.StatementTrees.{view_statement, view_header, view_line};
 ghost use Rattle.py_syntax.specs.StatementTrees;
@@ -20,7 +21,7 @@ use std::alloc::Global;
 /// A line that begins with an expression.
 #[tactic(auto, unfolding(crate::specs::Reading::plain_line_of))]
 fn plain_line(alloc: Global, tokens: &[Token]) -> Result<(BodyLine, usize), ReadError>
-    ensures { Gives (tall view_line) result (Reading.plain_line_of tokens.now) }
+    ensures { Gives (tall view_line) result (Reading.plain_line_of height_limit tokens.now) }
 {
     let (statement, height) = plain_statement(alloc, tokens)?;
     Ok((BodyLine::Statement(statement), height))
@@ -44,7 +45,7 @@ fn heads(read: Result<(Header, usize), ReadError>) -> Result<(BodyLine, usize), 
 
 /// Behind `if`.
 fn if_header(alloc: Global, tokens: &[Token]) -> Result<(Header, usize), ReadError>
-    ensures { Gives (tall view_header) result (Reading.if_of tokens.now) }
+    ensures { Gives (tall view_header) result (Reading.if_of height_limit tokens.now) }
 {
     let (condition, height) = test(alloc, tokens)?;
     Ok((Header::If(condition), height))
@@ -52,7 +53,7 @@ fn if_header(alloc: Global, tokens: &[Token]) -> Result<(Header, usize), ReadErr
 
 /// Behind `elif`.
 fn elif_header(alloc: Global, tokens: &[Token]) -> Result<(Header, usize), ReadError>
-    ensures { Gives (tall view_header) result (Reading.elif_of tokens.now) }
+    ensures { Gives (tall view_header) result (Reading.elif_of height_limit tokens.now) }
 {
     let (condition, height) = test(alloc, tokens)?;
     Ok((Header::Elif(condition), height))
@@ -60,7 +61,7 @@ fn elif_header(alloc: Global, tokens: &[Token]) -> Result<(Header, usize), ReadE
 
 /// Behind `while`.
 fn while_header(alloc: Global, tokens: &[Token]) -> Result<(Header, usize), ReadError>
-    ensures { Gives (tall view_header) result (Reading.while_of tokens.now) }
+    ensures { Gives (tall view_header) result (Reading.while_of height_limit tokens.now) }
 {
     let (condition, height) = test(alloc, tokens)?;
     Ok((Header::While(condition), height))
@@ -73,7 +74,7 @@ fn worded(
     rest: &[Token],
     tokens: &[Token],
 ) -> Result<(BodyLine, usize), ReadError>
-    ensures { Gives (tall view_line) result (Reading.worded_of keyword rest.now tokens.now) }
+    ensures { Gives (tall view_line) result (Reading.worded_of height_limit keyword rest.now tokens.now) }
 {
     match keyword {
         Keyword::Pass => simple(only(Statement::Pass, rest)),
@@ -98,7 +99,7 @@ fn worded(
 /// A line at any height, with its height.
 #[tactic(auto, unfolding(crate::specs::Reading::body_of))]
 fn body_line(alloc: Global, tokens: &[Token]) -> Result<(BodyLine, usize), ReadError>
-    ensures { Gives (tall view_line) result (Reading.body_of tokens.now) }
+    ensures { Gives (tall view_line) result (Reading.body_of height_limit tokens.now) }
 {
     match keyword_at(tokens) {
         Some((keyword, rest)) => worded(alloc, keyword, rest, tokens),
@@ -109,7 +110,7 @@ fn body_line(alloc: Global, tokens: &[Token]) -> Result<(BodyLine, usize), ReadE
 /// The statement or the header that these tokens, a whole logical line of a function's body, spell.
 #[tactic(auto, unfolding(crate::specs::Lines::line_of))]
 pub fn statement_line(alloc: Global, tokens: &[Token]) -> Result<BodyLine, LineError>
-    ensures { Answers result (line_of tokens.now) }
+    ensures { Answers result (line_of height_limit tokens.now) }
 {
     match body_line(alloc, tokens) {
         Ok((line, height)) => {

@@ -1,23 +1,42 @@
 //! Statements that begin with an expression.
 
-ghost use Rattle.std.specs.Prelude.{◌≡◌, List, map, codes, Some, None, MatchOption};
+ghost use Rattle.py_expression.specs.Shown.{height_limit};
+ghost use Rattle.std.specs.Prelude.{◌≡◌, ℕ, List, Option, map, codes, Some, None, MatchOption};
 ghost use Rattle.py_syntax.specs.ExpressionTrees.{view};
-ghost use Rattle.py_syntax.specs.StatementTrees.{view_statement, view_logger};
+ghost use Rattle.py_syntax.specs.StatementTrees;
+ghost use Rattle.py_syntax.specs.StatementTrees.{view_right, view_statement, view_logger};
 ghost use Rattle.py_phrase.specs.Gives.{Gives};
 ghost use Rattle.py_expression.specs.Kept.{measured};
+ghost use Rattle.py_call.specs.Chosen.{made};
+ghost use Rattle.py_call.specs.Kept.{of_two};
 ghost use Rattle.py_call.specs.Views.{tall};
 ghost use Rattle.py_statement.specs.Reading;
 
 use crate::method::Called;
-use crate::statement::one_value;
-use crate::tree::{can_log, first, is_word, split};
+use crate::statement::{ending, one_value};
+use crate::tree::{can_log, first, is_word};
 use crate::words::augmenting_at;
 use port_io::Name;
 use py_call::{closed_start, right_side, value_list, whole_value, within};
-use py_expression::{Measured, primary};
-use py_phrase::{Mark, ReadError, after, end_of_line};
-use py_syntax::{Action, BinOp, Bracket, Expression, LogLevel, Logger, Operator, Statement, Token};
+use py_expression::{Measured, primary, split};
+use py_phrase::{Mark, ReadError, after};
+use py_syntax::{
+    Action, BinOp, Bracket, Expression, LogLevel, Logger, Operator, RightSide, Statement, Token,
+};
 use std::alloc::Global;
+
+/// The assignment of this right side to the value of a signal.
+fn assigned_to(
+    signal: (Expression, usize),
+    side: Result<(RightSide, usize), ReadError>,
+) -> Result<(Statement, usize), ReadError>
+    ensures { (o : Option (StatementTrees.RightSide × ℕ)) → Gives (tall view_right) side o → Gives (tall view_statement) result (made (of_two StatementTrees.AssignValue (tall view signal)) o) }
+{
+    match side {
+        Ok((side, height)) => Ok((Statement::AssignValue(signal.0, side), signal.1.max(height))),
+        Err(error) => Err(error),
+    }
+}
 
 /// `signal.value = right side`, behind the `=`; the tree is `signal.value`.
 #[tactic(auto, unfolding(crate::specs::Reading::assigned_value_of))]
@@ -27,16 +46,11 @@ fn assigned_value(
     height: usize,
     tokens: &[Token],
 ) -> Result<(Statement, usize), ReadError>
-    ensures { Gives (tall view_statement) result (Reading.assigned_value_of (view tree) height tokens.now) }
+    ensures { Gives (tall view_statement) result (Reading.assigned_value_of height_limit (view tree) height tokens.now) }
 {
     match split(tree) {
         Some((signal, name)) if name.bytes() == b"value".as_slice() => {
-            let (signal, signal_height) = within(signal, height, 1);
-            let (side, side_height) = right_side(alloc, tokens)?;
-            Ok((
-                Statement::AssignValue(signal, side),
-                signal_height.max(side_height),
-            ))
+            assigned_to(within(signal, height, 1), right_side(alloc, tokens))
         }
         _ => Err(ReadError::Wrong),
     }
@@ -48,7 +62,7 @@ fn assigned_name(
     name: Name,
     tokens: &[Token],
 ) -> Result<(Statement, usize), ReadError>
-    ensures { Gives (tall view_statement) result (Reading.assigned_name_of name tokens.now) }
+    ensures { Gives (tall view_statement) result (Reading.assigned_name_of height_limit name tokens.now) }
 {
     let (side, height) = right_side(alloc, tokens)?;
     Ok((Statement::Assign(name, side), height))
@@ -62,7 +76,7 @@ fn assigned(
     height: usize,
     tokens: &[Token],
 ) -> Result<(Statement, usize), ReadError>
-    ensures { Gives (tall view_statement) result (Reading.assigned_of (view tree) height tokens.now) }
+    ensures { Gives (tall view_statement) result (Reading.assigned_of height_limit (view tree) height tokens.now) }
 {
     match tree {
         Expression::Name(name) => assigned_name(alloc, name, tokens),
@@ -78,7 +92,7 @@ fn augmented(
     op: BinOp,
     tokens: &[Token],
 ) -> Result<(Statement, usize), ReadError>
-    ensures { Gives (tall view_statement) result (Reading.augmented_of (view tree) op tokens.now) }
+    ensures { Gives (tall view_statement) result (Reading.augmented_of height_limit (view tree) op tokens.now) }
 {
     match tree {
         Expression::Name(name) => {
@@ -92,7 +106,7 @@ fn augmented(
 /// `cocotb.log` or `hierarchy._log`, where an attribute of it has this height.
 #[tactic(auto, unfolding(crate::specs::Reading::logger_of))]
 fn logger(tree: Expression, height: usize) -> Option<(Logger, usize)>
-    ensures { MatchOption result (Reading.logger_of (view tree) height ≡ None) (λ x. Reading.logger_of (view tree) height ≡ Some (tall view_logger x)) }
+    ensures { MatchOption result (Reading.logger_of height_limit (view tree) height ≡ None) (λ x. Reading.logger_of height_limit (view tree) height ≡ Some (tall view_logger x)) }
 {
     let (base, name) = split(tree)?;
     if name.bytes() == b"_log".as_slice() {
@@ -120,9 +134,12 @@ fn logged(
             if !can_log(&message, &others) {
                 return Err(ReadError::Wrong);
             }
-            end_of_line(rest)?;
             let height = logger.1.max(values.1);
-            Ok((Statement::Log(logger.0, level, message, others), height))
+            ending(
+                Statement::Log(logger.0, level, message, others),
+                height,
+                rest,
+            )
         }
         None => Err(ReadError::Wrong),
     }
@@ -137,7 +154,7 @@ fn log(
     level: LogLevel,
     tokens: &[Token],
 ) -> Result<(Statement, usize), ReadError>
-    ensures { Gives (tall view_statement) result (Reading.log_of (view tree) height level tokens.now) }
+    ensures { Gives (tall view_statement) result (Reading.log_of height_limit (view tree) height level tokens.now) }
 {
     match logger(tree, height) {
         Some(logger) => {
@@ -156,13 +173,12 @@ fn act(
     action: Action,
     tokens: &[Token],
 ) -> Result<(Statement, usize), ReadError>
-    ensures { Gives (tall view_statement) result (Reading.act_of (view tree) height action tokens.now) }
+    ensures { Gives (tall view_statement) result (Reading.act_of height_limit (view tree) height action tokens.now) }
 {
     match after(Mark::Close(Bracket::Round), tokens) {
         Some(rest) => {
-            end_of_line(rest)?;
             let (object, height) = within(tree, height, 1);
-            Ok((Statement::Act(object, action), height))
+            ending(Statement::Act(object, action), height, rest)
         }
         None => Err(ReadError::Wrong),
     }
@@ -176,7 +192,7 @@ fn set_immediate(
     height: usize,
     tokens: &[Token],
 ) -> Result<(Statement, usize), ReadError>
-    ensures { Gives (tall view_statement) result (Reading.set_immediate_of (view tree) height tokens.now) }
+    ensures { Gives (tall view_statement) result (Reading.set_immediate_of height_limit (view tree) height tokens.now) }
 {
     let (signal, signal_height) = within(tree, height, 1);
     let (value, value_height) = one_value(alloc, tokens)?;
@@ -193,7 +209,7 @@ fn start_soon(
     tree: &Expression,
     tokens: &[Token],
 ) -> Result<(Statement, usize), ReadError>
-    ensures { Gives (tall view_statement) result (Reading.start_soon_of (view tree.now) tokens.now) }
+    ensures { Gives (tall view_statement) result (Reading.start_soon_of height_limit (view tree.now) tokens.now) }
 {
     if !is_word(b"cocotb", tree) {
         return Err(ReadError::Wrong);
@@ -210,7 +226,7 @@ fn method_called(
     method: Called,
     tokens: &[Token],
 ) -> Result<(Statement, usize), ReadError>
-    ensures { Gives (tall view_statement) result (Reading.method_by method (view tree) height tokens.now) }
+    ensures { Gives (tall view_statement) result (Reading.method_by height_limit method (view tree) height tokens.now) }
 {
     match method {
         Called::Act(action) => act(tree, height, action, tokens),
@@ -228,7 +244,7 @@ fn called_statement(
     height: usize,
     tokens: &[Token],
 ) -> Result<(Statement, usize), ReadError>
-    ensures { Gives (tall view_statement) result (Reading.called_statement_of (view tree) height tokens.now) }
+    ensures { Gives (tall view_statement) result (Reading.called_statement_of height_limit (view tree) height tokens.now) }
 {
     let Some((base, name)) = split(tree) else {
         return Err(ReadError::Wrong);
@@ -242,7 +258,7 @@ fn called_statement(
 /// Behind the primary at the front.
 #[tactic(auto, unfolding(crate::specs::Reading::behind_of))]
 fn behind(alloc: Global, found: Measured, tokens: &[Token]) -> Result<(Statement, usize), ReadError>
-    ensures { Gives (tall view_statement) result (Reading.behind_of (measured found, tokens.now)) }
+    ensures { Gives (tall view_statement) result (Reading.behind_of height_limit (measured found, tokens.now)) }
 {
     if let Some(rest) = after(Mark::Operator(Operator::Assign), tokens) {
         return assigned(alloc, found.tree, found.height, rest);
@@ -259,7 +275,7 @@ fn behind(alloc: Global, found: Measured, tokens: &[Token]) -> Result<(Statement
 /// A statement that begins with an expression.
 #[tactic(auto, unfolding(crate::specs::Reading::plain_of))]
 pub fn plain_statement(alloc: Global, tokens: &[Token]) -> Result<(Statement, usize), ReadError>
-    ensures { Gives (tall view_statement) result (Reading.plain_of tokens.now) }
+    ensures { Gives (tall view_statement) result (Reading.plain_of height_limit tokens.now) }
 {
     let (found, rest) = primary(alloc, tokens)?;
     behind(alloc, found, rest)

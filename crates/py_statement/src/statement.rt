@@ -1,9 +1,11 @@
 //! Statements that begin with a reserved word.
 
+ghost use Rattle.py_expression.specs.Shown.{height_limit};
 ghost use Rattle.std.specs.Prelude.{◌≡◌, Some, None};
 ghost use Rattle.py_syntax.specs.ExpressionTrees.{view};
 ghost use Rattle.py_syntax.specs.StatementTrees.{optional, view_statement};
 ghost use Rattle.py_phrase.specs.Gives.{Gives};
+ghost use Rattle.py_call.specs.Chosen.{ended};
 ghost use Rattle.py_call.specs.Views.{tall};
 ghost use Rattle.py_statement.specs.Reading;
 
@@ -14,19 +16,32 @@ use py_phrase::{Mark, ReadError, after, end_of_line};
 use py_syntax::{Bracket, Expression, Operator, Statement, Token};
 use std::alloc::Global;
 
+/// A statement of this height, where nothing follows.
+pub fn ending(
+    statement: Statement,
+    height: usize,
+    tokens: &[Token],
+) -> Result<(Statement, usize), ReadError>
+    ensures { Gives (tall view_statement) result (ended (view_statement statement, height) tokens.now) }
+{
+    match end_of_line(tokens) {
+        Ok(()) => Ok((statement, height)),
+        Err(error) => Err(error),
+    }
+}
+
 /// A statement of a word alone, behind the word.
 #[tactic(auto, unfolding(crate::specs::Reading::only))]
 pub fn only(statement: Statement, tokens: &[Token]) -> Result<(Statement, usize), ReadError>
     ensures { Gives (tall view_statement) result (Reading.only (view_statement statement) tokens.now) }
 {
-    end_of_line(tokens)?;
-    Ok((statement, 0))
+    ending(statement, 0, tokens)
 }
 
 /// Behind `return`.
 #[tactic(auto, unfolding(crate::specs::Reading::return_of))]
 pub fn returning(alloc: Global, tokens: &[Token]) -> Result<(Statement, usize), ReadError>
-    ensures { Gives (tall view_statement) result (Reading.return_of tokens.now) }
+    ensures { Gives (tall view_statement) result (Reading.return_of height_limit tokens.now) }
 {
     if tokens.is_empty() {
         return Ok((Statement::Return(None), 0));
@@ -38,7 +53,7 @@ pub fn returning(alloc: Global, tokens: &[Token]) -> Result<(Statement, usize), 
 /// One expression and `)` at the end of the line, behind a `(`.
 #[tactic(auto, unfolding(crate::specs::Reading::one_value_of))]
 pub fn one_value(alloc: Global, tokens: &[Token]) -> Result<(Expression, usize), ReadError>
-    ensures { Gives (tall view) result (Reading.one_value_of tokens.now) }
+    ensures { Gives (tall view) result (Reading.one_value_of height_limit tokens.now) }
 {
     let ((list, height), rest) = value_list(alloc, tokens)?;
     match one(list) {
@@ -53,7 +68,7 @@ pub fn one_value(alloc: Global, tokens: &[Token]) -> Result<(Expression, usize),
 /// A fault's value in brackets, if there is one.
 #[tactic(auto, unfolding(crate::specs::Reading::raised_of))]
 fn raised(alloc: Global, tokens: &[Token]) -> Result<(Option<Expression>, usize), ReadError>
-    ensures { Gives (tall (optional view)) result (Reading.raised_of tokens.now) }
+    ensures { Gives (tall (optional view)) result (Reading.raised_of height_limit tokens.now) }
 {
     match after(Mark::Open(Bracket::Round), tokens) {
         Some(rest) => {
@@ -70,7 +85,7 @@ fn raised(alloc: Global, tokens: &[Token]) -> Result<(Option<Expression>, usize)
 /// Behind `raise`.
 #[tactic(auto, unfolding(crate::specs::Reading::raise_of))]
 pub fn raising(alloc: Global, tokens: &[Token]) -> Result<(Statement, usize), ReadError>
-    ensures { Gives (tall view_statement) result (Reading.raise_of tokens.now) }
+    ensures { Gives (tall view_statement) result (Reading.raise_of height_limit tokens.now) }
 {
     let Some((kind, rest)) = kind_at(tokens) else {
         return Err(ReadError::Wrong);
@@ -82,7 +97,7 @@ pub fn raising(alloc: Global, tokens: &[Token]) -> Result<(Statement, usize), Re
 /// The value behind an assertion's condition, if there is one.
 #[tactic(auto, unfolding(crate::specs::Reading::message_of))]
 fn message(alloc: Global, tokens: &[Token]) -> Result<(Option<Expression>, usize), ReadError>
-    ensures { Gives (tall (optional view)) result (Reading.message_of tokens.now) }
+    ensures { Gives (tall (optional view)) result (Reading.message_of height_limit tokens.now) }
 {
     match after(Mark::Operator(Operator::Comma), tokens) {
         Some(rest) => {
@@ -99,7 +114,7 @@ fn message(alloc: Global, tokens: &[Token]) -> Result<(Option<Expression>, usize
 /// Behind `assert`.
 #[tactic(auto, unfolding(crate::specs::Reading::assert_of))]
 pub fn asserting(alloc: Global, tokens: &[Token]) -> Result<(Statement, usize), ReadError>
-    ensures { Gives (tall view_statement) result (Reading.assert_of tokens.now) }
+    ensures { Gives (tall view_statement) result (Reading.assert_of height_limit tokens.now) }
 {
     let ((condition, height), rest) = value(alloc, tokens)?;
     let (message, message_height) = message(alloc, rest)?;
@@ -112,7 +127,7 @@ pub fn asserting(alloc: Global, tokens: &[Token]) -> Result<(Statement, usize), 
 /// Behind `await`.
 #[tactic(auto, unfolding(crate::specs::Reading::await_of))]
 pub fn awaiting(alloc: Global, tokens: &[Token]) -> Result<(Statement, usize), ReadError>
-    ensures { Gives (tall view_statement) result (Reading.await_of tokens.now) }
+    ensures { Gives (tall view_statement) result (Reading.await_of height_limit tokens.now) }
 {
     let (awaited, height) = await_operand(alloc, tokens)?;
     Ok((Statement::Await(awaited), height))

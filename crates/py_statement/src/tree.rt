@@ -6,19 +6,7 @@ ghost use Rattle.py_syntax.specs.StatementTrees.{view_span};
 ghost use Rattle.py_syntax.specs.StatementForms;
 ghost use Rattle.py_statement.specs.Reading;
 
-use port_io::Name;
 use py_syntax::{Const, Expression, FaultKind, Span};
-
-/// An attribute's object and name.
-#[tactic(auto, unfolding(crate::specs::Reading::split_of))]
-pub fn split(tree: Expression) -> Option<(Expression, Name)>
-    ensures { MatchOption result (Reading.split_of (view tree) ≡ None) (λ x. Reading.split_of (view tree) ≡ Some (view x.0, x.1)) }
-{
-    match tree {
-        Expression::Attribute(base, name) => Some((Box::into_inner(base), name)),
-        _ => None,
-    }
-}
 
 /// Whether a tree is this name.
 pub fn is_word(word: &[u8], tree: &Expression) -> bool

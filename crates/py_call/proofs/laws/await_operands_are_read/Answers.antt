@@ -9,7 +9,7 @@ pub returns-clause-again : goal.returns-clause-again
 returns-clause-again c = awaited_again
 
 pub returns-clause-whole : goal.returns-clause-whole
-returns-clause-whole c = λ x h. (awaited_fits x).whole h
+returns-clause-whole c = λ limit x h. (awaited_fits limit x).whole h
 
 pub returns-clause-over : goal.returns-clause-over
-returns-clause-over c = λ x h. (awaited_fits x).over h
+returns-clause-over c = λ limit x h. (awaited_fits limit x).over h

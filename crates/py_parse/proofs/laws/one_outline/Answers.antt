@@ -1,5 +1,6 @@
-use Rattle.py_parse.proofs.CallLaws.{one_outline_law}
+use Rattle.py_syntax.specs.Outline.{at_start}
+use Rattle.py_parse.proofs.OutlineLaws.{one_outline}
 use Rattle.py_parse.proofs.laws.one_outline.Goals as goal
 
 pub returns : goal.returns
-returns c = one_outline_law
+returns c = λ text lines others a b. one_outline at_start text lines others a b

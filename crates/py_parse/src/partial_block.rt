@@ -2,7 +2,7 @@
 
 ghost use Rattle.std.specs.Prelude.{◌≡◌, reverse, IfOk, OnOk};
 ghost use Rattle.py_syntax.specs.BlockTrees.{BlockItem, view_item, block_of};
-ghost use Rattle.py_parse.specs.Kept.{levels_of};
+ghost use Rattle.py_parse.specs.Kept.{blocks_in};
 ghost use Rattle.py_parse.specs.Nesting;
 
 use port_io::NoMemory;
@@ -11,7 +11,7 @@ use std::alloc::Global;
 
 /// A block whose last lines have been read.
 #[derive(Drop)]
-pub struct Level {
+pub struct PartialBlock {
     /// How many blocks its lines stand in.
     pub depth: u32,
     /// What stands in it, the last first.
@@ -20,27 +20,27 @@ pub struct Level {
 
 /// The blocks that have been read in part, the innermost last.
 #[derive(Drop)]
-pub struct Levels {
-    pub levels: Vec<Level>,
+pub struct PartialBlocks {
+    pub blocks: Vec<PartialBlock>,
 }
 
-impl Levels {
+impl PartialBlocks {
     /// No blocks.
-    pub fn new(alloc: Global) -> Levels
-        ensures { levels_of result ≡ Nesting.no_levels }
+    pub fn new(alloc: Global) -> PartialBlocks
+        ensures { blocks_in result ≡ Nesting.no_blocks }
     {
-        Levels {
-            levels: Vec::new(alloc),
+        PartialBlocks {
+            blocks: Vec::new(alloc),
         }
     }
 
     /// Whether the innermost block stands deeper.
     #[tactic(auto, using(crate::proofs::RowLaws::reverse_more))]
     fn is_deeper(&self, depth: u32) -> bool
-        ensures { result ≡ Nesting.is_deeper depth (levels_of self.now) }
+        ensures { result ≡ Nesting.is_deeper depth (blocks_in self.now) }
     {
-        match self.levels.last() {
-            Some(level) => depth < level.depth,
+        match self.blocks.last() {
+            Some(block) => depth < block.depth,
             None => false,
         }
     }
@@ -48,10 +48,10 @@ impl Levels {
     /// Whether the innermost block stands in so many.
     #[tactic(auto, using(crate::proofs::RowLaws::reverse_more))]
     fn is_at(&self, depth: u32) -> bool
-        ensures { result ≡ Nesting.is_at depth (levels_of self.now) }
+        ensures { result ≡ Nesting.is_at depth (blocks_in self.now) }
     {
-        match self.levels.last() {
-            Some(level) => level.depth == depth,
+        match self.blocks.last() {
+            Some(block) => block.depth == depth,
             None => false,
         }
     }
@@ -59,19 +59,19 @@ impl Levels {
     /// The items of the innermost block, and the blocks around it.
     #[tactic(auto, using(crate::proofs::RowLaws::reverse_more))]
     fn pop(&mut self, alloc: Global) -> Vec<BlockItem>
-        ensures items { block_of (reverse result.items) ≡ Nesting.innermost (levels_of self.old) }
-        ensures levels { levels_of self.new ≡ Nesting.outer (levels_of self.old) }
+        ensures items { block_of (reverse result.items) ≡ Nesting.innermost (blocks_in self.old) }
+        ensures blocks { blocks_in self.new ≡ Nesting.outer (blocks_in self.old) }
     {
-        match self.levels.pop() {
-            Some(level) => level.items,
+        match self.blocks.pop() {
+            Some(block) => block.items,
             None => Vec::new(alloc),
         }
     }
 
     /// The block of a line that stands in so many blocks: the innermost, if it is deeper.
     pub fn take_under(&mut self, alloc: Global, depth: u32) -> Vec<BlockItem>
-        ensures block { block_of result.items ≡ Nesting.block_under depth (levels_of self.old) }
-        ensures levels { levels_of self.new ≡ Nesting.levels_over depth (levels_of self.old) }
+        ensures block { block_of result.items ≡ Nesting.block_under depth (blocks_in self.old) }
+        ensures blocks { blocks_in self.new ≡ Nesting.blocks_over depth (blocks_in self.old) }
     {
         if self.is_deeper(depth) {
             let mut items = self.pop(alloc);
@@ -85,7 +85,7 @@ impl Levels {
     /// Puts an item in front of its block.
     #[tactic(auto, using(crate::proofs::RowLaws::reverse_more))]
     pub fn put(&mut self, alloc: Global, depth: u32, item: BlockItem) -> Result<(), NoMemory>
-        ensures { OnOk result (levels_of self.new ≡ Nesting.with_item depth (view_item item) (levels_of self.old)) }
+        ensures { OnOk result (blocks_in self.new ≡ Nesting.with_item depth (view_item item) (blocks_in self.old)) }
     {
         let mut items = if self.is_at(depth) {
             self.pop(alloc)
@@ -93,7 +93,7 @@ impl Levels {
             Vec::new(alloc)
         };
         items.push(item)?;
-        self.levels.push(Level { depth, items })?;
+        self.blocks.push(PartialBlock { depth, items })?;
         Ok(())
     }
 }

@@ -1,0 +1,8 @@
+-- Attributes.
+use Rattle.std.specs.Prelude.{ℕ, List, Option, Some, None}
+use Rattle.py_syntax.specs.ExpressionTrees.{Tree, Attribute}
+
+-- an attribute's object and name
+unfoldable pub split_of : Tree → Option (Tree × List ℕ)
+split_of (Attribute e n) = Some (e, n)
+split_of _ = None
