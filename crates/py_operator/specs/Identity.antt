@@ -30,6 +30,7 @@ same_trigger (trigger.Made i trigger.ReadWrite) (trigger.Made j trigger.ReadWrit
 same_trigger (trigger.Made i trigger.ReadOnly) (trigger.Made j trigger.ReadOnly) = true
 same_trigger (trigger.Made i trigger.NextStep) (trigger.Made j trigger.NextStep) = true
 same_trigger (trigger.Made i (trigger.Join a)) (trigger.Made j (trigger.Join b)) = a.0 == b.0
+-- (evaluations have different numbers, so that two kinds of triggers never share one)
 same_trigger (trigger.Made i f) (trigger.Made j g) = same_id i j
 
 -- values are the same where kind and value are

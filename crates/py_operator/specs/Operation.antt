@@ -1,4 +1,4 @@
--- What operators do with values (the language reference, 6.5 to 6.12).
+-- What operators do with values (the language reference, 6.6 to 6.11).
 use Rattle.std.specs.Prelude.{ℕ, Bool, not, ◌&&◌, ◌||◌, if◌then◌else◌, Option, Ok, Err, ℤ, pos, negsuc, ◌+ℤ◌, ◌-ℤ◌, ◌*ℤ◌, neg_ℤ, int_lt, bit_and, bit_or, bit_xor}
 use Rattle.py_integer.specs.Integer.{held, held_shift, shifted_right, floor_quotient, floor_rest, by_bits, differ, is_zero, same_number}
 use Rattle.py_syntax.specs.declared.fault_kind.FaultKind.TheVariants.{TypeError, ValueError, ZeroDivisionError}

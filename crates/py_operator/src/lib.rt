@@ -1,4 +1,4 @@
-//! What Python's operators do with values (the language reference, 6.5 to 6.12).
+//! What Python's operators do with values (the language reference, 6.6 to 6.11).
 //!
 //! [`binary`] and [`unary`] give the value of an operator or the fault that it raises. Where an operation breaks several rules,
 //! TypeError comes first, then ValueError, ZeroDivisionError and OverflowError. [`is_same`] is `is`, and [`int`] is the call

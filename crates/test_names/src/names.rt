@@ -51,7 +51,7 @@ impl Names {
         Ok(())
     }
 
-    /// Notes the place of a name that has none yet. After `NoMemory` all names have the places that they had.
+    /// Gives a name this place, unless it has one. After `NoMemory` all names have the places that they had.
     #[tactic(auto, using(crate::proofs::Stored::note_known))]
     pub fn note(&mut self, alloc: Global, name: &[u8], place: u32) -> Result<(), NoMemory>
         ensures ok { OnOk result ((n : List ℕ) → first_place self.new n ≡ noted name.now place (first_place self.old) n) }

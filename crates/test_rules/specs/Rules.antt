@@ -137,7 +137,7 @@ abbrev pub is_misfit_at : File → Option Definition → Bool
 is_misfit_at f None = false
 is_misfit_at f (Some d) = is_misfit f d
 
--- a function's own line
+-- a function's own line, where the function is a misfit
 abbrev pub has_misfit : File → Place → Bool
 has_misfit f p = is_function p.item && is_misfit_at f (next_function f (file_of p.above))
 
@@ -295,10 +295,10 @@ abbrev pub first_broken : File → List FileLine → Option Refusal
 first_broken f [] = None
 first_broken f (l ∷ ls) = or_else (broken_at f l) (first_broken f ls)
 
--- a file without a test, at its last line
+-- a file without a test, at its last line that is no docstring (line 1 where there is none)
 abbrev pub no_tests : File → Option Refusal
 no_tests f = if has_tests f then None else Some (record { rule = rule.NoTests; line = last_line 1 (module_lines f.items) })
 
--- the first line that breaks a rule, and the rule; the last line breaks `NoTests` behind all others
+-- the first line that breaks a rule, and the rule; a file without a test is refused behind all others, at its last line
 abbrev pub refusal : File → Option Refusal
 refusal f = or_else (first_broken f (file_lines f)) (no_tests f)

@@ -1,4 +1,4 @@
-//! What may be imported, and what the decorator's options are.
+//! Which modules `import` may name, and what the decorator's options are.
 
 ghost use Rattle.std.specs.Prelude.{◌≡◌};
 ghost use Rattle.test_rules.specs.File.{is_always_known};

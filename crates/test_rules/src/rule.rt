@@ -11,10 +11,11 @@ pub enum FileRule {
     Misplaced,
     /// A second definition of a name in the module, or of a parameter in a function.
     DuplicateName,
-    /// An option of a test or of a factory that isn't there, has a wrong value, or is given twice.
+    /// An option of a test or of a factory that isn't there, has a wrong value, is given twice or after the tests were generated; a
+    /// unit without its time; tests that are generated twice, or while a parameter has no value.
     BadOption,
     /// More than 65,536 tests so far.
     TooManyCases,
-    /// No test.
+    /// No test outside of factories, and no factory's tests that are generated.
     NoTests,
 }
