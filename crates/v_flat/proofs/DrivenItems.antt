@@ -12,48 +12,36 @@ use Rattle.v_scope.specs.declared.rule.ElabRule.TheVariants as rule
 use Rattle.v_scope.specs.declared.found.Found.{Found}
 use Rattle.v_scope.specs.Rules.{at}
 use Rattle.v_scope.specs.Found.{each, both, wants, ended, next}
-use Rattle.v_scope.specs.declared.meaning.Meaning.{Meaning}
-use Rattle.v_scope.specs.declared.meaning.Meaning.TheVariants.{Constant, Object, Later}
-use Rattle.v_scope.specs.Scope.{Scope, find, width_of}
+use Rattle.v_scope.specs.Scope.{Scope}
 use Rattle.v_flat.specs.Checks.{checked}
 use Rattle.v_flat.specs.Targets.{Drive, driving, as_target}
 use Rattle.v_flat.specs.Statements.{statement_checked, statement_reads}
 use Rattle.v_flat.specs.Headers.{Port, find_port, ports_of, parameters_of, open_parameters}
 use Rattle.v_flat.specs.Declarations.{Given}
-use Rattle.v_flat.specs.Design.{Design, State, Sub, whole_of, adding, assigning, beginning, drive_whole, net, register, driver, in_turn, running, always, always_item, initial_item, wakes_of, events_of, net_count, register_count, plain_item, given_of, Joints, joint, output_joined, joined, ordered_joints, port_once, value_checked, named_joint, named_joints, joints_of, joint_count, find_module, module_there, is_fresh, instance_checked, with_child, instance_item, item, items}
+use Rattle.v_flat.specs.Design.{Design, State, Sub, whole_of, adding, assigning, beginning, net, register, driver, in_turn, running, always, always_item, initial_item, wakes_of, events_of, net_count, register_count, plain_item, given_of, Joints, joint, output_joined, joined, ordered_joints, port_once, value_checked, named_joint, named_joints, joints_of, joint_count, find_module, module_there, is_fresh, instance_checked, with_child, instance_item, item, items}
 use Rattle.v_flat.specs.Paths.{Path, below}
 use Rattle.v_scope.specs.Found.{Holds, HoldsOk}
 use Rattle.v_flat.specs.Laws.{Apart, Digits_are_driven_once}
 use Rattle.v_flat.proofs.Holds.{holds_lost, holds_then, holds_each, holds_both, holds_wants, holds_any, holds_ended, holds_next, holds_ok_any}
-use Rattle.v_flat.proofs.Driven.{with_apart, driving_apart}
+use Rattle.v_flat.proofs.Driven.{driving_apart}
 
 abbrev IsApart : State → Type 0
 IsApart t = Apart t.driven
 
-whole_apart : (i : Identifier) (ds : List Drive) (x : Option Meaning) → Apart ds → Holds Apart (drive_whole i ds x)
-whole_apart i ds (Some (Object o)) a = with_apart i.at o.kind (record { signal = o.first; low = 0; count = width_of o.bounds }) ds a
-whole_apart i ds (Some (Constant v b)) a = a
-whole_apart i ds (Some Later) a = a
-whole_apart i ds None a = a
+driver_apart : (d : DriverTree) (s : State) → Apart s.driven → Holds IsApart (driver d s)
+driver_apart (Driver t e) s a =
+    holds_each (λ (w : ℕ × ℕ). Unit {0}) IsApart (λ w. adding (assigning s.scope t e s.design) (driving None s.scope t s.driven).driven s) (both (driving None s.scope t s.driven).width (checked s.scope e))
+    (holds_any (both (driving None s.scope t s.driven).width (checked s.scope e))) (λ w u. driving_apart None s.scope t s.driven a)
 
 net_apart : (n : NetTree) (s : State) → Apart s.driven → Holds IsApart (net n s)
 net_apart (NetOf i None) s a = a
-net_apart (NetOf i (Some e)) s a =
-    holds_each (λ (x : List Drive × ℕ). Apart x.0 × Unit {0}) IsApart (λ x. adding (assigning s.scope (whole_of i) e s.design) x.0 s) (both (drive_whole i s.driven (find i.name s.scope)) (checked s.scope e))
-    (holds_both Apart (λ (w : ℕ). Unit {0}) (drive_whole i s.driven (find i.name s.scope)) (checked s.scope e) (whole_apart i s.driven (find i.name s.scope) a) (holds_any (checked s.scope e)))
-    (λ x k. k.0)
+net_apart (NetOf i (Some e)) s a = driver_apart (Driver (whole_of i) e) s a
 
 register_apart : (r : RegisterTree) (s : State) → Apart s.driven → Holds IsApart (register r s)
 register_apart (RegisterOf i None) s a = a
 register_apart (RegisterOf i (Some (Words r))) s a = a
 register_apart (RegisterOf i (Some (Initially e))) s a =
     holds_each (λ (w : ℕ). Unit {0}) IsApart (λ w. adding (beginning s.scope (whole_of i) e) s.driven s) (checked s.scope e) (holds_any (checked s.scope e)) (λ w u. a)
-
-driver_apart : (d : DriverTree) (s : State) → Apart s.driven → Holds IsApart (driver d s)
-driver_apart (Driver t e) s a =
-    holds_each (λ (x : (ℕ × List Drive) × ℕ). Apart x.0.1 × Unit {0}) IsApart (λ x. adding (assigning s.scope t e s.design) x.0.1 s) (both (driving None s.scope t s.driven) (checked s.scope e))
-    (holds_both (λ (x : ℕ × List Drive). Apart x.1) (λ (w : ℕ). Unit {0}) (driving None s.scope t s.driven) (checked s.scope e) (driving_apart None s.scope t s.driven a) (holds_any (checked s.scope e)))
-    (λ x k. k.0)
 
 in_turn_apart : {A : Type 0} (f : A → State → Found State) (xs : List A) (s : State) → ((x : A) (t : State) → Apart t.driven → Holds IsApart (f x t)) → Apart s.driven → Holds IsApart (in_turn f xs s)
 in_turn_apart f [] s h a = a
@@ -90,7 +78,8 @@ AreApart x = Apart x.driven
 
 output_apart : (q : ℕ) (s : Scope) (e : Tree) (ds : List Drive) (t : Option TargetTree) → Apart ds → Holds Apart (output_joined q s e ds t)
 output_apart q s e ds None a = holds_lost Apart (at rule.BadTarget q) (checked s e)
-output_apart q s e ds (Some t) a = holds_each (λ (x : ℕ × List Drive). Apart x.1) Apart (λ x. x.1) (driving (Some q) s t ds) (driving_apart (Some q) s t ds a) (λ x k. k)
+output_apart q s e ds (Some t) a =
+    holds_each (λ (w : ℕ). Unit {0}) Apart (λ w. (driving (Some q) s t ds).driven) (driving (Some q) s t ds).width (holds_any (driving (Some q) s t ds).width) (λ w u. driving_apart (Some q) s t ds a)
 
 joined_apart : (q : ℕ) (s : Scope) (d : Option Direction) (e : Tree) (ds : List Drive) → Apart ds → Holds Apart (joined q s d e ds)
 joined_apart q s (Some direction.Output) e ds a = output_apart q s e ds (as_target e) a

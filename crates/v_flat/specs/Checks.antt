@@ -54,9 +54,13 @@ known_by p ds (Some n) = Sound ds
 abbrev pub known : ℕ → List Digit → Found (List Digit)
 known p ds = known_by p ds (number ds)
 
--- the value of a constant in a context of f w digits, where w is its own width; x is what was found in the expression
+-- the width of a constant, its digits unseen; x is what was found in the expression
+abbrev pub constant_width : Scope → Tree → Found ℕ → Found ℕ
+constant_width s e x = settled (needs (made s e) rule.NotConstant (first_at e) x)
+
+-- the value of a constant in a context of f w digits, where w is its own width
 abbrev pub constant_in : (ℕ → ℕ) → Scope → Tree → Found ℕ → Found (List Digit)
-constant_in f s e x = and_then (settled (needs (made s e) rule.NotConstant (first_at e) x)) (λ w. known (first_at e) (meaning s e (f w) no_signals))
+constant_in f s e x = and_then (constant_width s e x) (λ w. known (first_at e) (meaning s e (f w) no_signals))
 
 abbrev pub constant : Scope → Tree → Found ℕ → Found (List Digit)
 constant s e x = constant_in (λ w. w) s e x
@@ -64,7 +68,7 @@ constant s e x = constant_in (λ w. w) s e x
 -- an index, by itself; where it is fixed, a constant
 abbrev pub index : Bool → Scope → Tree → Found ℕ → Found (Unit {0})
 index true s e x = each (λ ds. tt) (constant s e x)
-index false s e x = each (λ w. tt) (settled x)
+index false s e x = each (λ w. tt) x
 
 -- ---- widths
 

@@ -141,9 +141,11 @@ same_bounds a b = (a.left == b.left) && (a.right == b.right)
 abbrev pub whole_of : Declared → Declared → Declared
 whole_of old d = record old { direction = first_of old.direction d.direction; sort = first_of old.sort d.sort }
 
+abbrev pub declared_too : Place → ℕ → Declared → List Declared → Found (List Declared)
+declared_too w p d ds = wants (nat_le (w.first + (signals_in ds + count_of d.words)) 65536) rule.TooMany p (Sound (ds ++ (d ∷ [])))
+
 abbrev pub declare_again : Place → ℕ → Declared → List Declared → Option Declared → Found (List Declared)
-declare_again w p d ds None =
-    port_checked w p d (wants (nat_le (w.first + (signals_in ds + count_of d.words)) 65536) rule.TooMany p (Sound (ds ++ (d ∷ []))))
+declare_again w p d ds None = port_checked w p d (declared_too w p d ds)
 declare_again w p d ds (Some old) =
     needs (are_halves old d && same_bounds old.bounds d.bounds) rule.DuplicateName p (port_checked w p (whole_of old d) (Sound (with_declared (whole_of old d) ds)))
 
@@ -170,14 +172,21 @@ declare_all w d k b (i ∷ is) ds = and_then (declare w i.at (declared_as d k b 
 abbrev pub net_identifier : NetTree → Identifier
 net_identifier (NetOf i e) = i
 
-abbrev pub tail_words : Option TailTree → Scope → Found (Option Bounds)
-tail_words (Some (Words r)) s = each (λ b. Some b) (bounds_in r s)
-tail_words _ s = Sound None
+-- a memory has a name of its own, whatever its range of words is
+abbrev pub is_new : List ℕ → Place → List Declared → Bool
+is_new n w ds = is_free n w.constants && is_none (find_declared n ds)
+
+abbrev pub declare_memory : Place → Bounds → Identifier → RangeTree → List Declared → Found (List Declared)
+declare_memory w b i r ds = needs (is_new i.name w ds) rule.DuplicateName i.at (and_then (bounds_in r (known_names w)) (λ x.
+    declared_too w i.at (declared_as None (Some Reg) b (Some x) i.name) ds))
+
+abbrev pub declare_register : Place → Bounds → Identifier → Option TailTree → List Declared → Found (List Declared)
+declare_register w b i (Some (Words r)) ds = declare_memory w b i r ds
+declare_register w b i _ ds = declare w i.at (declared_as None (Some Reg) b None i.name) ds
 
 abbrev pub declare_registers : Place → Bounds → List RegisterTree → List Declared → Found (List Declared)
 declare_registers w b [] ds = Sound ds
-declare_registers w b (RegisterOf i t ∷ rs) ds =
-    and_then (tail_words t (known_names w)) (λ x. and_then (declare w i.at (declared_as None (Some Reg) b x i.name) ds) (declare_registers w b rs))
+declare_registers w b (RegisterOf i t ∷ rs) ds = and_then (declare_register w b i t ds) (declare_registers w b rs)
 
 abbrev pub integer_bounds : Bounds
 integer_bounds = record { left = 31; right = 0 }

@@ -38,7 +38,7 @@ use Rattle.v_scope.specs.declared.meaning.Meaning.TheVariants.{Constant, Object,
 use Rattle.v_scope.specs.Scope.{width_of, low_of, Scope, find, means, named, nothing}
 use Rattle.v_flat.specs.Objects.{count_of, is_among}
 use Rattle.v_flat.specs.Checks.{checked, constant_of}
-use Rattle.v_flat.specs.Targets.{Drive, driven_with, driving, as_target}
+use Rattle.v_flat.specs.Targets.{Drive, Driving, driving, as_target}
 use Rattle.v_flat.specs.Statements.{Span, reads, statement_reads, statement_checked, assign, activation, done}
 use Rattle.v_flat.specs.Headers.{Port, find_port, ports_of, parameters_of, open_parameters, all_names, later, module_name, items_in}
 use Rattle.v_flat.specs.Declarations.{Entries, Given, parameters, Declared, Place, declarations, in_order, kind_of}
@@ -159,24 +159,21 @@ whole_of i = NamedTarget i.at i.name Whole
 abbrev pub adding : Proc → List Drive → State → State
 adding p driven s = record { scope = s.scope; design = with_process p s.design; driven = driven; children = s.children }
 
-abbrev pub drive_whole : Identifier → List Drive → Option Meaning → Found (List Drive)
-drive_whole i driven (Some (Object o)) = driven_with i.at o.kind (record { signal = o.first; low = 0; count = width_of o.bounds }) driven
-drive_whole i driven _ = Sound driven
+abbrev pub driven_by : Driving → TargetTree → Tree → State → Found State
+driven_by x t e s = each (λ w. adding (assigning s.scope t e s.design) x.driven s) (both x.width (checked s.scope e))
+
+abbrev pub driver : DriverTree → State → Found State
+driver (Driver t e) s = driven_by (driving None s.scope t s.driven) t e s
 
 -- wire n = e
 abbrev pub net : NetTree → State → Found State
 net (NetOf i None) s = Sound s
-net (NetOf i (Some e)) s =
-    each (λ x. adding (assigning s.scope (whole_of i) e s.design) x.0 s) (both (drive_whole i s.driven (find i.name s.scope)) (checked s.scope e))
+net (NetOf i (Some e)) s = driver (Driver (whole_of i) e) s
 
 -- reg n = e
 abbrev pub register : RegisterTree → State → Found State
 register (RegisterOf i (Some (Initially e))) s = each (λ w. adding (beginning s.scope (whole_of i) e) s.driven s) (checked s.scope e)
 register (RegisterOf i _) s = Sound s
-
-abbrev pub driver : DriverTree → State → Found State
-driver (Driver t e) s =
-    each (λ x. adding (assigning s.scope t e s.design) x.0.1 s) (both (driving None s.scope t s.driven) (checked s.scope e))
 
 -- one after the other
 abbrev pub in_turn : {A : Type 0} → (A → State → Found State) → List A → State → Found State
@@ -258,9 +255,12 @@ pub record Joints : Type 0 where
 abbrev pub joint : List ℕ → Tree → Joints → Joints
 joint n e x = record { list = record { port = n; value = e } ∷ x.list; driven = x.driven }
 
+abbrev pub all_driven : Driving → Found (List Drive)
+all_driven x = each (λ w. x.driven) x.width
+
 abbrev pub output_joined : ℕ → Scope → Tree → List Drive → Option TargetTree → Found (List Drive)
 output_joined q s e driven None = lost (at rule.BadTarget q) (checked s e)
-output_joined q s e driven (Some t) = each (λ x. x.1) (driving (Some q) s t driven)
+output_joined q s e driven (Some t) = all_driven (driving (Some q) s t driven)
 
 -- q is the connection's first token
 abbrev pub joined : ℕ → Scope → Option Direction → Tree → List Drive → Found (List Drive)

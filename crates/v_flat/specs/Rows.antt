@@ -14,7 +14,7 @@ use Rattle.v_syntax.specs.declared.item.PortKind.TheVariants as port_kind
 use Rattle.v_syntax.specs.declared.item.ParameterKind.TheVariants as parameter_kind
 use Rattle.v_syntax.specs.declared.item.Edge.TheVariants as edge
 use Rattle.v_syntax.specs.ExpressionTrees.{Number, Named, Bracketed, Unary, Binary, Conditional, Concatenation, Replication, One as OneSelect, OfWord, Bit, Part, IndexedPart, NamedTarget, JoinedTarget}
-use Rattle.v_syntax.specs.StatementTrees.{Variable as Assigned, Header, Null, Block, Assignment, Case, For, Match, Default, statement_trees, case_trees}
+use Rattle.v_syntax.specs.StatementTrees.{Variable as Assigned, Header, Null, Block, Assignment, If, IfElse, Case, For, Match, Default, statement_trees, case_trees}
 use Rattle.v_syntax.specs.SourceTrees.{Bounds as BoundsTree, Head, Net as NetOf, Words, Initially, Register as RegisterOf, Parameter as ParameterOf, Driver, Implicit, Events, Connection, Ordered, Named as NamedConnections, Ports, Nets, Registers, Integers, Parameters, Drivers, Always, Initial, Instance, ItemAt, HeaderPortOf, HeaderParameterOf, NamedPorts, DeclaredPorts, ModuleTree, ModuleOf}
 use Rattle.v_flat.specs.Shown.{num, nm, tg, id, trees, targets, bits, shown, sg, wk, up}
 use Rattle.v_flat.specs.Design.{flat_design, sig}
@@ -30,7 +30,7 @@ Is_a_memory_and_an_instance = shown ((bits (codes "0")) ∷ (bits (codes "1100")
 
 -- module top(input [3:0] a, output [3:0] s, output e, output c); assign s = a + 4'd9; assign e = (a == 4'b1x00); assign c = &a | ^a; endmodule
 abbrev text_of_widths_of_operators : List ModuleTree
-text_of_widths_of_operators = ((ModuleOf (id 1 (codes "top")) ([]) (DeclaredPorts ((HeaderPortOf (Some (Head direction.Input None (Some (BoundsTree 4 (num 5 32 3) (num 7 32 0))))) (id 9 (codes "a"))) ∷ (HeaderPortOf (Some (Head direction.Output None (Some (BoundsTree 12 (num 13 32 3) (num 15 32 0))))) (id 17 (codes "s"))) ∷ (HeaderPortOf (Some (Head direction.Output None None)) (id 20 (codes "e"))) ∷ (HeaderPortOf None (id 23 (codes "c"))) ∷ [])) ((ItemAt 26 (Drivers ((Driver (tg 27 (codes "s")) (Binary binary.Add (nm 29 (codes "a")) (num 31 4 9))) ∷ []))) ∷ (ItemAt 33 (Drivers ((Driver (tg 34 (codes "e")) (Bracketed 36 (Binary binary.Equal (nm 37 (codes "a")) (Number 39 (bits (codes "00x1")))))) ∷ []))) ∷ (ItemAt 42 (Drivers ((Driver (tg 43 (codes "c")) (Binary binary.BitwiseOr (Unary 45 unary.ReductionAnd (nm 46 (codes "a"))) (Unary 48 unary.ReductionXor (nm 49 (codes "a"))))) ∷ []))) ∷ [])) ∷ [])
+text_of_widths_of_operators = ((ModuleOf (id 1 (codes "top")) ([]) (DeclaredPorts ((HeaderPortOf (Some (Head direction.Input None (Some (BoundsTree 4 (num 5 32 3) (num 7 32 0))))) (id 9 (codes "a"))) ∷ (HeaderPortOf (Some (Head direction.Output None (Some (BoundsTree 12 (num 13 32 3) (num 15 32 0))))) (id 17 (codes "s"))) ∷ (HeaderPortOf (Some (Head direction.Output None None)) (id 20 (codes "e"))) ∷ (HeaderPortOf (Some (Head direction.Output None None)) (id 23 (codes "c"))) ∷ [])) ((ItemAt 26 (Drivers ((Driver (tg 27 (codes "s")) (Binary binary.Add (nm 29 (codes "a")) (num 31 4 9))) ∷ []))) ∷ (ItemAt 33 (Drivers ((Driver (tg 34 (codes "e")) (Bracketed 36 (Binary binary.Equal (nm 37 (codes "a")) (Number 39 (bits (codes "00x1")))))) ∷ []))) ∷ (ItemAt 42 (Drivers ((Driver (tg 43 (codes "c")) (Binary binary.BitwiseOr (Unary 45 unary.ReductionAnd (nm 46 (codes "a"))) (Unary 48 unary.ReductionXor (nm 49 (codes "a"))))) ∷ []))) ∷ [])) ∷ [])
 
 abbrev pub Is_widths_of_operators : Type 0
 Is_widths_of_operators = shown ((bits (codes "0010")) ∷ (bits (codes "0x10")) ∷ (bits (codes "0")) ∷ (bits (codes "1")) ∷ []) (flat_design (text_of_widths_of_operators) None) ≡ Ok (record { signals = (sg (codes "top.a") 4 Z ∷ sg (codes "top.s") 4 Z ∷ sg (codes "top.e") 1 Z ∷ sg (codes "top.c") 1 Z ∷ []); nodes = (record { path = codes "top"; children = ((codes "a", spot.Sig (sig 0)) ∷ (codes "s", spot.Sig (sig 1)) ∷ (codes "e", spot.Sig (sig 2)) ∷ (codes "c", spot.Sig (sig 3)) ∷ []) } ∷ []); processes = (record { kind = process_kind.Assign; wakes = (wk 0 wake_edge.Any ∷ []); changes = ((1, (bits (codes "1011"))) ∷ []); updates = ([]) } ∷ record { kind = process_kind.Assign; wakes = (wk 0 wake_edge.Any ∷ []); changes = ([]); updates = ([]) } ∷ record { kind = process_kind.Assign; wakes = (wk 0 wake_edge.Any ∷ []); changes = ([]); updates = ([]) } ∷ []) })
@@ -579,6 +579,258 @@ text_of_one_signal_too_many_in_a_child = ((ModuleOf (id 1 (codes "m")) ([]) (Nam
 abbrev pub Is_one_signal_too_many_in_a_child : Type 0
 Is_one_signal_too_many_in_a_child = flat_design (text_of_one_signal_too_many_in_a_child) None ≡ Err (at rule.TooMany 16)
 
+-- module m; wire c = (~4'd0 == 8'd255), d = 4'd15 + 4'd1 > 4'd0, e = 4'd15 + 4'd1 == 5'd16; endmodule
+abbrev text_of_contexts_of_comparisons : List ModuleTree
+text_of_contexts_of_comparisons = ((ModuleOf (id 1 (codes "m")) ([]) (NamedPorts ([])) ((ItemAt 3 (Nets None ((NetOf (id 4 (codes "c")) (Some (Bracketed 6 (Binary binary.Equal (Unary 7 unary.BitwiseNegation (num 8 4 0)) (num 10 8 255))))) ∷ (NetOf (id 13 (codes "d")) (Some (Binary binary.Greater (Binary binary.Add (num 15 4 15) (num 17 4 1)) (num 19 4 0)))) ∷ (NetOf (id 21 (codes "e")) (Some (Binary binary.Equal (Binary binary.Add (num 23 4 15) (num 25 4 1)) (num 27 5 16)))) ∷ []))) ∷ [])) ∷ [])
+
+abbrev pub Is_contexts_of_comparisons : Type 0
+Is_contexts_of_comparisons = shown ((bits (codes "0")) ∷ (bits (codes "1")) ∷ (bits (codes "z")) ∷ []) (flat_design (text_of_contexts_of_comparisons) None) ≡ Ok (record { signals = (sg (codes "m.c") 1 Z ∷ sg (codes "m.d") 1 Z ∷ sg (codes "m.e") 1 Z ∷ []); nodes = (record { path = codes "m"; children = ((codes "c", spot.Sig (sig 0)) ∷ (codes "d", spot.Sig (sig 1)) ∷ (codes "e", spot.Sig (sig 2)) ∷ []) } ∷ []); processes = (record { kind = process_kind.Assign; wakes = ([]); changes = ((0, (bits (codes "1"))) ∷ []); updates = ([]) } ∷ record { kind = process_kind.Assign; wakes = ([]); changes = ((1, (bits (codes "0"))) ∷ []); updates = ([]) } ∷ record { kind = process_kind.Assign; wakes = ([]); changes = ((2, (bits (codes "1"))) ∷ []); updates = ([]) } ∷ []) })
+
+-- module m; wire [4:0] y = (4'd15 + 4'd1) >> 1, z = 8'd1 << (4'd15 + 4'd2), v = 5'd1 << 2'b1x; endmodule
+abbrev text_of_contexts_of_shifts : List ModuleTree
+text_of_contexts_of_shifts = ((ModuleOf (id 1 (codes "m")) ([]) (NamedPorts ([])) ((ItemAt 3 (Nets (Some (BoundsTree 4 (num 5 32 4) (num 7 32 0))) ((NetOf (id 9 (codes "y")) (Some (Binary binary.ShiftRight (Bracketed 11 (Binary binary.Add (num 12 4 15) (num 14 4 1))) (num 17 32 1)))) ∷ (NetOf (id 19 (codes "z")) (Some (Binary binary.ShiftLeft (num 21 8 1) (Bracketed 23 (Binary binary.Add (num 24 4 15) (num 26 4 2)))))) ∷ (NetOf (id 29 (codes "v")) (Some (Binary binary.ShiftLeft (num 31 5 1) (Number 33 (bits (codes "x1")))))) ∷ []))) ∷ [])) ∷ [])
+
+abbrev pub Is_contexts_of_shifts : Type 0
+Is_contexts_of_shifts = shown ((bits (codes "zzzzz")) ∷ (bits (codes "zzzzz")) ∷ (bits (codes "00000")) ∷ []) (flat_design (text_of_contexts_of_shifts) None) ≡ Ok (record { signals = (sg (codes "m.y") 5 Z ∷ sg (codes "m.z") 5 Z ∷ sg (codes "m.v") 5 Z ∷ []); nodes = (record { path = codes "m"; children = ((codes "y", spot.Sig (sig 0)) ∷ (codes "z", spot.Sig (sig 1)) ∷ (codes "v", spot.Sig (sig 2)) ∷ []) } ∷ []); processes = (record { kind = process_kind.Assign; wakes = ([]); changes = ((0, (bits (codes "00010"))) ∷ []); updates = ([]) } ∷ record { kind = process_kind.Assign; wakes = ([]); changes = ((1, (bits (codes "01000"))) ∷ []); updates = ([]) } ∷ record { kind = process_kind.Assign; wakes = ([]); changes = ((2, (bits (codes "xxxxx"))) ∷ []); updates = ([]) } ∷ []) })
+
+-- module m(input a, input [3:0] b); wire [4:0] y = a ? b + 4'd1 : 4'd15 + 4'd1, z = (b + 4'd1) ? 5'd1 : 5'd2; wire [8:0] w = {a ? 8'd1 : ~4'd0}; endmodule
+abbrev text_of_contexts_of_conditions : List ModuleTree
+text_of_contexts_of_conditions = ((ModuleOf (id 1 (codes "m")) ([]) (DeclaredPorts ((HeaderPortOf (Some (Head direction.Input None None)) (id 4 (codes "a"))) ∷ (HeaderPortOf (Some (Head direction.Input None (Some (BoundsTree 7 (num 8 32 3) (num 10 32 0))))) (id 12 (codes "b"))) ∷ [])) ((ItemAt 15 (Nets (Some (BoundsTree 16 (num 17 32 4) (num 19 32 0))) ((NetOf (id 21 (codes "y")) (Some (Conditional (nm 23 (codes "a")) (Binary binary.Add (nm 25 (codes "b")) (num 27 4 1)) (Binary binary.Add (num 29 4 15) (num 31 4 1))))) ∷ (NetOf (id 33 (codes "z")) (Some (Conditional (Bracketed 35 (Binary binary.Add (nm 36 (codes "b")) (num 38 4 1))) (num 41 5 1) (num 43 5 2)))) ∷ []))) ∷ (ItemAt 45 (Nets (Some (BoundsTree 46 (num 47 32 8) (num 49 32 0))) ((NetOf (id 51 (codes "w")) (Some (Concatenation 53 (trees ((Conditional (nm 54 (codes "a")) (num 56 8 1) (Unary 58 unary.BitwiseNegation (num 59 4 0))) ∷ []))))) ∷ []))) ∷ [])) ∷ [])
+
+abbrev pub Is_contexts_of_conditions : Type 0
+Is_contexts_of_conditions = shown ((bits (codes "0")) ∷ (bits (codes "1111")) ∷ (bits (codes "zzzzz")) ∷ (bits (codes "zzzzz")) ∷ (bits (codes "zzzzzzzzz")) ∷ []) (flat_design (text_of_contexts_of_conditions) None) ≡ Ok (record { signals = (sg (codes "m.a") 1 Z ∷ sg (codes "m.b") 4 Z ∷ sg (codes "m.y") 5 Z ∷ sg (codes "m.z") 5 Z ∷ sg (codes "m.w") 9 Z ∷ []); nodes = (record { path = codes "m"; children = ((codes "a", spot.Sig (sig 0)) ∷ (codes "b", spot.Sig (sig 1)) ∷ (codes "y", spot.Sig (sig 2)) ∷ (codes "z", spot.Sig (sig 3)) ∷ (codes "w", spot.Sig (sig 4)) ∷ []) } ∷ []); processes = (record { kind = process_kind.Assign; wakes = (wk 0 wake_edge.Any ∷ wk 1 wake_edge.Any ∷ []); changes = ((2, (bits (codes "00001"))) ∷ []); updates = ([]) } ∷ record { kind = process_kind.Assign; wakes = (wk 1 wake_edge.Any ∷ []); changes = ((3, (bits (codes "01000"))) ∷ []); updates = ([]) } ∷ record { kind = process_kind.Assign; wakes = (wk 0 wake_edge.Any ∷ []); changes = ((4, (bits (codes "111111110"))) ∷ []); updates = ([]) } ∷ []) })
+
+-- module m(input [3:0] b); wire [4:0] y = |(b + 4'd1), z = ~|(b + 4'd1) + 5'd30; wire [1:0] v = !(b + 4'd1) + 2'd1; endmodule
+abbrev text_of_operands_of_reductions : List ModuleTree
+text_of_operands_of_reductions = ((ModuleOf (id 1 (codes "m")) ([]) (DeclaredPorts ((HeaderPortOf (Some (Head direction.Input None (Some (BoundsTree 4 (num 5 32 3) (num 7 32 0))))) (id 9 (codes "b"))) ∷ [])) ((ItemAt 12 (Nets (Some (BoundsTree 13 (num 14 32 4) (num 16 32 0))) ((NetOf (id 18 (codes "y")) (Some (Unary 20 unary.ReductionOr (Bracketed 21 (Binary binary.Add (nm 22 (codes "b")) (num 24 4 1)))))) ∷ (NetOf (id 27 (codes "z")) (Some (Binary binary.Add (Unary 29 unary.ReductionNor (Bracketed 30 (Binary binary.Add (nm 31 (codes "b")) (num 33 4 1)))) (num 36 5 30)))) ∷ []))) ∷ (ItemAt 38 (Nets (Some (BoundsTree 39 (num 40 32 1) (num 42 32 0))) ((NetOf (id 44 (codes "v")) (Some (Binary binary.Add (Unary 46 unary.LogicalNegation (Bracketed 47 (Binary binary.Add (nm 48 (codes "b")) (num 50 4 1)))) (num 53 2 1)))) ∷ []))) ∷ [])) ∷ [])
+
+abbrev pub Is_operands_of_reductions : Type 0
+Is_operands_of_reductions = shown ((bits (codes "1111")) ∷ (bits (codes "zzzzz")) ∷ (bits (codes "zzzzz")) ∷ (bits (codes "zz")) ∷ []) (flat_design (text_of_operands_of_reductions) None) ≡ Ok (record { signals = (sg (codes "m.b") 4 Z ∷ sg (codes "m.y") 5 Z ∷ sg (codes "m.z") 5 Z ∷ sg (codes "m.v") 2 Z ∷ []); nodes = (record { path = codes "m"; children = ((codes "b", spot.Sig (sig 0)) ∷ (codes "y", spot.Sig (sig 1)) ∷ (codes "z", spot.Sig (sig 2)) ∷ (codes "v", spot.Sig (sig 3)) ∷ []) } ∷ []); processes = (record { kind = process_kind.Assign; wakes = (wk 0 wake_edge.Any ∷ []); changes = ((1, (bits (codes "00000"))) ∷ []); updates = ([]) } ∷ record { kind = process_kind.Assign; wakes = (wk 0 wake_edge.Any ∷ []); changes = ((2, (bits (codes "11111"))) ∷ []); updates = ([]) } ∷ record { kind = process_kind.Assign; wakes = (wk 0 wake_edge.Any ∷ []); changes = ((3, (bits (codes "01"))) ∷ []); updates = ([]) } ∷ []) })
+
+-- module m; wire [3:0] y = +4'b1x00, z = 4'd6 / 4'd0, w = -4'd3; wire e = 4'b1x0z === 4'b1x0z, f = 4'b1x00 == 4'b0100, g = 4'b0x00 != 4'b0000; endmodule
+abbrev text_of_unknown_operands : List ModuleTree
+text_of_unknown_operands = ((ModuleOf (id 1 (codes "m")) ([]) (NamedPorts ([])) ((ItemAt 3 (Nets (Some (BoundsTree 4 (num 5 32 3) (num 7 32 0))) ((NetOf (id 9 (codes "y")) (Some (Unary 11 unary.Plus (Number 12 (bits (codes "00x1")))))) ∷ (NetOf (id 14 (codes "z")) (Some (Binary binary.Divide (num 16 4 6) (num 18 4 0)))) ∷ (NetOf (id 20 (codes "w")) (Some (Unary 22 unary.Minus (num 23 4 3)))) ∷ []))) ∷ (ItemAt 25 (Nets None ((NetOf (id 26 (codes "e")) (Some (Binary binary.CaseEqual (Number 28 (bits (codes "z0x1"))) (Number 30 (bits (codes "z0x1")))))) ∷ (NetOf (id 32 (codes "f")) (Some (Binary binary.Equal (Number 34 (bits (codes "00x1"))) (num 36 4 4)))) ∷ (NetOf (id 38 (codes "g")) (Some (Binary binary.Unequal (Number 40 (bits (codes "00x0"))) (num 42 4 0)))) ∷ []))) ∷ [])) ∷ [])
+
+abbrev pub Is_unknown_operands : Type 0
+Is_unknown_operands = shown ((bits (codes "zzzz")) ∷ (bits (codes "zzzz")) ∷ (bits (codes "zzzz")) ∷ (bits (codes "z")) ∷ (bits (codes "z")) ∷ (bits (codes "z")) ∷ []) (flat_design (text_of_unknown_operands) None) ≡ Ok (record { signals = (sg (codes "m.y") 4 Z ∷ sg (codes "m.z") 4 Z ∷ sg (codes "m.w") 4 Z ∷ sg (codes "m.e") 1 Z ∷ sg (codes "m.f") 1 Z ∷ sg (codes "m.g") 1 Z ∷ []); nodes = (record { path = codes "m"; children = ((codes "y", spot.Sig (sig 0)) ∷ (codes "z", spot.Sig (sig 1)) ∷ (codes "w", spot.Sig (sig 2)) ∷ (codes "e", spot.Sig (sig 3)) ∷ (codes "f", spot.Sig (sig 4)) ∷ (codes "g", spot.Sig (sig 5)) ∷ []) } ∷ []); processes = (record { kind = process_kind.Assign; wakes = ([]); changes = ((0, (bits (codes "xxxx"))) ∷ []); updates = ([]) } ∷ record { kind = process_kind.Assign; wakes = ([]); changes = ((1, (bits (codes "xxxx"))) ∷ []); updates = ([]) } ∷ record { kind = process_kind.Assign; wakes = ([]); changes = ((2, (bits (codes "1011"))) ∷ []); updates = ([]) } ∷ record { kind = process_kind.Assign; wakes = ([]); changes = ((3, (bits (codes "1"))) ∷ []); updates = ([]) } ∷ record { kind = process_kind.Assign; wakes = ([]); changes = ((4, (bits (codes "0"))) ∷ []); updates = ([]) } ∷ record { kind = process_kind.Assign; wakes = ([]); changes = ((5, (bits (codes "x"))) ∷ []); updates = ([]) } ∷ []) })
+
+-- module m(input a, input [1:0] b); reg [1:0] p, q, r; always @(a) begin if (a) p = 1; else p = 2; if (b) q = 1; else q = 2; if (!a) r = 0; end endmodule
+abbrev text_of_conditions_of_unknown_digits : List ModuleTree
+text_of_conditions_of_unknown_digits = ((ModuleOf (id 1 (codes "m")) ([]) (DeclaredPorts ((HeaderPortOf (Some (Head direction.Input None None)) (id 4 (codes "a"))) ∷ (HeaderPortOf (Some (Head direction.Input None (Some (BoundsTree 7 (num 8 32 1) (num 10 32 0))))) (id 12 (codes "b"))) ∷ [])) ((ItemAt 15 (Registers (Some (BoundsTree 16 (num 17 32 1) (num 19 32 0))) ((RegisterOf (id 21 (codes "p")) None) ∷ (RegisterOf (id 23 (codes "q")) None) ∷ (RegisterOf (id 25 (codes "r")) None) ∷ []))) ∷ (ItemAt 27 (Always (Events (record { edge = None; name = id 30 (codes "a") } ∷ [])) (Block None (statement_trees ((IfElse (nm 35 (codes "a")) (Assignment assignment.Blocking (tg 37 (codes "p")) (num 39 32 1)) (Assignment assignment.Blocking (tg 42 (codes "p")) (num 44 32 2))) ∷ (IfElse (nm 48 (codes "b")) (Assignment assignment.Blocking (tg 50 (codes "q")) (num 52 32 1)) (Assignment assignment.Blocking (tg 55 (codes "q")) (num 57 32 2))) ∷ (If (Unary 61 unary.LogicalNegation (nm 62 (codes "a"))) (Assignment assignment.Blocking (tg 64 (codes "r")) (num 66 32 0))) ∷ []))))) ∷ [])) ∷ [])
+
+abbrev pub Is_conditions_of_unknown_digits : Type 0
+Is_conditions_of_unknown_digits = shown ((bits (codes "x")) ∷ (bits (codes "x1")) ∷ (bits (codes "00")) ∷ (bits (codes "00")) ∷ (bits (codes "11")) ∷ []) (flat_design (text_of_conditions_of_unknown_digits) None) ≡ Ok (record { signals = (sg (codes "m.a") 1 Z ∷ sg (codes "m.b") 2 Z ∷ sg (codes "m.p") 2 X ∷ sg (codes "m.q") 2 X ∷ sg (codes "m.r") 2 X ∷ []); nodes = (record { path = codes "m"; children = ((codes "a", spot.Sig (sig 0)) ∷ (codes "b", spot.Sig (sig 1)) ∷ (codes "p", spot.Sig (sig 2)) ∷ (codes "q", spot.Sig (sig 3)) ∷ (codes "r", spot.Sig (sig 4)) ∷ []) } ∷ []); processes = (record { kind = process_kind.Always; wakes = (wk 0 wake_edge.Any ∷ []); changes = ((2, (bits (codes "01"))) ∷ (3, (bits (codes "10"))) ∷ []); updates = ([]) } ∷ []) })
+
+-- module m(input [1:0] i, j, k, input [3:0] a); reg [3:0] y; reg [1:0] w [0:3]; always @* begin y[i] = a[j +: 2]; w[k] = 0; end endmodule
+abbrev text_of_indices_of_targets_and_reads : List ModuleTree
+text_of_indices_of_targets_and_reads = ((ModuleOf (id 1 (codes "m")) ([]) (DeclaredPorts ((HeaderPortOf (Some (Head direction.Input None (Some (BoundsTree 4 (num 5 32 1) (num 7 32 0))))) (id 9 (codes "i"))) ∷ (HeaderPortOf None (id 11 (codes "j"))) ∷ (HeaderPortOf None (id 13 (codes "k"))) ∷ (HeaderPortOf (Some (Head direction.Input None (Some (BoundsTree 16 (num 17 32 3) (num 19 32 0))))) (id 21 (codes "a"))) ∷ [])) ((ItemAt 24 (Registers (Some (BoundsTree 25 (num 26 32 3) (num 28 32 0))) ((RegisterOf (id 30 (codes "y")) None) ∷ []))) ∷ (ItemAt 32 (Registers (Some (BoundsTree 33 (num 34 32 1) (num 36 32 0))) ((RegisterOf (id 38 (codes "w")) (Some (Words (BoundsTree 39 (num 40 32 0) (num 42 32 3))))) ∷ []))) ∷ (ItemAt 45 (Always Implicit (Block None (statement_trees ((Assignment assignment.Blocking (NamedTarget 49 (codes "y") (OneSelect (Bit 50 (nm 51 (codes "i"))))) (Named 54 (codes "a") (OneSelect (IndexedPart 55 (nm 56 (codes "j")) (num 58 32 2))))) ∷ (Assignment assignment.Blocking (NamedTarget 61 (codes "w") (OneSelect (Bit 62 (nm 63 (codes "k"))))) (num 66 32 0)) ∷ []))))) ∷ [])) ∷ [])
+
+abbrev pub Is_indices_of_targets_and_reads : Type 0
+Is_indices_of_targets_and_reads = shown ((bits (codes "01")) ∷ (bits (codes "10")) ∷ (bits (codes "11")) ∷ (bits (codes "0110")) ∷ (bits (codes "0000")) ∷ (bits (codes "11")) ∷ (bits (codes "11")) ∷ (bits (codes "11")) ∷ (bits (codes "11")) ∷ []) (flat_design (text_of_indices_of_targets_and_reads) None) ≡ Ok (record { signals = (sg (codes "m.i") 2 Z ∷ sg (codes "m.j") 2 Z ∷ sg (codes "m.k") 2 Z ∷ sg (codes "m.a") 4 Z ∷ sg (codes "m.y") 4 X ∷ sg (codes "m.w[0]") 2 X ∷ sg (codes "m.w[1]") 2 X ∷ sg (codes "m.w[2]") 2 X ∷ sg (codes "m.w[3]") 2 X ∷ []); nodes = (record { path = codes "m"; children = ((codes "i", spot.Sig (sig 0)) ∷ (codes "j", spot.Sig (sig 1)) ∷ (codes "k", spot.Sig (sig 2)) ∷ (codes "a", spot.Sig (sig 3)) ∷ (codes "y", spot.Sig (sig 4)) ∷ (codes "w", spot.Words (sig 5) 0 4) ∷ []) } ∷ []); processes = (record { kind = process_kind.Always; wakes = (wk 0 wake_edge.Any ∷ wk 1 wake_edge.Any ∷ wk 2 wake_edge.Any ∷ wk 3 wake_edge.Any ∷ []); changes = ((4, (bits (codes "0010"))) ∷ (8, (bits (codes "00"))) ∷ []); updates = ([]) } ∷ []) })
+
+-- module m(input [1:0] a); reg [3:0] y; always @(a) case (~a) 2'b10: y = 2; 4'b1110: y = 1; default: y = 3; endcase endmodule
+abbrev text_of_labels_of_other_widths : List ModuleTree
+text_of_labels_of_other_widths = ((ModuleOf (id 1 (codes "m")) ([]) (DeclaredPorts ((HeaderPortOf (Some (Head direction.Input None (Some (BoundsTree 4 (num 5 32 1) (num 7 32 0))))) (id 9 (codes "a"))) ∷ [])) ((ItemAt 12 (Registers (Some (BoundsTree 13 (num 14 32 3) (num 16 32 0))) ((RegisterOf (id 18 (codes "y")) None) ∷ []))) ∷ (ItemAt 20 (Always (Events (record { edge = None; name = id 23 (codes "a") } ∷ [])) (Case case_kind.Case (Unary 27 unary.BitwiseNegation (nm 28 (codes "a"))) (case_trees ((Match ((num 30 2 2) ∷ []) (Assignment assignment.Blocking (tg 32 (codes "y")) (num 34 32 2))) ∷ (Match ((num 36 4 14) ∷ []) (Assignment assignment.Blocking (tg 38 (codes "y")) (num 40 32 1))) ∷ (Default (Assignment assignment.Blocking (tg 44 (codes "y")) (num 46 32 3))) ∷ []))))) ∷ [])) ∷ [])
+
+abbrev pub Is_labels_of_other_widths : Type 0
+Is_labels_of_other_widths = shown ((bits (codes "10")) ∷ (bits (codes "0000")) ∷ []) (flat_design (text_of_labels_of_other_widths) None) ≡ Ok (record { signals = (sg (codes "m.a") 2 Z ∷ sg (codes "m.y") 4 X ∷ []); nodes = (record { path = codes "m"; children = ((codes "a", spot.Sig (sig 0)) ∷ (codes "y", spot.Sig (sig 1)) ∷ []) } ∷ []); processes = (record { kind = process_kind.Always; wakes = (wk 0 wake_edge.Any ∷ []); changes = ((1, (bits (codes "1000"))) ∷ []); updates = ([]) } ∷ []) })
+
+-- module m(input [3:0] a); reg [3:0] y, z, w; always @(a) begin casez (a) 4'b0111: y = 1; 4'b0x01: y = 2; 4'b0xz1: y = 3; endcase casex (a) 4'b1???: z = 1; 4'b0101: z = 2; 4'b0xz1: z = 3; endcase case (a) 4'b0???: w = 1; 4'b0xx1: w = 2; 4'b0xz1: w = 3; default: w = 4; endcase end endmodule
+abbrev text_of_cases_of_x_and_z : List ModuleTree
+text_of_cases_of_x_and_z = ((ModuleOf (id 1 (codes "m")) ([]) (DeclaredPorts ((HeaderPortOf (Some (Head direction.Input None (Some (BoundsTree 4 (num 5 32 3) (num 7 32 0))))) (id 9 (codes "a"))) ∷ [])) ((ItemAt 12 (Registers (Some (BoundsTree 13 (num 14 32 3) (num 16 32 0))) ((RegisterOf (id 18 (codes "y")) None) ∷ (RegisterOf (id 20 (codes "z")) None) ∷ (RegisterOf (id 22 (codes "w")) None) ∷ []))) ∷ (ItemAt 24 (Always (Events (record { edge = None; name = id 27 (codes "a") } ∷ [])) (Block None (statement_trees ((Case case_kind.CaseZ (nm 32 (codes "a")) (case_trees ((Match ((num 34 4 7) ∷ []) (Assignment assignment.Blocking (tg 36 (codes "y")) (num 38 32 1))) ∷ (Match ((Number 40 (bits (codes "10x0"))) ∷ []) (Assignment assignment.Blocking (tg 42 (codes "y")) (num 44 32 2))) ∷ (Match ((Number 46 (bits (codes "1zx0"))) ∷ []) (Assignment assignment.Blocking (tg 48 (codes "y")) (num 50 32 3))) ∷ []))) ∷ (Case case_kind.CaseX (nm 55 (codes "a")) (case_trees ((Match ((Number 57 (bits (codes "zzz1"))) ∷ []) (Assignment assignment.Blocking (tg 59 (codes "z")) (num 61 32 1))) ∷ (Match ((num 63 4 5) ∷ []) (Assignment assignment.Blocking (tg 65 (codes "z")) (num 67 32 2))) ∷ (Match ((Number 69 (bits (codes "1zx0"))) ∷ []) (Assignment assignment.Blocking (tg 71 (codes "z")) (num 73 32 3))) ∷ []))) ∷ (Case case_kind.Case (nm 78 (codes "a")) (case_trees ((Match ((Number 80 (bits (codes "zzz0"))) ∷ []) (Assignment assignment.Blocking (tg 82 (codes "w")) (num 84 32 1))) ∷ (Match ((Number 86 (bits (codes "1xx0"))) ∷ []) (Assignment assignment.Blocking (tg 88 (codes "w")) (num 90 32 2))) ∷ (Match ((Number 92 (bits (codes "1zx0"))) ∷ []) (Assignment assignment.Blocking (tg 94 (codes "w")) (num 96 32 3))) ∷ (Default (Assignment assignment.Blocking (tg 100 (codes "w")) (num 102 32 4))) ∷ []))) ∷ []))))) ∷ [])) ∷ [])
+
+abbrev pub Is_cases_of_x_and_z : Type 0
+Is_cases_of_x_and_z = shown ((bits (codes "1zx0")) ∷ (bits (codes "0000")) ∷ (bits (codes "0000")) ∷ (bits (codes "0000")) ∷ []) (flat_design (text_of_cases_of_x_and_z) None) ≡ Ok (record { signals = (sg (codes "m.a") 4 Z ∷ sg (codes "m.y") 4 X ∷ sg (codes "m.z") 4 X ∷ sg (codes "m.w") 4 X ∷ []); nodes = (record { path = codes "m"; children = ((codes "a", spot.Sig (sig 0)) ∷ (codes "y", spot.Sig (sig 1)) ∷ (codes "z", spot.Sig (sig 2)) ∷ (codes "w", spot.Sig (sig 3)) ∷ []) } ∷ []); processes = (record { kind = process_kind.Always; wakes = (wk 0 wake_edge.Any ∷ []); changes = ((1, (bits (codes "0100"))) ∷ (2, (bits (codes "0100"))) ∷ (3, (bits (codes "1100"))) ∷ []); updates = ([]) } ∷ []) })
+
+-- module m(input [3:0] a, b, output [4:0] y); wire t; s u(.o(y), .z(t), .n(), .j(b), .i(a + b)); endmodule module s(input [4:0] i, input [3:0] j, input n, output [4:0] o, output z); endmodule
+abbrev text_of_connections_in_another_order : List ModuleTree
+text_of_connections_in_another_order = ((ModuleOf (id 1 (codes "m")) ([]) (DeclaredPorts ((HeaderPortOf (Some (Head direction.Input None (Some (BoundsTree 4 (num 5 32 3) (num 7 32 0))))) (id 9 (codes "a"))) ∷ (HeaderPortOf None (id 11 (codes "b"))) ∷ (HeaderPortOf (Some (Head direction.Output None (Some (BoundsTree 14 (num 15 32 4) (num 17 32 0))))) (id 19 (codes "y"))) ∷ [])) ((ItemAt 22 (Nets None ((NetOf (id 23 (codes "t")) None) ∷ []))) ∷ (ItemAt 25 (Instance (id 25 (codes "s")) None (id 26 (codes "u")) (Some (NamedConnections ((Connection 28 (id 29 (codes "o")) (Some (nm 31 (codes "y")))) ∷ (Connection 34 (id 35 (codes "z")) (Some (nm 37 (codes "t")))) ∷ (Connection 40 (id 41 (codes "n")) None) ∷ (Connection 45 (id 46 (codes "j")) (Some (nm 48 (codes "b")))) ∷ (Connection 51 (id 52 (codes "i")) (Some (Binary binary.Add (nm 54 (codes "a")) (nm 56 (codes "b"))))) ∷ []))))) ∷ [])) ∷ (ModuleOf (id 62 (codes "s")) ([]) (DeclaredPorts ((HeaderPortOf (Some (Head direction.Input None (Some (BoundsTree 65 (num 66 32 4) (num 68 32 0))))) (id 70 (codes "i"))) ∷ (HeaderPortOf (Some (Head direction.Input None (Some (BoundsTree 73 (num 74 32 3) (num 76 32 0))))) (id 78 (codes "j"))) ∷ (HeaderPortOf (Some (Head direction.Input None None)) (id 81 (codes "n"))) ∷ (HeaderPortOf (Some (Head direction.Output None (Some (BoundsTree 84 (num 85 32 4) (num 87 32 0))))) (id 89 (codes "o"))) ∷ (HeaderPortOf (Some (Head direction.Output None None)) (id 92 (codes "z"))) ∷ [])) ([])) ∷ [])
+
+abbrev pub Is_connections_in_another_order : Type 0
+Is_connections_in_another_order = shown ((bits (codes "1111")) ∷ (bits (codes "1000")) ∷ (bits (codes "00000")) ∷ (bits (codes "0")) ∷ (bits (codes "zzzzz")) ∷ (bits (codes "zzzz")) ∷ (bits (codes "z")) ∷ (bits (codes "1x0z1")) ∷ (bits (codes "1")) ∷ []) (flat_design (text_of_connections_in_another_order) None) ≡ Ok (record { signals = (sg (codes "m.a") 4 Z ∷ sg (codes "m.b") 4 Z ∷ sg (codes "m.y") 5 Z ∷ sg (codes "m.t") 1 Z ∷ sg (codes "m.u.i") 5 Z ∷ sg (codes "m.u.j") 4 Z ∷ sg (codes "m.u.n") 1 Z ∷ sg (codes "m.u.o") 5 Z ∷ sg (codes "m.u.z") 1 Z ∷ []); nodes = (record { path = codes "m"; children = ((codes "a", spot.Sig (sig 0)) ∷ (codes "b", spot.Sig (sig 1)) ∷ (codes "y", spot.Sig (sig 2)) ∷ (codes "t", spot.Sig (sig 3)) ∷ (codes "u", spot.Inner 1) ∷ []) } ∷ record { path = codes "m.u"; children = ((codes "i", spot.Sig (sig 4)) ∷ (codes "j", spot.Sig (sig 5)) ∷ (codes "n", spot.Sig (sig 6)) ∷ (codes "o", spot.Sig (sig 7)) ∷ (codes "z", spot.Sig (sig 8)) ∷ []) } ∷ []); processes = (record { kind = process_kind.Assign; wakes = (wk 0 wake_edge.Any ∷ wk 1 wake_edge.Any ∷ []); changes = ((4, (bits (codes "00001"))) ∷ []); updates = ([]) } ∷ record { kind = process_kind.Assign; wakes = (wk 1 wake_edge.Any ∷ []); changes = ((5, (bits (codes "1000"))) ∷ []); updates = ([]) } ∷ record { kind = process_kind.Assign; wakes = (wk 7 wake_edge.Any ∷ []); changes = ((2, (bits (codes "1x0z1"))) ∷ []); updates = ([]) } ∷ record { kind = process_kind.Assign; wakes = (wk 8 wake_edge.Any ∷ []); changes = ((3, (bits (codes "1"))) ∷ []); updates = ([]) } ∷ []) })
+
+-- module m; a u(); b v(); endmodule module a; b w(); reg p; endmodule module b; wire q = 1; endmodule
+abbrev text_of_a_grandchild_before_a_sibling : List ModuleTree
+text_of_a_grandchild_before_a_sibling = ((ModuleOf (id 1 (codes "m")) ([]) (NamedPorts ([])) ((ItemAt 3 (Instance (id 3 (codes "a")) None (id 4 (codes "u")) None)) ∷ (ItemAt 8 (Instance (id 8 (codes "b")) None (id 9 (codes "v")) None)) ∷ [])) ∷ (ModuleOf (id 15 (codes "a")) ([]) (NamedPorts ([])) ((ItemAt 17 (Instance (id 17 (codes "b")) None (id 18 (codes "w")) None)) ∷ (ItemAt 22 (Registers None ((RegisterOf (id 23 (codes "p")) None) ∷ []))) ∷ [])) ∷ (ModuleOf (id 27 (codes "b")) ([]) (NamedPorts ([])) ((ItemAt 29 (Nets None ((NetOf (id 30 (codes "q")) (Some (num 32 32 1))) ∷ []))) ∷ [])) ∷ [])
+
+abbrev pub Is_a_grandchild_before_a_sibling : Type 0
+Is_a_grandchild_before_a_sibling = shown ((bits (codes "0")) ∷ (bits (codes "0")) ∷ (bits (codes "0")) ∷ []) (flat_design (text_of_a_grandchild_before_a_sibling) None) ≡ Ok (record { signals = (sg (codes "m.u.p") 1 X ∷ sg (codes "m.u.w.q") 1 Z ∷ sg (codes "m.v.q") 1 Z ∷ []); nodes = (record { path = codes "m"; children = ((codes "u", spot.Inner 1) ∷ (codes "v", spot.Inner 3) ∷ []) } ∷ record { path = codes "m.u"; children = ((codes "p", spot.Sig (sig 0)) ∷ (codes "w", spot.Inner 2) ∷ []) } ∷ record { path = codes "m.u.w"; children = ((codes "q", spot.Sig (sig 1)) ∷ []) } ∷ record { path = codes "m.v"; children = ((codes "q", spot.Sig (sig 2)) ∷ []) } ∷ []); processes = (record { kind = process_kind.Assign; wakes = ([]); changes = ((1, (bits (codes "1"))) ∷ []); updates = ([]) } ∷ record { kind = process_kind.Assign; wakes = ([]); changes = ((2, (bits (codes "1"))) ∷ []); updates = ([]) } ∷ []) })
+
+-- module m; localparam [7:0] D = 4'd15 + 4'd1; wire [7:0] y = D; endmodule
+abbrev text_of_a_parameters_own_width : List ModuleTree
+text_of_a_parameters_own_width = ((ModuleOf (id 1 (codes "m")) ([]) (NamedPorts ([])) ((ItemAt 3 (Parameters parameter_kind.LocalParam (Some (BoundsTree 4 (num 5 32 7) (num 7 32 0))) ((ParameterOf (id 9 (codes "D")) (Binary binary.Add (num 11 4 15) (num 13 4 1))) ∷ []))) ∷ (ItemAt 15 (Nets (Some (BoundsTree 16 (num 17 32 7) (num 19 32 0))) ((NetOf (id 21 (codes "y")) (Some (nm 23 (codes "D")))) ∷ []))) ∷ [])) ∷ [])
+
+abbrev pub Is_a_parameters_own_width : Type 0
+Is_a_parameters_own_width = shown ((bits (codes "11111111")) ∷ []) (flat_design (text_of_a_parameters_own_width) None) ≡ Ok (record { signals = (sg (codes "m.y") 8 Z ∷ []); nodes = (record { path = codes "m"; children = ((codes "y", spot.Sig (sig 0)) ∷ []) } ∷ []); processes = (record { kind = process_kind.Assign; wakes = ([]); changes = ((0, (bits (codes "00000000"))) ∷ []); updates = ([]) } ∷ []) })
+
+-- module m; reg r; s u(.o({r, r})); endmodule module s(output [1:0] o); endmodule
+abbrev text_of_a_register_in_braces_of_a_connection : List ModuleTree
+text_of_a_register_in_braces_of_a_connection = ((ModuleOf (id 1 (codes "m")) ([]) (NamedPorts ([])) ((ItemAt 3 (Registers None ((RegisterOf (id 4 (codes "r")) None) ∷ []))) ∷ (ItemAt 6 (Instance (id 6 (codes "s")) None (id 7 (codes "u")) (Some (NamedConnections ((Connection 9 (id 10 (codes "o")) (Some (Concatenation 12 (trees ((nm 13 (codes "r")) ∷ (nm 15 (codes "r")) ∷ []))))) ∷ []))))) ∷ [])) ∷ (ModuleOf (id 22 (codes "s")) ([]) (DeclaredPorts ((HeaderPortOf (Some (Head direction.Output None (Some (BoundsTree 25 (num 26 32 1) (num 28 32 0))))) (id 30 (codes "o"))) ∷ [])) ([])) ∷ [])
+
+abbrev pub Is_a_register_in_braces_of_a_connection : Type 0
+Is_a_register_in_braces_of_a_connection = flat_design (text_of_a_register_in_braces_of_a_connection) None ≡ Err (at rule.BadTarget 13)
+
+-- module m; reg r; s u({r, r}); endmodule module s(output [1:0] o); endmodule
+abbrev text_of_a_register_in_braces_of_an_ordered_connection : List ModuleTree
+text_of_a_register_in_braces_of_an_ordered_connection = ((ModuleOf (id 1 (codes "m")) ([]) (NamedPorts ([])) ((ItemAt 3 (Registers None ((RegisterOf (id 4 (codes "r")) None) ∷ []))) ∷ (ItemAt 6 (Instance (id 6 (codes "s")) None (id 7 (codes "u")) (Some (Ordered ((Concatenation 9 (trees ((nm 10 (codes "r")) ∷ (nm 12 (codes "r")) ∷ []))) ∷ []))))) ∷ [])) ∷ (ModuleOf (id 18 (codes "s")) ([]) (DeclaredPorts ((HeaderPortOf (Some (Head direction.Output None (Some (BoundsTree 21 (num 22 32 1) (num 24 32 0))))) (id 26 (codes "o"))) ∷ [])) ([])) ∷ [])
+
+abbrev pub Is_a_register_in_braces_of_an_ordered_connection : Type 0
+Is_a_register_in_braces_of_an_ordered_connection = flat_design (text_of_a_register_in_braces_of_an_ordered_connection) None ≡ Err (at rule.BadTarget 10)
+
+-- module m(input [3:0] a, input b); assign a[b] = 1; endmodule
+abbrev text_of_an_input_at_an_index_that_is_a_signal : List ModuleTree
+text_of_an_input_at_an_index_that_is_a_signal = ((ModuleOf (id 1 (codes "m")) ([]) (DeclaredPorts ((HeaderPortOf (Some (Head direction.Input None (Some (BoundsTree 4 (num 5 32 3) (num 7 32 0))))) (id 9 (codes "a"))) ∷ (HeaderPortOf (Some (Head direction.Input None None)) (id 12 (codes "b"))) ∷ [])) ((ItemAt 15 (Drivers ((Driver (NamedTarget 16 (codes "a") (OneSelect (Bit 17 (nm 18 (codes "b"))))) (num 21 32 1)) ∷ []))) ∷ [])) ∷ [])
+
+abbrev pub Is_an_input_at_an_index_that_is_a_signal : Type 0
+Is_an_input_at_an_index_that_is_a_signal = flat_design (text_of_an_input_at_an_index_that_is_a_signal) None ≡ Err (at rule.TwoDrivers 16)
+
+-- module m(input [3:0] a); assign a[zz] = 1; endmodule
+abbrev text_of_an_input_at_an_undeclared_index : List ModuleTree
+text_of_an_input_at_an_undeclared_index = ((ModuleOf (id 1 (codes "m")) ([]) (DeclaredPorts ((HeaderPortOf (Some (Head direction.Input None (Some (BoundsTree 4 (num 5 32 3) (num 7 32 0))))) (id 9 (codes "a"))) ∷ [])) ((ItemAt 12 (Drivers ((Driver (NamedTarget 13 (codes "a") (OneSelect (Bit 14 (nm 15 (codes "zz"))))) (num 18 32 1)) ∷ []))) ∷ [])) ∷ [])
+
+abbrev pub Is_an_input_at_an_undeclared_index : Type 0
+Is_an_input_at_an_undeclared_index = flat_design (text_of_an_input_at_an_undeclared_index) None ≡ Err (at rule.TwoDrivers 13)
+
+-- module m(input [3:0] a); assign a[1][0] = 1; endmodule
+abbrev text_of_an_input_with_two_selects : List ModuleTree
+text_of_an_input_with_two_selects = ((ModuleOf (id 1 (codes "m")) ([]) (DeclaredPorts ((HeaderPortOf (Some (Head direction.Input None (Some (BoundsTree 4 (num 5 32 3) (num 7 32 0))))) (id 9 (codes "a"))) ∷ [])) ((ItemAt 12 (Drivers ((Driver (NamedTarget 13 (codes "a") (OfWord 14 (num 15 32 1) (Bit 17 (num 18 32 0)))) (num 21 32 1)) ∷ []))) ∷ [])) ∷ [])
+
+abbrev pub Is_an_input_with_two_selects : Type 0
+Is_an_input_with_two_selects = flat_design (text_of_an_input_with_two_selects) None ≡ Err (at rule.TwoDrivers 13)
+
+-- module m(input [3:0] a); s u(.o(a[zz])); endmodule module s(output o); endmodule
+abbrev text_of_an_output_joined_to_an_input : List ModuleTree
+text_of_an_output_joined_to_an_input = ((ModuleOf (id 1 (codes "m")) ([]) (DeclaredPorts ((HeaderPortOf (Some (Head direction.Input None (Some (BoundsTree 4 (num 5 32 3) (num 7 32 0))))) (id 9 (codes "a"))) ∷ [])) ((ItemAt 12 (Instance (id 12 (codes "s")) None (id 13 (codes "u")) (Some (NamedConnections ((Connection 15 (id 16 (codes "o")) (Some (Named 18 (codes "a") (OneSelect (Bit 19 (nm 20 (codes "zz"))))))) ∷ []))))) ∷ [])) ∷ (ModuleOf (id 27 (codes "s")) ([]) (DeclaredPorts ((HeaderPortOf (Some (Head direction.Output None None)) (id 30 (codes "o"))) ∷ [])) ([])) ∷ [])
+
+abbrev pub Is_an_output_joined_to_an_input : Type 0
+Is_an_output_joined_to_an_input = flat_design (text_of_an_output_joined_to_an_input) None ≡ Err (at rule.TwoDrivers 15)
+
+-- module m(input a); wire w; s u({w, a[zz]}); endmodule module s(output [1:0] o); endmodule
+abbrev text_of_an_output_joined_to_a_net_and_an_input : List ModuleTree
+text_of_an_output_joined_to_a_net_and_an_input = ((ModuleOf (id 1 (codes "m")) ([]) (DeclaredPorts ((HeaderPortOf (Some (Head direction.Input None None)) (id 4 (codes "a"))) ∷ [])) ((ItemAt 7 (Nets None ((NetOf (id 8 (codes "w")) None) ∷ []))) ∷ (ItemAt 10 (Instance (id 10 (codes "s")) None (id 11 (codes "u")) (Some (Ordered ((Concatenation 13 (trees ((nm 14 (codes "w")) ∷ (Named 16 (codes "a") (OneSelect (Bit 17 (nm 18 (codes "zz"))))) ∷ []))) ∷ []))))) ∷ [])) ∷ (ModuleOf (id 25 (codes "s")) ([]) (DeclaredPorts ((HeaderPortOf (Some (Head direction.Output None (Some (BoundsTree 28 (num 29 32 1) (num 31 32 0))))) (id 33 (codes "o"))) ∷ [])) ([])) ∷ [])
+
+abbrev pub Is_an_output_joined_to_a_net_and_an_input : Type 0
+Is_an_output_joined_to_a_net_and_an_input = flat_design (text_of_an_output_joined_to_a_net_and_an_input) None ≡ Err (at rule.TwoDrivers 13)
+
+-- module m; wire y; assign y = 1; s u(.o({zz, y})); endmodule module s(output [1:0] o); endmodule
+abbrev text_of_a_driven_net_behind_an_undeclared_part : List ModuleTree
+text_of_a_driven_net_behind_an_undeclared_part = ((ModuleOf (id 1 (codes "m")) ([]) (NamedPorts ([])) ((ItemAt 3 (Nets None ((NetOf (id 4 (codes "y")) None) ∷ []))) ∷ (ItemAt 6 (Drivers ((Driver (tg 7 (codes "y")) (num 9 32 1)) ∷ []))) ∷ (ItemAt 11 (Instance (id 11 (codes "s")) None (id 12 (codes "u")) (Some (NamedConnections ((Connection 14 (id 15 (codes "o")) (Some (Concatenation 17 (trees ((nm 18 (codes "zz")) ∷ (nm 20 (codes "y")) ∷ []))))) ∷ []))))) ∷ [])) ∷ (ModuleOf (id 27 (codes "s")) ([]) (DeclaredPorts ((HeaderPortOf (Some (Head direction.Output None (Some (BoundsTree 30 (num 31 32 1) (num 33 32 0))))) (id 35 (codes "o"))) ∷ [])) ([])) ∷ [])
+
+abbrev pub Is_a_driven_net_behind_an_undeclared_part : Type 0
+Is_a_driven_net_behind_an_undeclared_part = flat_design (text_of_a_driven_net_behind_an_undeclared_part) None ≡ Err (at rule.TwoDrivers 14)
+
+-- module m; wire y; s u(.o({{y, zz}, y})); endmodule module s(output [2:0] o); endmodule
+abbrev text_of_a_net_twice_around_an_undeclared_part : List ModuleTree
+text_of_a_net_twice_around_an_undeclared_part = ((ModuleOf (id 1 (codes "m")) ([]) (NamedPorts ([])) ((ItemAt 3 (Nets None ((NetOf (id 4 (codes "y")) None) ∷ []))) ∷ (ItemAt 6 (Instance (id 6 (codes "s")) None (id 7 (codes "u")) (Some (NamedConnections ((Connection 9 (id 10 (codes "o")) (Some (Concatenation 12 (trees ((Concatenation 13 (trees ((nm 14 (codes "y")) ∷ (nm 16 (codes "zz")) ∷ []))) ∷ (nm 19 (codes "y")) ∷ []))))) ∷ []))))) ∷ [])) ∷ (ModuleOf (id 26 (codes "s")) ([]) (DeclaredPorts ((HeaderPortOf (Some (Head direction.Output None (Some (BoundsTree 29 (num 30 32 2) (num 32 32 0))))) (id 34 (codes "o"))) ∷ [])) ([])) ∷ [])
+
+abbrev pub Is_a_net_twice_around_an_undeclared_part : Type 0
+Is_a_net_twice_around_an_undeclared_part = flat_design (text_of_a_net_twice_around_an_undeclared_part) None ≡ Err (at rule.TwoDrivers 9)
+
+-- module m; wire y; s u(.o({zz, y})); endmodule module s(output [1:0] o); endmodule
+abbrev text_of_an_undeclared_part_before_a_net : List ModuleTree
+text_of_an_undeclared_part_before_a_net = ((ModuleOf (id 1 (codes "m")) ([]) (NamedPorts ([])) ((ItemAt 3 (Nets None ((NetOf (id 4 (codes "y")) None) ∷ []))) ∷ (ItemAt 6 (Instance (id 6 (codes "s")) None (id 7 (codes "u")) (Some (NamedConnections ((Connection 9 (id 10 (codes "o")) (Some (Concatenation 12 (trees ((nm 13 (codes "zz")) ∷ (nm 15 (codes "y")) ∷ []))))) ∷ []))))) ∷ [])) ∷ (ModuleOf (id 22 (codes "s")) ([]) (DeclaredPorts ((HeaderPortOf (Some (Head direction.Output None (Some (BoundsTree 25 (num 26 32 1) (num 28 32 0))))) (id 30 (codes "o"))) ∷ [])) ([])) ∷ [])
+
+abbrev pub Is_an_undeclared_part_before_a_net : Type 0
+Is_an_undeclared_part_before_a_net = flat_design (text_of_an_undeclared_part_before_a_net) None ≡ Err (at rule.UnknownName 13)
+
+-- module m; reg a; reg a [zz:0]; endmodule
+abbrev text_of_a_memory_of_a_registers_name : List ModuleTree
+text_of_a_memory_of_a_registers_name = ((ModuleOf (id 1 (codes "m")) ([]) (NamedPorts ([])) ((ItemAt 3 (Registers None ((RegisterOf (id 4 (codes "a")) None) ∷ []))) ∷ (ItemAt 6 (Registers None ((RegisterOf (id 7 (codes "a")) (Some (Words (BoundsTree 8 (nm 9 (codes "zz")) (num 11 32 0))))) ∷ []))) ∷ [])) ∷ [])
+
+abbrev pub Is_a_memory_of_a_registers_name : Type 0
+Is_a_memory_of_a_registers_name = flat_design (text_of_a_memory_of_a_registers_name) None ≡ Err (at rule.DuplicateName 7)
+
+-- module m; parameter a = 1; reg a [zz:0]; endmodule
+abbrev text_of_a_memory_of_a_parameters_name : List ModuleTree
+text_of_a_memory_of_a_parameters_name = ((ModuleOf (id 1 (codes "m")) ([]) (NamedPorts ([])) ((ItemAt 3 (Parameters parameter_kind.Parameter None ((ParameterOf (id 4 (codes "a")) (num 6 32 1)) ∷ []))) ∷ (ItemAt 8 (Registers None ((RegisterOf (id 9 (codes "a")) (Some (Words (BoundsTree 10 (nm 11 (codes "zz")) (num 13 32 0))))) ∷ []))) ∷ [])) ∷ [])
+
+abbrev pub Is_a_memory_of_a_parameters_name : Type 0
+Is_a_memory_of_a_parameters_name = flat_design (text_of_a_memory_of_a_parameters_name) None ≡ Err (at rule.DuplicateName 9)
+
+-- module m; reg a [zz:0]; endmodule
+abbrev text_of_a_memory_of_undeclared_words : List ModuleTree
+text_of_a_memory_of_undeclared_words = ((ModuleOf (id 1 (codes "m")) ([]) (NamedPorts ([])) ((ItemAt 3 (Registers None ((RegisterOf (id 4 (codes "a")) (Some (Words (BoundsTree 5 (nm 6 (codes "zz")) (num 8 32 0))))) ∷ []))) ∷ [])) ∷ [])
+
+abbrev pub Is_a_memory_of_undeclared_words : Type 0
+Is_a_memory_of_undeclared_words = flat_design (text_of_a_memory_of_undeclared_words) None ≡ Err (at rule.UnknownName 6)
+
+-- module m; integer i; initial for (i = 0; 0; i = zz) ; endmodule
+abbrev text_of_an_undeclared_step_without_a_turn : List ModuleTree
+text_of_an_undeclared_step_without_a_turn = ((ModuleOf (id 1 (codes "m")) ([]) (NamedPorts ([])) ((ItemAt 3 (Integers ((id 4 (codes "i")) ∷ []))) ∷ (ItemAt 6 (Initial (For 7 (Header (Assigned (id 9 (codes "i")) (num 11 32 0)) (num 13 32 0) (Assigned (id 15 (codes "i")) (nm 17 (codes "zz")))) Null))) ∷ [])) ∷ [])
+
+abbrev pub Is_an_undeclared_step_without_a_turn : Type 0
+Is_an_undeclared_step_without_a_turn = flat_design (text_of_an_undeclared_step_without_a_turn) None ≡ Err (at rule.UnknownName 17)
+
+-- module m; integer i; wire w; initial for (i = 0; 0; i = 1 + w) ; endmodule
+abbrev text_of_a_net_in_a_step_without_a_turn : List ModuleTree
+text_of_a_net_in_a_step_without_a_turn = ((ModuleOf (id 1 (codes "m")) ([]) (NamedPorts ([])) ((ItemAt 3 (Integers ((id 4 (codes "i")) ∷ []))) ∷ (ItemAt 6 (Nets None ((NetOf (id 7 (codes "w")) None) ∷ []))) ∷ (ItemAt 9 (Initial (For 10 (Header (Assigned (id 12 (codes "i")) (num 14 32 0)) (num 16 32 0) (Assigned (id 18 (codes "i")) (Binary binary.Add (num 20 32 1) (nm 22 (codes "w"))))) Null))) ∷ [])) ∷ [])
+
+abbrev pub Is_a_net_in_a_step_without_a_turn : Type 0
+Is_a_net_in_a_step_without_a_turn = flat_design (text_of_a_net_in_a_step_without_a_turn) None ≡ Err (at rule.NotConstant 20)
+
+-- module m; integer i; reg j [0:1]; initial for (i = 0; 1; j = 1) ; endmodule
+abbrev text_of_a_memory_as_a_second_name_of_a_for : List ModuleTree
+text_of_a_memory_as_a_second_name_of_a_for = ((ModuleOf (id 1 (codes "m")) ([]) (NamedPorts ([])) ((ItemAt 3 (Integers ((id 4 (codes "i")) ∷ []))) ∷ (ItemAt 6 (Registers None ((RegisterOf (id 7 (codes "j")) (Some (Words (BoundsTree 8 (num 9 32 0) (num 11 32 1))))) ∷ []))) ∷ (ItemAt 14 (Initial (For 15 (Header (Assigned (id 17 (codes "i")) (num 19 32 0)) (num 21 32 1) (Assigned (id 23 (codes "j")) (num 25 32 1))) Null))) ∷ [])) ∷ [])
+
+abbrev pub Is_a_memory_as_a_second_name_of_a_for : Type 0
+Is_a_memory_as_a_second_name_of_a_for = flat_design (text_of_a_memory_as_a_second_name_of_a_for) None ≡ Err (at rule.BadRange 23)
+
+-- module m; integer i; wire j; initial for (i = 0; 1; j = 1) ; endmodule
+abbrev text_of_a_net_as_a_second_name_of_a_for : List ModuleTree
+text_of_a_net_as_a_second_name_of_a_for = ((ModuleOf (id 1 (codes "m")) ([]) (NamedPorts ([])) ((ItemAt 3 (Integers ((id 4 (codes "i")) ∷ []))) ∷ (ItemAt 6 (Nets None ((NetOf (id 7 (codes "j")) None) ∷ []))) ∷ (ItemAt 9 (Initial (For 10 (Header (Assigned (id 12 (codes "i")) (num 14 32 0)) (num 16 32 1) (Assigned (id 18 (codes "j")) (num 20 32 1))) Null))) ∷ [])) ∷ [])
+
+abbrev pub Is_a_net_as_a_second_name_of_a_for : Type 0
+Is_a_net_as_a_second_name_of_a_for = flat_design (text_of_a_net_as_a_second_name_of_a_for) None ≡ Err (at rule.BadTarget 18)
+
+-- module m; wire [127:0] a; wire [7:0] r; wire b = {a, r[{200{1'b1}}]}; endmodule
+abbrev text_of_a_digit_at_an_index_that_is_too_wide : List ModuleTree
+text_of_a_digit_at_an_index_that_is_too_wide = ((ModuleOf (id 1 (codes "m")) ([]) (NamedPorts ([])) ((ItemAt 3 (Nets (Some (BoundsTree 4 (num 5 32 127) (num 7 32 0))) ((NetOf (id 9 (codes "a")) None) ∷ []))) ∷ (ItemAt 11 (Nets (Some (BoundsTree 12 (num 13 32 7) (num 15 32 0))) ((NetOf (id 17 (codes "r")) None) ∷ []))) ∷ (ItemAt 19 (Nets None ((NetOf (id 20 (codes "b")) (Some (Concatenation 22 (trees ((nm 23 (codes "a")) ∷ (Named 25 (codes "r") (OneSelect (Bit 26 (Replication 27 (num 28 32 200) (trees ((num 30 1 1) ∷ [])))))) ∷ []))))) ∷ []))) ∷ [])) ∷ [])
+
+abbrev pub Is_a_digit_at_an_index_that_is_too_wide : Type 0
+Is_a_digit_at_an_index_that_is_too_wide = flat_design (text_of_a_digit_at_an_index_that_is_too_wide) None ≡ Err (at rule.TooWide 22)
+
+-- module m; wire [127:0] a; reg [7:0] r [0:3]; wire b = {a, r[{200{1'b1}}]}; endmodule
+abbrev text_of_a_word_at_an_index_that_is_too_wide : List ModuleTree
+text_of_a_word_at_an_index_that_is_too_wide = ((ModuleOf (id 1 (codes "m")) ([]) (NamedPorts ([])) ((ItemAt 3 (Nets (Some (BoundsTree 4 (num 5 32 127) (num 7 32 0))) ((NetOf (id 9 (codes "a")) None) ∷ []))) ∷ (ItemAt 11 (Registers (Some (BoundsTree 12 (num 13 32 7) (num 15 32 0))) ((RegisterOf (id 17 (codes "r")) (Some (Words (BoundsTree 18 (num 19 32 0) (num 21 32 3))))) ∷ []))) ∷ (ItemAt 24 (Nets None ((NetOf (id 25 (codes "b")) (Some (Concatenation 27 (trees ((nm 28 (codes "a")) ∷ (Named 30 (codes "r") (OneSelect (Bit 31 (Replication 32 (num 33 32 200) (trees ((num 35 1 1) ∷ [])))))) ∷ []))))) ∷ []))) ∷ [])) ∷ [])
+
+abbrev pub Is_a_word_at_an_index_that_is_too_wide : Type 0
+Is_a_word_at_an_index_that_is_too_wide = flat_design (text_of_a_word_at_an_index_that_is_too_wide) None ≡ Err (at rule.TooWide 27)
+
+-- module m; wire [127:0] a; reg r; assign {a, r} = 0; endmodule
+abbrev text_of_a_register_in_wide_braces : List ModuleTree
+text_of_a_register_in_wide_braces = ((ModuleOf (id 1 (codes "m")) ([]) (NamedPorts ([])) ((ItemAt 3 (Nets (Some (BoundsTree 4 (num 5 32 127) (num 7 32 0))) ((NetOf (id 9 (codes "a")) None) ∷ []))) ∷ (ItemAt 11 (Registers None ((RegisterOf (id 12 (codes "r")) None) ∷ []))) ∷ (ItemAt 14 (Drivers ((Driver (JoinedTarget 15 (targets ((tg 16 (codes "a")) ∷ (tg 18 (codes "r")) ∷ []))) (num 21 32 0)) ∷ []))) ∷ [])) ∷ [])
+
+abbrev pub Is_a_register_in_wide_braces : Type 0
+Is_a_register_in_wide_braces = flat_design (text_of_a_register_in_wide_braces) None ≡ Err (at rule.BadTarget 18)
+
+-- module m; reg [127:0] a; wire w; initial {a, w} = 0; endmodule
+abbrev text_of_a_net_in_wide_braces_of_a_procedure : List ModuleTree
+text_of_a_net_in_wide_braces_of_a_procedure = ((ModuleOf (id 1 (codes "m")) ([]) (NamedPorts ([])) ((ItemAt 3 (Registers (Some (BoundsTree 4 (num 5 32 127) (num 7 32 0))) ((RegisterOf (id 9 (codes "a")) None) ∷ []))) ∷ (ItemAt 11 (Nets None ((NetOf (id 12 (codes "w")) None) ∷ []))) ∷ (ItemAt 14 (Initial (Assignment assignment.Blocking (JoinedTarget 15 (targets ((tg 16 (codes "a")) ∷ (tg 18 (codes "w")) ∷ []))) (num 21 32 0)))) ∷ [])) ∷ [])
+
+abbrev pub Is_a_net_in_wide_braces_of_a_procedure : Type 0
+Is_a_net_in_wide_braces_of_a_procedure = flat_design (text_of_a_net_in_wide_braces_of_a_procedure) None ≡ Err (at rule.BadTarget 18)
+
+-- module m; wire [127:0] a; wire y; assign y = 1; assign {a, y} = 0; endmodule
+abbrev text_of_a_driven_net_in_wide_braces : List ModuleTree
+text_of_a_driven_net_in_wide_braces = ((ModuleOf (id 1 (codes "m")) ([]) (NamedPorts ([])) ((ItemAt 3 (Nets (Some (BoundsTree 4 (num 5 32 127) (num 7 32 0))) ((NetOf (id 9 (codes "a")) None) ∷ []))) ∷ (ItemAt 11 (Nets None ((NetOf (id 12 (codes "y")) None) ∷ []))) ∷ (ItemAt 14 (Drivers ((Driver (tg 15 (codes "y")) (num 17 32 1)) ∷ []))) ∷ (ItemAt 19 (Drivers ((Driver (JoinedTarget 20 (targets ((tg 21 (codes "a")) ∷ (tg 23 (codes "y")) ∷ []))) (num 26 32 0)) ∷ []))) ∷ [])) ∷ [])
+
+abbrev pub Is_a_driven_net_in_wide_braces : Type 0
+Is_a_driven_net_in_wide_braces = flat_design (text_of_a_driven_net_in_wide_braces) None ≡ Err (at rule.TwoDrivers 23)
+
+-- module m(input i); wire [127:0] a; assign {a, i} = 0; endmodule
+abbrev text_of_an_input_in_wide_braces : List ModuleTree
+text_of_an_input_in_wide_braces = ((ModuleOf (id 1 (codes "m")) ([]) (DeclaredPorts ((HeaderPortOf (Some (Head direction.Input None None)) (id 4 (codes "i"))) ∷ [])) ((ItemAt 7 (Nets (Some (BoundsTree 8 (num 9 32 127) (num 11 32 0))) ((NetOf (id 13 (codes "a")) None) ∷ []))) ∷ (ItemAt 15 (Drivers ((Driver (JoinedTarget 16 (targets ((tg 17 (codes "a")) ∷ (tg 19 (codes "i")) ∷ []))) (num 22 32 0)) ∷ []))) ∷ [])) ∷ [])
+
+abbrev pub Is_an_input_in_wide_braces : Type 0
+Is_an_input_in_wide_braces = flat_design (text_of_an_input_in_wide_braces) None ≡ Err (at rule.TwoDrivers 19)
+
+-- module m; wire [127:0] a; wire y; assign {a, y} = 0; endmodule
+abbrev text_of_a_target_of_129_digits : List ModuleTree
+text_of_a_target_of_129_digits = ((ModuleOf (id 1 (codes "m")) ([]) (NamedPorts ([])) ((ItemAt 3 (Nets (Some (BoundsTree 4 (num 5 32 127) (num 7 32 0))) ((NetOf (id 9 (codes "a")) None) ∷ []))) ∷ (ItemAt 11 (Nets None ((NetOf (id 12 (codes "y")) None) ∷ []))) ∷ (ItemAt 14 (Drivers ((Driver (JoinedTarget 15 (targets ((tg 16 (codes "a")) ∷ (tg 18 (codes "y")) ∷ []))) (num 21 32 0)) ∷ []))) ∷ [])) ∷ [])
+
+abbrev pub Is_a_target_of_129_digits : Type 0
+Is_a_target_of_129_digits = flat_design (text_of_a_target_of_129_digits) None ≡ Err (at rule.TooWide 15)
+
 -- all of them
 abbrev pub All_rows : Type 0
-All_rows = Is_a_memory_and_an_instance × Is_widths_of_operators × Is_a_rising_range × Is_words_of_a_memory × Is_a_braced_target_with_an_index × Is_nonblocking_updates × Is_casez_with_a_default_in_front × Is_case_of_unknown_digits × Is_loops_inside_loops × Is_contexts_of_sums × Is_values_of_parameters × Is_an_override_before_the_parameters × Is_an_unknown_condition × Is_a_port_in_two_declarations × Is_events_and_labels × Is_casex_and_all_that_is_read × Is_loops_over_words × Is_selects_of_words × Is_overrides_and_parts_of_ports × Is_parameters_of_a_header × Is_the_order_of_ports × Is_drives_side_by_side × Is_statements_of_every_form × Is_two_modules_that_nobody_instantiates × Is_modules_that_instantiate_one_another × Is_only_a_module_inside_itself × Is_a_top_that_is_not_there × Is_an_instance_of_no_module × Is_an_instance_of_no_module_in_a_child × Is_no_module_before_what_it_is_given × Is_a_module_inside_itself × Is_a_module_inside_itself_through_another × Is_a_module_inside_itself_before_its_ports × Is_two_modules_of_a_name × Is_a_parameter_of_a_nets_name × Is_a_port_declared_again_with_other_bounds × Is_a_port_declared_again_as_a_memory × Is_a_subtree_is_walked_at_its_item × Is_an_undeclared_name × Is_an_undeclared_second_name_of_a_for × Is_declarations_before_items × Is_a_lost_width_asks_nothing × Is_the_word_of_an_undeclared_index × Is_the_digit_of_an_undeclared_index × Is_a_port_without_direction × Is_an_input_that_is_a_register × Is_a_port_connected_twice × Is_an_override_of_a_localparam × Is_a_range_of_a_net × Is_a_parameter_with_an_unknown_digit × Is_a_driven_digit_at_an_index × Is_a_parameter_before_its_declaration × Is_a_part_against_a_rising_range × Is_a_part_of_a_memory × Is_two_selects_of_a_vector × Is_a_replication_of_nothing × Is_an_event_on_a_memory × Is_a_port_of_129_digits × Is_a_wide_part_of_a_comparison × Is_the_whole_is_too_wide_before_its_part × Is_a_part_of_201_digits × Is_two_assignments_of_a_net × Is_digits_driven_twice × Is_a_net_twice_in_a_braced_target × Is_an_assignment_of_an_input × Is_an_output_joined_to_a_driven_net × Is_a_net_in_a_procedure × Is_a_register_in_an_assignment × Is_the_variable_of_a_loop_as_a_target × Is_a_for_of_two_names × Is_an_output_joined_to_a_sum × Is_a_loop_of_4097_turns × Is_a_loop_of_4096_turns × Is_a_loop_that_cant_end × Is_a_long_loop_before_what_it_holds × Is_one_signal_too_many × Is_a_memory_of_all_indices × Is_one_signal_too_many_in_a_child
+All_rows = Is_a_memory_and_an_instance × Is_widths_of_operators × Is_a_rising_range × Is_words_of_a_memory × Is_a_braced_target_with_an_index × Is_nonblocking_updates × Is_casez_with_a_default_in_front × Is_case_of_unknown_digits × Is_loops_inside_loops × Is_contexts_of_sums × Is_values_of_parameters × Is_an_override_before_the_parameters × Is_an_unknown_condition × Is_a_port_in_two_declarations × Is_events_and_labels × Is_casex_and_all_that_is_read × Is_loops_over_words × Is_selects_of_words × Is_overrides_and_parts_of_ports × Is_parameters_of_a_header × Is_the_order_of_ports × Is_drives_side_by_side × Is_statements_of_every_form × Is_two_modules_that_nobody_instantiates × Is_modules_that_instantiate_one_another × Is_only_a_module_inside_itself × Is_a_top_that_is_not_there × Is_an_instance_of_no_module × Is_an_instance_of_no_module_in_a_child × Is_no_module_before_what_it_is_given × Is_a_module_inside_itself × Is_a_module_inside_itself_through_another × Is_a_module_inside_itself_before_its_ports × Is_two_modules_of_a_name × Is_a_parameter_of_a_nets_name × Is_a_port_declared_again_with_other_bounds × Is_a_port_declared_again_as_a_memory × Is_a_subtree_is_walked_at_its_item × Is_an_undeclared_name × Is_an_undeclared_second_name_of_a_for × Is_declarations_before_items × Is_a_lost_width_asks_nothing × Is_the_word_of_an_undeclared_index × Is_the_digit_of_an_undeclared_index × Is_a_port_without_direction × Is_an_input_that_is_a_register × Is_a_port_connected_twice × Is_an_override_of_a_localparam × Is_a_range_of_a_net × Is_a_parameter_with_an_unknown_digit × Is_a_driven_digit_at_an_index × Is_a_parameter_before_its_declaration × Is_a_part_against_a_rising_range × Is_a_part_of_a_memory × Is_two_selects_of_a_vector × Is_a_replication_of_nothing × Is_an_event_on_a_memory × Is_a_port_of_129_digits × Is_a_wide_part_of_a_comparison × Is_the_whole_is_too_wide_before_its_part × Is_a_part_of_201_digits × Is_two_assignments_of_a_net × Is_digits_driven_twice × Is_a_net_twice_in_a_braced_target × Is_an_assignment_of_an_input × Is_an_output_joined_to_a_driven_net × Is_a_net_in_a_procedure × Is_a_register_in_an_assignment × Is_the_variable_of_a_loop_as_a_target × Is_a_for_of_two_names × Is_an_output_joined_to_a_sum × Is_a_loop_of_4097_turns × Is_a_loop_of_4096_turns × Is_a_loop_that_cant_end × Is_a_long_loop_before_what_it_holds × Is_one_signal_too_many × Is_a_memory_of_all_indices × Is_one_signal_too_many_in_a_child × Is_contexts_of_comparisons × Is_contexts_of_shifts × Is_contexts_of_conditions × Is_operands_of_reductions × Is_unknown_operands × Is_conditions_of_unknown_digits × Is_indices_of_targets_and_reads × Is_labels_of_other_widths × Is_cases_of_x_and_z × Is_connections_in_another_order × Is_a_grandchild_before_a_sibling × Is_a_parameters_own_width × Is_a_register_in_braces_of_a_connection × Is_a_register_in_braces_of_an_ordered_connection × Is_an_input_at_an_index_that_is_a_signal × Is_an_input_at_an_undeclared_index × Is_an_input_with_two_selects × Is_an_output_joined_to_an_input × Is_an_output_joined_to_a_net_and_an_input × Is_a_driven_net_behind_an_undeclared_part × Is_a_net_twice_around_an_undeclared_part × Is_an_undeclared_part_before_a_net × Is_a_memory_of_a_registers_name × Is_a_memory_of_a_parameters_name × Is_a_memory_of_undeclared_words × Is_an_undeclared_step_without_a_turn × Is_a_net_in_a_step_without_a_turn × Is_a_memory_as_a_second_name_of_a_for × Is_a_net_as_a_second_name_of_a_for × Is_a_digit_at_an_index_that_is_too_wide × Is_a_word_at_an_index_that_is_too_wide × Is_a_register_in_wide_braces × Is_a_net_in_wide_braces_of_a_procedure × Is_a_driven_net_in_wide_braces × Is_an_input_in_wide_braces × Is_a_target_of_129_digits

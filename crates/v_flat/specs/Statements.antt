@@ -21,7 +21,8 @@ use Rattle.v_syntax.specs.StatementTrees.{Variable as Assigned, HeaderTree, Head
 use Rattle.v_scope.specs.declared.rule.ElabRule.TheVariants as rule
 use Rattle.v_scope.specs.declared.found.Found.{Found}
 use Rattle.v_scope.specs.declared.found.Found.TheVariants.{Sound, Noted, Lost}
-use Rattle.v_scope.specs.Found.{fine, lost, each, both, and_then, broken, wants}
+use Rattle.v_scope.specs.Rules.{at}
+use Rattle.v_scope.specs.Found.{fine, lost, each, both, and_then, broken}
 use Rattle.v_scope.specs.declared.meaning.Bounds.{Bounds}
 use Rattle.v_scope.specs.declared.meaning.DataKind.{DataKind}
 use Rattle.v_scope.specs.declared.meaning.DataKind.TheVariants.{Input, Net, Register}
@@ -31,8 +32,12 @@ use Rattle.v_scope.specs.declared.meaning.Meaning.TheVariants.{Constant, Object,
 use Rattle.v_scope.specs.Scope.{width_of, Scope, find, named}
 use Rattle.v_flat.specs.Objects.{count_of}
 use Rattle.v_flat.specs.Expressions.{Values, width, meaning, own_value}
-use Rattle.v_flat.specs.Checks.{checked, constant_of, given_to}
+use Rattle.v_flat.specs.Checks.{checked, constant_width, constant_of, given_to}
 use Rattle.v_flat.specs.Targets.{target_checked, target_width, updates}
+
+-- nothing but that nothing is broken
+abbrev pub done : {A : Type 0} → Found A → Found (Unit {0})
+done x = each (λ a. tt) x
 
 -- ---- loops
 
@@ -49,15 +54,9 @@ counter p (Some Later) = broken rule.UnknownName p
 counter p (Some (Constant ds b)) = broken rule.BadTarget p
 counter p (Some (Object o)) = counter_in p o o.words o.kind
 
-abbrev pub is_declared : Option Meaning → Bool
-is_declared None = false
-is_declared (Some x) = true
-
 -- the second assignment has the name of the first
 abbrev pub same_counter : Identifier → Identifier → Scope → Found (Unit {0})
-same_counter i j s =
-    if bytes_eq i.name j.name then fine
-    else lost (record { rule = rule.BadTarget; place = j.at }) (wants (is_declared (find j.name s)) rule.UnknownName j.at (fine))
+same_counter i j s = if bytes_eq i.name j.name then fine else lost (at rule.BadTarget j.at) (counter j.at (find j.name s))
 
 -- in a turn the counter is a constant
 abbrev pub turn : List ℕ → DataObject → List Digit → Scope → Scope
@@ -92,9 +91,14 @@ abbrev pub first_value : List ℕ → DataObject → Tree → Tree → Scope →
 first_value n o e c s =
     and_then (given_to (width_of o.bounds) s e) (λ v. each (λ t. resize v (width_of o.bounds)) (constant_of (turn n o (resize v (width_of o.bounds)) s) c))
 
+-- what each turn ends with is a constant, also where there is no turn; s is the scope of a turn
+abbrev pub step_checked : Scope → Tree → Found (Unit {0})
+step_checked s d = done (constant_width s d (checked s d))
+
 abbrev pub turns : ℕ → HeaderTree → Scope → DataObject → Found Turns
 turns p (Header (Assigned i e) c (Assigned j d)) s o =
-    and_then (first_value i.name o e c s) (λ v. and_then (same_counter i j s) (λ u. turns_from most_turns p i.name o c d s v))
+    and_then (first_value i.name o e c s) (λ v. and_then (same_counter i j s) (λ u. and_then (step_checked (turn i.name o v s) d) (λ w.
+    turns_from most_turns p i.name o c d s v)))
 
 abbrev pub loop_name : HeaderTree → Identifier
 loop_name (Header (Assigned i e) c (Assigned j d)) = i
@@ -104,10 +108,6 @@ loop_name (Header (Assigned i e) c (Assigned j d)) = i
 abbrev pub all_turns : (List Digit → Found (Unit {0})) → List (List Digit) → Found (Unit {0})
 all_turns f [] = fine
 all_turns f (v ∷ vs) = each (λ x. tt) (both (f v) (all_turns f vs))
-
--- nothing but that nothing is broken
-abbrev pub done : {A : Type 0} → Found A → Found (Unit {0})
-done x = each (λ a. tt) x
 
 abbrev pub labels_checked : Scope → List Tree → Found (Unit {0})
 labels_checked s [] = fine

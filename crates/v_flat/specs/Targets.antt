@@ -9,8 +9,9 @@ use Rattle.gpi.specs.Targets.{whole_update, part_update}
 use Rattle.v_syntax.specs.ExpressionTrees.{Tree, Named, Concatenation, SelectsTree, Whole, One, OfWord, Trees, none, more, TargetTree, NamedTarget, JoinedTarget, TargetTrees, no_target, more_targets}
 use Rattle.v_scope.specs.declared.rule.ElabRule.TheVariants as rule
 use Rattle.v_scope.specs.declared.found.Found.{Found}
-use Rattle.v_scope.specs.declared.found.Found.TheVariants.{Sound}
-use Rattle.v_scope.specs.Found.{each, both, and_then, wants}
+use Rattle.v_scope.specs.declared.found.Found.TheVariants.{Sound, Noted, Lost}
+use Rattle.v_scope.specs.Rules.{at}
+use Rattle.v_scope.specs.Found.{lost, each, both, needs}
 use Rattle.v_scope.specs.declared.meaning.Bounds.{Bounds}
 use Rattle.v_scope.specs.declared.meaning.DataKind.{DataKind}
 use Rattle.v_scope.specs.declared.meaning.DataKind.TheVariants.{Input, Net, Register}
@@ -47,8 +48,9 @@ abbrev pub is_fixed : Manner → Bool
 is_fixed Procedural = false
 is_fixed Continuous = true
 
+-- one of the wrong kind has no width
 abbrev pub named_target : Manner → Scope → ℕ → SelectsTree → Option Meaning → Found ℕ
-named_target how s p sel x = wants (fits how x) rule.BadTarget p (by_nature p (nature_of x) (λ b. of_vector (is_fixed how) s p b sel) (λ b. of_memory (is_fixed how) s p b sel))
+named_target how s p sel x = needs (fits how x) rule.BadTarget p (by_nature p (nature_of x) (λ b. of_vector (is_fixed how) s p b sel) (λ b. of_memory (is_fixed how) s p b sel))
 
 -- the width of a target of a procedure
 abbrev mutual
@@ -85,39 +87,56 @@ selected_drive s o Whole = record { signal = o.first; low = 0; count = width_of 
 selected_drive s o (One sel) = inside_drive o.first (overlap_of (range_of o.bounds) (width_of o.bounds) (select_base s sel no_signals) (select_width s sel))
 selected_drive s o (OfWord p i sel) = record { signal = o.first; low = 0; count = 0 }
 
--- an input is driven from outside
-abbrev pub is_free : DataKind → Drive → List Drive → Bool
-is_free Input d driven = false
-is_free _ d driven = if is_driven d driven then false else true
+-- what is found in a target, and the digits that are driven after it. A part in which a rule is broken drives nothing, and
+-- hides no other part's digits
+pub record Driving : Type 0 where
+  pub width : Found ℕ
+  pub driven : List Drive
 
--- the driven digits with one more; p is where it is broken that they are driven already
-abbrev pub driven_with : ℕ → DataKind → Drive → List Drive → Found (List Drive)
-driven_with p k d driven = wants (is_free k d driven) rule.TwoDrivers p (Sound (driven ++ (d ∷ [])))
+-- the digits d of a net, where they are driven before or not; w is what is found in the name, and p where it is broken that
+-- they are driven already
+abbrev pub once_more : Bool → ℕ → Drive → List Drive → Found ℕ → Driving
+once_more true p d driven w = record { width = lost (at rule.TwoDrivers p) w; driven = driven }
+once_more false p d driven w = record { width = w; driven = driven ++ (d ∷ []) }
 
-abbrev pub drive_name : ℕ → Scope → SelectsTree → List Drive → Option Meaning → Found (List Drive)
-drive_name p s sel driven (Some (Object o)) = driven_with p o.kind (selected_drive s o sel) driven
-drive_name p s sel driven _ = Sound driven
+abbrev pub net_driving : ℕ → Drive → List Drive → Found ℕ → Driving
+net_driving p d driven (Lost b) = record { width = Lost b; driven = driven }
+net_driving p d driven (Sound w) = once_more (is_driven d driven) p d driven (Sound w)
+net_driving p d driven (Noted b w) = once_more (is_driven d driven) p d driven (Noted b w)
 
-abbrev pub with_width : ℕ → Found (List Drive) → Found (ℕ × List Drive)
-with_width w x = each (λ ds. (w, ds)) x
+-- an input is driven from outside, whatever the target selects of it; a register isn't driven
+abbrev pub object_driving : ℕ → DataKind → Drive → List Drive → Found ℕ → Driving
+object_driving p Input d driven w = record { width = lost (at rule.TwoDrivers p) w; driven = driven }
+object_driving p Net d driven w = net_driving p d driven w
+object_driving p Register d driven w = record { width = w; driven = driven }
+
+abbrev pub name_driving : ℕ → Scope → SelectsTree → List Drive → Option Meaning → Found ℕ → Driving
+name_driving p s sel driven (Some (Object o)) w = object_driving p o.kind (selected_drive s o sel) driven w
+name_driving p s sel driven _ w = record { width = w; driven = driven }
+
+-- a part before others
+abbrev pub with_part : Found ℕ → Driving → Driving
+with_part w x = record { width = each (λ y. y.0 + y.1) (both w x.width); driven = x.driven }
+
+abbrev pub part_first : Driving → (List Drive → Driving) → Driving
+part_first x rest = with_part x.width (rest x.driven)
+
+abbrev pub in_braces : ℕ → Driving → Driving
+in_braces p x = record { width = sized p (filled p x.width); driven = x.driven }
 
 abbrev pub place_or : Option ℕ → ℕ → ℕ
 place_or None p = p
 place_or (Some q) p = q
 
--- the width of the target of a continuous assignment, and the driven digits after it, part by part from left to right; a
--- connection has one place for all parts
+-- the target of a continuous assignment, part by part from left to right; a connection has one place for all parts
 abbrev mutual
-  pub driving : Option ℕ → Scope → TargetTree → List Drive → Found (ℕ × List Drive)
-  driving q s (NamedTarget p n sel) driven =
-      and_then (named_target Continuous s p sel (find n s)) (λ w. with_width w (drive_name (place_or q p) s sel driven (find n s)))
-  driving q s (JoinedTarget p ts) driven =
-      and_then (all_driving q s ts driven) (λ x. and_then (sized p (filled p (Sound x.0))) (λ w. Sound (w, x.1)))
+  pub driving : Option ℕ → Scope → TargetTree → List Drive → Driving
+  driving q s (NamedTarget p n sel) driven = name_driving (place_or q p) s sel driven (find n s) (named_target Continuous s p sel (find n s))
+  driving q s (JoinedTarget p ts) driven = in_braces p (all_driving q s ts driven)
 
-  pub all_driving : Option ℕ → Scope → TargetTrees → List Drive → Found (ℕ × List Drive)
-  all_driving q s no_target driven = Sound (0, driven)
-  all_driving q s (more_targets t ts) driven =
-      and_then (driving q s t driven) (λ x. and_then (all_driving q s ts x.1) (λ y. Sound (x.0 + y.0, y.1)))
+  pub all_driving : Option ℕ → Scope → TargetTrees → List Drive → Driving
+  all_driving q s no_target driven = record { width = Sound 0; driven = driven }
+  all_driving q s (more_targets t ts) driven = part_first (driving q s t driven) (λ ds. all_driving q s ts ds)
 
 -- the target that an expression spells
 abbrev pub one_target : Option TargetTree → Option TargetTrees → Option TargetTrees
