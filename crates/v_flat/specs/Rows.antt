@@ -580,12 +580,12 @@ text_of_one_signal_too_many_in_a_child = ((ModuleOf (id 1 (codes "m")) ([]) (Nam
 abbrev pub Is_one_signal_too_many_in_a_child : Type 0
 Is_one_signal_too_many_in_a_child = flat_design (text_of_one_signal_too_many_in_a_child) None ≡ Err (at rule.TooMany 16)
 
--- module m; wire c = (~4'd0 == 8'd255), d = 4'd15 + 4'd1 > 4'd0, e = 4'd15 + 4'd1 == 5'd16; endmodule
+-- module m; wire c = (~4'd0 == 8'd255), d = 4'd15 + 4'd1 > 4'd0, e = 4'd15 + 4'd1 == 5'd16, f = 4'd2 == 4'd0; wire [7:0] g = 4'd15 + 4'd1 > 4'd0, h = 4'd0 < 4'd15 + 4'd1; endmodule
 abbrev text_of_contexts_of_comparisons : List ModuleTree
-text_of_contexts_of_comparisons = ((ModuleOf (id 1 (codes "m")) ([]) (NamedPorts ([])) ((ItemAt 3 (Nets None ((NetOf (id 4 (codes "c")) (Some (Bracketed 6 (Binary binary.Equal (Unary 7 unary.BitwiseNegation (num 8 4 0)) (num 10 8 255))))) ∷ (NetOf (id 13 (codes "d")) (Some (Binary binary.Greater (Binary binary.Add (num 15 4 15) (num 17 4 1)) (num 19 4 0)))) ∷ (NetOf (id 21 (codes "e")) (Some (Binary binary.Equal (Binary binary.Add (num 23 4 15) (num 25 4 1)) (num 27 5 16)))) ∷ []))) ∷ [])) ∷ [])
+text_of_contexts_of_comparisons = ((ModuleOf (id 1 (codes "m")) ([]) (NamedPorts ([])) ((ItemAt 3 (Nets None ((NetOf (id 4 (codes "c")) (Some (Bracketed 6 (Binary binary.Equal (Unary 7 unary.BitwiseNegation (num 8 4 0)) (num 10 8 255))))) ∷ (NetOf (id 13 (codes "d")) (Some (Binary binary.Greater (Binary binary.Add (num 15 4 15) (num 17 4 1)) (num 19 4 0)))) ∷ (NetOf (id 21 (codes "e")) (Some (Binary binary.Equal (Binary binary.Add (num 23 4 15) (num 25 4 1)) (num 27 5 16)))) ∷ (NetOf (id 29 (codes "f")) (Some (Binary binary.Equal (num 31 4 2) (num 33 4 0)))) ∷ []))) ∷ (ItemAt 35 (Nets (Some (BoundsTree 36 (num 37 32 7) (num 39 32 0))) ((NetOf (id 41 (codes "g")) (Some (Binary binary.Greater (Binary binary.Add (num 43 4 15) (num 45 4 1)) (num 47 4 0)))) ∷ (NetOf (id 49 (codes "h")) (Some (Binary binary.Less (num 51 4 0) (Binary binary.Add (num 53 4 15) (num 55 4 1))))) ∷ []))) ∷ [])) ∷ [])
 
 abbrev pub Is_contexts_of_comparisons : Type 0
-Is_contexts_of_comparisons = shown ((bits (codes "0")) ∷ (bits (codes "1")) ∷ (bits (codes "z")) ∷ []) (flat_design (text_of_contexts_of_comparisons) None) ≡ Ok (record { signals = (sg (codes "m.c") 1 Z ∷ sg (codes "m.d") 1 Z ∷ sg (codes "m.e") 1 Z ∷ []); nodes = (record { path = codes "m"; children = ((codes "c", spot.Sig (sig 0)) ∷ (codes "d", spot.Sig (sig 1)) ∷ (codes "e", spot.Sig (sig 2)) ∷ []) } ∷ []); processes = (record { kind = process_kind.Assign; wakes = ([]); changes = ((0, (bits (codes "1"))) ∷ []); updates = ([]) } ∷ record { kind = process_kind.Assign; wakes = ([]); changes = ((1, (bits (codes "0"))) ∷ []); updates = ([]) } ∷ record { kind = process_kind.Assign; wakes = ([]); changes = ((2, (bits (codes "1"))) ∷ []); updates = ([]) } ∷ []) })
+Is_contexts_of_comparisons = shown ((bits (codes "0")) ∷ (bits (codes "1")) ∷ (bits (codes "z")) ∷ (bits (codes "z")) ∷ (bits (codes "zzzzzzzz")) ∷ (bits (codes "zzzzzzzz")) ∷ []) (flat_design (text_of_contexts_of_comparisons) None) ≡ Ok (record { signals = (sg (codes "m.c") 1 Z ∷ sg (codes "m.d") 1 Z ∷ sg (codes "m.e") 1 Z ∷ sg (codes "m.f") 1 Z ∷ sg (codes "m.g") 8 Z ∷ sg (codes "m.h") 8 Z ∷ []); nodes = (record { path = codes "m"; children = ((codes "c", spot.Sig (sig 0)) ∷ (codes "d", spot.Sig (sig 1)) ∷ (codes "e", spot.Sig (sig 2)) ∷ (codes "f", spot.Sig (sig 3)) ∷ (codes "g", spot.Sig (sig 4)) ∷ (codes "h", spot.Sig (sig 5)) ∷ []) } ∷ []); processes = (record { kind = process_kind.Assign; wakes = ([]); changes = ((0, (bits (codes "1"))) ∷ []); updates = ([]) } ∷ record { kind = process_kind.Assign; wakes = ([]); changes = ((1, (bits (codes "0"))) ∷ []); updates = ([]) } ∷ record { kind = process_kind.Assign; wakes = ([]); changes = ((2, (bits (codes "1"))) ∷ []); updates = ([]) } ∷ record { kind = process_kind.Assign; wakes = ([]); changes = ((3, (bits (codes "0"))) ∷ []); updates = ([]) } ∷ record { kind = process_kind.Assign; wakes = ([]); changes = ((4, (bits (codes "00000000"))) ∷ []); updates = ([]) } ∷ record { kind = process_kind.Assign; wakes = ([]); changes = ((5, (bits (codes "00000000"))) ∷ []); updates = ([]) } ∷ []) })
 
 -- module m; wire [4:0] y = (4'd15 + 4'd1) >> 1, z = 8'd1 << (4'd15 + 4'd2), v = 5'd1 << 2'b1x; endmodule
 abbrev text_of_contexts_of_shifts : List ModuleTree
@@ -601,12 +601,12 @@ text_of_contexts_of_conditions = ((ModuleOf (id 1 (codes "m")) ([]) (DeclaredPor
 abbrev pub Is_contexts_of_conditions : Type 0
 Is_contexts_of_conditions = shown ((bits (codes "0")) ∷ (bits (codes "1111")) ∷ (bits (codes "zzzzz")) ∷ (bits (codes "zzzzz")) ∷ (bits (codes "zzzzzzzzz")) ∷ []) (flat_design (text_of_contexts_of_conditions) None) ≡ Ok (record { signals = (sg (codes "m.a") 1 Z ∷ sg (codes "m.b") 4 Z ∷ sg (codes "m.y") 5 Z ∷ sg (codes "m.z") 5 Z ∷ sg (codes "m.w") 9 Z ∷ []); nodes = (record { path = codes "m"; children = ((codes "a", spot.Sig (sig 0)) ∷ (codes "b", spot.Sig (sig 1)) ∷ (codes "y", spot.Sig (sig 2)) ∷ (codes "z", spot.Sig (sig 3)) ∷ (codes "w", spot.Sig (sig 4)) ∷ []) } ∷ []); processes = (record { kind = process_kind.Assign; wakes = (wk 0 wake_edge.Any ∷ wk 1 wake_edge.Any ∷ []); changes = ((2, (bits (codes "00001"))) ∷ []); updates = ([]) } ∷ record { kind = process_kind.Assign; wakes = (wk 1 wake_edge.Any ∷ []); changes = ((3, (bits (codes "01000"))) ∷ []); updates = ([]) } ∷ record { kind = process_kind.Assign; wakes = (wk 0 wake_edge.Any ∷ []); changes = ((4, (bits (codes "111111110"))) ∷ []); updates = ([]) } ∷ []) })
 
--- module m(input [3:0] b); wire [4:0] y = |(b + 4'd1), z = ~|(b + 4'd1) + 5'd30; wire [1:0] v = !(b + 4'd1) + 2'd1; endmodule
-abbrev text_of_operands_of_reductions : List ModuleTree
-text_of_operands_of_reductions = ((ModuleOf (id 1 (codes "m")) ([]) (DeclaredPorts ((HeaderPortOf (Some (Head direction.Input None (Some (BoundsTree 4 (num 5 32 3) (num 7 32 0))))) (id 9 (codes "b"))) ∷ [])) ((ItemAt 12 (Nets (Some (BoundsTree 13 (num 14 32 4) (num 16 32 0))) ((NetOf (id 18 (codes "y")) (Some (Unary 20 unary.ReductionOr (Bracketed 21 (Binary binary.Add (nm 22 (codes "b")) (num 24 4 1)))))) ∷ (NetOf (id 27 (codes "z")) (Some (Binary binary.Add (Unary 29 unary.ReductionNor (Bracketed 30 (Binary binary.Add (nm 31 (codes "b")) (num 33 4 1)))) (num 36 5 30)))) ∷ []))) ∷ (ItemAt 38 (Nets (Some (BoundsTree 39 (num 40 32 1) (num 42 32 0))) ((NetOf (id 44 (codes "v")) (Some (Binary binary.Add (Unary 46 unary.LogicalNegation (Bracketed 47 (Binary binary.Add (nm 48 (codes "b")) (num 50 4 1)))) (num 53 2 1)))) ∷ []))) ∷ [])) ∷ [])
+-- module m(input [3:0] b); wire [4:0] y = |(b + 4'd1), z = ~|(b + 4'd1) + 5'd30, t = (b + 4'd1) || 1'd0, u = 1'd1 && b + 4'd1; wire [1:0] v = !(b + 4'd1) + 2'd1; endmodule
+abbrev text_of_operands_of_their_own_width : List ModuleTree
+text_of_operands_of_their_own_width = ((ModuleOf (id 1 (codes "m")) ([]) (DeclaredPorts ((HeaderPortOf (Some (Head direction.Input None (Some (BoundsTree 4 (num 5 32 3) (num 7 32 0))))) (id 9 (codes "b"))) ∷ [])) ((ItemAt 12 (Nets (Some (BoundsTree 13 (num 14 32 4) (num 16 32 0))) ((NetOf (id 18 (codes "y")) (Some (Unary 20 unary.ReductionOr (Bracketed 21 (Binary binary.Add (nm 22 (codes "b")) (num 24 4 1)))))) ∷ (NetOf (id 27 (codes "z")) (Some (Binary binary.Add (Unary 29 unary.ReductionNor (Bracketed 30 (Binary binary.Add (nm 31 (codes "b")) (num 33 4 1)))) (num 36 5 30)))) ∷ (NetOf (id 38 (codes "t")) (Some (Binary binary.LogicalOr (Bracketed 40 (Binary binary.Add (nm 41 (codes "b")) (num 43 4 1))) (num 46 1 0)))) ∷ (NetOf (id 48 (codes "u")) (Some (Binary binary.LogicalAnd (num 50 1 1) (Binary binary.Add (nm 52 (codes "b")) (num 54 4 1))))) ∷ []))) ∷ (ItemAt 56 (Nets (Some (BoundsTree 57 (num 58 32 1) (num 60 32 0))) ((NetOf (id 62 (codes "v")) (Some (Binary binary.Add (Unary 64 unary.LogicalNegation (Bracketed 65 (Binary binary.Add (nm 66 (codes "b")) (num 68 4 1)))) (num 71 2 1)))) ∷ []))) ∷ [])) ∷ [])
 
-abbrev pub Is_operands_of_reductions : Type 0
-Is_operands_of_reductions = shown ((bits (codes "1111")) ∷ (bits (codes "zzzzz")) ∷ (bits (codes "zzzzz")) ∷ (bits (codes "zz")) ∷ []) (flat_design (text_of_operands_of_reductions) None) ≡ Ok (record { signals = (sg (codes "m.b") 4 Z ∷ sg (codes "m.y") 5 Z ∷ sg (codes "m.z") 5 Z ∷ sg (codes "m.v") 2 Z ∷ []); nodes = (record { path = codes "m"; children = ((codes "b", spot.Sig (sig 0)) ∷ (codes "y", spot.Sig (sig 1)) ∷ (codes "z", spot.Sig (sig 2)) ∷ (codes "v", spot.Sig (sig 3)) ∷ []) } ∷ []); processes = (record { kind = process_kind.Assign; wakes = (wk 0 wake_edge.Any ∷ []); changes = ((1, (bits (codes "00000"))) ∷ []); updates = ([]) } ∷ record { kind = process_kind.Assign; wakes = (wk 0 wake_edge.Any ∷ []); changes = ((2, (bits (codes "11111"))) ∷ []); updates = ([]) } ∷ record { kind = process_kind.Assign; wakes = (wk 0 wake_edge.Any ∷ []); changes = ((3, (bits (codes "01"))) ∷ []); updates = ([]) } ∷ []) })
+abbrev pub Is_operands_of_their_own_width : Type 0
+Is_operands_of_their_own_width = shown ((bits (codes "1111")) ∷ (bits (codes "zzzzz")) ∷ (bits (codes "zzzzz")) ∷ (bits (codes "zzzzz")) ∷ (bits (codes "zzzzz")) ∷ (bits (codes "zz")) ∷ []) (flat_design (text_of_operands_of_their_own_width) None) ≡ Ok (record { signals = (sg (codes "m.b") 4 Z ∷ sg (codes "m.y") 5 Z ∷ sg (codes "m.z") 5 Z ∷ sg (codes "m.t") 5 Z ∷ sg (codes "m.u") 5 Z ∷ sg (codes "m.v") 2 Z ∷ []); nodes = (record { path = codes "m"; children = ((codes "b", spot.Sig (sig 0)) ∷ (codes "y", spot.Sig (sig 1)) ∷ (codes "z", spot.Sig (sig 2)) ∷ (codes "t", spot.Sig (sig 3)) ∷ (codes "u", spot.Sig (sig 4)) ∷ (codes "v", spot.Sig (sig 5)) ∷ []) } ∷ []); processes = (record { kind = process_kind.Assign; wakes = (wk 0 wake_edge.Any ∷ []); changes = ((1, (bits (codes "00000"))) ∷ []); updates = ([]) } ∷ record { kind = process_kind.Assign; wakes = (wk 0 wake_edge.Any ∷ []); changes = ((2, (bits (codes "11111"))) ∷ []); updates = ([]) } ∷ record { kind = process_kind.Assign; wakes = (wk 0 wake_edge.Any ∷ []); changes = ((3, (bits (codes "00000"))) ∷ []); updates = ([]) } ∷ record { kind = process_kind.Assign; wakes = (wk 0 wake_edge.Any ∷ []); changes = ((4, (bits (codes "00000"))) ∷ []); updates = ([]) } ∷ record { kind = process_kind.Assign; wakes = (wk 0 wake_edge.Any ∷ []); changes = ((5, (bits (codes "01"))) ∷ []); updates = ([]) } ∷ []) })
 
 -- module m; wire [3:0] y = +4'b1x00, z = 4'd6 / 4'd0, w = -4'd3; wire e = 4'b1x0z === 4'b1x0z, f = 4'b1x00 == 4'b0100, g = 4'b0x00 != 4'b0000; endmodule
 abbrev text_of_unknown_operands : List ModuleTree
@@ -849,4 +849,4 @@ Is_an_instance_65_below_the_top = flat_design (chain 0 65) None ≡ Err (at rule
 
 -- all of them
 abbrev pub All_rows : Type 0
-All_rows = Is_a_memory_and_an_instance × Is_widths_of_operators × Is_a_rising_range × Is_words_of_a_memory × Is_a_braced_target_with_an_index × Is_nonblocking_updates × Is_casez_with_a_default_in_front × Is_case_of_unknown_digits × Is_loops_inside_loops × Is_contexts_of_sums × Is_values_of_parameters × Is_an_override_before_the_parameters × Is_an_unknown_condition × Is_a_port_in_two_declarations × Is_events_and_labels × Is_casex_and_all_that_is_read × Is_loops_over_words × Is_selects_of_words × Is_overrides_and_parts_of_ports × Is_parameters_of_a_header × Is_the_order_of_ports × Is_drives_side_by_side × Is_statements_of_every_form × Is_two_modules_that_nobody_instantiates × Is_modules_that_instantiate_one_another × Is_only_a_module_inside_itself × Is_a_top_that_is_not_there × Is_an_instance_of_no_module × Is_an_instance_of_no_module_in_a_child × Is_no_module_before_what_it_is_given × Is_a_module_inside_itself × Is_a_module_inside_itself_through_another × Is_a_module_inside_itself_before_its_ports × Is_two_modules_of_a_name × Is_a_parameter_of_a_nets_name × Is_a_port_declared_again_with_other_bounds × Is_a_port_declared_again_as_a_memory × Is_a_subtree_is_walked_at_its_item × Is_an_undeclared_name × Is_an_undeclared_second_name_of_a_for × Is_declarations_before_items × Is_a_lost_width_asks_nothing × Is_the_word_of_an_undeclared_index × Is_the_digit_of_an_undeclared_index × Is_a_port_without_direction × Is_an_input_that_is_a_register × Is_a_port_connected_twice × Is_an_override_of_a_localparam × Is_a_range_of_a_net × Is_a_parameter_with_an_unknown_digit × Is_a_driven_digit_at_an_index × Is_a_parameter_before_its_declaration × Is_a_part_against_a_rising_range × Is_a_part_of_a_memory × Is_two_selects_of_a_vector × Is_a_replication_of_nothing × Is_an_event_on_a_memory × Is_a_port_of_129_digits × Is_a_wide_part_of_a_comparison × Is_the_whole_is_too_wide_before_its_part × Is_a_part_of_201_digits × Is_two_assignments_of_a_net × Is_digits_driven_twice × Is_a_net_twice_in_a_braced_target × Is_an_assignment_of_an_input × Is_an_output_joined_to_a_driven_net × Is_a_net_in_a_procedure × Is_a_register_in_an_assignment × Is_the_variable_of_a_loop_as_a_target × Is_a_for_of_two_names × Is_an_output_joined_to_a_sum × Is_a_loop_of_4097_turns × Is_a_loop_of_4096_turns × Is_a_loop_that_cant_end × Is_a_long_loop_before_what_it_holds × Is_one_signal_too_many × Is_a_memory_of_all_indices × Is_one_signal_too_many_in_a_child × Is_contexts_of_comparisons × Is_contexts_of_shifts × Is_contexts_of_conditions × Is_operands_of_reductions × Is_unknown_operands × Is_conditions_of_unknown_digits × Is_indices_of_targets_and_reads × Is_labels_of_other_widths × Is_cases_of_x_and_z × Is_connections_in_another_order × Is_a_grandchild_before_a_sibling × Is_a_parameters_own_width × Is_a_register_in_braces_of_a_connection × Is_a_register_in_braces_of_an_ordered_connection × Is_an_input_at_an_index_that_is_a_signal × Is_an_input_at_an_undeclared_index × Is_an_input_with_two_selects × Is_an_output_joined_to_an_input × Is_an_output_joined_to_a_net_and_an_input × Is_a_driven_net_behind_an_undeclared_part × Is_a_net_twice_around_an_undeclared_part × Is_an_undeclared_part_before_a_net × Is_a_memory_of_a_registers_name × Is_a_memory_of_a_parameters_name × Is_a_memory_of_undeclared_words × Is_an_undeclared_step_without_a_turn × Is_a_net_in_a_step_without_a_turn × Is_a_memory_as_a_second_name_of_a_for × Is_a_net_as_a_second_name_of_a_for × Is_a_digit_at_an_index_that_is_too_wide × Is_a_word_at_an_index_that_is_too_wide × Is_a_register_in_wide_braces × Is_a_net_in_wide_braces_of_a_procedure × Is_a_driven_net_in_wide_braces × Is_an_input_in_wide_braces × Is_a_target_of_129_digits × Is_an_instance_64_below_the_top × Is_an_instance_65_below_the_top
+All_rows = Is_a_memory_and_an_instance × Is_widths_of_operators × Is_a_rising_range × Is_words_of_a_memory × Is_a_braced_target_with_an_index × Is_nonblocking_updates × Is_casez_with_a_default_in_front × Is_case_of_unknown_digits × Is_loops_inside_loops × Is_contexts_of_sums × Is_values_of_parameters × Is_an_override_before_the_parameters × Is_an_unknown_condition × Is_a_port_in_two_declarations × Is_events_and_labels × Is_casex_and_all_that_is_read × Is_loops_over_words × Is_selects_of_words × Is_overrides_and_parts_of_ports × Is_parameters_of_a_header × Is_the_order_of_ports × Is_drives_side_by_side × Is_statements_of_every_form × Is_two_modules_that_nobody_instantiates × Is_modules_that_instantiate_one_another × Is_only_a_module_inside_itself × Is_a_top_that_is_not_there × Is_an_instance_of_no_module × Is_an_instance_of_no_module_in_a_child × Is_no_module_before_what_it_is_given × Is_a_module_inside_itself × Is_a_module_inside_itself_through_another × Is_a_module_inside_itself_before_its_ports × Is_two_modules_of_a_name × Is_a_parameter_of_a_nets_name × Is_a_port_declared_again_with_other_bounds × Is_a_port_declared_again_as_a_memory × Is_a_subtree_is_walked_at_its_item × Is_an_undeclared_name × Is_an_undeclared_second_name_of_a_for × Is_declarations_before_items × Is_a_lost_width_asks_nothing × Is_the_word_of_an_undeclared_index × Is_the_digit_of_an_undeclared_index × Is_a_port_without_direction × Is_an_input_that_is_a_register × Is_a_port_connected_twice × Is_an_override_of_a_localparam × Is_a_range_of_a_net × Is_a_parameter_with_an_unknown_digit × Is_a_driven_digit_at_an_index × Is_a_parameter_before_its_declaration × Is_a_part_against_a_rising_range × Is_a_part_of_a_memory × Is_two_selects_of_a_vector × Is_a_replication_of_nothing × Is_an_event_on_a_memory × Is_a_port_of_129_digits × Is_a_wide_part_of_a_comparison × Is_the_whole_is_too_wide_before_its_part × Is_a_part_of_201_digits × Is_two_assignments_of_a_net × Is_digits_driven_twice × Is_a_net_twice_in_a_braced_target × Is_an_assignment_of_an_input × Is_an_output_joined_to_a_driven_net × Is_a_net_in_a_procedure × Is_a_register_in_an_assignment × Is_the_variable_of_a_loop_as_a_target × Is_a_for_of_two_names × Is_an_output_joined_to_a_sum × Is_a_loop_of_4097_turns × Is_a_loop_of_4096_turns × Is_a_loop_that_cant_end × Is_a_long_loop_before_what_it_holds × Is_one_signal_too_many × Is_a_memory_of_all_indices × Is_one_signal_too_many_in_a_child × Is_contexts_of_comparisons × Is_contexts_of_shifts × Is_contexts_of_conditions × Is_operands_of_their_own_width × Is_unknown_operands × Is_conditions_of_unknown_digits × Is_indices_of_targets_and_reads × Is_labels_of_other_widths × Is_cases_of_x_and_z × Is_connections_in_another_order × Is_a_grandchild_before_a_sibling × Is_a_parameters_own_width × Is_a_register_in_braces_of_a_connection × Is_a_register_in_braces_of_an_ordered_connection × Is_an_input_at_an_index_that_is_a_signal × Is_an_input_at_an_undeclared_index × Is_an_input_with_two_selects × Is_an_output_joined_to_an_input × Is_an_output_joined_to_a_net_and_an_input × Is_a_driven_net_behind_an_undeclared_part × Is_a_net_twice_around_an_undeclared_part × Is_an_undeclared_part_before_a_net × Is_a_memory_of_a_registers_name × Is_a_memory_of_a_parameters_name × Is_a_memory_of_undeclared_words × Is_an_undeclared_step_without_a_turn × Is_a_net_in_a_step_without_a_turn × Is_a_memory_as_a_second_name_of_a_for × Is_a_net_as_a_second_name_of_a_for × Is_a_digit_at_an_index_that_is_too_wide × Is_a_word_at_an_index_that_is_too_wide × Is_a_register_in_wide_braces × Is_a_net_in_wide_braces_of_a_procedure × Is_a_driven_net_in_wide_braces × Is_an_input_in_wide_braces × Is_a_target_of_129_digits × Is_an_instance_64_below_the_top × Is_an_instance_65_below_the_top
