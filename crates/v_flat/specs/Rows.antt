@@ -580,12 +580,12 @@ text_of_one_signal_too_many_in_a_child = ((ModuleOf (id 1 (codes "m")) ([]) (Nam
 abbrev pub Is_one_signal_too_many_in_a_child : Type 0
 Is_one_signal_too_many_in_a_child = flat_design (text_of_one_signal_too_many_in_a_child) None ≡ Err (at rule.TooMany 16)
 
--- module m; wire c = (~4'd0 == 8'd255), d = 4'd15 + 4'd1 > 4'd0, e = 4'd15 + 4'd1 == 5'd16, f = 4'd2 == 4'd0; wire [7:0] g = 4'd15 + 4'd1 > 4'd0, h = 4'd0 < 4'd15 + 4'd1; endmodule
+-- module m; wire c = (~4'd0 == 8'd255), d = 4'd15 + 4'd1 > 4'd0, e = 4'd15 + 4'd1 == 5'd16, f = 4'd2 == 4'd0, i = ~4'd0 == 8'd15, j = 8'd15 == ~4'd0; wire [7:0] g = 4'd15 + 4'd1 > 4'd0, h = 4'd0 < 4'd15 + 4'd1; endmodule
 abbrev text_of_contexts_of_comparisons : List ModuleTree
-text_of_contexts_of_comparisons = ((ModuleOf (id 1 (codes "m")) ([]) (NamedPorts ([])) ((ItemAt 3 (Nets None ((NetOf (id 4 (codes "c")) (Some (Bracketed 6 (Binary binary.Equal (Unary 7 unary.BitwiseNegation (num 8 4 0)) (num 10 8 255))))) ∷ (NetOf (id 13 (codes "d")) (Some (Binary binary.Greater (Binary binary.Add (num 15 4 15) (num 17 4 1)) (num 19 4 0)))) ∷ (NetOf (id 21 (codes "e")) (Some (Binary binary.Equal (Binary binary.Add (num 23 4 15) (num 25 4 1)) (num 27 5 16)))) ∷ (NetOf (id 29 (codes "f")) (Some (Binary binary.Equal (num 31 4 2) (num 33 4 0)))) ∷ []))) ∷ (ItemAt 35 (Nets (Some (BoundsTree 36 (num 37 32 7) (num 39 32 0))) ((NetOf (id 41 (codes "g")) (Some (Binary binary.Greater (Binary binary.Add (num 43 4 15) (num 45 4 1)) (num 47 4 0)))) ∷ (NetOf (id 49 (codes "h")) (Some (Binary binary.Less (num 51 4 0) (Binary binary.Add (num 53 4 15) (num 55 4 1))))) ∷ []))) ∷ [])) ∷ [])
+text_of_contexts_of_comparisons = ((ModuleOf (id 1 (codes "m")) ([]) (NamedPorts ([])) ((ItemAt 3 (Nets None ((NetOf (id 4 (codes "c")) (Some (Bracketed 6 (Binary binary.Equal (Unary 7 unary.BitwiseNegation (num 8 4 0)) (num 10 8 255))))) ∷ (NetOf (id 13 (codes "d")) (Some (Binary binary.Greater (Binary binary.Add (num 15 4 15) (num 17 4 1)) (num 19 4 0)))) ∷ (NetOf (id 21 (codes "e")) (Some (Binary binary.Equal (Binary binary.Add (num 23 4 15) (num 25 4 1)) (num 27 5 16)))) ∷ (NetOf (id 29 (codes "f")) (Some (Binary binary.Equal (num 31 4 2) (num 33 4 0)))) ∷ (NetOf (id 35 (codes "i")) (Some (Binary binary.Equal (Unary 37 unary.BitwiseNegation (num 38 4 0)) (num 40 8 15)))) ∷ (NetOf (id 42 (codes "j")) (Some (Binary binary.Equal (num 44 8 15) (Unary 46 unary.BitwiseNegation (num 47 4 0))))) ∷ []))) ∷ (ItemAt 49 (Nets (Some (BoundsTree 50 (num 51 32 7) (num 53 32 0))) ((NetOf (id 55 (codes "g")) (Some (Binary binary.Greater (Binary binary.Add (num 57 4 15) (num 59 4 1)) (num 61 4 0)))) ∷ (NetOf (id 63 (codes "h")) (Some (Binary binary.Less (num 65 4 0) (Binary binary.Add (num 67 4 15) (num 69 4 1))))) ∷ []))) ∷ [])) ∷ [])
 
 abbrev pub Is_contexts_of_comparisons : Type 0
-Is_contexts_of_comparisons = shown ((bits (codes "0")) ∷ (bits (codes "1")) ∷ (bits (codes "z")) ∷ (bits (codes "z")) ∷ (bits (codes "zzzzzzzz")) ∷ (bits (codes "zzzzzzzz")) ∷ []) (flat_design (text_of_contexts_of_comparisons) None) ≡ Ok (record { signals = (sg (codes "m.c") 1 Z ∷ sg (codes "m.d") 1 Z ∷ sg (codes "m.e") 1 Z ∷ sg (codes "m.f") 1 Z ∷ sg (codes "m.g") 8 Z ∷ sg (codes "m.h") 8 Z ∷ []); nodes = (record { path = codes "m"; children = ((codes "c", spot.Sig (sig 0)) ∷ (codes "d", spot.Sig (sig 1)) ∷ (codes "e", spot.Sig (sig 2)) ∷ (codes "f", spot.Sig (sig 3)) ∷ (codes "g", spot.Sig (sig 4)) ∷ (codes "h", spot.Sig (sig 5)) ∷ []) } ∷ []); processes = (record { kind = process_kind.Assign; wakes = ([]); changes = ((0, (bits (codes "1"))) ∷ []); updates = ([]) } ∷ record { kind = process_kind.Assign; wakes = ([]); changes = ((1, (bits (codes "0"))) ∷ []); updates = ([]) } ∷ record { kind = process_kind.Assign; wakes = ([]); changes = ((2, (bits (codes "1"))) ∷ []); updates = ([]) } ∷ record { kind = process_kind.Assign; wakes = ([]); changes = ((3, (bits (codes "0"))) ∷ []); updates = ([]) } ∷ record { kind = process_kind.Assign; wakes = ([]); changes = ((4, (bits (codes "00000000"))) ∷ []); updates = ([]) } ∷ record { kind = process_kind.Assign; wakes = ([]); changes = ((5, (bits (codes "00000000"))) ∷ []); updates = ([]) } ∷ []) })
+Is_contexts_of_comparisons = shown ((bits (codes "0")) ∷ (bits (codes "1")) ∷ (bits (codes "z")) ∷ (bits (codes "z")) ∷ (bits (codes "z")) ∷ (bits (codes "z")) ∷ (bits (codes "zzzzzzzz")) ∷ (bits (codes "zzzzzzzz")) ∷ []) (flat_design (text_of_contexts_of_comparisons) None) ≡ Ok (record { signals = (sg (codes "m.c") 1 Z ∷ sg (codes "m.d") 1 Z ∷ sg (codes "m.e") 1 Z ∷ sg (codes "m.f") 1 Z ∷ sg (codes "m.i") 1 Z ∷ sg (codes "m.j") 1 Z ∷ sg (codes "m.g") 8 Z ∷ sg (codes "m.h") 8 Z ∷ []); nodes = (record { path = codes "m"; children = ((codes "c", spot.Sig (sig 0)) ∷ (codes "d", spot.Sig (sig 1)) ∷ (codes "e", spot.Sig (sig 2)) ∷ (codes "f", spot.Sig (sig 3)) ∷ (codes "i", spot.Sig (sig 4)) ∷ (codes "j", spot.Sig (sig 5)) ∷ (codes "g", spot.Sig (sig 6)) ∷ (codes "h", spot.Sig (sig 7)) ∷ []) } ∷ []); processes = (record { kind = process_kind.Assign; wakes = ([]); changes = ((0, (bits (codes "1"))) ∷ []); updates = ([]) } ∷ record { kind = process_kind.Assign; wakes = ([]); changes = ((1, (bits (codes "0"))) ∷ []); updates = ([]) } ∷ record { kind = process_kind.Assign; wakes = ([]); changes = ((2, (bits (codes "1"))) ∷ []); updates = ([]) } ∷ record { kind = process_kind.Assign; wakes = ([]); changes = ((3, (bits (codes "0"))) ∷ []); updates = ([]) } ∷ record { kind = process_kind.Assign; wakes = ([]); changes = ((4, (bits (codes "0"))) ∷ []); updates = ([]) } ∷ record { kind = process_kind.Assign; wakes = ([]); changes = ((5, (bits (codes "0"))) ∷ []); updates = ([]) } ∷ record { kind = process_kind.Assign; wakes = ([]); changes = ((6, (bits (codes "00000000"))) ∷ []); updates = ([]) } ∷ record { kind = process_kind.Assign; wakes = ([]); changes = ((7, (bits (codes "00000000"))) ∷ []); updates = ([]) } ∷ []) })
 
 -- module m; wire [4:0] y = (4'd15 + 4'd1) >> 1, z = 8'd1 << (4'd15 + 4'd2), v = 5'd1 << 2'b1x; endmodule
 abbrev text_of_contexts_of_shifts : List ModuleTree
