@@ -11,4 +11,4 @@ mod laws;
 
 pub use constant::copied;
 pub use factory::{Case, Factory};
-pub use laws::{case_is_element, count_is_length};
+pub use laws::{case_is_element, count_is_length, worked_rows};

@@ -118,8 +118,11 @@ is_always_known kind.SimTimeoutError = false
 is_always_known kind.TriggerException = false
 is_always_known _ = true
 
+abbrev pub always_known : List Name
+always_known = map fault_name (filter is_always_known kinds)
+
 abbrev pub built_in : List Name
-built_in = codes "int" ∷ codes "str" ∷ codes "bool" ∷ codes "len" ∷ codes "range" ∷ map fault_name (filter is_always_known kinds)
+built_in = codes "int" ∷ codes "str" ∷ codes "bool" ∷ codes "len" ∷ codes "range" ∷ always_known
 
 -- of the module, or built in
 abbrev pub is_known : File → Name → Bool

@@ -32,21 +32,27 @@ pub record Exports : Type 0 where
   pub module_name : Name
   pub names : List Name
 
-abbrev pub exports : List Exports
-exports =
-    record {
-      module_name = codes "cocotb.triggers";
-      names = codes "Timer" ∷ codes "Edge" ∷ codes "RisingEdge" ∷ codes "FallingEdge" ∷ codes "ReadWrite"
-          ∷ codes "ReadOnly" ∷ codes "NextTimeStep" ∷ codes "Event" ∷ codes "Lock" ∷ codes "Join" ∷ codes "First" ∷ codes "Combine" ∷ codes "ClockCycles"
-          ∷ codes "TriggerException" ∷ codes "with_timeout" ∷ [];
-    }
-    ∷ record { module_name = codes "cocotb.clock"; names = codes "Clock" ∷ [] }
+abbrev pub triggers : Exports
+triggers = record {
+  module_name = codes "cocotb.triggers";
+  names = codes "Timer" ∷ codes "Edge" ∷ codes "RisingEdge" ∷ codes "FallingEdge" ∷ codes "ReadWrite"
+      ∷ codes "ReadOnly" ∷ codes "NextTimeStep" ∷ codes "Event" ∷ codes "Lock" ∷ codes "Join" ∷ codes "First" ∷ codes "Combine" ∷ codes "ClockCycles"
+      ∷ codes "TriggerException" ∷ codes "with_timeout" ∷ [];
+}
+
+abbrev pub other_exports : List Exports
+other_exports =
+    record { module_name = codes "cocotb.clock"; names = codes "Clock" ∷ [] }
     ∷ record { module_name = codes "cocotb.regression"; names = codes "TestFactory" ∷ [] }
     ∷ record { module_name = codes "cocotb.result"; names = codes "SimTimeoutError" ∷ [] }
     ∷ record { module_name = codes "cocotb.utils"; names = codes "get_sim_time" ∷ [] } ∷ []
 
+-- this module exports the name
+abbrev pub has_export : Name → Name → Exports → Bool
+has_export m n x = bytes_eq x.module_name m && is_among n x.names
+
 abbrev pub is_exported : Name → Name → Bool
-is_exported m n = list_any (λ x. bytes_eq x.module_name m && is_among n x.names) exports
+is_exported m n = list_any (has_export m n) (triggers ∷ other_exports)
 
 abbrev pub is_unknown_import : ModuleItem → Bool
 is_unknown_import (LineAt l (Import n)) = not (is_among n modules)
