@@ -1,32 +1,35 @@
 //! Trees with their heights.
+//!
+//! Each stands behind a `Box`, so that what reads on while it waits has little to let go.
 
 ghost use Rattle.std.specs.Prelude.{◌≡◌, ◌+◌, ◌≤◌, max, [], ◌∷◌, ◌++◌, IfOk};
-ghost use Rattle.v_syntax.specs.ExpressionTrees.{view, views, view_select, view_selects, Number, Named, Bracketed, Unary, Binary, Conditional, Concatenation, Replication, Bit, Part, IndexedPart, Whole, One, none, more};
+ghost use Rattle.v_syntax.specs.ExpressionTrees.{view, views, view_select, view_selects, Number, Named, Bracketed, Unary, Binary, Conditional, Concatenation, Replication, Bit, Part, IndexedPart, Whole, One, OfWord, none, more};
 ghost use Rattle.v_expression.specs.Lists.{and_last};
 
+use crate::heap::boxed;
 use four_value::Bits;
-use port_io::Name;
-use std::alloc::{AllocError, AllocFailed, Global};
+use port_io::{Name, NoMemory};
+use std::alloc::{AllocError, Global};
 use v_syntax::{BinaryOperator, Expression, Operand, Select, Selects, UnaryOperator};
 
 /// An expression and its height.
 #[derive(Drop)]
 pub struct Measured {
-    pub expression: Expression,
+    pub expression: Box<Expression>,
     pub height: usize,
 }
 
 /// A select and the height of its highest part.
 #[derive(Drop)]
 pub struct MeasuredSelect {
-    pub select: Select,
+    pub select: Box<Select>,
     pub height: usize,
 }
 
 /// The selects behind a name, and the height of the name with them.
 #[derive(Drop)]
 pub struct MeasuredSelects {
-    pub selects: Selects,
+    pub selects: Box<Selects>,
     pub height: usize,
 }
 
@@ -37,63 +40,60 @@ pub struct MeasuredParts {
     pub height: usize,
 }
 
-pub fn number(at: usize, value: Bits) -> Measured
-    ensures tree { view result.expression ≡ Number at value }
-    ensures height { result.height ≡ 1 }
+pub fn number(alloc: Global, at: usize, value: Bits) -> Result<Measured, NoMemory>
+    ensures tree { IfOk result (λ x. view x.expression.value ≡ Number at value) }
+    ensures height { IfOk result (λ x. x.height ≡ 1) }
 {
-    Measured {
-        expression: Expression::Number { at, value },
-        height: 1,
-    }
+    let expression = boxed(alloc, Expression::Number { at, value })?;
+    let height = 1;
+    Ok(Measured { expression, height })
 }
 
-pub fn named(at: usize, name: Name, found: MeasuredSelects) -> Measured
-    ensures tree { view result.expression ≡ Named at name (view_selects found.selects) }
-    ensures height { result.height ≡ found.height }
-{
-    let MeasuredSelects { selects, height } = found;
-    Measured {
-        expression: Expression::Operand(Operand { at, name, selects }),
-        height,
-    }
-}
-
-pub fn bracketed(
+pub fn named(
     alloc: Global,
     at: usize,
-    inner: Measured,
-) -> Result<Measured, AllocFailed<Expression>>
-    requires { inner.height ≤ 1000 }
-    ensures tree { IfOk result (λ x. view x.expression ≡ Bracketed at (view inner.expression)) }
-    ensures height { IfOk result (λ x. x.height ≡ inner.height + 1) }
+    name: Name,
+    found: MeasuredSelects,
+) -> Result<Measured, NoMemory>
+    ensures tree { IfOk result (λ x. view x.expression.value ≡ Named at name (view_selects found.selects.value)) }
+    ensures height { IfOk result (λ x. x.height ≡ found.height) }
 {
-    Ok(Measured {
-        expression: Expression::Bracketed {
-            at,
-            inner: Box::new(alloc, inner.expression)?,
-        },
-        height: inner.height + 1,
-    })
+    let MeasuredSelects { selects, height } = found;
+    let selects = Box::into_inner(selects);
+    let operand = Operand { at, name, selects };
+    let expression = boxed(alloc, Expression::Operand(operand))?;
+    Ok(Measured { expression, height })
+}
+
+pub fn bracketed(alloc: Global, at: usize, found: Measured) -> Result<Measured, NoMemory>
+    requires { found.height ≤ 1000 }
+    ensures tree { IfOk result (λ x. view x.expression.value ≡ Bracketed at (view found.expression.value)) }
+    ensures height { IfOk result (λ x. x.height ≡ found.height + 1) }
+{
+    let height = found.height + 1;
+    let inner = found.expression;
+    let expression = boxed(alloc, Expression::Bracketed { at, inner })?;
+    Ok(Measured { expression, height })
 }
 
 pub fn unary(
     alloc: Global,
     at: usize,
     operator: UnaryOperator,
-    operand: Measured,
-) -> Result<Measured, AllocFailed<Expression>>
-    requires { operand.height ≤ 1000 }
-    ensures tree { IfOk result (λ x. view x.expression ≡ Unary at operator (view operand.expression)) }
-    ensures height { IfOk result (λ x. x.height ≡ operand.height + 1) }
+    found: Measured,
+) -> Result<Measured, NoMemory>
+    requires { found.height ≤ 1000 }
+    ensures tree { IfOk result (λ x. view x.expression.value ≡ Unary at operator (view found.expression.value)) }
+    ensures height { IfOk result (λ x. x.height ≡ found.height + 1) }
 {
-    Ok(Measured {
-        expression: Expression::Unary {
-            at,
-            operator,
-            operand: Box::new(alloc, operand.expression)?,
-        },
-        height: operand.height + 1,
-    })
+    let height = found.height + 1;
+    let made = Expression::Unary {
+        at,
+        operator,
+        operand: found.expression,
+    };
+    let expression = boxed(alloc, made)?;
+    Ok(Measured { expression, height })
 }
 
 pub fn binary(
@@ -101,21 +101,20 @@ pub fn binary(
     operator: BinaryOperator,
     left: Measured,
     right: Measured,
-) -> Result<Measured, AllocFailed<Expression>>
+) -> Result<Measured, NoMemory>
     requires left { left.height ≤ 1000 }
     requires right { right.height ≤ 1000 }
-    ensures tree { IfOk result (λ x. view x.expression ≡ Binary operator (view left.expression) (view right.expression)) }
+    ensures tree { IfOk result (λ x. view x.expression.value ≡ Binary operator (view left.expression.value) (view right.expression.value)) }
     ensures height { IfOk result (λ x. x.height ≡ 1 + max left.height right.height) }
 {
     let height = 1 + left.height.max(right.height);
-    Ok(Measured {
-        expression: Expression::Binary {
-            operator,
-            left: Box::new(alloc, left.expression)?,
-            right: Box::new(alloc, right.expression)?,
-        },
-        height,
-    })
+    let made = Expression::Binary {
+        operator,
+        left: left.expression,
+        right: right.expression,
+    };
+    let expression = boxed(alloc, made)?;
+    Ok(Measured { expression, height })
 }
 
 pub fn conditional(
@@ -123,39 +122,31 @@ pub fn conditional(
     condition: Measured,
     yes: Measured,
     no: Measured,
-) -> Result<Measured, AllocFailed<Expression>>
+) -> Result<Measured, NoMemory>
     requires condition { condition.height ≤ 1000 }
     requires first { yes.height ≤ 1000 }
     requires second { no.height ≤ 1000 }
-    ensures tree { IfOk result (λ x. view x.expression ≡ Conditional (view condition.expression) (view yes.expression) (view no.expression)) }
+    ensures tree { IfOk result (λ x. view x.expression.value ≡ Conditional (view condition.expression.value) (view yes.expression.value) (view no.expression.value)) }
     ensures height { IfOk result (λ x. x.height ≡ 1 + max condition.height (max yes.height no.height)) }
 {
     let height = 1 + condition.height.max(yes.height.max(no.height));
-    Ok(Measured {
-        expression: Expression::Conditional {
-            condition: Box::new(alloc, condition.expression)?,
-            yes: Box::new(alloc, yes.expression)?,
-            no: Box::new(alloc, no.expression)?,
-        },
-        height,
-    })
+    let made = Expression::Conditional {
+        condition: condition.expression,
+        yes: yes.expression,
+        no: no.expression,
+    };
+    let expression = boxed(alloc, made)?;
+    Ok(Measured { expression, height })
 }
 
-pub fn bit(
-    alloc: Global,
-    at: usize,
-    index: Measured,
-) -> Result<MeasuredSelect, AllocFailed<Expression>>
-    ensures tree { IfOk result (λ x. view_select x.select ≡ Bit at (view index.expression)) }
-    ensures height { IfOk result (λ x. x.height ≡ index.height) }
+pub fn bit(alloc: Global, at: usize, found: Measured) -> Result<MeasuredSelect, NoMemory>
+    ensures tree { IfOk result (λ x. view_select x.select.value ≡ Bit at (view found.expression.value)) }
+    ensures height { IfOk result (λ x. x.height ≡ found.height) }
 {
-    Ok(MeasuredSelect {
-        select: Select::Bit {
-            at,
-            index: Box::new(alloc, index.expression)?,
-        },
-        height: index.height,
-    })
+    let Measured { expression, height } = found;
+    let index = expression;
+    let select = boxed(alloc, Select::Bit { at, index })?;
+    Ok(MeasuredSelect { select, height })
 }
 
 pub fn part(
@@ -163,19 +154,18 @@ pub fn part(
     at: usize,
     left: Measured,
     right: Measured,
-) -> Result<MeasuredSelect, AllocFailed<Expression>>
-    ensures tree { IfOk result (λ x. view_select x.select ≡ Part at (view left.expression) (view right.expression)) }
+) -> Result<MeasuredSelect, NoMemory>
+    ensures tree { IfOk result (λ x. view_select x.select.value ≡ Part at (view left.expression.value) (view right.expression.value)) }
     ensures height { IfOk result (λ x. x.height ≡ max left.height right.height) }
 {
     let height = left.height.max(right.height);
-    Ok(MeasuredSelect {
-        select: Select::Part {
-            at,
-            left: Box::new(alloc, left.expression)?,
-            right: Box::new(alloc, right.expression)?,
-        },
-        height,
-    })
+    let made = Select::Part {
+        at,
+        left: left.expression,
+        right: right.expression,
+    };
+    let select = boxed(alloc, made)?;
+    Ok(MeasuredSelect { select, height })
 }
 
 pub fn indexed_part(
@@ -183,53 +173,71 @@ pub fn indexed_part(
     at: usize,
     base: Measured,
     width: Measured,
-) -> Result<MeasuredSelect, AllocFailed<Expression>>
-    ensures tree { IfOk result (λ x. view_select x.select ≡ IndexedPart at (view base.expression) (view width.expression)) }
+) -> Result<MeasuredSelect, NoMemory>
+    ensures tree { IfOk result (λ x. view_select x.select.value ≡ IndexedPart at (view base.expression.value) (view width.expression.value)) }
     ensures height { IfOk result (λ x. x.height ≡ max base.height width.height) }
 {
     let height = base.height.max(width.height);
-    Ok(MeasuredSelect {
-        select: Select::IndexedPart {
-            at,
-            base: Box::new(alloc, base.expression)?,
-            width: Box::new(alloc, width.expression)?,
-        },
-        height,
-    })
+    let made = Select::IndexedPart {
+        at,
+        base: base.expression,
+        width: width.expression,
+    };
+    let select = boxed(alloc, made)?;
+    Ok(MeasuredSelect { select, height })
 }
 
-pub fn whole() -> MeasuredSelects
-    ensures tree { view_selects result.selects ≡ Whole }
-    ensures height { result.height ≡ 1 }
+pub fn whole(alloc: Global) -> Result<MeasuredSelects, NoMemory>
+    ensures tree { IfOk result (λ x. view_selects x.selects.value ≡ Whole) }
+    ensures height { IfOk result (λ x. x.height ≡ 1) }
 {
-    MeasuredSelects {
-        selects: Selects::Whole,
-        height: 1,
-    }
+    let selects = boxed(alloc, Selects::Whole)?;
+    let height = 1;
+    Ok(MeasuredSelects { selects, height })
 }
 
-pub fn one(found: MeasuredSelect) -> MeasuredSelects
+/// A select of that height that stands alone.
+pub fn one(alloc: Global, select: Select, highest: usize) -> Result<MeasuredSelects, NoMemory>
+    requires { highest ≤ 1000 }
+    ensures tree { IfOk result (λ x. view_selects x.selects.value ≡ One (view_select select)) }
+    ensures height { IfOk result (λ x. x.height ≡ highest + 1) }
+{
+    let selects = boxed(alloc, Selects::One(select))?;
+    let height = highest + 1;
+    Ok(MeasuredSelects { selects, height })
+}
+
+/// The select behind the index of a word.
+pub fn of_word(
+    alloc: Global,
+    at: usize,
+    word: Measured,
+    found: MeasuredSelect,
+) -> Result<MeasuredSelects, NoMemory>
+    requires word { word.height ≤ 1000 }
+    requires select { found.height ≤ 1000 }
+    ensures tree { IfOk result (λ x. view_selects x.selects.value ≡ OfWord at (view word.expression.value) (view_select found.select.value)) }
+    ensures height { IfOk result (λ x. x.height ≡ 1 + max word.height found.height) }
+{
+    let height = 1 + word.height.max(found.height);
+    let made = Selects::OfWord {
+        at,
+        word: word.expression,
+        select: Box::into_inner(found.select),
+    };
+    let selects = boxed(alloc, made)?;
+    Ok(MeasuredSelects { selects, height })
+}
+
+pub fn concatenation(alloc: Global, at: usize, found: MeasuredParts) -> Result<Measured, NoMemory>
     requires { found.height ≤ 1000 }
-    ensures tree { view_selects result.selects ≡ One (view_select found.select) }
-    ensures height { result.height ≡ found.height + 1 }
+    ensures tree { IfOk result (λ x. view x.expression.value ≡ Concatenation at (views found.parts.items)) }
+    ensures height { IfOk result (λ x. x.height ≡ found.height + 1) }
 {
-    let MeasuredSelect { select, height } = found;
-    MeasuredSelects {
-        selects: Selects::One(select),
-        height: height + 1,
-    }
-}
-
-pub fn concatenation(at: usize, found: MeasuredParts) -> Measured
-    requires { found.height ≤ 1000 }
-    ensures tree { view result.expression ≡ Concatenation at (views found.parts.items) }
-    ensures height { result.height ≡ found.height + 1 }
-{
-    let MeasuredParts { parts, height } = found;
-    Measured {
-        expression: Expression::Concatenation { at, parts },
-        height: height + 1,
-    }
+    let height = found.height + 1;
+    let parts = found.parts;
+    let expression = boxed(alloc, Expression::Concatenation { at, parts })?;
+    Ok(Measured { expression, height })
 }
 
 pub fn replication(
@@ -237,46 +245,42 @@ pub fn replication(
     at: usize,
     count: Measured,
     found: MeasuredParts,
-) -> Result<Measured, AllocFailed<Expression>>
+) -> Result<Measured, NoMemory>
     requires count { count.height ≤ 1000 }
     requires parts { found.height ≤ 1000 }
-    ensures tree { IfOk result (λ x. view x.expression ≡ Replication at (view count.expression) (views found.parts.items)) }
+    ensures tree { IfOk result (λ x. view x.expression.value ≡ Replication at (view count.expression.value) (views found.parts.items)) }
     ensures height { IfOk result (λ x. x.height ≡ 1 + max count.height found.height) }
 {
     let height = 1 + count.height.max(found.height);
-    Ok(Measured {
-        expression: Expression::Replication {
-            at,
-            count: Box::new(alloc, count.expression)?,
-            parts: found.parts,
-        },
-        height,
-    })
+    let made = Expression::Replication {
+        at,
+        count: count.expression,
+        parts: found.parts,
+    };
+    let expression = boxed(alloc, made)?;
+    Ok(Measured { expression, height })
 }
 
 impl MeasuredParts {
     /// One part.
     pub fn of(alloc: Global, first: Measured) -> Result<MeasuredParts, AllocError>
-        ensures parts { IfOk result (λ x. views x.parts.items ≡ more (view first.expression) none) }
+        ensures parts { IfOk result (λ x. views x.parts.items ≡ more (view first.expression.value) none) }
         ensures height { IfOk result (λ x. x.height ≡ first.height) }
     {
         let Measured { expression, height } = first;
         let mut parts = Vec::new(alloc);
-        parts.push(expression)?;
+        parts.push(Box::into_inner(expression))?;
         Ok(MeasuredParts { parts, height })
     }
 
     /// With another part behind them.
     pub fn with(self, last: Measured) -> Result<MeasuredParts, AllocError>
-        ensures parts { IfOk result (λ x. views x.parts.items ≡ and_last (views self.parts.items) (view last.expression)) }
+        ensures parts { IfOk result (λ x. views x.parts.items ≡ and_last (views self.parts.items) (view last.expression.value)) }
         ensures height { IfOk result (λ x. x.height ≡ max self.height last.height) }
     {
         let MeasuredParts { mut parts, height } = self;
-        let highest = height.max(last.height);
-        parts.push(last.expression)?;
-        Ok(MeasuredParts {
-            parts,
-            height: highest,
-        })
+        let height = height.max(last.height);
+        parts.push(Box::into_inner(last.expression))?;
+        Ok(MeasuredParts { parts, height })
     }
 }

@@ -35,7 +35,7 @@ fn down_from(
     here: &[Token],
 ) -> Result<usize, ReadError>
     requires { IsMeasured (room + 1) first.now }
-    ensures gives { Gives (λ r. layer total r (below total r)) result (Reading.down_from room (below total room) (view first.now.expression) here.now) }
+    ensures gives { Gives (λ r. layer total r (below total r)) result (Reading.down_from room (below total room) (view first.now.expression.value) here.now) }
     ensures less { IfOk result (λ r. (r + 1 ≡ room) × (first.now.height ≤ room)) }
 {
     if first.height > room {
@@ -54,7 +54,7 @@ pub fn expression_at(
     tokens: &[Token],
 ) -> Result<(Measured, &[Token]), ReadError>
     requires { room < 1000 }
-    ensures gives { Gives (λ x. (view x.0.expression, x.1.now)) result (whole_of total room (below total room) tokens.now) }
+    ensures gives { Gives (λ x. (view x.0.expression.value, x.1.now)) result (whole_of total room (below total room) tokens.now) }
     ensures height { IfOk result (λ x. IsMeasured (room + 1) x.0) }
 {
     let (first, rest) = climb_at(alloc, total, room, 2, tokens)?;
@@ -72,7 +72,7 @@ fn choose_at(
 ) -> Result<(Measured, &[Token]), ReadError>
     requires room { room < 1000 }
     requires height { IsMeasured (room + 1) first }
-    ensures gives { Gives (λ x. (view x.0.expression, x.1.now)) result (choose_of room (below total room) (view first.expression) tokens.now) }
+    ensures gives { Gives (λ x. (view x.0.expression.value, x.1.now)) result (choose_of room (below total room) (view first.expression.value) tokens.now) }
     ensures height { IfOk result (λ x. IsMeasured (room + 1) x.0) }
 {
     match behind(Mark::Question, tokens) {
@@ -93,7 +93,7 @@ fn branches_at<'a>(
 ) -> Result<(Measured, &'a [Token]), ReadError>
     requires room { room < 1000 }
     requires height { IsMeasured (room + 1) condition }
-    ensures gives { Gives (λ x. (view x.0.expression, x.1.now)) result (branches_of room (below total room) (view condition.expression) here.now behind.now) }
+    ensures gives { Gives (λ x. (view x.0.expression.value, x.1.now)) result (branches_of room (below total room) (view condition.expression.value) here.now behind.now) }
     ensures height { IfOk result (λ x. IsMeasured (room + 1) x.0) }
 {
     let below = down_from(total, room, &condition, here)?;
@@ -114,7 +114,7 @@ fn climb_at(
     tokens: &[Token],
 ) -> Result<(Measured, &[Token]), ReadError>
     requires { room < 1000 }
-    ensures gives { Gives (λ x. (view x.0.expression, x.1.now)) result (climb_of total room (below total room) min tokens.now) }
+    ensures gives { Gives (λ x. (view x.0.expression.value, x.1.now)) result (climb_of total room (below total room) min tokens.now) }
     ensures height { IfOk result (λ x. IsMeasured (room + 1) x.0) }
 {
     let (first, rest) = unary_at(alloc, total, room, tokens)?;
@@ -133,7 +133,7 @@ fn steps_at(
 ) -> Result<(Measured, &[Token]), ReadError>
     requires room { room < 1000 }
     requires height { IsMeasured (room + 1) first }
-    ensures gives { Gives (λ x. (view x.0.expression, x.1.now)) result (steps_of room (below total room) min (length tokens.now) (view first.expression) tokens.now) }
+    ensures gives { Gives (λ x. (view x.0.expression.value, x.1.now)) result (steps_of room (below total room) min (length tokens.now) (view first.expression.value) tokens.now) }
     ensures height { IfOk result (λ x. IsMeasured (room + 1) x.0) }
 {
     let mut left = first;
@@ -165,7 +165,7 @@ fn operand_at<'a>(
 ) -> Result<(Measured, &'a [Token]), ReadError>
     requires room { room < 1000 }
     requires height { IsMeasured (room + 1) left }
-    ensures gives { Gives (λ x. (view x.0.expression, x.1.now)) result (operand_of room (below total room) operator (view left.expression) here.now behind.now) }
+    ensures gives { Gives (λ x. (view x.0.expression.value, x.1.now)) result (operand_of room (below total room) operator (view left.expression.value) here.now behind.now) }
     ensures height { IfOk result (λ x. IsMeasured (room + 1) x.0) }
 {
     let below = down_from(total, room, &left, here)?;
@@ -182,7 +182,7 @@ fn unary_at(
     tokens: &[Token],
 ) -> Result<(Measured, &[Token]), ReadError>
     requires { room < 1000 }
-    ensures gives { Gives (λ x. (view x.0.expression, x.1.now)) result (unary_of total room (below total room) tokens.now) }
+    ensures gives { Gives (λ x. (view x.0.expression.value, x.1.now)) result (unary_of total room (below total room) tokens.now) }
     ensures height { IfOk result (λ x. IsMeasured (room + 1) x.0) }
 {
     let Some((token, behind)) = next(tokens) else {
@@ -205,7 +205,7 @@ fn prefixed_at<'a>(
     behind: &'a [Token],
 ) -> Result<(Measured, &'a [Token]), ReadError>
     requires { room < 1000 }
-    ensures gives { Gives (λ x. (view x.0.expression, x.1.now)) result (prefixed_of total room (below total room) operator here.now behind.now) }
+    ensures gives { Gives (λ x. (view x.0.expression.value, x.1.now)) result (prefixed_of total room (below total room) operator here.now behind.now) }
     ensures height { IfOk result (λ x. IsMeasured (room + 1) x.0) }
 {
     let below = down(total, room, here)?;

@@ -27,11 +27,13 @@ pub fn primary_at(
     tokens: &[Token],
 ) -> Result<(Measured, &[Token]), ReadError>
     requires { room < 1000 }
-    ensures gives { Gives (λ x. (view x.0.expression, x.1.now)) result (primary_of total room (below total room) tokens.now) }
+    ensures gives { Gives (λ x. (view x.0.expression.value, x.1.now)) result (primary_of total room (below total room) tokens.now) }
     ensures height { IfOk result (λ x. IsMeasured (room + 1) x.0) }
 {
     match next(tokens) {
-        Some((Token::Number(value), rest)) => Ok((number(place(total, tokens), *value), rest)),
+        Some((Token::Number(value), rest)) => {
+            Ok((number(alloc, place(total, tokens), *value)?, rest))
+        }
         Some((Token::Name(name), rest)) => {
             named_at(alloc, total, room, place(total, tokens), name, rest)
         }
@@ -54,12 +56,12 @@ fn named_at<'a>(
     tokens: &'a [Token],
 ) -> Result<(Measured, &'a [Token]), ReadError>
     requires { room < 1000 }
-    ensures gives { Gives (λ x. (view x.0.expression, x.1.now)) result (named_of total room (below total room) at name.now tokens.now) }
+    ensures gives { Gives (λ x. (view x.0.expression.value, x.1.now)) result (named_of total room (below total room) at name.now tokens.now) }
     ensures height { IfOk result (λ x. IsMeasured (room + 1) x.0) }
 {
     let (selects, rest) = selects_at(alloc, total, room, tokens)?;
     let name = Name::of(alloc, name.bytes())?;
-    Ok((named(at, name, selects), rest))
+    Ok((named(alloc, at, name, selects)?, rest))
 }
 
 #[cycle(expressions)]
@@ -72,7 +74,7 @@ fn bracketed_at<'a>(
     behind: &'a [Token],
 ) -> Result<(Measured, &'a [Token]), ReadError>
     requires { room < 1000 }
-    ensures gives { Gives (λ x. (view x.0.expression, x.1.now)) result (bracketed_of total room (below total room) here.now behind.now) }
+    ensures gives { Gives (λ x. (view x.0.expression.value, x.1.now)) result (bracketed_of total room (below total room) here.now behind.now) }
     ensures height { IfOk result (λ x. IsMeasured (room + 1) x.0) }
 {
     let below = down(total, room, here)?;
@@ -91,7 +93,7 @@ fn braced_at<'a>(
     behind: &'a [Token],
 ) -> Result<(Measured, &'a [Token]), ReadError>
     requires { room < 1000 }
-    ensures gives { Gives (λ x. (view x.0.expression, x.1.now)) result (braced_of total room (below total room) here.now behind.now) }
+    ensures gives { Gives (λ x. (view x.0.expression.value, x.1.now)) result (braced_of total room (below total room) here.now behind.now) }
     ensures height { IfOk result (λ x. IsMeasured (room + 1) x.0) }
 {
     let below = down(total, room, here)?;
@@ -111,14 +113,14 @@ fn inside_at(
 ) -> Result<(Measured, &[Token]), ReadError>
     requires room { below < 1000 }
     requires height { IsMeasured (below + 1) first }
-    ensures gives { Gives (λ x. (view x.0.expression, x.1.now)) result (inside_of at (layer total below (Reading.below total below)) (view first.expression) tokens.now) }
+    ensures gives { Gives (λ x. (view x.0.expression.value, x.1.now)) result (inside_of at (layer total below (Reading.below total below)) (view first.expression.value) tokens.now) }
     ensures height { IfOk result (λ x. IsMeasured (below + 2) x.0) }
 {
     match behind(Mark::OpenBrace, tokens) {
         Some(after) => replication_at(alloc, total, below, at, first, after),
         None => {
             let (parts, rest) = parts_at(alloc, total, below, first, tokens)?;
-            Ok((concatenation(at, parts), rest))
+            Ok((concatenation(alloc, at, parts)?, rest))
         }
     }
 }
@@ -135,7 +137,7 @@ fn replication_at(
 ) -> Result<(Measured, &[Token]), ReadError>
     requires room { below < 1000 }
     requires height { IsMeasured (below + 1) count }
-    ensures gives { Gives (λ x. (view x.0.expression, x.1.now)) result (replication_of at (layer total below (Reading.below total below)) (view count.expression) tokens.now) }
+    ensures gives { Gives (λ x. (view x.0.expression.value, x.1.now)) result (replication_of at (layer total below (Reading.below total below)) (view count.expression.value) tokens.now) }
     ensures height { IfOk result (λ x. IsMeasured (below + 2) x.0) }
 {
     let (first, rest) = expression_at(alloc, total, below, tokens)?;
@@ -155,7 +157,7 @@ fn parts_at(
 ) -> Result<(MeasuredParts, &[Token]), ReadError>
     requires room { below < 1000 }
     requires height { IsMeasured (below + 1) first }
-    ensures gives { Gives (λ x. (views x.0.parts.items, x.1.now)) result (parts_of (layer total below (Reading.below total below)) (view first.expression) tokens.now) }
+    ensures gives { Gives (λ x. (views x.0.parts.items, x.1.now)) result (parts_of (layer total below (Reading.below total below)) (view first.expression.value) tokens.now) }
     ensures height { IfOk result (λ x. IsMeasuredParts (below + 1) x.0) }
 {
     let mut all = MeasuredParts::of(alloc, first)?;

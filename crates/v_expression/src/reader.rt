@@ -23,13 +23,13 @@ pub fn expression(
     total: usize,
     room: usize,
     tokens: &[Token],
-) -> Result<(Expression, &[Token]), ReadError>
+) -> Result<(Box<Expression>, &[Token]), ReadError>
     requires { room < 1000 }
-    ensures gives { Gives (λ x. (view x.0, x.1.now)) result (expression_of total room tokens.now) }
+    ensures gives { Gives (λ x. (view x.0.value, x.1.now)) result (expression_of total room tokens.now) }
     // What is read is an expression that spells the tokens up to those that are given, within the height.
-    ensures found { IfOk result (λ x. Spans total (view x.0) tokens.now x.1.now × (height (view x.0) ≤ room + 1)) }
+    ensures found { IfOk result (λ x. Spans total (view x.0.value) tokens.now x.1.now × (height (view x.0.value) ≤ room + 1)) }
     // An expression within the height that nothing goes on with is read, unless memory runs out.
-    ensures only { (e : Tree) (rest : List Token) → Spans total e tokens.now rest → height e ≤ room + 1 → follow rest ≡ 0 → IsRead (λ x. (view x.0 ≡ e) × (x.1.now ≡ rest)) result }
+    ensures only { (e : Tree) (rest : List Token) → Spans total e tokens.now rest → height e ≤ room + 1 → follow rest ≡ 0 → IsRead (λ x. (view x.0.value ≡ e) × (x.1.now ≡ rest)) result }
     // A refusal is at the first token that no partial expression within the height spells.
     ensures refused { IfErr result (λ e. IsRefusal (λ n rest. Begins total n 1 tokens.now rest) (room + 1) e) }
 {
@@ -54,7 +54,8 @@ impl Element for ExpressionPhrase {
         room: usize,
         tokens: &'a [Token],
     ) -> Result<(Expression, &'a [Token]), ReadError> {
-        read_expression(alloc, total, room, tokens)
+        let (found, rest) = read_expression(alloc, total, room, tokens)?;
+        Ok((Box::into_inner(found), rest))
     }
 }
 
@@ -64,9 +65,9 @@ fn read_expression(
     total: usize,
     room: usize,
     tokens: &[Token],
-) -> Result<(Expression, &[Token]), ReadError>
+) -> Result<(Box<Expression>, &[Token]), ReadError>
     requires { room < 1000 }
-    ensures { Gives (λ x. (view x.0, x.1.now)) result (expression_of total room tokens.now) }
+    ensures { Gives (λ x. (view x.0.value, x.1.now)) result (expression_of total room tokens.now) }
 {
     let (found, rest) = expression_at(alloc, total, room, tokens)?;
     Ok((found.expression, rest))
@@ -78,13 +79,13 @@ pub fn target(
     total: usize,
     room: usize,
     tokens: &[Token],
-) -> Result<(Target, &[Token]), ReadError>
+) -> Result<(Box<Target>, &[Token]), ReadError>
     requires { room < 1000 }
-    ensures gives { Gives (λ x. (view_target x.0, x.1.now)) result (target_of total room tokens.now) }
+    ensures gives { Gives (λ x. (view_target x.0.value, x.1.now)) result (target_of total room tokens.now) }
     // What is read is a target that spells the tokens up to those that are given, within the height.
-    ensures found { IfOk result (λ x. TargetSpans total (view_target x.0) tokens.now x.1.now × (target_height (view_target x.0) ≤ room + 1)) }
+    ensures found { IfOk result (λ x. TargetSpans total (view_target x.0.value) tokens.now x.1.now × (target_height (view_target x.0.value) ≤ room + 1)) }
     // A target within the height behind which no `[` stands is read, unless memory runs out.
-    ensures only { (t : TargetTree) (rest : List Token) → TargetSpans total t tokens.now rest → target_height t ≤ room + 1 → follow rest < 13 → IsRead (λ x. (view_target x.0 ≡ t) × (x.1.now ≡ rest)) result }
+    ensures only { (t : TargetTree) (rest : List Token) → TargetSpans total t tokens.now rest → target_height t ≤ room + 1 → follow rest < 13 → IsRead (λ x. (view_target x.0.value ≡ t) × (x.1.now ≡ rest)) result }
     // A refusal is at the first token that no partial target within the height spells.
     ensures refused { IfErr result (λ e. IsRefusal (λ n rest. TargetBegins total n tokens.now rest) (room + 1) e) }
 {

@@ -8,12 +8,12 @@ ghost use Rattle.v_expression.specs.Reading.{below, layer, selects_of, further_o
 ghost use Rattle.v_expression.specs.Measures.{IsMeasured, IsMeasuredSelect, IsMeasuredSelects};
 
 use crate::measured::{
-    Measured, MeasuredSelect, MeasuredSelects, bit, indexed_part, one, part, whole,
+    Measured, MeasuredSelect, MeasuredSelects, bit, indexed_part, of_word, one, part, whole,
 };
 use crate::operators::{down, expression_at};
 use std::alloc::Global;
 use v_phrase::{ReadError, after, behind, place};
-use v_syntax::{Mark, Select, Selects, Token};
+use v_syntax::{Mark, Select, Token};
 
 /// The selects behind a name that has so many levels below its own.
 #[cycle(expressions)]
@@ -25,7 +25,7 @@ pub fn selects_at(
     tokens: &[Token],
 ) -> Result<(MeasuredSelects, &[Token]), ReadError>
     requires { room < 1000 }
-    ensures gives { Gives (λ x. (view_selects x.0.selects, x.1.now)) result (selects_of total room (below total room) tokens.now) }
+    ensures gives { Gives (λ x. (view_selects x.0.selects.value, x.1.now)) result (selects_of total room (below total room) tokens.now) }
     ensures height { IfOk result (λ x. IsMeasuredSelects (room + 1) x.0) }
 {
     match behind(Mark::OpenBracket, tokens) {
@@ -33,7 +33,7 @@ pub fn selects_at(
             let (select, rest) = select_at(alloc, total, room, tokens, after)?;
             further_at(alloc, total, room, select, rest)
         }
-        None => Ok((whole(), tokens)),
+        None => Ok((whole(alloc)?, tokens)),
     }
 }
 
@@ -48,30 +48,18 @@ fn further_at(
 ) -> Result<(MeasuredSelects, &[Token]), ReadError>
     requires room { room < 1000 }
     requires height { IsMeasuredSelect room first }
-    ensures gives { Gives (λ x. (view_selects x.0.selects, x.1.now)) result (further_of total room (below total room) (view_select first.select) tokens.now) }
+    ensures gives { Gives (λ x. (view_selects x.0.selects.value, x.1.now)) result (further_of total room (below total room) (view_select first.select.value) tokens.now) }
     ensures height { IfOk result (λ x. IsMeasuredSelects (room + 1) x.0) }
 {
     let MeasuredSelect { select, height } = first;
-    match (select, behind(Mark::OpenBracket, tokens)) {
+    match (Box::into_inner(select), behind(Mark::OpenBracket, tokens)) {
         (Select::Bit { at, index }, Some(after)) => {
             let (found, rest) = select_at(alloc, total, room, tokens, after)?;
-            let MeasuredSelect {
-                select,
-                height: other,
-            } = found;
-            Ok((
-                MeasuredSelects {
-                    selects: Selects::OfWord {
-                        at,
-                        word: index,
-                        select,
-                    },
-                    height: 1 + height.max(other),
-                },
-                rest,
-            ))
+            let expression = index;
+            let word = Measured { expression, height };
+            Ok((of_word(alloc, at, word, found)?, rest))
         }
-        (select, _) => Ok((one(MeasuredSelect { select, height }), tokens)),
+        (select, _) => Ok((one(alloc, select, height)?, tokens)),
     }
 }
 
@@ -85,7 +73,7 @@ fn select_at<'a>(
     behind: &'a [Token],
 ) -> Result<(MeasuredSelect, &'a [Token]), ReadError>
     requires { room < 1000 }
-    ensures gives { Gives (λ x. (view_select x.0.select, x.1.now)) result (select_of total room (below total room) here.now behind.now) }
+    ensures gives { Gives (λ x. (view_select x.0.select.value, x.1.now)) result (select_of total room (below total room) here.now behind.now) }
     ensures height { IfOk result (λ x. IsMeasuredSelect room x.0) }
 {
     let below = down(total, room, here)?;
@@ -105,7 +93,7 @@ fn bound_at(
 ) -> Result<(MeasuredSelect, &[Token]), ReadError>
     requires room { below < 1000 }
     requires height { IsMeasured (below + 1) first }
-    ensures gives { Gives (λ x. (view_select x.0.select, x.1.now)) result (bound_of at (layer total below (Reading.below total below)) (view first.expression) tokens.now) }
+    ensures gives { Gives (λ x. (view_select x.0.select.value, x.1.now)) result (bound_of at (layer total below (Reading.below total below)) (view first.expression.value) tokens.now) }
     ensures height { IfOk result (λ x. IsMeasuredSelect (below + 1) x.0) }
 {
     match behind(Mark::CloseBracket, tokens) {
@@ -126,7 +114,7 @@ fn range_at(
 ) -> Result<(MeasuredSelect, &[Token]), ReadError>
     requires room { below < 1000 }
     requires height { IsMeasured (below + 1) first }
-    ensures gives { Gives (λ x. (view_select x.0.select, x.1.now)) result (range_of at (layer total below (Reading.below total below)) (view first.expression) tokens.now) }
+    ensures gives { Gives (λ x. (view_select x.0.select.value, x.1.now)) result (range_of at (layer total below (Reading.below total below)) (view first.expression.value) tokens.now) }
     ensures height { IfOk result (λ x. IsMeasuredSelect (below + 1) x.0) }
 {
     match behind(Mark::Colon, tokens) {
@@ -152,7 +140,7 @@ fn last_at(
     tokens: &[Token],
 ) -> Result<(Measured, &[Token]), ReadError>
     requires { below < 1000 }
-    ensures gives { Gives (λ x. (view x.0.expression, x.1.now)) result (last_of (layer total below (Reading.below total below)) tokens.now) }
+    ensures gives { Gives (λ x. (view x.0.expression.value, x.1.now)) result (last_of (layer total below (Reading.below total below)) tokens.now) }
     ensures height { IfOk result (λ x. IsMeasured (below + 1) x.0) }
 {
     let (last, rest) = expression_at(alloc, total, below, tokens)?;

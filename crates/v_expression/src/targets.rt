@@ -7,6 +7,7 @@ ghost use Rattle.v_expression.specs.Reading;
 ghost use Rattle.v_expression.specs.Reading.{below, layer, any_target_of, named_target_of, joined_of, target_parts_of};
 ghost use Rattle.v_expression.specs.Lists.{and_last_target};
 
+use crate::heap::boxed;
 use crate::operators::down;
 use crate::selects::selects_at;
 use port_io::Name;
@@ -22,9 +23,9 @@ pub fn target_at(
     total: usize,
     room: usize,
     tokens: &[Token],
-) -> Result<(Target, &[Token]), ReadError>
+) -> Result<(Box<Target>, &[Token]), ReadError>
     requires { room < 1000 }
-    ensures { Gives (λ x. (view_target x.0, x.1.now)) result (any_target_of total room (below total room) tokens.now) }
+    ensures { Gives (λ x. (view_target x.0.value, x.1.now)) result (any_target_of total room (below total room) tokens.now) }
 {
     match next(tokens) {
         Some((Token::Name(name), rest)) => {
@@ -43,18 +44,18 @@ fn named_target<'a>(
     at: usize,
     name: &Name,
     tokens: &'a [Token],
-) -> Result<(Target, &'a [Token]), ReadError>
+) -> Result<(Box<Target>, &'a [Token]), ReadError>
     requires { room < 1000 }
-    ensures { Gives (λ x. (view_target x.0, x.1.now)) result (named_target_of total room (below total room) at name.now tokens.now) }
+    ensures { Gives (λ x. (view_target x.0.value, x.1.now)) result (named_target_of total room (below total room) at name.now tokens.now) }
 {
     let (found, rest) = selects_at(alloc, total, room, tokens)?;
     let name = Name::of(alloc, name.bytes())?;
     let operand = Operand {
         at,
         name,
-        selects: found.selects,
+        selects: Box::into_inner(found.selects),
     };
-    Ok((Target::Operand(operand), rest))
+    Ok((boxed(alloc, Target::Operand(operand))?, rest))
 }
 
 #[cycle(targets)]
@@ -65,14 +66,15 @@ fn joined_at<'a>(
     room: usize,
     here: &[Token],
     behind: &'a [Token],
-) -> Result<(Target, &'a [Token]), ReadError>
+) -> Result<(Box<Target>, &'a [Token]), ReadError>
     requires { room < 1000 }
-    ensures { Gives (λ x. (view_target x.0, x.1.now)) result (joined_of total room (below total room) here.now behind.now) }
+    ensures { Gives (λ x. (view_target x.0.value, x.1.now)) result (joined_of total room (below total room) here.now behind.now) }
 {
     let below = down(total, room, here)?;
     let (first, rest) = target_at(alloc, total, below, behind)?;
     let (parts, rest) = target_parts_at(alloc, total, below, first, rest)?;
-    Ok((joined(place(total, here), parts), rest))
+    let made = joined(place(total, here), parts);
+    Ok((boxed(alloc, made)?, rest))
 }
 
 /// Targets whose first one has been read, with commas between, up to a closing brace.
@@ -81,14 +83,14 @@ fn target_parts_at(
     alloc: Global,
     total: usize,
     below: usize,
-    first: Target,
+    first: Box<Target>,
     tokens: &[Token],
 ) -> Result<(Vec<Target>, &[Token]), ReadError>
     requires { below < 1000 }
-    ensures { Gives (λ x. (view_targets x.0.items, x.1.now)) result (target_parts_of (layer total below (Reading.below total below)) (view_target first) tokens.now) }
+    ensures { Gives (λ x. (view_targets x.0.items, x.1.now)) result (target_parts_of (layer total below (Reading.below total below)) (view_target first.value) tokens.now) }
 {
     let mut all = Vec::new(alloc);
-    all.push(first)?;
+    all.push(Box::into_inner(first))?;
     let mut rest = tokens;
     for _ in 0..tokens.len() {
         if let Some(behind) = behind(Mark::CloseBrace, rest) {
@@ -96,7 +98,7 @@ fn target_parts_at(
         }
         let behind = after(Mark::Comma, rest)?;
         let (part, others) = target_at(alloc, total, below, behind)?;
-        all.push(part)?;
+        all.push(Box::into_inner(part))?;
         rest = others;
     }
     Err(syntax_error(rest))

@@ -7,8 +7,8 @@ ghost use Rattle.v_parse.specs.ItemReading.{driver_of, drivers_of};
 
 use crate::parts::value;
 use std::alloc::Global;
+use v_expression::{boxed, target};
 use v_phrase::{Element, ReadError, after, after_word, listed};
-use v_statement::boxed_target;
 use v_syntax::{ContinuousAssignment, ItemKind, Keyword, Mark, Token};
 
 /// `target = expression`
@@ -22,9 +22,10 @@ fn driver(
     requires { room < 1000 }
     ensures { Gives (λ x. (view_driver x.0, x.1.now)) result (driver_of total room tokens.now) }
 {
-    let (target, rest) = boxed_target(alloc, total, room, tokens)?;
+    let (target, rest) = target(alloc, total, room, tokens)?;
     let (value, rest) = value(alloc, total, room, rest)?;
     let target = Box::into_inner(target);
+    let value = Box::into_inner(value);
     Ok((ContinuousAssignment { target, value }, rest))
 }
 
@@ -57,12 +58,12 @@ pub fn continuous_assignments(
     total: usize,
     room: usize,
     tokens: &[Token],
-) -> Result<(ItemKind, &[Token]), ReadError>
+) -> Result<(Box<ItemKind>, &[Token]), ReadError>
     requires { room < 1000 }
-    ensures { Gives (λ x. (view_kind x.0, x.1.now)) result (drivers_of total room tokens.now) }
+    ensures { Gives (λ x. (view_kind x.0.value, x.1.now)) result (drivers_of total room tokens.now) }
 {
     let rest = after_word(Keyword::Assign, tokens)?;
     let (all, rest) = listed::<DriverPhrase>(alloc, total, room, rest)?;
     let rest = after(Mark::Semicolon, rest)?;
-    Ok((ItemKind::ContinuousAssignments(all), rest))
+    Ok((boxed(alloc, ItemKind::ContinuousAssignments(all))?, rest))
 }

@@ -11,8 +11,9 @@ ghost use Rattle.v_phrase.specs.Readers.{maybe, token_of};
 ghost use Rattle.v_parse.specs.ItemFirsts as firsts;
 ghost use Rattle.v_parse.specs.ItemReading.{value_of, ports_of, net_of, nets_of, tail_of, register_of, registers_of, integers_of, parameter_of, parameters_of};
 
-use crate::parts::{line, maybe_range, plain_range, port_head, range, value};
+use crate::parts::{line, maybe_range, plain_range, plain_value, port_head, range, value};
 use std::alloc::Global;
+use v_expression::boxed;
 use v_phrase::{
     Element, IdentifierPhrase, ReadError, after, after_word, identifier, listed, next, starts_mark,
     syntax_error,
@@ -29,14 +30,14 @@ pub fn ports(
     total: usize,
     room: usize,
     tokens: &[Token],
-) -> Result<(ItemKind, &[Token]), ReadError>
+) -> Result<(Box<ItemKind>, &[Token]), ReadError>
     requires { room < 1000 }
-    ensures { Gives (λ x. (view_kind x.0, x.1.now)) result (ports_of total room tokens.now) }
+    ensures { Gives (λ x. (view_kind x.0.value, x.1.now)) result (ports_of total room tokens.now) }
 {
     let (head, rest) = port_head(alloc, total, room, tokens)?;
     let (names, rest) = line::<IdentifierPhrase>(alloc, total, room, rest)?;
     let head = Box::into_inner(head);
-    Ok((ItemKind::Ports { head, names }, rest))
+    Ok((boxed(alloc, ItemKind::Ports { head, names })?, rest))
 }
 
 // ---- nets
@@ -47,9 +48,9 @@ fn maybe_value(
     total: usize,
     room: usize,
     tokens: &[Token],
-) -> Result<(Option<Expression>, &[Token]), ReadError>
+) -> Result<(Option<Box<Expression>>, &[Token]), ReadError>
     requires { room < 1000 }
-    ensures { Gives (λ x. (option_map ExpressionTrees.view x.0, x.1.now)) result (maybe (Readers.starts_mark mark.Assign) (value_of total room) tokens.now) }
+    ensures { Gives (λ x. (option_map (λ b. ExpressionTrees.view b.value) x.0, x.1.now)) result (maybe (Readers.starts_mark mark.Assign) (value_of total room) tokens.now) }
 {
     if !starts_mark(Mark::Assign, tokens) {
         return Ok((None, tokens));
@@ -71,6 +72,7 @@ fn net(
 {
     let (name, rest) = identifier(alloc, total, tokens)?;
     let (value, rest) = maybe_value(alloc, total, room, rest)?;
+    let value = plain_value(value);
     Ok((NetDeclarator { name, value }, rest))
 }
 
@@ -103,15 +105,16 @@ pub fn nets(
     total: usize,
     room: usize,
     tokens: &[Token],
-) -> Result<(ItemKind, &[Token]), ReadError>
+) -> Result<(Box<ItemKind>, &[Token]), ReadError>
     requires { room < 1000 }
-    ensures { Gives (λ x. (view_kind x.0, x.1.now)) result (nets_of total room tokens.now) }
+    ensures { Gives (λ x. (view_kind x.0.value, x.1.now)) result (nets_of total room tokens.now) }
 {
     let rest = after_word(Keyword::Wire, tokens)?;
     let (range, rest) = maybe_range(alloc, total, room, rest)?;
     let (declarators, rest) = line::<NetPhrase>(alloc, total, room, rest)?;
     let range = plain_range(range);
-    Ok((ItemKind::Nets { range, declarators }, rest))
+    let made = ItemKind::Nets { range, declarators };
+    Ok((boxed(alloc, made)?, rest))
 }
 
 // ---- registers
@@ -142,7 +145,7 @@ fn tail(
         return Ok((RegisterTail::Words(Box::into_inner(range)), rest));
     }
     let (value, rest) = value(alloc, total, room, tokens)?;
-    Ok((RegisterTail::Value(value), rest))
+    Ok((RegisterTail::Value(Box::into_inner(value)), rest))
 }
 
 /// `name [range | = expression]`
@@ -194,15 +197,16 @@ pub fn registers(
     total: usize,
     room: usize,
     tokens: &[Token],
-) -> Result<(ItemKind, &[Token]), ReadError>
+) -> Result<(Box<ItemKind>, &[Token]), ReadError>
     requires { room < 1000 }
-    ensures { Gives (λ x. (view_kind x.0, x.1.now)) result (registers_of total room tokens.now) }
+    ensures { Gives (λ x. (view_kind x.0.value, x.1.now)) result (registers_of total room tokens.now) }
 {
     let rest = after_word(Keyword::Reg, tokens)?;
     let (range, rest) = maybe_range(alloc, total, room, rest)?;
     let (declarators, rest) = line::<RegisterPhrase>(alloc, total, room, rest)?;
     let range = plain_range(range);
-    Ok((ItemKind::Registers { range, declarators }, rest))
+    let made = ItemKind::Registers { range, declarators };
+    Ok((boxed(alloc, made)?, rest))
 }
 
 /// `integer name , .. ;` (clause 4.8)
@@ -211,13 +215,13 @@ pub fn integers(
     alloc: Global,
     total: usize,
     tokens: &[Token],
-) -> Result<(ItemKind, &[Token]), ReadError>
-    ensures { Gives (λ x. (view_kind x.0, x.1.now)) result (integers_of total tokens.now) }
+) -> Result<(Box<ItemKind>, &[Token]), ReadError>
+    ensures { Gives (λ x. (view_kind x.0.value, x.1.now)) result (integers_of total tokens.now) }
 {
     let rest = after_word(Keyword::Integer, tokens)?;
     let (names, rest) = listed::<IdentifierPhrase>(alloc, total, 0, rest)?;
     let rest = after(Mark::Semicolon, rest)?;
-    Ok((ItemKind::Integers(names), rest))
+    Ok((boxed(alloc, ItemKind::Integers(names))?, rest))
 }
 
 // ---- parameters
@@ -246,6 +250,7 @@ fn parameter(
 {
     let (name, rest) = identifier(alloc, total, tokens)?;
     let (value, rest) = value(alloc, total, room, rest)?;
+    let value = Box::into_inner(value);
     Ok((ParameterAssignment { name, value }, rest))
 }
 
@@ -278,20 +283,18 @@ pub fn parameters(
     total: usize,
     room: usize,
     tokens: &[Token],
-) -> Result<(ItemKind, &[Token]), ReadError>
+) -> Result<(Box<ItemKind>, &[Token]), ReadError>
     requires { room < 1000 }
-    ensures { Gives (λ x. (view_kind x.0, x.1.now)) result (parameters_of total room tokens.now) }
+    ensures { Gives (λ x. (view_kind x.0.value, x.1.now)) result (parameters_of total room tokens.now) }
 {
     let (kind, rest) = parameter_kind(tokens)?;
     let (range, rest) = maybe_range(alloc, total, room, rest)?;
     let (assignments, rest) = line::<ParameterPhrase>(alloc, total, room, rest)?;
     let range = plain_range(range);
-    Ok((
-        ItemKind::Parameters {
-            kind,
-            range,
-            assignments,
-        },
-        rest,
-    ))
+    let made = ItemKind::Parameters {
+        kind,
+        range,
+        assignments,
+    };
+    Ok((boxed(alloc, made)?, rest))
 }

@@ -14,11 +14,11 @@ ghost use Rattle.v_parse.specs.Reading.{parameter_head_of, first_parameter_of, n
 
 use crate::parts::{maybe_range, plain_range, port_head, starts_direction, value};
 use std::alloc::Global;
+use v_expression::boxed;
 use v_phrase::{
     Element, IdentifierPhrase, ReadError, after, after_word, identifier, listed, next, others,
     starts_mark, starts_word,
 };
-use v_statement::boxed;
 use v_syntax::{
     HeaderParameter, HeaderPort, HeaderPorts, Keyword, Mark, ParameterHead, PortHead, Token,
 };
@@ -84,6 +84,7 @@ fn first_parameter(
     let (name, rest) = identifier(alloc, total, rest)?;
     let (value, rest) = value(alloc, total, room, rest)?;
     let head = Some(Box::into_inner(head));
+    let value = Box::into_inner(value);
     Ok((HeaderParameter { head, name, value }, rest))
 }
 
@@ -102,6 +103,7 @@ fn next_parameter(
     let (name, rest) = identifier(alloc, total, rest)?;
     let (value, rest) = value(alloc, total, room, rest)?;
     let head = plain_parameter_head(head);
+    let value = Box::into_inner(value);
     Ok((HeaderParameter { head, name, value }, rest))
 }
 

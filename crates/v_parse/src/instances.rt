@@ -12,10 +12,11 @@ ghost use Rattle.v_phrase.specs.Readers.{maybe};
 ghost use Rattle.v_parse.specs.ItemFirsts as firsts;
 ghost use Rattle.v_parse.specs.ItemReading.{bracketed_value_of, connection_of, connections_of, overrides_of, bracketed_connections_of, instance_tail_of, instance_of};
 
+use crate::parts::plain_value;
 use std::alloc::Global;
-use v_expression::ExpressionPhrase;
+use v_expression::{ExpressionPhrase, boxed, expression};
 use v_phrase::{Element, ReadError, after, identifier, listed, next, place, starts_mark};
-use v_statement::{begins_expression, boxed_expression, starts_expression};
+use v_statement::{begins_expression, starts_expression};
 use v_syntax::{Connections, Expression, Identifier, ItemKind, Mark, NamedConnection, Token};
 
 /// An expression, if one begins here.
@@ -31,7 +32,7 @@ fn maybe_expression(
     if !starts_expression(tokens) {
         return Ok((None, tokens));
     }
-    let (value, rest) = boxed_expression(alloc, total, room, tokens)?;
+    let (value, rest) = expression(alloc, total, room, tokens)?;
     Ok((Some(value), rest))
 }
 
@@ -50,16 +51,6 @@ fn bracketed_value(
     let (value, rest) = maybe_expression(alloc, total, room, rest)?;
     let rest = after(Mark::CloseParenthesis, rest)?;
     Ok((value, rest))
-}
-
-/// An expression where it stands in its tree.
-fn plain_value(value: Option<Box<Expression>>) -> Option<Expression>
-    ensures { option_map ExpressionTrees.view result ≡ option_map (λ b. ExpressionTrees.view b.value) value }
-{
-    match value {
-        Some(value) => Some(Box::into_inner(value)),
-        None => None,
-    }
 }
 
 /// `. name ( [expression] )`
@@ -110,16 +101,16 @@ fn connections(
     total: usize,
     room: usize,
     tokens: &[Token],
-) -> Result<(Connections, &[Token]), ReadError>
+) -> Result<(Box<Connections>, &[Token]), ReadError>
     requires { room < 1000 }
-    ensures { Gives (λ x. (view_connections x.0, x.1.now)) result (connections_of total room tokens.now) }
+    ensures { Gives (λ x. (view_connections x.0.value, x.1.now)) result (connections_of total room tokens.now) }
 {
     if starts_mark(Mark::Dot, tokens) {
         let (all, rest) = listed::<ConnectionPhrase>(alloc, total, room, tokens)?;
-        return Ok((Connections::Named(all), rest));
+        return Ok((boxed(alloc, Connections::Named(all))?, rest));
     }
     let (all, rest) = listed::<ExpressionPhrase>(alloc, total, room, tokens)?;
-    Ok((Connections::Ordered(all), rest))
+    Ok((boxed(alloc, Connections::Ordered(all))?, rest))
 }
 
 /// Whether connections begin with the first token.
@@ -139,15 +130,25 @@ fn maybe_connections(
     total: usize,
     room: usize,
     tokens: &[Token],
-) -> Result<(Option<Connections>, &[Token]), ReadError>
+) -> Result<(Option<Box<Connections>>, &[Token]), ReadError>
     requires { room < 1000 }
-    ensures { Gives (λ x. (option_map view_connections x.0, x.1.now)) result (maybe firsts.starts_connections (connections_of total room) tokens.now) }
+    ensures { Gives (λ x. (option_map (λ b. view_connections b.value) x.0, x.1.now)) result (maybe firsts.starts_connections (connections_of total room) tokens.now) }
 {
     if !starts_connections(tokens) {
         return Ok((None, tokens));
     }
     let (all, rest) = connections(alloc, total, room, tokens)?;
     Ok((Some(all), rest))
+}
+
+/// Connections where they stand in their tree.
+fn plain_connections(all: Option<Box<Connections>>) -> Option<Connections>
+    ensures { option_map view_connections result ≡ option_map (λ b. view_connections b.value) all }
+{
+    match all {
+        Some(all) => Some(Box::into_inner(all)),
+        None => None,
+    }
 }
 
 /// `# ( connections )`
@@ -157,9 +158,9 @@ fn overrides(
     total: usize,
     room: usize,
     tokens: &[Token],
-) -> Result<(Connections, &[Token]), ReadError>
+) -> Result<(Box<Connections>, &[Token]), ReadError>
     requires { room < 1000 }
-    ensures { Gives (λ x. (view_connections x.0, x.1.now)) result (overrides_of total room tokens.now) }
+    ensures { Gives (λ x. (view_connections x.0.value, x.1.now)) result (overrides_of total room tokens.now) }
 {
     let rest = after(Mark::Hash, tokens)?;
     let rest = after(Mark::OpenParenthesis, rest)?;
@@ -174,9 +175,9 @@ fn maybe_overrides(
     total: usize,
     room: usize,
     tokens: &[Token],
-) -> Result<(Option<Connections>, &[Token]), ReadError>
+) -> Result<(Option<Box<Connections>>, &[Token]), ReadError>
     requires { room < 1000 }
-    ensures { Gives (λ x. (option_map view_connections x.0, x.1.now)) result (maybe (Readers.starts_mark mark.Hash) (overrides_of total room) tokens.now) }
+    ensures { Gives (λ x. (option_map (λ b. view_connections b.value) x.0, x.1.now)) result (maybe (Readers.starts_mark mark.Hash) (overrides_of total room) tokens.now) }
 {
     if !starts_mark(Mark::Hash, tokens) {
         return Ok((None, tokens));
@@ -192,9 +193,9 @@ fn bracketed_connections(
     total: usize,
     room: usize,
     tokens: &[Token],
-) -> Result<(Option<Connections>, &[Token]), ReadError>
+) -> Result<(Option<Box<Connections>>, &[Token]), ReadError>
     requires { room < 1000 }
-    ensures { Gives (λ x. (option_map view_connections x.0, x.1.now)) result (bracketed_connections_of total room tokens.now) }
+    ensures { Gives (λ x. (option_map (λ b. view_connections b.value) x.0, x.1.now)) result (bracketed_connections_of total room tokens.now) }
 {
     let rest = after(Mark::OpenParenthesis, tokens)?;
     let (ports, rest) = maybe_connections(alloc, total, room, rest)?;
@@ -209,22 +210,20 @@ pub fn instance(
     total: usize,
     room: usize,
     tokens: &[Token],
-) -> Result<(ItemKind, &[Token]), ReadError>
+) -> Result<(Box<ItemKind>, &[Token]), ReadError>
     requires { room < 1000 }
-    ensures { Gives (λ x. (view_kind x.0, x.1.now)) result (instance_of total room tokens.now) }
+    ensures { Gives (λ x. (view_kind x.0.value, x.1.now)) result (instance_of total room tokens.now) }
 {
     let (module, rest) = identifier(alloc, total, tokens)?;
     let (parameters, rest) = maybe_overrides(alloc, total, room, rest)?;
     let ((name, ports), rest) = instance_tail(alloc, total, room, rest)?;
-    Ok((
-        ItemKind::Instance {
-            module,
-            parameters,
-            name,
-            ports,
-        },
-        rest,
-    ))
+    let made = ItemKind::Instance {
+        module,
+        parameters: plain_connections(parameters),
+        name,
+        ports: plain_connections(ports),
+    };
+    Ok((boxed(alloc, made)?, rest))
 }
 
 /// `name ( [connections] ) ;`
@@ -234,9 +233,9 @@ fn instance_tail(
     total: usize,
     room: usize,
     tokens: &[Token],
-) -> Result<((Identifier, Option<Connections>), &[Token]), ReadError>
+) -> Result<((Identifier, Option<Box<Connections>>), &[Token]), ReadError>
     requires { room < 1000 }
-    ensures { Gives (λ x. ((x.0.0, option_map view_connections x.0.1), x.1.now)) result (instance_tail_of total room tokens.now) }
+    ensures { Gives (λ x. ((x.0.0, option_map (λ b. view_connections b.value) x.0.1), x.1.now)) result (instance_tail_of total room tokens.now) }
 {
     let (name, rest) = identifier(alloc, total, tokens)?;
     let (ports, rest) = bracketed_connections(alloc, total, room, rest)?;

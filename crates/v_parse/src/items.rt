@@ -17,6 +17,7 @@ use crate::declarations::{integers, nets, parameters, ports, registers};
 use crate::instances::instance;
 use crate::processes::{always, initial};
 use std::alloc::Global;
+use v_expression::boxed;
 use v_phrase::{ReadError, next, place, syntax_error};
 use v_syntax::{Item, ItemForm, ItemKind, Keyword, Token};
 
@@ -62,9 +63,9 @@ fn kind(
     total: usize,
     room: usize,
     tokens: &[Token],
-) -> Result<(ItemKind, &[Token]), ReadError>
+) -> Result<(Box<ItemKind>, &[Token]), ReadError>
     requires { room < 1000 }
-    ensures { Gives (λ x. (view_kind x.0, x.1.now)) result (kind_of total room tokens.now) }
+    ensures { Gives (λ x. (view_kind x.0.value, x.1.now)) result (kind_of total room tokens.now) }
 {
     match form(tokens) {
         None => Err(syntax_error(tokens)),
@@ -87,13 +88,14 @@ fn item_at(
     total: usize,
     room: usize,
     tokens: &[Token],
-) -> Result<(Item, &[Token]), ReadError>
+) -> Result<(Box<Item>, &[Token]), ReadError>
     requires { room < 1000 }
-    ensures { Gives (λ x. (view_item x.0, x.1.now)) result (item_of total room tokens.now) }
+    ensures { Gives (λ x. (view_item x.0.value, x.1.now)) result (item_of total room tokens.now) }
 {
     let at = place(total, tokens);
     let (kind, rest) = kind(alloc, total, room, tokens)?;
-    Ok((Item { at, kind }, rest))
+    let kind = Box::into_inner(kind);
+    Ok((boxed(alloc, Item { at, kind })?, rest))
 }
 
 /// Reads a module item (IEEE 1364-2005, annex A.1.4) at the front of the tokens, which are the last of a text of `total`
@@ -103,13 +105,13 @@ pub fn item(
     total: usize,
     room: usize,
     tokens: &[Token],
-) -> Result<(Item, &[Token]), ReadError>
+) -> Result<(Box<Item>, &[Token]), ReadError>
     requires { room < 1000 }
-    ensures gives { Gives (λ x. (view_item x.0, x.1.now)) result (item_of total room tokens.now) }
+    ensures gives { Gives (λ x. (view_item x.0.value, x.1.now)) result (item_of total room tokens.now) }
     // What is read is an item that spells the tokens up to those that are given, within the height.
-    ensures found { IfOk result (λ x. (Items.item total (suc room)).whole (view_item x.0) tokens.now x.1.now) }
+    ensures found { IfOk result (λ x. (Items.item total (suc room)).whole (view_item x.0.value) tokens.now x.1.now) }
     // An item within the height is read, unless memory runs out, where no `else` follows it.
-    ensures only { (i : ItemTree) (rest : List Token) → (Items.item total (suc room)).whole i tokens.now rest → starts_word word.Else rest ≡ false → IsRead (λ x. (view_item x.0 ≡ i) × (x.1.now ≡ rest)) result }
+    ensures only { (i : ItemTree) (rest : List Token) → (Items.item total (suc room)).whole i tokens.now rest → starts_word word.Else rest ≡ false → IsRead (λ x. (view_item x.0.value ≡ i) × (x.1.now ≡ rest)) result }
     // A refusal is at the first token that no partial item within the height spells.
     ensures refused { IfErr result (λ e. IsRefusal (λ n rest. (Items.item total (suc n)).front tokens.now rest) room e) }
 {

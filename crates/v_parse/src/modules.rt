@@ -30,7 +30,7 @@ fn items(
             break;
         }
         let (another, others) = item(alloc, total, room, rest)?;
-        all.push(another)?;
+        all.push(Box::into_inner(another))?;
         rest = others;
     }
     Ok((all, rest))

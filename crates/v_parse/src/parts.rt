@@ -11,9 +11,8 @@ ghost use Rattle.v_parse.specs.ItemFirsts.{starts_kind};
 ghost use Rattle.v_parse.specs.ItemReading.{line_of, bound_of, range_of, maybe_range_of, value_of, port_head_of};
 
 use std::alloc::Global;
-use v_expression::expression;
+use v_expression::{boxed, expression};
 use v_phrase::{Element, ReadError, after, listed, next, place, starts_mark, syntax_error};
-use v_statement::{boxed, boxed_expression};
 use v_syntax::{
     Direction, Expression, Identifier, Keyword, Mark, PortHead, PortKind, Range, Token,
 };
@@ -30,7 +29,7 @@ fn bound(
     requires { room < 1000 }
     ensures { Gives (λ x. (ExpressionTrees.view x.0.value, x.1.now)) result (bound_of total room mark tokens.now) }
 {
-    let (value, rest) = boxed_expression(alloc, total, room, tokens)?;
+    let (value, rest) = expression(alloc, total, room, tokens)?;
     let rest = after(mark, rest)?;
     Ok((value, rest))
 }
@@ -90,12 +89,22 @@ pub fn value(
     total: usize,
     room: usize,
     tokens: &[Token],
-) -> Result<(Expression, &[Token]), ReadError>
+) -> Result<(Box<Expression>, &[Token]), ReadError>
     requires { room < 1000 }
-    ensures { Gives (λ x. (ExpressionTrees.view x.0, x.1.now)) result (value_of total room tokens.now) }
+    ensures { Gives (λ x. (ExpressionTrees.view x.0.value, x.1.now)) result (value_of total room tokens.now) }
 {
     let rest = after(Mark::Assign, tokens)?;
     expression(alloc, total, room, rest)
+}
+
+/// An expression where it stands in its tree.
+pub fn plain_value(value: Option<Box<Expression>>) -> Option<Expression>
+    ensures { option_map ExpressionTrees.view result ≡ option_map (λ b. ExpressionTrees.view b.value) value }
+{
+    match value {
+        Some(value) => Some(Box::into_inner(value)),
+        None => None,
+    }
 }
 
 /// A list and the semicolon behind it.

@@ -10,6 +10,7 @@ ghost use Rattle.v_parse.specs.ItemFirsts.{starts_edge};
 ghost use Rattle.v_parse.specs.ItemReading.{event_reader, event_list_of, bracketed_events_of, events_of, always_of, initial_of};
 
 use std::alloc::Global;
+use v_expression::boxed;
 use v_phrase::{ReadError, after, after_word, identifier, next, starts_mark, syntax_error};
 use v_statement::statement;
 use v_syntax::{Edge, Event, EventControl, ItemKind, Keyword, Mark, StatementPlace, Token};
@@ -123,15 +124,16 @@ pub fn always(
     total: usize,
     room: usize,
     tokens: &[Token],
-) -> Result<(ItemKind, &[Token]), ReadError>
+) -> Result<(Box<ItemKind>, &[Token]), ReadError>
     requires { room < 1000 }
-    ensures { Gives (λ x. (view_kind x.0, x.1.now)) result (always_of total room tokens.now) }
+    ensures { Gives (λ x. (view_kind x.0.value, x.1.now)) result (always_of total room tokens.now) }
 {
     let rest = after_word(Keyword::Always, tokens)?;
     let rest = after(Mark::At, rest)?;
     let (events, rest) = events(alloc, total, rest)?;
     let (statement, rest) = statement(alloc, total, room, StatementPlace::InAlways, rest)?;
-    Ok((ItemKind::Always { events, statement }, rest))
+    let statement = Box::into_inner(statement);
+    Ok((boxed(alloc, ItemKind::Always { events, statement })?, rest))
 }
 
 /// `initial statement` (clause 9.9.1)
@@ -141,11 +143,12 @@ pub fn initial(
     total: usize,
     room: usize,
     tokens: &[Token],
-) -> Result<(ItemKind, &[Token]), ReadError>
+) -> Result<(Box<ItemKind>, &[Token]), ReadError>
     requires { room < 1000 }
-    ensures { Gives (λ x. (view_kind x.0, x.1.now)) result (initial_of total room tokens.now) }
+    ensures { Gives (λ x. (view_kind x.0.value, x.1.now)) result (initial_of total room tokens.now) }
 {
     let rest = after_word(Keyword::Initial, tokens)?;
     let (statement, rest) = statement(alloc, total, room, StatementPlace::WholeInitial, rest)?;
-    Ok((ItemKind::Initial(statement), rest))
+    let statement = Box::into_inner(statement);
+    Ok((boxed(alloc, ItemKind::Initial(statement))?, rest))
 }

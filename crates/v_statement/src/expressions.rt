@@ -3,11 +3,9 @@
 ghost use Rattle.std.specs.Prelude.{◌≡◌, ◌<◌};
 ghost use Rattle.v_syntax.specs.ExpressionTrees;
 ghost use Rattle.v_phrase.specs.Stops.{Gives};
-ghost use Rattle.v_expression.specs.Reading.{expression_of};
 ghost use Rattle.v_expression.specs.Starts;
 ghost use Rattle.v_statement.specs.Reading.{value_below};
 
-use crate::heap::boxed;
 use crate::levels::below;
 use std::alloc::Global;
 use v_expression::expression;
@@ -47,20 +45,6 @@ pub fn begins_expression(mark: Mark) -> bool
     }
 }
 
-/// An expression, on the heap.
-pub fn boxed_expression(
-    alloc: Global,
-    total: usize,
-    room: usize,
-    tokens: &[Token],
-) -> Result<(Box<Expression>, &[Token]), ReadError>
-    requires { room < 1000 }
-    ensures { Gives (λ x. (ExpressionTrees.view x.0.value, x.1.now)) result (expression_of total room tokens.now) }
-{
-    let (found, rest) = expression(alloc, total, room, tokens)?;
-    Ok((boxed(alloc, found)?, rest))
-}
-
 /// An expression one level down.
 #[tactic(auto, unfolding(crate::specs::Reading::value_below, crate::specs::Reading::levels))]
 pub fn expression_below(
@@ -68,9 +52,9 @@ pub fn expression_below(
     total: usize,
     room: usize,
     tokens: &[Token],
-) -> Result<(Expression, &[Token]), ReadError>
+) -> Result<(Box<Expression>, &[Token]), ReadError>
     requires { room < 1000 }
-    ensures { Gives (λ x. (ExpressionTrees.view x.0, x.1.now)) result (value_below total room tokens.now) }
+    ensures { Gives (λ x. (ExpressionTrees.view x.0.value, x.1.now)) result (value_below total room tokens.now) }
 {
     let room = below(room, tokens)?;
     expression(alloc, total, room, tokens)

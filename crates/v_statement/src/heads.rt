@@ -6,15 +6,13 @@ ghost use Rattle.v_syntax.specs.StatementTrees.{view, view_header};
 ghost use Rattle.v_phrase.specs.Stops.{Gives};
 ghost use Rattle.v_statement.specs.Reading.{label_of, maybe_label_of, block_head_of, delay_below_of, maybe_delay_of, last_delay_of, block_end_of, condition_of, case_head_of, choices_of, default_of, matched_of, for_head_of};
 
-use crate::expressions::boxed_expression;
-use crate::heap::boxed;
 use crate::kinds::case_kind;
 use crate::levels::below;
 use crate::simple::{delay, for_header};
 use crate::trees::{block, with_delay};
 use port_io::Name;
 use std::alloc::Global;
-use v_expression::ExpressionPhrase;
+use v_expression::{ExpressionPhrase, boxed, expression};
 use v_phrase::{
     ReadError, after, after_word, listed, name, place as number_of, starts_mark, starts_word,
 };
@@ -127,7 +125,7 @@ pub fn condition(
     let below = below(room, tokens)?;
     let rest = after_word(Keyword::If, tokens)?;
     let rest = after(Mark::OpenParenthesis, rest)?;
-    let (condition, rest) = boxed_expression(alloc, total, below, rest)?;
+    let (condition, rest) = expression(alloc, total, below, rest)?;
     let rest = after(Mark::CloseParenthesis, rest)?;
     Ok((condition, rest))
 }
@@ -148,7 +146,7 @@ pub fn case_head(
     let below = below(room, tokens)?;
     let (kind, rest) = case_kind(tokens)?;
     let rest = after(Mark::OpenParenthesis, rest)?;
-    let (selector, rest) = boxed_expression(alloc, total, below, rest)?;
+    let (selector, rest) = expression(alloc, total, below, rest)?;
     let rest = after(Mark::CloseParenthesis, rest)?;
     Ok(((kind, selector), rest))
 }

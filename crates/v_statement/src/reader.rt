@@ -25,32 +25,17 @@ pub fn statement(
     room: usize,
     place: StatementPlace,
     tokens: &[Token],
-) -> Result<(Statement, &[Token]), ReadError>
+) -> Result<(Box<Statement>, &[Token]), ReadError>
     requires { room < 1000 }
-    ensures gives { Gives (λ x. (view x.0, x.1.now)) result (statement_of total room place tokens.now) }
+    ensures gives { Gives (λ x. (view x.0.value, x.1.now)) result (statement_of total room place tokens.now) }
     // What is read is a statement that spells the tokens up to those that are given, within the height.
-    ensures found { IfOk result (λ x. (Statements.statement total (room + 1) place).whole (view x.0) tokens.now x.1.now) }
+    ensures found { IfOk result (λ x. (Statements.statement total (room + 1) place).whole (view x.0.value) tokens.now x.1.now) }
     // A statement within the height is read, unless memory runs out, where an `else` that follows belongs to no part of it.
-    ensures only { (s : StatementTree) (rest : List Token) → (Statements.statement total (room + 1) place).whole s tokens.now rest → (IsTrue (starts_word word.Else rest) → IsClosed s) → IsRead (λ x. (view x.0 ≡ s) × (x.1.now ≡ rest)) result }
+    ensures only { (s : StatementTree) (rest : List Token) → (Statements.statement total (room + 1) place).whole s tokens.now rest → (IsTrue (starts_word word.Else rest) → IsClosed s) → IsRead (λ x. (view x.0.value ≡ s) × (x.1.now ≡ rest)) result }
     // A refusal is at the first token that no partial statement within the height spells.
     ensures refused { IfErr result (λ e. IsRefusal (λ n rest. (Statements.statement total n place).front tokens.now rest) (room + 1) e) }
 {
-    read_statement(alloc, total, room, place, tokens)
-}
-
-/// The same, by what its reader gives alone.
-fn read_statement(
-    alloc: Global,
-    total: usize,
-    room: usize,
-    place: StatementPlace,
-    tokens: &[Token],
-) -> Result<(Statement, &[Token]), ReadError>
-    requires { room < 1000 }
-    ensures { Gives (λ x. (view x.0, x.1.now)) result (statement_of total room place tokens.now) }
-{
-    let (found, rest) = statement_at(alloc, total, room, place, tokens)?;
-    Ok((Box::into_inner(found), rest))
+    statement_at(alloc, total, room, place, tokens)
 }
 
 /// A text has at most one statement.

@@ -1,20 +1,16 @@
 //! Statements without statements in them.
 
 ghost use Rattle.std.specs.Prelude.{◌≡◌, ◌<◌};
-ghost use Rattle.v_syntax.specs.ExpressionTrees;
 ghost use Rattle.v_syntax.specs.StatementTrees.{view, view_variable, view_header};
 ghost use Rattle.v_phrase.specs.Stops.{Gives};
-ghost use Rattle.v_expression.specs.Reading.{target_of};
 ghost use Rattle.v_statement.specs.Reading.{delay_of, assignment_of, variable_of, header_of, null_of};
 
-use crate::expressions::boxed_expression;
-use crate::heap::boxed;
 use crate::kinds::assignment_kind;
 use crate::levels::below;
 use std::alloc::Global;
-use v_expression::{expression, target};
+use v_expression::{boxed, expression, target};
 use v_phrase::{ReadError, after, identifier, next, place, syntax_error};
-use v_syntax::{ForHeader, Mark, Statement, Target, Token, VariableAssignment};
+use v_syntax::{ForHeader, Mark, Statement, Token, VariableAssignment};
 
 /// `;`
 #[tactic(auto, unfolding(crate::specs::Reading::null_of))]
@@ -46,20 +42,6 @@ pub fn delay(
     Ok((boxed(alloc, Statement::Delay { at, delay: *delay })?, rest))
 }
 
-/// The target of an assignment, on the heap.
-pub fn boxed_target(
-    alloc: Global,
-    total: usize,
-    room: usize,
-    tokens: &[Token],
-) -> Result<(Box<Target>, &[Token]), ReadError>
-    requires { room < 1000 }
-    ensures { Gives (λ x. (ExpressionTrees.view_target x.0.value, x.1.now)) result (target_of total room tokens.now) }
-{
-    let (found, rest) = target(alloc, total, room, tokens)?;
-    Ok((boxed(alloc, found)?, rest))
-}
-
 /// `target = expression ;` or `target <= expression ;` (clause 9.2)
 #[tactic(auto, unfolding(crate::specs::Reading::assignment_of, crate::specs::Reading::levels))]
 pub fn assignment(
@@ -72,9 +54,9 @@ pub fn assignment(
     ensures { Gives (λ x. (view x.0.value, x.1.now)) result (assignment_of total room tokens.now) }
 {
     let room = below(room, tokens)?;
-    let (target, rest) = boxed_target(alloc, total, room, tokens)?;
+    let (target, rest) = target(alloc, total, room, tokens)?;
     let (kind, rest) = assignment_kind(rest)?;
-    let (value, rest) = boxed_expression(alloc, total, room, rest)?;
+    let (value, rest) = expression(alloc, total, room, rest)?;
     let rest = after(Mark::Semicolon, rest)?;
     let made = Statement::Assignment {
         kind,
@@ -98,6 +80,7 @@ fn variable_assignment(
     let (name, rest) = identifier(alloc, total, tokens)?;
     let rest = after(Mark::Assign, rest)?;
     let (value, rest) = expression(alloc, total, room, rest)?;
+    let value = Box::into_inner(value);
     Ok((boxed(alloc, VariableAssignment { name, value })?, rest))
 }
 
@@ -115,7 +98,7 @@ pub fn for_header(
     let rest = after(Mark::OpenParenthesis, tokens)?;
     let (initial, rest) = variable_assignment(alloc, total, room, rest)?;
     let rest = after(Mark::Semicolon, rest)?;
-    let (condition, rest) = boxed_expression(alloc, total, room, rest)?;
+    let (condition, rest) = expression(alloc, total, room, rest)?;
     let rest = after(Mark::Semicolon, rest)?;
     let (step, rest) = variable_assignment(alloc, total, room, rest)?;
     let rest = after(Mark::CloseParenthesis, rest)?;

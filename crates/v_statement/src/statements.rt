@@ -8,12 +8,12 @@ ghost use Rattle.v_statement.specs.Reading.{lower, statement_of, statements_of, 
 
 use crate::forms::{form, starts_case, starts_statement};
 use crate::heads::{block_end, block_head, case_head, choices, condition, for_head};
-use crate::heap::boxed;
 use crate::levels::below_statement;
 use crate::simple::{assignment, delay, null_statement};
 use crate::tasks::task_enable;
 use crate::trees::{case_item, case_statement, for_statement, if_statement};
 use std::alloc::Global;
+use v_expression::boxed;
 use v_phrase::{ReadError, after_word, starts_word, syntax_error};
 use v_syntax::{CaseItem, Keyword, Statement, StatementForm, StatementPlace, Token};
 

@@ -24,10 +24,10 @@ operators::steps_at-loop-preserved t c = record {
 pub primaries::parts_at-loop-init : goal.primaries::parts_at-loop-init
 primaries::parts_at-loop-init t c =
     let sub = layer c.args.total c.args.below (reading.below c.args.total c.args.below) in
-    let h = one_height (view c.args.first.expression) (views c.in_ok-all.all.parts.items) c.in_ok-all.ensures.parts in
+    let h = one_height (view c.args.first.expression.value) (views c.in_ok-all.all.parts.items) c.in_ok-all.ensures.parts in
     let k : c.in_ok-all.all.height ≡ c.args.first.height = c.in_ok-all.ensures.height in
     record {
-      same = parts_start sub (view c.args.first.expression) (views c.in_ok-all.all.parts.items) _ c.args.tokens.now (omega arith) c.in_ok-all.ensures.parts;
+      same = parts_start sub (view c.args.first.expression.value) (views c.in_ok-all.all.parts.items) _ c.args.tokens.now (omega arith) c.in_ok-all.ensures.parts;
       measured = (omega (arith, h, k, c.requires.height.0), omega (arith, k, c.requires.height.1), omega (arith, k, c.requires.height.2));
     }
 
@@ -53,11 +53,11 @@ primaries::parts_at-returns-in_err-part-clause-gives t c =
 pub primaries::parts_at-loop-preserved : goal.primaries::parts_at-loop-preserved
 primaries::parts_at-loop-preserved t c =
     let sub = layer c.args.total c.args.below (reading.below c.args.total c.args.below) in
-    let h = ap trees_height c.in_ok-all-2.ensures.parts ∙ last_height (views c.loop.all.parts.items) (view c.in_ok-part.part.expression) in
+    let h = ap trees_height c.in_ok-all-2.ensures.parts ∙ last_height (views c.loop.all.parts.items) (view c.in_ok-part.part.expression.value) in
     let k : c.in_ok-all-2.all.height ≡ max c.loop.all.height c.in_ok-part.part.height = c.in_ok-all-2.ensures.height in
     record {
       same = parts_more sub (length c.args.tokens.now - c.loop.counter) (length c.args.tokens.now - (c.loop.counter + 1)) c.loop.rest.now (omega arith)
-          (views c.loop.all.parts.items) (views c.in_ok-all-2.all.parts.items) (view c.in_ok-part.part.expression) c.in_ok-behind.behind.now c.in_ok-part.others.now
+          (views c.loop.all.parts.items) (views c.in_ok-all-2.all.parts.items) (view c.in_ok-part.part.expression.value) c.in_ok-behind.behind.now c.in_ok-part.others.now
           c.in_ok-all-2.ensures.parts c.in_default.ensures c.in_ok-behind.ensures c.in_ok-part.ensures.gives ∙ c.loop.invariant.same;
       measured = (omega (arith, h, k, c.loop.invariant.measured.0, c.in_ok-part.ensures.height.0), omega (arith, k, c.loop.invariant.measured.1), omega (arith, k, c.loop.invariant.measured.2, c.in_ok-part.ensures.height.2));
     }

@@ -71,8 +71,8 @@ decreases-primaries::parts_at l = l.below * 20 + 11
 
 abbrev pub invariant-operators::steps_at-loop : goal.invariant-operators::steps_at-loop
 invariant-operators::steps_at-loop l = record {
-  same : steps_of l.room (reading.below l.total l.room) l.min (l.end - l.counter) (view l.left.expression) l.rest
-      ≡ steps_of l.room (reading.below l.total l.room) l.min (length l.fn.tokens) (view l.fn.first.expression) l.fn.tokens;
+  same : steps_of l.room (reading.below l.total l.room) l.min (l.end - l.counter) (view l.left.expression.value) l.rest
+      ≡ steps_of l.room (reading.below l.total l.room) l.min (length l.fn.tokens) (view l.fn.first.expression.value) l.fn.tokens;
   measured : IsMeasured (l.room + 1) l.left;
 }
 
@@ -80,6 +80,6 @@ abbrev pub invariant-primaries::parts_at-loop : goal.invariant-primaries::parts_
 invariant-primaries::parts_at-loop l =
     let sub = layer l.total l.below (reading.below l.total l.below) in
     record {
-      same : with_front (views l.all.parts.items) (others_of sub (l.end - l.counter) l.rest) ≡ parts_of sub (view l.fn.first.expression) l.fn.tokens;
+      same : with_front (views l.all.parts.items) (others_of sub (l.end - l.counter) l.rest) ≡ parts_of sub (view l.fn.first.expression.value) l.fn.tokens;
       measured : IsMeasuredParts (l.below + 1) l.all;
     }

@@ -3,6 +3,7 @@ use Rattle.std.proofs.lemmas.Result.{err_from_is_err_and}
 use Rattle.v_syntax.specs.ExpressionTrees.{view_target, view_targets}
 use Rattle.v_expression.specs.Reading as reading
 use Rattle.v_expression.specs.Reading.{layer}
+use Rattle.v_expression.specs.Lists.{and_last_target}
 use Rattle.v_expression.proofs.Rows.{targets_push}
 use Rattle.v_expression.proofs.Loops.{fails_same, targets_start, targets_more, targets_done, targets_lack, targets_fail, targets_empty}
 use Rattle.v_expression.proofs.targets.+targets.Goals as goal
@@ -10,7 +11,7 @@ use Rattle.v_expression.proofs.targets.+targets.Goals as goal
 pub target_parts_at-loop-init : goal.target_parts_at-loop-init
 target_parts_at-loop-init t c =
     let sub = layer c.args.total c.args.below (reading.below c.args.total c.args.below) in
-    targets_start sub (view_target c.args.first) (view_targets c.push.new.self.items) _ c.args.tokens.now (omega arith) (ap view_targets c.in_ok-push.ensures.items ∙ rw c.new-all.ensures.items refl)
+    targets_start sub (view_target c.args.first.value) (view_targets c.push.new.self.items) _ c.args.tokens.now (omega arith) (ap view_targets c.in_ok-push.ensures.items ∙ rw (c.new-all.ensures.items, c.into_inner.ensures) refl)
 
 pub target_parts_at-returns-in-Some : goal.target_parts_at-returns-in-Some
 target_parts_at-returns-in-Some t c =
@@ -35,8 +36,8 @@ pub target_parts_at-loop-preserved : goal.target_parts_at-loop-preserved
 target_parts_at-loop-preserved t c =
     let sub = layer c.args.total c.args.below (reading.below c.args.total c.args.below) in
     targets_more sub (length c.args.tokens.now - c.loop.counter) (length c.args.tokens.now - (c.loop.counter + 1)) c.loop.rest.now (omega arith)
-    (view_targets c.loop.all.items) _ (view_target c.in_ok-part.part) c.in_ok-behind.behind.now c.in_ok-part.others.now
-    (ap view_targets c.in_ok-push-2.ensures.items ∙ targets_push c.loop.all.items c.in_ok-part.part) c.in_default.ensures c.in_ok-behind.ensures c.in_ok-part.ensures ∙ c.loop.invariant
+    (view_targets c.loop.all.items) _ (view_target c.in_ok-part.part.value) c.in_ok-behind.behind.now c.in_ok-part.others.now
+    (ap view_targets c.in_ok-push-2.ensures.items ∙ (targets_push c.loop.all.items c.into_inner-in-loop.result ∙ ap (λ t. and_last_target (view_targets c.loop.all.items) (view_target t)) c.into_inner-in-loop.ensures)) c.in_default.ensures c.in_ok-behind.ensures c.in_ok-part.ensures ∙ c.loop.invariant
 
 pub target_parts_at-returns : goal.target_parts_at-returns
 target_parts_at-returns t c =

@@ -17,4 +17,4 @@ decreases-target_parts_at l = l.below * 4 + 3
 abbrev pub invariant-target_parts_at-loop : goal.invariant-target_parts_at-loop
 invariant-target_parts_at-loop l =
     let sub = layer l.total l.below (reading.below l.total l.below) in
-    with_front_targets (view_targets l.all.items) (other_targets_of sub (l.end - l.counter) l.rest) ≡ target_parts_of sub (view_target l.fn.first) l.fn.tokens
+    with_front_targets (view_targets l.all.items) (other_targets_of sub (l.end - l.counter) l.rest) ≡ target_parts_of sub (view_target l.fn.first.value) l.fn.tokens

@@ -1,6 +1,6 @@
 //! Values on the heap.
 //!
-//! A statement or an expression that waits while more is read stands behind a `Box`. What reads on has then little to let go
+//! A tree that waits while more is read stands behind a `Box`. What reads on has then little to let go
 //! where it stops, and its proof is short.
 
 ghost use Rattle.std.specs.Prelude.{◌≡◌, IfOk};
