@@ -1,8 +1,4 @@
-pub mod ItemSteps
-pub mod ItemRules
-pub mod ItemLaws
-pub mod ItemCallers
-pub mod ItemLowest
+pub mod Steps
 pub mod ModuleLaws
 pub mod Lowest
 pub mod SourceLaws

@@ -25,10 +25,10 @@ use Rattle.v_phrase.proofs.Either.{either_second}
 use Rattle.v_phrase.proofs.Branches.{no_else}
 use Rattle.v_phrase.proofs.Change.{narrow, reread}
 use Rattle.v_expression.proofs.Phrases.{ends_expression}
-use Rattle.v_parse.specs.ItemFirsts.{starts_item, starts_direction}
-use Rattle.v_parse.proofs.ItemRules.{maybe_range_laws, value_laws, port_head_laws, identifiers_laws}
-use Rattle.v_parse.proofs.ItemLaws.{of_item, tells_item, item_laws, item_missing}
-use Rattle.v_parse.proofs.ItemSteps.{module_steps}
+use Rattle.v_item.specs.Firsts.{starts_item, starts_direction}
+use Rattle.v_item.proofs.Rules.{maybe_range_laws, value_laws, port_head_laws, identifiers_laws}
+use Rattle.v_item.proofs.Laws.{of_item, tells_item, item_laws, item_missing}
+use Rattle.v_parse.proofs.Steps.{module_steps}
 use Rattle.v_parse.specs.Firsts.{starts_ports}
 use Rattle.v_parse.specs.Reading.{parameter_head_of, first_parameter_of, next_parameter_of, parameter_list_of, header_parameters_of, first_port_of, next_port_of, declared_ports_of, ports_of, port_list_of, items_of, module_name_of, module_body_of, module_of, modules_of}
 

@@ -9,8 +9,8 @@ use Rattle.v_syntax.specs.SourceTrees.{RangeTree, HeaderParameterTree, HeaderPar
 use Rattle.v_syntax.specs.Sources.{headed, with_head, module_tree}
 use Rattle.v_phrase.specs.Stops.{Stop, ◌>>=◌}
 use Rattle.v_phrase.specs.Readers.{Reader, nothing, both, ◌⊛◌, ◌◃◌, ◌▹◌, maybe, many, either, starts_mark, starts_word, sign, word_of, identifier_of, listed, to_the_end}
-use Rattle.v_parse.specs.ItemFirsts.{starts_item, starts_direction}
-use Rattle.v_parse.specs.ItemReading.{maybe_range_of, value_of, port_head_of, item_of}
+use Rattle.v_item.specs.Firsts.{starts_item, starts_direction}
+use Rattle.v_item.specs.Reading.{maybe_range_of, value_of, port_head_of, item_of}
 use Rattle.v_parse.specs.Firsts.{starts_ports}
 
 -- ---- parameters

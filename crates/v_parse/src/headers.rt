@@ -1,26 +1,28 @@
 //! The parameters and ports of a module's header.
 
 ghost use Rattle.std.specs.Prelude.{◌≡◌, ◌<◌, map, option_map};
-ghost use Rattle.v_syntax.specs.SourceTrees.{view_parameter_head, HeaderParameterTree, view_header_parameter, view_head, HeaderPortTree, view_header_port, view_ports};
+ghost use Rattle.v_syntax.specs.ExpressionTrees;
+ghost use Rattle.v_syntax.specs.SourceTrees.{HeaderParameterOf, view_parameter_head, HeaderParameterTree, view_header_parameter, view_head, HeaderPortTree, view_header_port, view_ports};
 ghost use Rattle.v_syntax.specs.declared.mark.Mark.TheVariants as mark;
 ghost use Rattle.v_syntax.specs.declared.word.Keyword.TheVariants as word;
 ghost use Rattle.v_phrase.specs.Stops.{Gives};
 ghost use Rattle.v_phrase.specs.Readers;
 ghost use Rattle.v_phrase.specs.Readers.{maybe};
-ghost use Rattle.v_parse.specs.ItemFirsts as item_firsts;
-ghost use Rattle.v_parse.specs.ItemReading.{port_head_of};
+ghost use Rattle.v_item.specs.Firsts as item_firsts;
+ghost use Rattle.v_item.specs.Reading.{port_head_of};
 ghost use Rattle.v_parse.specs.Firsts as firsts;
 ghost use Rattle.v_parse.specs.Reading.{parameter_head_of, first_parameter_of, next_parameter_of, parameter_list_of, header_parameters_of, first_port_of, next_port_of, declared_ports_of, ports_of, port_list_of};
 
-use crate::parts::{maybe_range, plain_range, port_head, starts_direction, value};
 use std::alloc::Global;
 use v_expression::boxed;
+use v_item::{maybe_range, plain_range, port_head, starts_direction, value};
 use v_phrase::{
     Element, IdentifierPhrase, ReadError, after, after_word, identifier, listed, next, others,
     starts_mark, starts_word,
 };
 use v_syntax::{
-    HeaderParameter, HeaderPort, HeaderPorts, Keyword, Mark, ParameterHead, PortHead, Token,
+    Expression, HeaderParameter, HeaderPort, HeaderPorts, Identifier, Keyword, Mark, ParameterHead,
+    PortHead, Token,
 };
 
 // ---- parameters
@@ -69,6 +71,19 @@ fn plain_parameter_head(head: Option<Box<ParameterHead>>) -> Option<ParameterHea
     }
 }
 
+/// A parameter of its parts.
+fn parameter_with(
+    head: Option<Box<ParameterHead>>,
+    name: Identifier,
+    value: Box<Expression>,
+) -> HeaderParameter
+    ensures { view_header_parameter result ≡ HeaderParameterOf (option_map (λ b. view_parameter_head b.value) head) name (ExpressionTrees.view value.value) }
+{
+    let head = plain_parameter_head(head);
+    let value = Box::into_inner(value);
+    HeaderParameter { head, name, value }
+}
+
 /// `parameter [range] name = expression`
 #[tactic(auto, unfolding(crate::specs::Reading::first_parameter_of))]
 fn first_parameter(
@@ -83,9 +98,7 @@ fn first_parameter(
     let (head, rest) = parameter_head(alloc, total, room, tokens)?;
     let (name, rest) = identifier(alloc, total, rest)?;
     let (value, rest) = value(alloc, total, room, rest)?;
-    let head = Some(Box::into_inner(head));
-    let value = Box::into_inner(value);
-    Ok((HeaderParameter { head, name, value }, rest))
+    Ok((parameter_with(Some(head), name, value), rest))
 }
 
 /// `[parameter [range]] name = expression`
@@ -102,9 +115,7 @@ fn next_parameter(
     let (head, rest) = maybe_parameter_head(alloc, total, room, tokens)?;
     let (name, rest) = identifier(alloc, total, rest)?;
     let (value, rest) = value(alloc, total, room, rest)?;
-    let head = plain_parameter_head(head);
-    let value = Box::into_inner(value);
-    Ok((HeaderParameter { head, name, value }, rest))
+    Ok((parameter_with(head, name, value), rest))
 }
 
 /// The phrase [`next_parameter`].
@@ -286,16 +297,16 @@ fn ports(
     total: usize,
     room: usize,
     tokens: &[Token],
-) -> Result<(HeaderPorts, &[Token]), ReadError>
+) -> Result<(Box<HeaderPorts>, &[Token]), ReadError>
     requires { room < 1000 }
-    ensures { Gives (λ x. (view_ports x.0, x.1.now)) result (ports_of total room tokens.now) }
+    ensures { Gives (λ x. (view_ports x.0.value, x.1.now)) result (ports_of total room tokens.now) }
 {
     if starts_direction(tokens) {
         let (all, rest) = declared_ports(alloc, total, room, tokens)?;
-        return Ok((HeaderPorts::Declared(all), rest));
+        return Ok((boxed(alloc, HeaderPorts::Declared(all))?, rest));
     }
     let (names, rest) = listed::<IdentifierPhrase>(alloc, total, room, tokens)?;
-    Ok((HeaderPorts::Named(names), rest))
+    Ok((boxed(alloc, HeaderPorts::Named(names))?, rest))
 }
 
 /// Whether ports begin with the first token.
@@ -315,9 +326,9 @@ fn port_list(
     total: usize,
     room: usize,
     tokens: &[Token],
-) -> Result<(Option<HeaderPorts>, &[Token]), ReadError>
+) -> Result<(Option<Box<HeaderPorts>>, &[Token]), ReadError>
     requires { room < 1000 }
-    ensures { Gives (λ x. (option_map view_ports x.0, x.1.now)) result (port_list_of total room tokens.now) }
+    ensures { Gives (λ x. (option_map (λ b. view_ports b.value) x.0, x.1.now)) result (port_list_of total room tokens.now) }
 {
     let rest = after(Mark::OpenParenthesis, tokens)?;
     if !starts_ports(rest) {
@@ -335,9 +346,9 @@ pub fn maybe_ports(
     total: usize,
     room: usize,
     tokens: &[Token],
-) -> Result<(Option<Option<HeaderPorts>>, &[Token]), ReadError>
+) -> Result<(Option<Option<Box<HeaderPorts>>>, &[Token]), ReadError>
     requires { room < 1000 }
-    ensures { Gives (λ x. (option_map (option_map view_ports) x.0, x.1.now)) result (maybe (Readers.starts_mark mark.OpenParenthesis) (port_list_of total room) tokens.now) }
+    ensures { Gives (λ x. (option_map (option_map (λ b. view_ports b.value)) x.0, x.1.now)) result (maybe (Readers.starts_mark mark.OpenParenthesis) (port_list_of total room) tokens.now) }
 {
     if !starts_mark(Mark::OpenParenthesis, tokens) {
         return Ok((None, tokens));

@@ -1,16 +1,25 @@
 //! Modules.
 
-ghost use Rattle.std.specs.Prelude.{◌≡◌, ◌<◌, map, option_map};
+ghost use Rattle.std.specs.Prelude.{◌≡◌, ◌<◌, [], ◌∷◌, ◌++◌, map, option_map, IfOk};
 ghost use Rattle.v_syntax.specs.SourceTrees.{view_header_parameter, view_ports, view_item, view_module};
 ghost use Rattle.v_syntax.specs.Sources.{module_tree};
 ghost use Rattle.v_phrase.specs.Stops.{Gives};
 ghost use Rattle.v_parse.specs.Reading.{items_of, module_name_of, module_body_of, module_of, modules_of};
 
 use crate::headers::{maybe_parameters, maybe_ports};
-use crate::items::{item, starts_item};
-use std::alloc::Global;
+use std::alloc::{AllocError, Global};
+use v_expression::boxed;
+use v_item::{item, starts_item};
 use v_phrase::{ReadError, after, after_word, identifier, starts_word};
 use v_syntax::{HeaderParameter, HeaderPorts, Identifier, Item, Keyword, Mark, Module, Token};
+
+/// The values, and behind them one that stood on the heap.
+fn and_last<T: Drop>(mut all: Vec<T>, last: Box<T>) -> Result<Vec<T>, AllocError>
+    ensures { IfOk result (λ made. made.items ≡ all.items ++ (last.value ∷ [])) }
+{
+    all.push(Box::into_inner(last))?;
+    Ok(all)
+}
 
 /// All items that stand here.
 #[tactic(auto, unfolding(crate::specs::Reading::items_of))]
@@ -30,7 +39,7 @@ fn items(
             break;
         }
         let (another, others) = item(alloc, total, room, rest)?;
-        all.push(Box::into_inner(another))?;
+        all = and_last(all, another)?;
         rest = others;
     }
     Ok((all, rest))
@@ -41,17 +50,17 @@ fn module_with(
     alloc: Global,
     name: Identifier,
     parameters: Option<Vec<HeaderParameter>>,
-    ports: Option<Option<HeaderPorts>>,
+    ports: Option<Option<Box<HeaderPorts>>>,
     items: Vec<Item>,
 ) -> Module
-    ensures { view_module result ≡ module_tree name (option_map (λ v. map view_header_parameter v.items) parameters) (option_map (option_map view_ports) ports) (map view_item items.items) }
+    ensures { view_module result ≡ module_tree name (option_map (λ v. map view_header_parameter v.items) parameters) (option_map (option_map (λ b. view_ports b.value)) ports) (map view_item items.items) }
 {
     let parameters = match parameters {
         Some(all) => all,
         None => Vec::new(alloc),
     };
     let ports = match ports {
-        Some(Some(ports)) => ports,
+        Some(Some(ports)) => Box::into_inner(ports),
         _ => HeaderPorts::Named(Vec::new(alloc)),
     };
     Module {
@@ -99,15 +108,16 @@ fn module(
     total: usize,
     room: usize,
     tokens: &[Token],
-) -> Result<(Module, &[Token]), ReadError>
+) -> Result<(Box<Module>, &[Token]), ReadError>
     requires { room < 1000 }
-    ensures { Gives (λ x. (view_module x.0, x.1.now)) result (module_of total room tokens.now) }
+    ensures { Gives (λ x. (view_module x.0.value, x.1.now)) result (module_of total room tokens.now) }
 {
     let (name, rest) = module_name(alloc, total, tokens)?;
     let (parameters, rest) = maybe_parameters(alloc, total, room, rest)?;
     let (ports, rest) = maybe_ports(alloc, total, room, rest)?;
     let (items, rest) = module_body(alloc, total, room, rest)?;
-    Ok((module_with(alloc, name, parameters, ports, items), rest))
+    let made = module_with(alloc, name, parameters, ports, items);
+    Ok((boxed(alloc, made)?, rest))
 }
 
 /// All modules that stand here.
@@ -128,7 +138,7 @@ pub fn modules(
             break;
         }
         let (another, others) = module(alloc, total, room, rest)?;
-        all.push(another)?;
+        all = and_last(all, another)?;
         rest = others;
     }
     Ok((all, rest))

@@ -1,8 +1,8 @@
-use Rattle.std.proofs.Common.{[], ◌∷◌, ◌++◌, length, arith, sym, ap, ◌∙◌}
+use Rattle.std.proofs.Common.{length, arith, sym, ◌∙◌}
 use Rattle.std.proofs.lemmas.Result.{err_from_is_err_and}
 use Rattle.v_syntax.specs.SourceTrees.{view_item}
-use Rattle.v_parse.specs.ItemFirsts.{starts_item}
-use Rattle.v_parse.specs.ItemReading.{item_of}
+use Rattle.v_item.specs.Firsts.{starts_item}
+use Rattle.v_item.specs.Reading.{item_of}
 use Rattle.v_phrase.proofs.Loops.{items_stop, items_empty, items_more, items_fail}
 use Rattle.v_parse.proofs.modules.items.Goals as goal
 use Rattle.v_parse.proofs.modules.items.Goals.{else-loop-test, then-loop-test+then-not-starts_item}
@@ -16,7 +16,7 @@ returns-in_err-another c =
 pub loop-preserved : goal.loop-preserved
 loop-preserved c =
     items_more view_item (starts_item) (item_of c.args.total c.args.room) c.loop.all.items (length c.args.tokens.now) c.loop.counter c.loop.rest.now
-    _ c.in_ok-another.another.value _ c.loop-test.true (sym c.starts_item.ensures ∙ c.if-not-starts_item.false) (c.in_ok-push.ensures.items ∙ ap (λ i. c.loop.all.items ++ (i ∷ [])) c.into_inner.ensures) c.in_ok-another.ensures.gives ∙ c.loop.invariant
+    _ c.in_ok-another.another.value _ c.loop-test.true (sym c.starts_item.ensures ∙ c.if-not-starts_item.false) c.in_ok-all.ensures c.in_ok-another.ensures.gives ∙ c.loop.invariant
 
 pub returns : goal.returns
 returns c =

@@ -17,7 +17,7 @@ returns-in_err-another c =
 pub loop-preserved : goal.loop-preserved
 loop-preserved c =
     items_more view_module (starts_word word.Module) (module_of c.args.total c.args.room) c.loop.all.items (length c.args.tokens.now) c.loop.counter c.loop.rest.now
-    _ c.in_ok-another.another _ c.loop-test.true (sym c.starts_word.ensures ∙ c.if-not-starts_word.false) c.in_ok-push.ensures.items c.in_ok-another.ensures ∙ c.loop.invariant
+    _ c.in_ok-another.another.value _ c.loop-test.true (sym c.starts_word.ensures ∙ c.if-not-starts_word.false) c.in_ok-all.ensures c.in_ok-another.ensures ∙ c.loop.invariant
 
 pub returns : goal.returns
 returns c =

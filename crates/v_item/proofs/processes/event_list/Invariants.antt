@@ -1,9 +1,9 @@
 use Rattle.std.proofs.Common.{◌≡◌, ◌-◌}
 use Rattle.v_syntax.specs.TokenMeanings.{event_separator}
-use Rattle.v_parse.specs.ItemFirsts.{starts_separator}
-use Rattle.v_parse.specs.ItemReading.{event_reader, event_list_of}
+use Rattle.v_item.specs.Firsts.{starts_separator}
+use Rattle.v_item.specs.Reading.{event_reader, event_list_of}
 use Rattle.v_phrase.specs.Readers.{many_by, with_front, token_of, ◌▹◌}
-use Rattle.v_parse.proofs.processes.event_list.Given as goal
+use Rattle.v_item.proofs.processes.event_list.Given as goal
 
 abbrev pub invariant-loop : goal.invariant-loop
 invariant-loop l =

@@ -9,9 +9,10 @@ ghost use Rattle.v_expression.specs.Starts;
 ghost use Rattle.v_phrase.specs.Stops.{Gives};
 ghost use Rattle.v_phrase.specs.Readers;
 ghost use Rattle.v_phrase.specs.Readers.{maybe};
-ghost use Rattle.v_parse.specs.ItemFirsts as firsts;
-ghost use Rattle.v_parse.specs.ItemReading.{bracketed_value_of, connection_of, connections_of, overrides_of, bracketed_connections_of, instance_tail_of, instance_of};
+ghost use Rattle.v_item.specs.Firsts as firsts;
+ghost use Rattle.v_item.specs.Reading.{bracketed_value_of, connection_of, connections_of, overrides_of, bracketed_connections_of, instance_tail_of, instance_of};
 
+use crate::kinds::instance_kind;
 use crate::parts::plain_value;
 use std::alloc::Global;
 use v_expression::{ExpressionPhrase, boxed, expression};
@@ -37,7 +38,7 @@ fn maybe_expression(
 }
 
 /// `( [expression] )`
-#[tactic(auto, unfolding(crate::specs::ItemReading::bracketed_value_of))]
+#[tactic(auto, unfolding(crate::specs::Reading::bracketed_value_of))]
 fn bracketed_value(
     alloc: Global,
     total: usize,
@@ -54,7 +55,7 @@ fn bracketed_value(
 }
 
 /// `. name ( [expression] )`
-#[tactic(auto, unfolding(crate::specs::ItemReading::connection_of))]
+#[tactic(auto, unfolding(crate::specs::Reading::connection_of))]
 fn connection(
     alloc: Global,
     total: usize,
@@ -95,7 +96,7 @@ impl Element for ConnectionPhrase {
 }
 
 /// Expressions or named connections, with commas between
-#[tactic(auto, unfolding(crate::specs::ItemReading::connections_of))]
+#[tactic(auto, unfolding(crate::specs::Reading::connections_of))]
 fn connections(
     alloc: Global,
     total: usize,
@@ -141,18 +142,8 @@ fn maybe_connections(
     Ok((Some(all), rest))
 }
 
-/// Connections where they stand in their tree.
-fn plain_connections(all: Option<Box<Connections>>) -> Option<Connections>
-    ensures { option_map view_connections result ≡ option_map (λ b. view_connections b.value) all }
-{
-    match all {
-        Some(all) => Some(Box::into_inner(all)),
-        None => None,
-    }
-}
-
 /// `# ( connections )`
-#[tactic(auto, unfolding(crate::specs::ItemReading::overrides_of))]
+#[tactic(auto, unfolding(crate::specs::Reading::overrides_of))]
 fn overrides(
     alloc: Global,
     total: usize,
@@ -187,7 +178,7 @@ fn maybe_overrides(
 }
 
 /// `( [connections] )`
-#[tactic(auto, unfolding(crate::specs::ItemReading::bracketed_connections_of))]
+#[tactic(auto, unfolding(crate::specs::Reading::bracketed_connections_of))]
 fn bracketed_connections(
     alloc: Global,
     total: usize,
@@ -204,7 +195,7 @@ fn bracketed_connections(
 }
 
 /// `module [# ( connections )] name ( [connections] ) ;` (IEEE 1364-2005, clause 12.1.2)
-#[tactic(auto, unfolding(crate::specs::ItemReading::instance_of))]
+#[tactic(auto, unfolding(crate::specs::Reading::instance_of))]
 pub fn instance(
     alloc: Global,
     total: usize,
@@ -217,17 +208,12 @@ pub fn instance(
     let (module, rest) = identifier(alloc, total, tokens)?;
     let (parameters, rest) = maybe_overrides(alloc, total, room, rest)?;
     let ((name, ports), rest) = instance_tail(alloc, total, room, rest)?;
-    let made = ItemKind::Instance {
-        module,
-        parameters: plain_connections(parameters),
-        name,
-        ports: plain_connections(ports),
-    };
+    let made = instance_kind(module, parameters, name, ports);
     Ok((boxed(alloc, made)?, rest))
 }
 
 /// `name ( [connections] ) ;`
-#[tactic(auto, unfolding(crate::specs::ItemReading::instance_tail_of))]
+#[tactic(auto, unfolding(crate::specs::Reading::instance_tail_of))]
 fn instance_tail(
     alloc: Global,
     total: usize,

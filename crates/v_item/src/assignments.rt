@@ -3,7 +3,7 @@
 ghost use Rattle.std.specs.Prelude.{◌≡◌, ◌<◌, map};
 ghost use Rattle.v_syntax.specs.SourceTrees.{DriverTree, view_driver, view_kind};
 ghost use Rattle.v_phrase.specs.Stops.{Gives};
-ghost use Rattle.v_parse.specs.ItemReading.{driver_of, drivers_of};
+ghost use Rattle.v_item.specs.Reading.{driver_of, drivers_of};
 
 use crate::parts::value;
 use std::alloc::Global;
@@ -12,7 +12,7 @@ use v_phrase::{Element, ReadError, after, after_word, listed};
 use v_syntax::{ContinuousAssignment, ItemKind, Keyword, Mark, Token};
 
 /// `target = expression`
-#[tactic(auto, unfolding(crate::specs::ItemReading::driver_of))]
+#[tactic(auto, unfolding(crate::specs::Reading::driver_of))]
 fn driver(
     alloc: Global,
     total: usize,
@@ -52,7 +52,7 @@ impl Element for DriverPhrase {
 }
 
 /// `assign target = expression , .. ;` (IEEE 1364-2005, clause 6.1.2)
-#[tactic(auto, unfolding(crate::specs::ItemReading::drivers_of))]
+#[tactic(auto, unfolding(crate::specs::Reading::drivers_of))]
 pub fn continuous_assignments(
     alloc: Global,
     total: usize,

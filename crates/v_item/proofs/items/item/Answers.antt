@@ -1,6 +1,6 @@
 use Rattle.v_syntax.specs.SourceTrees.{view_item}
-use Rattle.v_parse.proofs.ItemCallers.{item_found, item_only, item_refused}
-use Rattle.v_parse.proofs.items.item.Goals as goal
+use Rattle.v_item.proofs.Callers.{item_found, item_only, item_refused}
+use Rattle.v_item.proofs.items.item.Goals as goal
 
 pub returns-clause-found : goal.returns-clause-found
 returns-clause-found c = item_found c.args.total c.args.room c.args.tokens.now (λ x. (view_item x.0.value, x.1.now)) c.item_at.result c.item_at.ensures

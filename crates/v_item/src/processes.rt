@@ -5,10 +5,11 @@ ghost use Rattle.v_syntax.specs.SourceTrees.{view_control, view_kind};
 ghost use Rattle.v_syntax.specs.TokenMeanings;
 ghost use Rattle.v_phrase.specs.Stops.{Gives};
 ghost use Rattle.v_phrase.specs.Readers.{maybe, token_of};
-ghost use Rattle.v_parse.specs.ItemFirsts as firsts;
-ghost use Rattle.v_parse.specs.ItemFirsts.{starts_edge};
-ghost use Rattle.v_parse.specs.ItemReading.{event_reader, event_list_of, bracketed_events_of, events_of, always_of, initial_of};
+ghost use Rattle.v_item.specs.Firsts as firsts;
+ghost use Rattle.v_item.specs.Firsts.{starts_edge};
+ghost use Rattle.v_item.specs.Reading.{event_reader, event_list_of, bracketed_events_of, events_of, always_of, initial_of};
 
+use crate::kinds::{always_kind, initial_kind};
 use std::alloc::Global;
 use v_expression::boxed;
 use v_phrase::{ReadError, after, after_word, identifier, next, starts_mark, syntax_error};
@@ -27,7 +28,7 @@ fn edge(tokens: &[Token]) -> (Option<Edge>, &[Token])
 }
 
 /// `[posedge | negedge] name`
-#[tactic(auto, unfolding(crate::specs::ItemReading::event_reader))]
+#[tactic(auto, unfolding(crate::specs::Reading::event_reader))]
 fn event(alloc: Global, total: usize, tokens: &[Token]) -> Result<(Event, &[Token]), ReadError>
     ensures { Gives (λ x. (x.0, x.1.now)) result (event_reader total tokens.now) }
 {
@@ -57,7 +58,7 @@ fn after_separator(tokens: &[Token]) -> Result<&[Token], ReadError>
 }
 
 /// Events with `or` or a comma between.
-#[tactic(auto, unfolding(crate::specs::ItemReading::event_list_of))]
+#[tactic(auto, unfolding(crate::specs::Reading::event_list_of))]
 fn event_list(
     alloc: Global,
     total: usize,
@@ -82,43 +83,43 @@ fn event_list(
 }
 
 /// `* )` or `event or event , event )`
-#[tactic(auto, unfolding(crate::specs::ItemReading::bracketed_events_of))]
+#[tactic(auto, unfolding(crate::specs::Reading::bracketed_events_of))]
 fn bracketed_events(
     alloc: Global,
     total: usize,
     tokens: &[Token],
-) -> Result<(EventControl, &[Token]), ReadError>
-    ensures { Gives (λ x. (view_control x.0, x.1.now)) result (bracketed_events_of total tokens.now) }
+) -> Result<(Box<EventControl>, &[Token]), ReadError>
+    ensures { Gives (λ x. (view_control x.0.value, x.1.now)) result (bracketed_events_of total tokens.now) }
 {
     if starts_mark(Mark::Star, tokens) {
         let rest = after(Mark::Star, tokens)?;
         let rest = after(Mark::CloseParenthesis, rest)?;
-        return Ok((EventControl::Implicit, rest));
+        return Ok((boxed(alloc, EventControl::Implicit)?, rest));
     }
     let (all, rest) = event_list(alloc, total, tokens)?;
     let rest = after(Mark::CloseParenthesis, rest)?;
-    Ok((EventControl::Events(all), rest))
+    Ok((boxed(alloc, EventControl::Events(all))?, rest))
 }
 
 /// `*`, `( * )` or `( event or event , event )` (IEEE 1364-2005, clauses 9.7.2 to 9.7.5)
-#[tactic(auto, unfolding(crate::specs::ItemReading::events_of))]
+#[tactic(auto, unfolding(crate::specs::Reading::events_of))]
 fn events(
     alloc: Global,
     total: usize,
     tokens: &[Token],
-) -> Result<(EventControl, &[Token]), ReadError>
-    ensures { Gives (λ x. (view_control x.0, x.1.now)) result (events_of total tokens.now) }
+) -> Result<(Box<EventControl>, &[Token]), ReadError>
+    ensures { Gives (λ x. (view_control x.0.value, x.1.now)) result (events_of total tokens.now) }
 {
     if starts_mark(Mark::OpenParenthesis, tokens) {
         let rest = after(Mark::OpenParenthesis, tokens)?;
         return bracketed_events(alloc, total, rest);
     }
     let rest = after(Mark::Star, tokens)?;
-    Ok((EventControl::Implicit, rest))
+    Ok((boxed(alloc, EventControl::Implicit)?, rest))
 }
 
 /// `always @ events statement` (clause 9.9.2)
-#[tactic(auto, unfolding(crate::specs::ItemReading::always_of))]
+#[tactic(auto, unfolding(crate::specs::Reading::always_of))]
 pub fn always(
     alloc: Global,
     total: usize,
@@ -132,12 +133,11 @@ pub fn always(
     let rest = after(Mark::At, rest)?;
     let (events, rest) = events(alloc, total, rest)?;
     let (statement, rest) = statement(alloc, total, room, StatementPlace::InAlways, rest)?;
-    let statement = Box::into_inner(statement);
-    Ok((boxed(alloc, ItemKind::Always { events, statement })?, rest))
+    Ok((boxed(alloc, always_kind(events, statement))?, rest))
 }
 
 /// `initial statement` (clause 9.9.1)
-#[tactic(auto, unfolding(crate::specs::ItemReading::initial_of))]
+#[tactic(auto, unfolding(crate::specs::Reading::initial_of))]
 pub fn initial(
     alloc: Global,
     total: usize,
@@ -149,6 +149,5 @@ pub fn initial(
 {
     let rest = after_word(Keyword::Initial, tokens)?;
     let (statement, rest) = statement(alloc, total, room, StatementPlace::WholeInitial, rest)?;
-    let statement = Box::into_inner(statement);
-    Ok((boxed(alloc, ItemKind::Initial(statement))?, rest))
+    Ok((boxed(alloc, initial_kind(statement))?, rest))
 }

@@ -1,12 +1,12 @@
 use Rattle.std.proofs.Common.{length, arith, sym, ◌∙◌}
 use Rattle.std.proofs.lemmas.Result.{err_from_is_err_and}
 use Rattle.v_syntax.specs.TokenMeanings.{event_separator}
-use Rattle.v_parse.specs.ItemFirsts.{starts_separator}
-use Rattle.v_parse.specs.ItemReading.{event_reader}
+use Rattle.v_item.specs.Firsts.{starts_separator}
+use Rattle.v_item.specs.Reading.{event_reader}
 use Rattle.v_phrase.specs.Readers.{token_of}
 use Rattle.v_phrase.proofs.Loops.{plain_stop, plain_empty, plain_more, plain_fail}
-use Rattle.v_parse.proofs.processes.event_list.Goals as goal
-use Rattle.v_parse.proofs.processes.event_list.Goals.{else-loop-test, then-loop-test+then-not-starts_separator}
+use Rattle.v_item.proofs.processes.event_list.Goals as goal
+use Rattle.v_item.proofs.processes.event_list.Goals.{else-loop-test, then-loop-test+then-not-starts_separator}
 
 pub returns-in_err-another : goal.returns-in_err-another
 returns-in_err-another c =

@@ -8,10 +8,11 @@ ghost use Rattle.v_syntax.specs.declared.mark.Mark.TheVariants as mark;
 ghost use Rattle.v_phrase.specs.Stops.{Gives};
 ghost use Rattle.v_phrase.specs.Readers;
 ghost use Rattle.v_phrase.specs.Readers.{maybe, token_of};
-ghost use Rattle.v_parse.specs.ItemFirsts as firsts;
-ghost use Rattle.v_parse.specs.ItemReading.{value_of, ports_of, net_of, nets_of, tail_of, register_of, registers_of, integers_of, parameter_of, parameters_of};
+ghost use Rattle.v_item.specs.Firsts as firsts;
+ghost use Rattle.v_item.specs.Reading.{value_of, ports_of, net_of, nets_of, tail_of, register_of, registers_of, integers_of, parameter_of, parameters_of};
 
-use crate::parts::{line, maybe_range, plain_range, plain_value, port_head, range, value};
+use crate::kinds::{nets_kind, parameters_kind, ports_kind, registers_kind};
+use crate::parts::{line, maybe_range, plain_value, port_head, range, value};
 use std::alloc::Global;
 use v_expression::boxed;
 use v_phrase::{
@@ -24,7 +25,7 @@ use v_syntax::{
 };
 
 /// `input` or `output`, for ports that the header only names (IEEE 1364-2005, clause 12.3.3)
-#[tactic(auto, unfolding(crate::specs::ItemReading::ports_of))]
+#[tactic(auto, unfolding(crate::specs::Reading::ports_of))]
 pub fn ports(
     alloc: Global,
     total: usize,
@@ -36,8 +37,7 @@ pub fn ports(
 {
     let (head, rest) = port_head(alloc, total, room, tokens)?;
     let (names, rest) = line::<IdentifierPhrase>(alloc, total, room, rest)?;
-    let head = Box::into_inner(head);
-    Ok((boxed(alloc, ItemKind::Ports { head, names })?, rest))
+    Ok((boxed(alloc, ports_kind(head, names))?, rest))
 }
 
 // ---- nets
@@ -60,7 +60,7 @@ fn maybe_value(
 }
 
 /// `name [= expression]`
-#[tactic(auto, unfolding(crate::specs::ItemReading::net_of))]
+#[tactic(auto, unfolding(crate::specs::Reading::net_of))]
 fn net(
     alloc: Global,
     total: usize,
@@ -99,7 +99,7 @@ impl Element for NetPhrase {
 }
 
 /// `wire [range] name [= expression] , .. ;` (clause 4.2)
-#[tactic(auto, unfolding(crate::specs::ItemReading::nets_of))]
+#[tactic(auto, unfolding(crate::specs::Reading::nets_of))]
 pub fn nets(
     alloc: Global,
     total: usize,
@@ -112,9 +112,7 @@ pub fn nets(
     let rest = after_word(Keyword::Wire, tokens)?;
     let (range, rest) = maybe_range(alloc, total, room, rest)?;
     let (declarators, rest) = line::<NetPhrase>(alloc, total, room, rest)?;
-    let range = plain_range(range);
-    let made = ItemKind::Nets { range, declarators };
-    Ok((boxed(alloc, made)?, rest))
+    Ok((boxed(alloc, nets_kind(range, declarators))?, rest))
 }
 
 // ---- registers
@@ -130,7 +128,7 @@ fn starts_tail(tokens: &[Token]) -> bool
 }
 
 /// The range of a memory's words, or `= expression`
-#[tactic(auto, unfolding(crate::specs::ItemReading::tail_of))]
+#[tactic(auto, unfolding(crate::specs::Reading::tail_of))]
 fn tail(
     alloc: Global,
     total: usize,
@@ -149,7 +147,7 @@ fn tail(
 }
 
 /// `name [range | = expression]`
-#[tactic(auto, unfolding(crate::specs::ItemReading::register_of))]
+#[tactic(auto, unfolding(crate::specs::Reading::register_of))]
 fn register(
     alloc: Global,
     total: usize,
@@ -191,7 +189,7 @@ impl Element for RegisterPhrase {
 }
 
 /// `reg [range] register , .. ;` (clause 4.2.2)
-#[tactic(auto, unfolding(crate::specs::ItemReading::registers_of))]
+#[tactic(auto, unfolding(crate::specs::Reading::registers_of))]
 pub fn registers(
     alloc: Global,
     total: usize,
@@ -204,13 +202,11 @@ pub fn registers(
     let rest = after_word(Keyword::Reg, tokens)?;
     let (range, rest) = maybe_range(alloc, total, room, rest)?;
     let (declarators, rest) = line::<RegisterPhrase>(alloc, total, room, rest)?;
-    let range = plain_range(range);
-    let made = ItemKind::Registers { range, declarators };
-    Ok((boxed(alloc, made)?, rest))
+    Ok((boxed(alloc, registers_kind(range, declarators))?, rest))
 }
 
 /// `integer name , .. ;` (clause 4.8)
-#[tactic(auto, unfolding(crate::specs::ItemReading::integers_of))]
+#[tactic(auto, unfolding(crate::specs::Reading::integers_of))]
 pub fn integers(
     alloc: Global,
     total: usize,
@@ -238,7 +234,7 @@ fn parameter_kind(tokens: &[Token]) -> Result<(ParameterKind, &[Token]), ReadErr
 }
 
 /// `name = expression`
-#[tactic(auto, unfolding(crate::specs::ItemReading::parameter_of))]
+#[tactic(auto, unfolding(crate::specs::Reading::parameter_of))]
 fn parameter(
     alloc: Global,
     total: usize,
@@ -277,7 +273,7 @@ impl Element for ParameterPhrase {
 }
 
 /// `parameter` or `localparam`, `[range]`, `name = expression , .. ;` (clause 4.10)
-#[tactic(auto, unfolding(crate::specs::ItemReading::parameters_of))]
+#[tactic(auto, unfolding(crate::specs::Reading::parameters_of))]
 pub fn parameters(
     alloc: Global,
     total: usize,
@@ -290,11 +286,6 @@ pub fn parameters(
     let (kind, rest) = parameter_kind(tokens)?;
     let (range, rest) = maybe_range(alloc, total, room, rest)?;
     let (assignments, rest) = line::<ParameterPhrase>(alloc, total, room, rest)?;
-    let range = plain_range(range);
-    let made = ItemKind::Parameters {
-        kind,
-        range,
-        assignments,
-    };
+    let made = parameters_kind(kind, range, assignments);
     Ok((boxed(alloc, made)?, rest))
 }

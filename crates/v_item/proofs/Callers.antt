@@ -13,8 +13,8 @@ use Rattle.v_phrase.specs.Kinds.{kind_at, a_word}
 use Rattle.v_phrase.proofs.Branches.{no_else}
 use Rattle.v_phrase.proofs.KindLaws.{tells_word}
 use Rattle.v_phrase.proofs.Callers as laws
-use Rattle.v_parse.specs.ItemReading.{item_of}
-use Rattle.v_parse.proofs.ItemLaws.{item_laws, item_missing}
+use Rattle.v_item.specs.Reading.{item_of}
+use Rattle.v_item.proofs.Laws.{item_laws, item_missing}
 
 -- before these tokens no `else` stands
 ends : (rest : List Token) → starts_word word.Else rest ≡ false → no_else (kind_at rest) ≡ true

@@ -19,7 +19,7 @@ use Rattle.v_expression.specs.Reading.{expression_of, target_of}
 use Rattle.v_expression.specs.Starts.{starts_expression}
 use Rattle.v_phrase.specs.Readers.{Reader, nothing, token_of, place_in, ◌⊛◌, ◌◃◌, ◌▹◌, maybe, separated, one_of, either, starts_mark, sign, word_of, identifier_of, listed}
 use Rattle.v_statement.specs.Reading.{statement_of}
-use Rattle.v_parse.specs.ItemFirsts.{form_of, starts_kind, starts_edge, starts_separator, starts_tail, starts_connections}
+use Rattle.v_item.specs.Firsts.{form_of, starts_kind, starts_edge, starts_separator, starts_tail, starts_connections}
 
 -- ---- what items are made of
 

@@ -33,9 +33,9 @@ use Rattle.v_expression.proofs.Phrases.{of_expression, ends_expression, of_targe
 use Rattle.v_statement.specs.Reading.{statement_of}
 use Rattle.v_statement.specs.Reading as statements
 use Rattle.v_statement.proofs.StatementLaws.{statement_laws, statement_missing}
-use Rattle.v_parse.specs.ItemFirsts.{mark_begins_connection, starts_kind, starts_edge, starts_separator, starts_tail, starts_connections}
-use Rattle.v_parse.proofs.ItemSteps.{range_steps, connection_steps, instance_steps, declared_steps, headed_steps, kinded_steps}
-use Rattle.v_parse.specs.ItemReading.{bound_of, range_of, maybe_range_of, value_of, port_head_of, line_of, ports_of, net_of, nets_of, tail_of, register_of, registers_of, integers_of, parameter_of, parameters_of, driver_of, drivers_of, event_reader, event_list_of, bracketed_events_of, events_of, always_of, initial_of, bracketed_value_of, connection_of, connections_of, overrides_of, bracketed_connections_of, instance_tail_of, instance_of}
+use Rattle.v_item.specs.Firsts.{mark_begins_connection, starts_kind, starts_edge, starts_separator, starts_tail, starts_connections}
+use Rattle.v_item.proofs.Steps.{range_steps, connection_steps, instance_steps, declared_steps, headed_steps, kinded_steps}
+use Rattle.v_item.specs.Reading.{bound_of, range_of, maybe_range_of, value_of, port_head_of, line_of, ports_of, net_of, nets_of, tail_of, register_of, registers_of, integers_of, parameter_of, parameters_of, driver_of, drivers_of, event_reader, event_list_of, bracketed_events_of, events_of, always_of, initial_of, bracketed_value_of, connection_of, connections_of, overrides_of, bracketed_connections_of, instance_tail_of, instance_of}
 
 -- what ends a part that may be followed by `,` and by a part of its own
 abbrev pub ends_maybe : Kinds → Kinds → Kinds → Kinds

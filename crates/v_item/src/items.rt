@@ -8,13 +8,14 @@ ghost use Rattle.v_syntax.specs.Items;
 ghost use Rattle.v_phrase.specs.Stops.{Gives};
 ghost use Rattle.v_phrase.specs.Refusals.{IsRefusal, IsRead};
 ghost use Rattle.v_phrase.specs.Readers.{starts_word};
-ghost use Rattle.v_parse.specs.ItemFirsts as firsts;
-ghost use Rattle.v_parse.specs.ItemFirsts.{form_of, word_form};
-ghost use Rattle.v_parse.specs.ItemReading.{kind_of, item_of};
+ghost use Rattle.v_item.specs.Firsts as firsts;
+ghost use Rattle.v_item.specs.Firsts.{form_of, word_form};
+ghost use Rattle.v_item.specs.Reading.{kind_of, item_of};
 
 use crate::assignments::continuous_assignments;
 use crate::declarations::{integers, nets, parameters, ports, registers};
 use crate::instances::instance;
+use crate::kinds::item_with;
 use crate::processes::{always, initial};
 use std::alloc::Global;
 use v_expression::boxed;
@@ -57,7 +58,7 @@ pub fn starts_item(tokens: &[Token]) -> bool
 }
 
 /// An item without the number of its first token.
-#[tactic(auto, unfolding(crate::specs::ItemReading::kind_of))]
+#[tactic(auto, unfolding(crate::specs::Reading::kind_of))]
 fn kind(
     alloc: Global,
     total: usize,
@@ -82,7 +83,7 @@ fn kind(
 }
 
 /// [`item`], by what its reader gives alone.
-#[tactic(auto, unfolding(crate::specs::ItemReading::item_of))]
+#[tactic(auto, unfolding(crate::specs::Reading::item_of))]
 fn item_at(
     alloc: Global,
     total: usize,
@@ -94,8 +95,7 @@ fn item_at(
 {
     let at = place(total, tokens);
     let (kind, rest) = kind(alloc, total, room, tokens)?;
-    let kind = Box::into_inner(kind);
-    Ok((boxed(alloc, Item { at, kind })?, rest))
+    Ok((boxed(alloc, item_with(at, kind))?, rest))
 }
 
 /// Reads a module item (IEEE 1364-2005, annex A.1.4) at the front of the tokens, which are the last of a text of `total`

@@ -6,9 +6,9 @@ ghost use Rattle.v_syntax.specs.SourceTrees.{view_range, view_head};
 ghost use Rattle.v_syntax.specs.TokenMeanings;
 ghost use Rattle.v_phrase.specs.Stops.{Gives};
 ghost use Rattle.v_phrase.specs.Readers.{maybe, token_of};
-ghost use Rattle.v_parse.specs.ItemFirsts as firsts;
-ghost use Rattle.v_parse.specs.ItemFirsts.{starts_kind};
-ghost use Rattle.v_parse.specs.ItemReading.{line_of, bound_of, range_of, maybe_range_of, value_of, port_head_of};
+ghost use Rattle.v_item.specs.Firsts as firsts;
+ghost use Rattle.v_item.specs.Firsts.{starts_kind};
+ghost use Rattle.v_item.specs.Reading.{line_of, bound_of, range_of, maybe_range_of, value_of, port_head_of};
 
 use std::alloc::Global;
 use v_expression::{boxed, expression};
@@ -18,7 +18,7 @@ use v_syntax::{
 };
 
 /// An expression and the mark behind it.
-#[tactic(auto, unfolding(crate::specs::ItemReading::bound_of))]
+#[tactic(auto, unfolding(crate::specs::Reading::bound_of))]
 fn bound(
     alloc: Global,
     total: usize,
@@ -35,7 +35,7 @@ fn bound(
 }
 
 /// `[ expression : expression ]` (IEEE 1364-2005, annex A.2.5)
-#[tactic(auto, unfolding(crate::specs::ItemReading::range_of))]
+#[tactic(auto, unfolding(crate::specs::Reading::range_of))]
 pub fn range(
     alloc: Global,
     total: usize,
@@ -55,7 +55,7 @@ pub fn range(
 }
 
 /// A range, if one stands here.
-#[tactic(auto, unfolding(crate::specs::ItemReading::maybe_range_of))]
+#[tactic(auto, unfolding(crate::specs::Reading::maybe_range_of))]
 pub fn maybe_range(
     alloc: Global,
     total: usize,
@@ -83,7 +83,7 @@ pub fn plain_range(range: Option<Box<Range>>) -> Option<Range>
 }
 
 /// `= expression`
-#[tactic(auto, unfolding(crate::specs::ItemReading::value_of))]
+#[tactic(auto, unfolding(crate::specs::Reading::value_of))]
 pub fn value(
     alloc: Global,
     total: usize,
@@ -108,7 +108,7 @@ pub fn plain_value(value: Option<Box<Expression>>) -> Option<Expression>
 }
 
 /// A list and the semicolon behind it.
-#[tactic(auto, unfolding(crate::specs::ItemReading::line_of))]
+#[tactic(auto, unfolding(crate::specs::Reading::line_of))]
 pub fn line<'a, T: Element>(
     alloc: Global,
     total: usize,
@@ -158,7 +158,7 @@ fn port_kind(tokens: &[Token]) -> (Option<PortKind>, &[Token])
 }
 
 /// `input` or `output`, `[wire | reg]` and `[range]`
-#[tactic(auto, unfolding(crate::specs::ItemReading::port_head_of))]
+#[tactic(auto, unfolding(crate::specs::Reading::port_head_of))]
 pub fn port_head(
     alloc: Global,
     total: usize,

@@ -17,9 +17,9 @@ use Rattle.v_phrase.proofs.Both.{apply_laws}
 use Rattle.v_phrase.proofs.OneOf.{one_laws}
 use Rattle.v_phrase.proofs.Change.{narrow, widen}
 use Rattle.v_phrase.proofs.Branches.{no_else}
-use Rattle.v_parse.specs.ItemFirsts.{word_form, form_of, starts_item}
-use Rattle.v_parse.specs.ItemReading.{item_of_form, kind_of, item_of}
-use Rattle.v_parse.proofs.ItemRules.{ports_laws, nets_laws, registers_laws, integers_laws, parameters_laws, drivers_laws, always_laws, initial_laws, instance_laws, kind_missing}
+use Rattle.v_item.specs.Firsts.{word_form, form_of, starts_item}
+use Rattle.v_item.specs.Reading.{item_of_form, kind_of, item_of}
+use Rattle.v_item.proofs.Rules.{ports_laws, nets_laws, registers_laws, integers_laws, parameters_laws, drivers_laws, always_laws, initial_laws, instance_laws, kind_missing}
 
 -- the form of an item that begins there
 abbrev pub form_at : Kind → Option ItemForm
