@@ -63,8 +63,8 @@ pub fn value_list(
 }
 
 /// The two elements of a list.
-fn two(mut list: Vec<Expression>) -> Option<(Expression, Expression)>
-    ensures { MatchOption result (Reading.two_of (map view list.items) ≡ None) (λ x. Reading.two_of (map view list.items) ≡ Some (view x.0, view x.1)) }
+fn two<T: Drop>(mut list: Vec<T>) -> Option<(T, T)>
+    ensures { MatchOption result (Reading.two_of list.items ≡ None) (λ x. Reading.two_of list.items ≡ Some x) }
 {
     let second = list.pop()?;
     let first = list.pop()?;
@@ -76,7 +76,7 @@ fn two(mut list: Vec<Expression>) -> Option<(Expression, Expression)>
 }
 
 /// `random.randint(low, high)`, behind the bracket.
-#[tactic(auto, unfolding(crate::specs::Reading::random_int_of))]
+#[tactic(auto, using(crate::proofs::Lists::two_seen), unfolding(crate::specs::Reading::random_int_of))]
 fn random_int(alloc: Global, tokens: &[Token]) -> Result<(Box<RightSide>, usize), ReadError>
     ensures { Gives (tall (inside view_right)) result (Reading.random_int_of height_limit tokens.now) }
 {

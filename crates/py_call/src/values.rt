@@ -47,8 +47,7 @@ pub fn value(
     ensures { Gives (ahead (inside view)) result (Reading.value_of height_limit tokens.now) }
 {
     let (found, rest) = expression(alloc, tokens)?;
-    let tree = boxed(alloc, found.tree)?;
-    Ok((within(alloc, tree, found.height, 0)?, rest))
+    Ok((within(alloc, found.tree, found.height, 0)?, rest))
 }
 
 /// The expression that these tokens are, with its height.
@@ -67,7 +66,6 @@ pub fn whole_primary(alloc: Global, tokens: &[Token]) -> Result<(Box<Expression>
     ensures { Gives (tall (inside view)) result (Reading.whole_primary_of height_limit tokens.now) }
 {
     let (found, rest) = primary(alloc, tokens)?;
-    let tree = boxed(alloc, found.tree)?;
     end_of_line(rest)?;
-    Ok(within(alloc, tree, found.height, 0)?)
+    Ok(within(alloc, found.tree, found.height, 0)?)
 }

@@ -20,6 +20,17 @@ use py_phrase::{Mark, ReadError, after, constants, name_at};
 use py_syntax::{Bracket, Caught, Expression, FaultKind, Header, Keyword, Span, Token};
 use std::alloc::Global;
 
+/// A header of this height, on the heap.
+pub fn headed(
+    alloc: Global,
+    header: Header,
+    height: usize,
+) -> Result<(Box<Header>, usize), ReadError>
+    ensures { Gives (tall (inside view_header)) result (Some (view_header header, height)) }
+{
+    Ok((boxed(alloc, header)?, height))
+}
+
 /// An expression and `:` at the end of the line.
 #[tactic(auto, unfolding(crate::specs::Reading::test_of))]
 pub fn test(alloc: Global, tokens: &[Token]) -> Result<(Box<Expression>, usize), ReadError>
@@ -93,7 +104,7 @@ pub fn for_header(alloc: Global, tokens: &[Token]) -> Result<(Box<Header>, usize
     let name = Name::of(alloc, name.bytes())?;
     let (span, height) = span(alloc, rest)?;
     let header = Header::For(name, Box::into_inner(span));
-    Ok((boxed(alloc, header)?, height))
+    headed(alloc, header, height)
 }
 
 /// These kinds and one more.
@@ -184,7 +195,7 @@ pub fn except_header(alloc: Global, tokens: &[Token]) -> Result<(Box<Header>, us
 {
     let caught = caught(alloc, tokens)?;
     let header = Header::Except(Box::into_inner(caught));
-    Ok((boxed(alloc, header)?, 0))
+    headed(alloc, header, 0)
 }
 
 /// Behind `else`.
@@ -193,7 +204,7 @@ pub fn else_header(alloc: Global, tokens: &[Token]) -> Result<(Box<Header>, usiz
     ensures { Gives (tall (inside view_header)) result (Reading.header_only (view_header Header.Else) tokens.now) }
 {
     colon_of_line(tokens)?;
-    Ok((boxed(alloc, Header::Else)?, 0))
+    headed(alloc, Header::Else, 0)
 }
 
 /// Behind `try`.
@@ -202,7 +213,7 @@ pub fn try_header(alloc: Global, tokens: &[Token]) -> Result<(Box<Header>, usize
     ensures { Gives (tall (inside view_header)) result (Reading.header_only (view_header Header.Try) tokens.now) }
 {
     colon_of_line(tokens)?;
-    Ok((boxed(alloc, Header::Try)?, 0))
+    headed(alloc, Header::Try, 0)
 }
 
 /// Behind `async`.
@@ -214,7 +225,7 @@ pub fn with_header(alloc: Global, tokens: &[Token]) -> Result<(Box<Header>, usiz
         Some(rest) => {
             let (lock, height) = test(alloc, rest)?;
             let header = Header::With(Box::into_inner(lock));
-            Ok((boxed(alloc, header)?, height))
+            headed(alloc, header, height)
         }
         None => Err(ReadError::Wrong),
     }

@@ -11,7 +11,9 @@ ghost use Rattle.py_statement.specs.Reading;
 ghost use Rattle.py_statement.specs.Lines.{line_of, Answers};
 
 use crate::fault::LineError;
-use crate::header::{else_header, except_header, for_header, test, try_header, with_header};
+use crate::header::{
+    else_header, except_header, for_header, headed, test, try_header, with_header,
+};
 use crate::plain::plain_statement;
 use crate::statement::{asserting, awaiting, only, raising, returning};
 use crate::words::keyword_at;
@@ -25,9 +27,7 @@ use std::alloc::Global;
 fn plain_line(alloc: Global, tokens: &[Token]) -> Result<(Box<BodyLine>, usize), ReadError>
     ensures { Gives (tall (inside view_line)) result (Reading.plain_line_of height_limit tokens.now) }
 {
-    let (statement, height) = plain_statement(alloc, tokens)?;
-    let line = BodyLine::Statement(Box::into_inner(statement));
-    Ok((boxed(alloc, line)?, height))
+    simple(alloc, plain_statement(alloc, tokens))
 }
 
 /// The line of a statement.
@@ -60,7 +60,7 @@ fn if_header(alloc: Global, tokens: &[Token]) -> Result<(Box<Header>, usize), Re
 {
     let (condition, height) = test(alloc, tokens)?;
     let header = Header::If(Box::into_inner(condition));
-    Ok((boxed(alloc, header)?, height))
+    headed(alloc, header, height)
 }
 
 /// Behind `elif`.
@@ -69,7 +69,7 @@ fn elif_header(alloc: Global, tokens: &[Token]) -> Result<(Box<Header>, usize), 
 {
     let (condition, height) = test(alloc, tokens)?;
     let header = Header::Elif(Box::into_inner(condition));
-    Ok((boxed(alloc, header)?, height))
+    headed(alloc, header, height)
 }
 
 /// Behind `while`.
@@ -78,7 +78,7 @@ fn while_header(alloc: Global, tokens: &[Token]) -> Result<(Box<Header>, usize),
 {
     let (condition, height) = test(alloc, tokens)?;
     let header = Header::While(Box::into_inner(condition));
-    Ok((boxed(alloc, header)?, height))
+    headed(alloc, header, height)
 }
 
 /// A line of which this is the first word, `rest` stands behind it, and `tokens` are all.

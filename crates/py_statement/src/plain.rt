@@ -1,20 +1,20 @@
 //! Statements that begin with an expression.
 
 ghost use Rattle.py_expression.specs.Shown.{height_limit};
-ghost use Rattle.std.specs.Prelude.{◌≡◌, List, map, codes};
+ghost use Rattle.std.specs.Prelude.{◌≡◌, List, map, codes, Some};
 ghost use Rattle.py_syntax.specs.ExpressionTrees.{view};
 ghost use Rattle.py_syntax.specs.StatementTrees;
 ghost use Rattle.py_syntax.specs.StatementTrees.{view_right, view_statement, view_logger};
 ghost use Rattle.py_phrase.specs.Gives.{Gives};
 ghost use Rattle.py_expression.specs.Boxes.{inside};
 ghost use Rattle.py_call.specs.Chosen.{made};
-ghost use Rattle.py_call.specs.Kept.{of_two};
+ghost use Rattle.py_call.specs.Kept.{lowered, of_one, of_two};
 ghost use Rattle.py_call.specs.Reading.{right_of};
 ghost use Rattle.py_call.specs.Views.{tall};
 ghost use Rattle.py_statement.specs.Reading;
 
 use crate::method::Called;
-use crate::statement::{ending, one_value};
+use crate::statement::{built, ending, one_value};
 use crate::tree::{can_log, first, is_word};
 use crate::words::augmenting_at;
 use port_io::Name;
@@ -36,7 +36,7 @@ fn assigned_to(
 {
     let (side, height) = right_side(alloc, tokens)?;
     let statement = Statement::AssignValue(Box::into_inner(signal.0), Box::into_inner(side));
-    Ok((boxed(alloc, statement)?, signal.1.max(height)))
+    built(alloc, statement, signal.1.max(height))
 }
 
 /// `signal.value = right side`, behind the `=`; the tree is `signal.value`.
@@ -67,7 +67,7 @@ fn assigned_name(
 {
     let (side, height) = right_side(alloc, tokens)?;
     let statement = Statement::Assign(name, Box::into_inner(side));
-    Ok((boxed(alloc, statement)?, height))
+    built(alloc, statement, height)
 }
 
 /// An assignment to this tree, behind the `=`.
@@ -87,6 +87,20 @@ fn assigned(
 }
 
 /// `name += value` and the like, behind the `+=`.
+fn augmented_name(
+    alloc: Global,
+    name: Name,
+    op: BinOp,
+    tokens: &[Token],
+) -> Result<(Box<Statement>, usize), ReadError>
+    ensures { Gives (tall (inside view_statement)) result (Reading.augmented_name_of height_limit name op tokens.now) }
+{
+    let (value, height) = whole_value(alloc, tokens)?;
+    let statement = Statement::AugmentedAssign(name, op, Box::into_inner(value));
+    built(alloc, statement, height)
+}
+
+/// The same to this tree.
 #[tactic(auto, unfolding(crate::specs::Reading::augmented_of))]
 fn augmented(
     alloc: Global,
@@ -97,13 +111,40 @@ fn augmented(
     ensures { Gives (tall (inside view_statement)) result (Reading.augmented_of height_limit (view tree.value) op tokens.now) }
 {
     match Box::into_inner(tree) {
-        Expression::Name(name) => {
-            let (value, height) = whole_value(alloc, tokens)?;
-            let statement = Statement::AugmentedAssign(name, op, Box::into_inner(value));
-            Ok((boxed(alloc, statement)?, height))
-        }
+        Expression::Name(name) => augmented_name(alloc, name, op, tokens),
         _ => Err(ReadError::Wrong),
     }
+}
+
+/// `hierarchy._log`, where an attribute of it has this height.
+fn hierarchy_log(
+    alloc: Global,
+    base: Box<Expression>,
+    height: usize,
+) -> Result<(Box<Logger>, usize), ReadError>
+    ensures { Gives (tall (inside view_logger)) result (Some (of_one StatementTrees.HierarchyLog (lowered height_limit 2 (view base.value) height))) }
+{
+    let (hierarchy, height) = within(alloc, base, height, 2)?;
+    let logger = Logger::Hierarchy(Box::into_inner(hierarchy));
+    Ok((boxed(alloc, logger)?, height))
+}
+
+/// The logger of this name in this object.
+fn named_logger(
+    alloc: Global,
+    base: Box<Expression>,
+    name: &[u8],
+    height: usize,
+) -> Result<(Box<Logger>, usize), ReadError>
+    ensures { Gives (tall (inside view_logger)) result (Reading.logger_by height_limit (view base.value) name.now height) }
+{
+    if name == b"_log".as_slice() {
+        return hierarchy_log(alloc, base, height);
+    }
+    if name == b"log".as_slice() && is_word(b"cocotb", &*base) {
+        return Ok((boxed(alloc, Logger::Cocotb)?, 0));
+    }
+    Err(ReadError::Wrong)
 }
 
 /// `cocotb.log` or `hierarchy._log`, where an attribute of it has this height.
@@ -115,22 +156,14 @@ fn logger(
 ) -> Result<(Box<Logger>, usize), ReadError>
     ensures { Gives (tall (inside view_logger)) result (Reading.logger_of height_limit (view tree.value) height) }
 {
-    let Some((base, name)) = split(Box::into_inner(tree)) else {
-        return Err(ReadError::Wrong);
-    };
-    if name.bytes() == b"_log".as_slice() {
-        let (hierarchy, height) = within(alloc, base, height, 2)?;
-        let logger = Logger::Hierarchy(Box::into_inner(hierarchy));
-        return Ok((boxed(alloc, logger)?, height));
+    match split(Box::into_inner(tree)) {
+        Some((base, name)) => named_logger(alloc, base, name.bytes(), height),
+        None => Err(ReadError::Wrong),
     }
-    if name.bytes() == b"log".as_slice() && is_word(b"cocotb", &*base) {
-        return Ok((boxed(alloc, Logger::Cocotb)?, 0));
-    }
-    Err(ReadError::Wrong)
 }
 
 /// The line of these values in the log, where nothing follows.
-#[tactic(auto, unfolding(crate::specs::Reading::logged_by))]
+#[tactic(auto, using(crate::proofs::Taken::first_seen), unfolding(crate::specs::Reading::logged_by))]
 fn logged(
     alloc: Global,
     logger: (Box<Logger>, usize),
@@ -203,8 +236,8 @@ fn set_immediate(
     let (signal, signal_height) = within(alloc, tree, height, 1)?;
     let (value, value_height) = one_value(alloc, tokens)?;
     let (signal, value) = (Box::into_inner(signal), Box::into_inner(value));
-    let statement = boxed(alloc, Statement::SetImmediateValue(signal, value))?;
-    Ok((statement, signal_height.max(value_height)))
+    let statement = Statement::SetImmediateValue(signal, value);
+    built(alloc, statement, signal_height.max(value_height))
 }
 
 /// `cocotb.start_soon(call)`, behind the `(`.
@@ -221,7 +254,7 @@ fn start_soon(
     }
     let (call, height) = closed_start(alloc, tokens)?;
     let statement = Statement::StartSoon(Box::into_inner(call));
-    Ok((boxed(alloc, statement)?, height))
+    built(alloc, statement, height)
 }
 
 /// A call of this method of a tree, behind the `(`.
@@ -292,6 +325,5 @@ pub fn plain_statement(
     ensures { Gives (tall (inside view_statement)) result (Reading.plain_of height_limit tokens.now) }
 {
     let (found, rest) = primary(alloc, tokens)?;
-    let tree = boxed(alloc, found.tree)?;
-    behind(alloc, tree, found.height, rest)
+    behind(alloc, found.tree, found.height, rest)
 }

@@ -18,6 +18,17 @@ use py_phrase::{Mark, ReadError, after, end_of_line};
 use py_syntax::{Bracket, Expression, Operator, Statement, Token};
 use std::alloc::Global;
 
+/// A statement of this height, on the heap.
+pub fn built(
+    alloc: Global,
+    statement: Statement,
+    height: usize,
+) -> Result<(Box<Statement>, usize), ReadError>
+    ensures { Gives (tall (inside view_statement)) result (Some (view_statement statement, height)) }
+{
+    Ok((boxed(alloc, statement)?, height))
+}
+
 /// A statement of this height, where nothing follows.
 pub fn ending(
     statement: Box<Statement>,
@@ -50,15 +61,15 @@ pub fn returning(alloc: Global, tokens: &[Token]) -> Result<(Box<Statement>, usi
     ensures { Gives (tall (inside view_statement)) result (Reading.return_of height_limit tokens.now) }
 {
     if tokens.is_empty() {
-        return Ok((boxed(alloc, Statement::Return(None))?, 0));
+        return built(alloc, Statement::Return(None), 0);
     }
     let (side, height) = right_side(alloc, tokens)?;
     let statement = Statement::Return(Some(Box::into_inner(side)));
-    Ok((boxed(alloc, statement)?, height))
+    built(alloc, statement, height)
 }
 
 /// One expression and `)` at the end of the line, behind a `(`.
-#[tactic(auto, unfolding(crate::specs::Reading::one_value_of))]
+#[tactic(auto, using(crate::proofs::Taken::one_seen), unfolding(crate::specs::Reading::one_value_of))]
 pub fn one_value(alloc: Global, tokens: &[Token]) -> Result<(Box<Expression>, usize), ReadError>
     ensures { Gives (tall (inside view)) result (Reading.one_value_of height_limit tokens.now) }
 {
@@ -99,7 +110,7 @@ pub fn raising(alloc: Global, tokens: &[Token]) -> Result<(Box<Statement>, usize
         return Err(ReadError::Wrong);
     };
     let (value, height) = raised(alloc, rest)?;
-    Ok((boxed(alloc, Statement::Raise(kind, value))?, height))
+    built(alloc, Statement::Raise(kind, value), height)
 }
 
 /// The value behind an assertion's condition, if there is one.
@@ -127,7 +138,7 @@ pub fn asserting(alloc: Global, tokens: &[Token]) -> Result<(Box<Statement>, usi
     let ((condition, height), rest) = value(alloc, tokens)?;
     let (message, message_height) = message(alloc, rest)?;
     let statement = Statement::Assert(Box::into_inner(condition), message);
-    Ok((boxed(alloc, statement)?, height.max(message_height)))
+    built(alloc, statement, height.max(message_height))
 }
 
 /// Behind `await`.
@@ -137,5 +148,5 @@ pub fn awaiting(alloc: Global, tokens: &[Token]) -> Result<(Box<Statement>, usiz
 {
     let (awaited, height) = await_operand(alloc, tokens)?;
     let statement = Statement::Await(Box::into_inner(awaited));
-    Ok((boxed(alloc, statement)?, height))
+    built(alloc, statement, height)
 }
