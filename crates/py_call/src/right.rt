@@ -3,7 +3,6 @@
 ghost use Rattle.py_expression.specs.Shown.{height_limit};
 ghost use Rattle.std.specs.Prelude.{◌≡◌, codes, map, Some, None, IfOk, MatchOption};
 ghost use Rattle.py_syntax.specs.declared.call.Argument as argument;
-ghost use Rattle.py_syntax.specs.ExpressionTrees.{view};
 ghost use Rattle.py_syntax.specs.StatementTrees.{view_right, view_argument};
 ghost use Rattle.py_phrase.specs.Gives.{Gives};
 ghost use Rattle.py_expression.specs.Boxes.{inside};

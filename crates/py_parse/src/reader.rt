@@ -73,8 +73,8 @@ fn stand(
 }
 
 /// These and one more.
-fn with(mut all: Vec<PlacedLine>, one: PlacedLine) -> Result<Vec<PlacedLine>, NoMemory>
-    ensures { IfOk result (λ more. lines_in more ≡ lines_in all ++ (view_placed one ∷ [])) }
+fn with<T: Drop>(mut all: Vec<T>, one: T) -> Result<Vec<T>, NoMemory>
+    ensures { IfOk result (λ more. more.items ≡ all.items ++ (one ∷ [])) }
 {
     all.push(one)?;
     Ok(all)

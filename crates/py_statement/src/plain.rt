@@ -4,7 +4,7 @@ ghost use Rattle.py_expression.specs.Shown.{height_limit};
 ghost use Rattle.std.specs.Prelude.{◌≡◌, List, map, codes, Some};
 ghost use Rattle.py_syntax.specs.ExpressionTrees.{view};
 ghost use Rattle.py_syntax.specs.StatementTrees;
-ghost use Rattle.py_syntax.specs.StatementTrees.{view_right, view_statement, view_logger};
+ghost use Rattle.py_syntax.specs.StatementTrees.{view_statement, view_logger};
 ghost use Rattle.py_phrase.specs.Gives.{Gives};
 ghost use Rattle.py_expression.specs.Boxes.{inside};
 ghost use Rattle.py_call.specs.Chosen.{made};
@@ -21,9 +21,7 @@ use port_io::Name;
 use py_call::{closed_start, right_side, value_list, whole_value, within};
 use py_expression::{boxed, primary, split};
 use py_phrase::{Mark, ReadError, after};
-use py_syntax::{
-    Action, BinOp, Bracket, Expression, LogLevel, Logger, Operator, RightSide, Statement, Token,
-};
+use py_syntax::{Action, BinOp, Bracket, Expression, LogLevel, Logger, Operator, Statement, Token};
 use std::alloc::Global;
 
 /// An assignment to the value of this signal, behind the `=`.
