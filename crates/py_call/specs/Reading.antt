@@ -208,7 +208,7 @@ after_new ts = new_by ts (after_text ts)
 unfoldable pub new_of : RightSide → List Token → Option (RightSide × ℕ)
 new_of s ts = made (λ _. (s, 0)) (also (after_new ts) end_of)
 
-abbrev pub two_of : List Tree → Option (Tree × Tree)
+abbrev pub two_of : {A : Type 0} → List A → Option (A × A)
 two_of (a ∷ b ∷ []) = Some (a, b)
 two_of _ = None
 

@@ -8,7 +8,7 @@ use Rattle.py_expression.specs.declared.arguments.FunctionArguments.{FunctionArg
 use Rattle.py_expression.specs.declared.parts.Parts.{Parts}
 
 abbrev pub measured : Measured → Shown
-measured m = record { tree = view m.tree; height = m.height }
+measured m = record { tree = view m.tree.value; height = m.height }
 
 abbrev pub arguments_in : FunctionArguments → ShownTrees
 arguments_in a = record { trees = trees_of a.trees.items; count = length a.trees.items; height = a.height }

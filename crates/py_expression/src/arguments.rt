@@ -43,7 +43,7 @@ impl FunctionArguments {
         ensures { IfOk result (λ all. arguments_in all ≡ Shown.with_tree (arguments_in self) (measured argument)) }
     {
         self.height = self.height.max(argument.height);
-        self.trees.push(argument.tree)?;
+        self.trees.push(Box::into_inner(argument.tree))?;
         Ok(self)
     }
 

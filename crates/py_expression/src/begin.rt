@@ -113,7 +113,7 @@ fn name<'a>(
     ) {
         (Some(function), Some(rest)) => call(alloc, stack, least, function, rest),
         _ => {
-            let name = Measured::name(Name::of(alloc, name.bytes())?);
+            let name = Measured::name(alloc, Name::of(alloc, name.bytes())?)?;
             Ok(behind_primary(stack, least, name, tokens))
         }
     }
@@ -143,7 +143,7 @@ fn begin<'a>(
         }),
         Token::Name(word) => name(alloc, stack, least, word, rest),
         _ => {
-            let constant = Measured::constant(constant_of(alloc, first)?);
+            let constant = Measured::constant(alloc, constant_of(alloc, first)?)?;
             Ok(behind_primary(stack, least, constant, rest))
         }
     }

@@ -83,7 +83,6 @@ fn subscript<'a>(
 /// `{expression}` of an f-string, behind the expression.
 #[tactic(auto, unfolding(crate::specs::Reading::close_of))]
 fn formatted<'a>(
-    alloc: Global,
     stack: Vec<Frame>,
     least: usize,
     parts: Parts,
@@ -96,7 +95,7 @@ fn formatted<'a>(
         Some(rest) => Ok(Spot {
             stack,
             least,
-            point: Point::Parts(parts.with_formatted(alloc, expression)?),
+            point: Point::Parts(parts.with_formatted(expression)?),
             rest,
         }),
         None => Err(ReadError::Wrong),
@@ -124,7 +123,7 @@ fn close<'a>(
             let arguments = arguments.with(operand)?;
             return behind_argument(alloc, stack, least, function, arguments, rest);
         }
-        Opened::Format(parts) => return formatted(alloc, stack, least, parts, operand, rest),
+        Opened::Format(parts) => return formatted(stack, least, parts, operand, rest),
     };
     Ok(Spot {
         stack,

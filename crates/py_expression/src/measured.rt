@@ -7,6 +7,7 @@ ghost use Rattle.py_expression.specs.Kept.{measured, arguments_in, parts_in};
 ghost use Rattle.py_expression.specs.Shown;
 
 use crate::arguments::FunctionArguments;
+use crate::heap::boxed;
 use crate::parts::Parts;
 use port_io::{Name, NoMemory};
 use py_syntax::{Const, Expression, Function, Method, Operation, UnOp};
@@ -21,7 +22,7 @@ pub const KEPT: usize = 66;
 #[derive(Drop)]
 pub struct Measured {
     /// The tree, or what is kept of it.
-    pub tree: Expression,
+    pub tree: Box<Expression>,
     /// The height, or `KEPT + 1`.
     pub height: usize,
 }
@@ -72,35 +73,36 @@ fn fitted(alloc: Global, tree: Expression, part: usize) -> Result<Measured, NoMe
 {
     if part < KEPT {
         return Ok(Measured {
-            tree,
+            tree: boxed(alloc, tree)?,
             height: part + 1,
         });
     }
+    let tree = hollow(alloc, tree)?;
     Ok(Measured {
-        tree: hollow(alloc, tree)?,
+        tree: boxed(alloc, tree)?,
         height: KEPT + 1,
     })
 }
 
 impl Measured {
     /// A constant.
-    pub fn constant(value: Const) -> Measured
-        ensures { measured result ≡ Shown.constant value }
+    pub fn constant(alloc: Global, value: Const) -> Result<Measured, NoMemory>
+        ensures { IfOk result (λ m. measured m ≡ Shown.constant value) }
     {
-        Measured {
-            tree: Expression::Constant(value),
+        Ok(Measured {
+            tree: boxed(alloc, Expression::Constant(value))?,
             height: 1,
-        }
+        })
     }
 
     /// A name.
-    pub fn name(name: Name) -> Measured
-        ensures { measured result ≡ Shown.name name }
+    pub fn name(alloc: Global, name: Name) -> Result<Measured, NoMemory>
+        ensures { IfOk result (λ m. measured m ≡ Shown.name name) }
     {
-        Measured {
-            tree: Expression::Name(name),
+        Ok(Measured {
+            tree: boxed(alloc, Expression::Name(name))?,
             height: 1,
-        }
+        })
     }
 
     /// `(inner)`
@@ -109,11 +111,7 @@ impl Measured {
         ensures { IfOk result (λ m. measured m ≡ Shown.bracketed height_limit (measured inner)) }
     {
         let height = inner.height;
-        fitted(
-            alloc,
-            Expression::Bracketed(Box::new(alloc, inner.tree)?),
-            height,
-        )
+        fitted(alloc, Expression::Bracketed(inner.tree), height)
     }
 
     /// `base.name`
@@ -122,11 +120,7 @@ impl Measured {
         ensures { IfOk result (λ m. measured m ≡ Shown.attribute height_limit (measured base) name) }
     {
         let height = base.height;
-        fitted(
-            alloc,
-            Expression::Attribute(Box::new(alloc, base.tree)?, name),
-            height,
-        )
+        fitted(alloc, Expression::Attribute(base.tree, name), height)
     }
 
     /// `base[index]`
@@ -135,11 +129,7 @@ impl Measured {
         ensures { IfOk result (λ m. measured m ≡ Shown.subscript height_limit (measured base) (measured index)) }
     {
         let height = base.height.max(index.height);
-        fitted(
-            alloc,
-            Expression::Subscript(Box::new(alloc, base.tree)?, Box::new(alloc, index.tree)?),
-            height,
-        )
+        fitted(alloc, Expression::Subscript(base.tree, index.tree), height)
     }
 
     /// `base.method()`
@@ -148,11 +138,7 @@ impl Measured {
         ensures { IfOk result (λ m. measured m ≡ Shown.method_call height_limit (measured base) method) }
     {
         let height = base.height;
-        fitted(
-            alloc,
-            Expression::MethodCall(Box::new(alloc, base.tree)?, method),
-            height,
-        )
+        fitted(alloc, Expression::MethodCall(base.tree, method), height)
     }
 
     /// An operator and its operand.
@@ -161,11 +147,7 @@ impl Measured {
         ensures { IfOk result (λ m. measured m ≡ Shown.unary height_limit op (measured operand)) }
     {
         let height = operand.height;
-        fitted(
-            alloc,
-            Expression::Unary(op, Box::new(alloc, operand.tree)?),
-            height,
-        )
+        fitted(alloc, Expression::Unary(op, operand.tree), height)
     }
 
     /// An operator between its two operands.
@@ -179,11 +161,9 @@ impl Measured {
         ensures { IfOk result (λ m. measured m ≡ Shown.infix_of height_limit op (measured left) (measured right)) }
     {
         let height = left.height.max(right.height);
-        let left = Box::new(alloc, left.tree)?;
-        let right = Box::new(alloc, right.tree)?;
         let tree = match op {
-            Operation::Bool(op) => Expression::Bool(op, left, right),
-            Operation::Binary(op) => Expression::Binary(op, left, right),
+            Operation::Bool(op) => Expression::Bool(op, left.tree, right.tree),
+            Operation::Binary(op) => Expression::Binary(op, left.tree, right.tree),
         };
         fitted(alloc, tree, height)
     }

@@ -41,12 +41,11 @@ impl Parts {
 
     /// These and an expression.
     #[tactic(auto, using(crate::proofs::RowLaws::parts_of_more), unfolding(crate::specs::Shown::with_formatted))]
-    pub fn with_formatted(mut self, alloc: Global, expression: Measured) -> Result<Parts, NoMemory>
+    pub fn with_formatted(mut self, expression: Measured) -> Result<Parts, NoMemory>
         ensures { IfOk result (λ all. parts_in all ≡ Shown.with_formatted (parts_in self) (measured expression)) }
     {
         self.height = self.height.max(expression.height);
-        let expression = Box::new(alloc, expression.tree)?;
-        self.parts.push(FormatPart::Formatted(expression))?;
+        self.parts.push(FormatPart::Formatted(expression.tree))?;
         Ok(self)
     }
 

@@ -41,6 +41,13 @@ blocks_over d ls = if is_deeper d ls then outer ls else ls
 abbrev pub block_with : ℕ → BlockItem → Block → PartialBlock
 block_with d x b = record { depth = d; block = Then x b }
 
+-- the block that stands in so many, if the innermost does
+abbrev pub block_at : ℕ → List PartialBlock → Block
+block_at d ls = if is_at d ls then innermost ls else NoItem
+
+abbrev pub blocks_around : ℕ → List PartialBlock → List PartialBlock
+blocks_around d ls = if is_at d ls then outer ls else ls
+
 abbrev pub with_item : ℕ → BlockItem → List PartialBlock → List PartialBlock
 with_item d x ls = if is_at d ls then block_with d x (innermost ls) ∷ outer ls else block_with d x NoItem ∷ ls
 

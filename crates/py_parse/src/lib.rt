@@ -8,6 +8,7 @@ mod blocks;
 mod content;
 mod fault;
 mod laws;
+mod list;
 mod nest;
 mod parser;
 mod partial_block;

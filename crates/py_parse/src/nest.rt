@@ -11,6 +11,7 @@ ghost use Rattle.py_syntax.specs.Modules.{AreItems, module_lines, SpellsModule};
 ghost use Rattle.py_parse.specs.Kept.{nest_in};
 ghost use Rattle.py_parse.specs.Nesting;
 
+use crate::list::push;
 use crate::partial_block::PartialBlocks;
 use port_io::NoMemory;
 use py_syntax::{BlockItem, BodyLine, Content, Header, Module, ModuleItem, ModuleLine, PlacedLine};
@@ -107,8 +108,7 @@ impl Nest {
         } = line;
         let block = self.blocks.take_under(alloc, depth);
         if depth == 0 {
-            self.items.push(module_item_of(number, content, block))?;
-            Ok(())
+            push(&mut self.items, module_item_of(number, content, block))
         } else {
             self.blocks
                 .put(alloc, depth, item_of(number, content, block))

@@ -5,6 +5,7 @@ ghost use Rattle.py_syntax.specs.BlockTrees.{BlockItem, view_item, block_of};
 ghost use Rattle.py_parse.specs.Kept.{blocks_in};
 ghost use Rattle.py_parse.specs.Nesting;
 
+use crate::list::push;
 use port_io::NoMemory;
 use py_syntax::BlockItem;
 use std::alloc::Global;
@@ -82,18 +83,25 @@ impl PartialBlocks {
         }
     }
 
-    /// Puts an item in front of its block.
-    #[tactic(auto, using(crate::proofs::RowLaws::reverse_more))]
-    pub fn put(&mut self, alloc: Global, depth: u32, item: BlockItem) -> Result<(), NoMemory>
-        ensures { OnOk result (blocks_in self.new ≡ Nesting.with_item depth (view_item item) (blocks_in self.old)) }
+    /// The items of the block of a line that stands in so many blocks, if some of its lines have been read.
+    fn take_at(&mut self, alloc: Global, depth: u32) -> Vec<BlockItem>
+        ensures block { block_of (reverse result.items) ≡ Nesting.block_at depth (blocks_in self.old) }
+        ensures blocks { blocks_in self.new ≡ Nesting.blocks_around depth (blocks_in self.old) }
     {
-        let mut items = if self.is_at(depth) {
+        if self.is_at(depth) {
             self.pop(alloc)
         } else {
             Vec::new(alloc)
-        };
-        items.push(item)?;
-        self.blocks.push(PartialBlock { depth, items })?;
-        Ok(())
+        }
+    }
+
+    /// Puts an item in front of its block.
+    #[tactic(auto, using(crate::proofs::RowLaws::reverse_more, crate::proofs::RowLaws::with_item_parts))]
+    pub fn put(&mut self, alloc: Global, depth: u32, item: BlockItem) -> Result<(), NoMemory>
+        ensures { OnOk result (blocks_in self.new ≡ Nesting.with_item depth (view_item item) (blocks_in self.old)) }
+    {
+        let mut items = self.take_at(alloc, depth);
+        push(&mut items, item)?;
+        push(&mut self.blocks, PartialBlock { depth, items })
     }
 }

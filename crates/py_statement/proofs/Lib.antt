@@ -7,3 +7,4 @@ pub mod PlainLaws
 pub mod HeaderLaws
 pub mod HeightLaws
 pub mod LineLaws
+pub mod Taken

@@ -2,3 +2,4 @@ pub mod Kept
 pub mod Words
 pub mod Reading
 pub mod Lines
+pub mod Lists

@@ -28,11 +28,11 @@ use Rattle.py_statement.specs.declared.method.Called.TheVariants as called
 
 -- ---- lists of a known length
 
-abbrev pub one_of : List Tree → Option Tree
+abbrev pub one_of : {A : Type 0} → List A → Option A
 one_of (e ∷ []) = Some e
 one_of _ = None
 
-abbrev pub first_of : List Tree → Option (Tree × List Tree)
+abbrev pub first_of : {A : Type 0} → List A → Option (A × List A)
 first_of [] = None
 first_of (e ∷ es) = Some (e, es)
 
@@ -103,8 +103,11 @@ unfoldable pub assigned_of : ℕ → Tree → ℕ → List Token → Option (Sta
 assigned_of limit (Name n) h ts = assigned_name_of limit n ts
 assigned_of limit t h ts = assigned_value_of limit t h ts
 
+abbrev pub augmented_name_of : ℕ → List ℕ → BinOp → List Token → Option (Statement × ℕ)
+augmented_name_of limit n op ts = made (of_one (AugmentedAssign n op)) (whole_value_of limit ts)
+
 unfoldable pub augmented_of : ℕ → Tree → BinOp → List Token → Option (Statement × ℕ)
-augmented_of limit (Name n) op ts = made (of_one (AugmentedAssign n op)) (whole_value_of limit ts)
+augmented_of limit (Name n) op ts = augmented_name_of limit n op ts
 augmented_of limit t op ts = None
 
 abbrev pub logger_by : ℕ → Tree → List ℕ → ℕ → Option (Logger × ℕ)

@@ -4,6 +4,7 @@ ghost use Rattle.std.specs.Prelude.{◌≡◌, false, List, map, Some, None, Mat
 ghost use Rattle.py_syntax.specs.ExpressionTrees.{view};
 ghost use Rattle.py_syntax.specs.StatementTrees.{view_span};
 ghost use Rattle.py_syntax.specs.StatementForms;
+ghost use Rattle.py_statement.specs.Lists;
 ghost use Rattle.py_statement.specs.Reading;
 
 use py_syntax::{Const, Expression, FaultKind, Span};
@@ -30,16 +31,16 @@ pub fn kind(tree: &Expression) -> Option<FaultKind>
 }
 
 /// The only element of a list.
-pub fn one(mut list: Vec<Expression>) -> Option<Expression>
-    ensures { MatchOption result (Reading.one_of (map view list.items) ≡ None) (λ x. Reading.one_of (map view list.items) ≡ Some (view x)) }
+pub fn one<T: Drop>(mut list: Vec<T>) -> Option<T>
+    ensures { MatchOption result (Reading.one_of list.items ≡ None) (λ x. Reading.one_of list.items ≡ Some x) }
 {
     let only = list.pop()?;
     if list.is_empty() { Some(only) } else { None }
 }
 
 /// The first element of a list, and the others.
-pub fn first(mut list: Vec<Expression>) -> Option<(Expression, Vec<Expression>)>
-    ensures { MatchOption result (Reading.first_of (map view list.items) ≡ None) (λ x. Reading.first_of (map view list.items) ≡ Some (view x.0, map view x.1.items)) }
+pub fn first<T: Drop>(mut list: Vec<T>) -> Option<(T, Vec<T>)>
+    ensures { MatchOption result (Reading.first_of list.items ≡ None) (λ x. Reading.first_of list.items ≡ Some (x.0, x.1.items)) }
 {
     if list.is_empty() {
         return None;
@@ -48,21 +49,42 @@ pub fn first(mut list: Vec<Expression>) -> Option<(Expression, Vec<Expression>)>
     Some((first, list))
 }
 
-/// The range of one to three bounds.
-pub fn range(mut list: Vec<Expression>) -> Option<Span>
-    ensures { MatchOption result (Reading.range_of (map view list.items) ≡ None) (λ x. Reading.range_of (map view list.items) ≡ Some (view_span x)) }
+/// One to three of a kind.
+#[derive(Drop)]
+pub enum Few<T> {
+    One(T),
+    Two(T, T),
+    Three(T, T, T),
+}
+
+/// The elements of a list of one to three.
+fn one_to_three<T: Drop>(mut list: Vec<T>) -> Option<Few<T>>
+    ensures { MatchOption result (Lists.few_of list.items ≡ None) (λ x. Lists.few_of list.items ≡ Some x) }
 {
     let last = list.pop()?;
     let Some(second) = list.pop() else {
-        return Some(Span::Stop(last));
+        return Some(Few::One(last));
     };
     let Some(first) = list.pop() else {
-        return Some(Span::StartStop(second, last));
+        return Some(Few::Two(second, last));
     };
     if list.is_empty() {
-        Some(Span::StartStopStep(first, second, last))
+        Some(Few::Three(first, second, last))
     } else {
         None
+    }
+}
+
+/// The range of one to three bounds.
+#[tactic(auto, using(crate::proofs::Taken::range_seen))]
+pub fn range(list: Vec<Expression>) -> Option<Span>
+    ensures { MatchOption result (Reading.range_of (map view list.items) ≡ None) (λ x. Reading.range_of (map view list.items) ≡ Some (view_span x)) }
+{
+    match one_to_three(list) {
+        Some(Few::One(stop)) => Some(Span::Stop(stop)),
+        Some(Few::Two(start, stop)) => Some(Span::StartStop(start, stop)),
+        Some(Few::Three(start, stop, step)) => Some(Span::StartStopStep(start, stop, step)),
+        None => None,
     }
 }
 

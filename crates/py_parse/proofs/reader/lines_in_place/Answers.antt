@@ -1,6 +1,7 @@
-use Rattle.std.proofs.Common.{ap, ◌∙◌}
+use Rattle.std.proofs.Common.{[], ◌∷◌, map, ap, ◌∙◌}
+use Rattle.std.proofs.lemmas.List.{map-append}
 use Rattle.std.proofs.lemmas.Result.{err_from_is_err_and}
-use Rattle.py_syntax.specs.Outline.{word_of}
+use Rattle.py_syntax.specs.Outline.{word_of, view_placed}
 use Rattle.py_parse.proofs.Steps.{outline_goes, outline_fails, outline_ends}
 use Rattle.py_parse.proofs.reader.lines_in_place.Goals as goal
 
@@ -11,7 +12,8 @@ returns-in_err-inside-in-Some c =
 
 pub lines-preserved : goal.lines-preserved
 lines-preserved c =
-    outline_goes _ _ _ _ _ _ _ _ _ _ _ _ c.in-Some.ensures c.in_ok-inside-in-Some.ensures c.in_ok-all-in-Some.ensures c.in_ok-blocks-in-Some.ensures
+    outline_goes _ _ _ _ _ _ _ _ _ _ _ _ c.in-Some.ensures c.in_ok-inside-in-Some.ensures
+    (ap (map view_placed) c.in_ok-all-in-Some.ensures ∙ map-append view_placed _ (_ ∷ [])) c.in_ok-blocks-in-Some.ensures
     (c.word_of.ensures ∙ ap word_of c.tokens.ensures) c.lines.invariant
 
 pub returns-in-None : goal.returns-in-None
