@@ -70,6 +70,7 @@ fn argument(alloc: Global, tokens: &[Token]) -> Result<((Argument, usize), &[Tok
 {
     let (name, rest) = begin(alloc, tokens)?;
     let ((value, height), rest) = value(alloc, rest)?;
+    let value = Box::into_inner(value);
     Ok(((Argument { name, value }, height), rest))
 }
 

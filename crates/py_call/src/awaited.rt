@@ -5,12 +5,14 @@ ghost use Rattle.std.specs.Prelude.{◌≡◌, codes, Some, None, MatchOption};
 ghost use Rattle.py_syntax.specs.ExpressionTrees.{view};
 ghost use Rattle.py_syntax.specs.StatementTrees.{optional, view_started, view_timed, view_awaited};
 ghost use Rattle.py_phrase.specs.Gives.{Gives};
+ghost use Rattle.py_expression.specs.Boxes.{inside};
 ghost use Rattle.py_call.specs.Reading;
 ghost use Rattle.py_call.specs.Views.{tall, ahead, times_in};
 
 use crate::call::started;
 use crate::tokens::{after_call, after_member, close_of_line};
 use crate::values::{value, whole_primary};
+use py_expression::boxed;
 use py_phrase::{Mark, ReadError, after, after_last, after_name, end_of_line};
 use py_syntax::{Awaited, Expression, Operator, StartedCall, Timed, Token};
 use std::alloc::Global;
@@ -20,8 +22,8 @@ type Times = (Expression, Option<Expression>);
 
 /// A started call, and then `)` at the end of the line, before which a comma may stand.
 #[tactic(auto, unfolding(crate::specs::Reading::closed_start_of))]
-pub fn closed_start(alloc: Global, tokens: &[Token]) -> Result<(StartedCall, usize), ReadError>
-    ensures { Gives (tall view_started) result (Reading.closed_start_of height_limit tokens.now) }
+pub fn closed_start(alloc: Global, tokens: &[Token]) -> Result<(Box<StartedCall>, usize), ReadError>
+    ensures { Gives (tall (inside view_started)) result (Reading.closed_start_of height_limit tokens.now) }
 {
     let (call, rest) = started(alloc, tokens)?;
     close_of_line(rest)?;
@@ -30,44 +32,54 @@ pub fn closed_start(alloc: Global, tokens: &[Token]) -> Result<(StartedCall, usi
 
 /// `cocotb.start(call)`
 #[tactic(auto, unfolding(crate::specs::Reading::awaited_start_of))]
-fn awaited_start(alloc: Global, tokens: &[Token]) -> Result<(Awaited, usize), ReadError>
-    ensures { Gives (tall view_awaited) result (Reading.awaited_start_of height_limit tokens.now) }
+fn awaited_start(alloc: Global, tokens: &[Token]) -> Result<(Box<Awaited>, usize), ReadError>
+    ensures { Gives (tall (inside view_awaited)) result (Reading.awaited_start_of height_limit tokens.now) }
 {
     let Some(rest) = after_member(b"cocotb", b"start", tokens) else {
         return Err(ReadError::Wrong);
     };
     let (call, height) = closed_start(alloc, rest)?;
-    Ok((Awaited::Start(call), height))
+    let awaited = Awaited::Start(Box::into_inner(call));
+    Ok((boxed(alloc, awaited)?, height))
 }
 
 /// An expression before a comma.
 #[tactic(auto, unfolding(crate::specs::Reading::timed_value_of, crate::specs::Reading::before_comma))]
-fn timed_value(alloc: Global, tokens: &[Token]) -> Result<((Timed, usize), &[Token]), ReadError>
-    ensures { Gives (ahead view_timed) result (Reading.timed_value_of height_limit tokens.now) }
+fn timed_value(
+    alloc: Global,
+    tokens: &[Token],
+) -> Result<((Box<Timed>, usize), &[Token]), ReadError>
+    ensures { Gives (ahead (inside view_timed)) result (Reading.timed_value_of height_limit tokens.now) }
 {
     let ((value, height), rest) = value(alloc, tokens)?;
     match after(Mark::Operator(Operator::Comma), rest) {
-        Some(rest) => Ok(((Timed::Value(value), height), rest)),
+        Some(rest) => {
+            let timed = Timed::Value(Box::into_inner(value));
+            Ok(((boxed(alloc, timed)?, height), rest))
+        }
         None => Err(ReadError::Wrong),
     }
 }
 
 /// A started call before a comma.
 #[tactic(auto, unfolding(crate::specs::Reading::timed_call_of, crate::specs::Reading::before_comma))]
-fn timed_call(alloc: Global, tokens: &[Token]) -> Result<((Timed, usize), &[Token]), ReadError>
-    ensures { Gives (ahead view_timed) result (Reading.timed_call_of height_limit tokens.now) }
+fn timed_call(alloc: Global, tokens: &[Token]) -> Result<((Box<Timed>, usize), &[Token]), ReadError>
+    ensures { Gives (ahead (inside view_timed)) result (Reading.timed_call_of height_limit tokens.now) }
 {
     let ((call, height), rest) = started(alloc, tokens)?;
     match after(Mark::Operator(Operator::Comma), rest) {
-        Some(rest) => Ok(((Timed::Call(call), height), rest)),
+        Some(rest) => {
+            let timed = Timed::Call(Box::into_inner(call));
+            Ok(((boxed(alloc, timed)?, height), rest))
+        }
         None => Err(ReadError::Wrong),
     }
 }
 
 /// What `with_timeout` waits for, and the tokens after its comma.
 #[tactic(auto, unfolding(crate::specs::Reading::timed_of))]
-fn timed(alloc: Global, tokens: &[Token]) -> Result<((Timed, usize), &[Token]), ReadError>
-    ensures { Gives (ahead view_timed) result (Reading.timed_of height_limit tokens.now) }
+fn timed(alloc: Global, tokens: &[Token]) -> Result<((Box<Timed>, usize), &[Token]), ReadError>
+    ensures { Gives (ahead (inside view_timed)) result (Reading.timed_of height_limit tokens.now) }
 {
     match timed_value(alloc, tokens) {
         Err(ReadError::Wrong) => timed_call(alloc, tokens),
@@ -95,7 +107,7 @@ fn unit(alloc: Global, tokens: &[Token]) -> Result<(Option<Expression>, usize), 
         Some(rest) => {
             let ((unit, height), rest) = value(alloc, after_name(b"timeout_unit", rest))?;
             close_of_line(rest)?;
-            Ok((Some(unit), height))
+            Ok((Some(Box::into_inner(unit)), height))
         }
         None => {
             close_of_line(tokens)?;
@@ -111,48 +123,49 @@ fn times(alloc: Global, tokens: &[Token]) -> Result<(Times, usize), ReadError>
 {
     let ((time, height), rest) = value(alloc, tokens)?;
     let (unit, unit_height) = unit(alloc, rest)?;
-    Ok(((time, unit), height.max(unit_height)))
+    let times = (Box::into_inner(time), unit);
+    Ok((times, height.max(unit_height)))
 }
 
 /// `with_timeout(value, timeout_time, timeout_unit)`
 #[tactic(auto, unfolding(crate::specs::Reading::with_timeout_of))]
-fn with_timeout(alloc: Global, tokens: &[Token]) -> Result<(Awaited, usize), ReadError>
-    ensures { Gives (tall view_awaited) result (Reading.with_timeout_of height_limit tokens.now) }
+fn with_timeout(alloc: Global, tokens: &[Token]) -> Result<(Box<Awaited>, usize), ReadError>
+    ensures { Gives (tall (inside view_awaited)) result (Reading.with_timeout_of height_limit tokens.now) }
 {
     let Some(rest) = after_call(b"with_timeout", tokens) else {
         return Err(ReadError::Wrong);
     };
     let ((timed, height), rest) = timed(alloc, rest)?;
     let ((time, unit), times_height) = times(alloc, rest)?;
-    Ok((
-        Awaited::WithTimeout(timed, time, unit),
-        height.max(times_height),
-    ))
+    let awaited = Awaited::WithTimeout(Box::into_inner(timed), time, unit);
+    Ok((boxed(alloc, awaited)?, height.max(times_height)))
 }
 
 /// A started call up to the end of the line.
 #[tactic(auto, unfolding(crate::specs::Reading::awaited_call_of))]
-fn awaited_call(alloc: Global, tokens: &[Token]) -> Result<(Awaited, usize), ReadError>
-    ensures { Gives (tall view_awaited) result (Reading.awaited_call_of height_limit tokens.now) }
+fn awaited_call(alloc: Global, tokens: &[Token]) -> Result<(Box<Awaited>, usize), ReadError>
+    ensures { Gives (tall (inside view_awaited)) result (Reading.awaited_call_of height_limit tokens.now) }
 {
     let ((call, height), rest) = started(alloc, tokens)?;
     end_of_line(rest)?;
-    Ok((Awaited::Call(call), height))
+    let awaited = Awaited::Call(Box::into_inner(call));
+    Ok((boxed(alloc, awaited)?, height))
 }
 
 /// A primary up to the end of the line.
 #[tactic(auto, unfolding(crate::specs::Reading::awaited_value_of))]
-fn awaited_value(alloc: Global, tokens: &[Token]) -> Result<(Awaited, usize), ReadError>
-    ensures { Gives (tall view_awaited) result (Reading.awaited_value_of height_limit tokens.now) }
+fn awaited_value(alloc: Global, tokens: &[Token]) -> Result<(Box<Awaited>, usize), ReadError>
+    ensures { Gives (tall (inside view_awaited)) result (Reading.awaited_value_of height_limit tokens.now) }
 {
     let (value, height) = whole_primary(alloc, tokens)?;
-    Ok((Awaited::Value(value), height))
+    let awaited = Awaited::Value(Box::into_inner(value));
+    Ok((boxed(alloc, awaited)?, height))
 }
 
 /// `with_timeout` or a started call.
 #[tactic(auto, unfolding(crate::specs::Reading::timeout_or_call_of))]
-fn timeout_or_call(alloc: Global, tokens: &[Token]) -> Result<(Awaited, usize), ReadError>
-    ensures { Gives (tall view_awaited) result (Reading.timeout_or_call_of height_limit tokens.now) }
+fn timeout_or_call(alloc: Global, tokens: &[Token]) -> Result<(Box<Awaited>, usize), ReadError>
+    ensures { Gives (tall (inside view_awaited)) result (Reading.timeout_or_call_of height_limit tokens.now) }
 {
     match with_timeout(alloc, tokens) {
         Err(ReadError::Wrong) => awaited_call(alloc, tokens),
@@ -162,8 +175,8 @@ fn timeout_or_call(alloc: Global, tokens: &[Token]) -> Result<(Awaited, usize), 
 
 /// A call up to the end of the line that is no expression.
 #[tactic(auto, unfolding(crate::specs::Reading::calls_of))]
-fn calls(alloc: Global, tokens: &[Token]) -> Result<(Awaited, usize), ReadError>
-    ensures { Gives (tall view_awaited) result (Reading.calls_of height_limit tokens.now) }
+fn calls(alloc: Global, tokens: &[Token]) -> Result<(Box<Awaited>, usize), ReadError>
+    ensures { Gives (tall (inside view_awaited)) result (Reading.calls_of height_limit tokens.now) }
 {
     match awaited_start(alloc, tokens) {
         Err(ReadError::Wrong) => timeout_or_call(alloc, tokens),
@@ -173,8 +186,8 @@ fn calls(alloc: Global, tokens: &[Token]) -> Result<(Awaited, usize), ReadError>
 
 /// What these tokens, which stand behind `await`, stand for, with its height.
 #[tactic(auto, unfolding(crate::specs::Reading::awaited_of))]
-pub fn await_operand(alloc: Global, tokens: &[Token]) -> Result<(Awaited, usize), ReadError>
-    ensures { Gives (tall view_awaited) result (Reading.awaited_of height_limit tokens.now) }
+pub fn await_operand(alloc: Global, tokens: &[Token]) -> Result<(Box<Awaited>, usize), ReadError>
+    ensures { Gives (tall (inside view_awaited)) result (Reading.awaited_of height_limit tokens.now) }
 {
     match awaited_value(alloc, tokens) {
         Err(ReadError::Wrong) => calls(alloc, tokens),

@@ -8,6 +8,7 @@ ghost use Rattle.py_syntax.specs.CallForms;
 ghost use Rattle.py_syntax.specs.CallForms.{in_order, starts_clock};
 ghost use Rattle.py_phrase.specs.Gives.{Gives};
 ghost use Rattle.py_call.specs.Reading;
+ghost use Rattle.py_expression.specs.Boxes.{inside};
 ghost use Rattle.py_expression.specs.Kept.{measured};
 ghost use Rattle.py_call.specs.Views.{tall, ahead, arguments_in};
 
@@ -15,7 +16,7 @@ use crate::arguments::{Arguments, argument_list};
 use crate::tokens::{call_at, is_end};
 use crate::values::within;
 use port_io::Name;
-use py_expression::{Measured, primary, split};
+use py_expression::{Measured, boxed, primary, split};
 use py_phrase::{Mark, ReadError, after};
 use py_syntax::{Argument, Bracket, Expression, StartedCall, Token};
 use std::alloc::Global;
@@ -71,14 +72,15 @@ fn is_clock_start(list: &[Argument]) -> bool
 /// The call of a function with these arguments, if the call ends before these tokens.
 #[tactic(auto, unfolding(crate::specs::Reading::function_call_by))]
 fn called(
+    alloc: Global,
     name: Name,
     arguments: Arguments,
     rest: &[Token],
-) -> Result<((StartedCall, usize), &[Token]), ReadError>
-    ensures { Gives (ahead view_started) result (Reading.function_call_by name (arguments_in arguments, rest.now)) }
+) -> Result<((Box<StartedCall>, usize), &[Token]), ReadError>
+    ensures { Gives (ahead (inside view_started)) result (Reading.function_call_by name (arguments_in arguments, rest.now)) }
 {
     if is_in_order(&arguments.list) && is_end(rest) {
-        let call = StartedCall::Function(name, arguments.list);
+        let call = boxed(alloc, StartedCall::Function(name, arguments.list))?;
         Ok(((call, arguments.height), rest))
     } else {
         Err(ReadError::Wrong)
@@ -90,21 +92,21 @@ fn called(
 fn function_call(
     alloc: Global,
     tokens: &[Token],
-) -> Result<((StartedCall, usize), &[Token]), ReadError>
-    ensures { Gives (ahead view_started) result (Reading.function_call_of height_limit tokens.now) }
+) -> Result<((Box<StartedCall>, usize), &[Token]), ReadError>
+    ensures { Gives (ahead (inside view_started)) result (Reading.function_call_of height_limit tokens.now) }
 {
     let Some((name, rest)) = call_at(tokens) else {
         return Err(ReadError::Wrong);
     };
     let name = Name::of(alloc, name.bytes())?;
     let (arguments, rest) = argument_list(alloc, rest)?;
-    called(name, arguments, rest)
+    called(alloc, name, arguments, rest)
 }
 
 /// The object of which a tree is the attribute of this name.
 #[tactic(auto, unfolding(crate::specs::Reading::owner_of))]
-fn owner(tree: Expression, wanted: &[u8]) -> Option<Expression>
-    ensures { MatchOption result (Reading.owner_of wanted.now (view tree) ≡ None) (λ e. Reading.owner_of wanted.now (view tree) ≡ Some (view e)) }
+fn owner(tree: Expression, wanted: &[u8]) -> Option<Box<Expression>>
+    ensures { MatchOption result (Reading.owner_of wanted.now (view tree) ≡ None) (λ e. Reading.owner_of wanted.now (view tree) ≡ Some (view e.value)) }
 {
     match split(tree) {
         Some((base, name)) if name.bytes() == wanted => Some(base),
@@ -115,16 +117,17 @@ fn owner(tree: Expression, wanted: &[u8]) -> Option<Expression>
 /// The start of this clock with these arguments.
 #[tactic(auto, unfolding(crate::specs::Reading::clock_start_by))]
 fn clock_started(
-    clock: (Expression, usize),
+    alloc: Global,
+    clock: (Box<Expression>, usize),
     arguments: Arguments,
     rest: &[Token],
-) -> Result<((StartedCall, usize), &[Token]), ReadError>
-    ensures { Gives (ahead view_started) result (Reading.clock_start_by (tall view clock) (arguments_in arguments, rest.now)) }
+) -> Result<((Box<StartedCall>, usize), &[Token]), ReadError>
+    ensures { Gives (ahead (inside view_started)) result (Reading.clock_start_by (tall (inside view) clock) (arguments_in arguments, rest.now)) }
 {
     if is_clock_start(&arguments.list) {
         let height = clock.1.max(arguments.height);
-        let call = StartedCall::Clock(clock.0, arguments.list);
-        Ok(((call, height), rest))
+        let call = StartedCall::Clock(Box::into_inner(clock.0), arguments.list);
+        Ok(((boxed(alloc, call)?, height), rest))
     } else {
         Err(ReadError::Wrong)
     }
@@ -136,8 +139,8 @@ fn clock_start_from<'a>(
     alloc: Global,
     callee: Measured,
     tokens: &'a [Token],
-) -> Result<((StartedCall, usize), &'a [Token]), ReadError>
-    ensures { Gives (ahead view_started) result (Reading.clock_start_from height_limit (measured callee, tokens.now)) }
+) -> Result<((Box<StartedCall>, usize), &'a [Token]), ReadError>
+    ensures { Gives (ahead (inside view_started)) result (Reading.clock_start_from height_limit (measured callee, tokens.now)) }
 {
     let height = callee.height;
     let (Some(clock), Some(rest)) = (
@@ -146,8 +149,9 @@ fn clock_start_from<'a>(
     ) else {
         return Err(ReadError::Wrong);
     };
+    let clock = within(alloc, clock, height, 1)?;
     let (arguments, rest) = argument_list(alloc, rest)?;
-    clock_started(within(clock, height, 1), arguments, rest)
+    clock_started(alloc, clock, arguments, rest)
 }
 
 /// The start of a clock at the front.
@@ -155,8 +159,8 @@ fn clock_start_from<'a>(
 fn clock_start(
     alloc: Global,
     tokens: &[Token],
-) -> Result<((StartedCall, usize), &[Token]), ReadError>
-    ensures { Gives (ahead view_started) result (Reading.clock_start_of height_limit tokens.now) }
+) -> Result<((Box<StartedCall>, usize), &[Token]), ReadError>
+    ensures { Gives (ahead (inside view_started)) result (Reading.clock_start_of height_limit tokens.now) }
 {
     let (callee, rest) = primary(alloc, tokens)?;
     clock_start_from(alloc, callee, rest)
@@ -168,8 +172,8 @@ fn clock_start(
 pub fn started(
     alloc: Global,
     tokens: &[Token],
-) -> Result<((StartedCall, usize), &[Token]), ReadError>
-    ensures { Gives (ahead view_started) result (Reading.started_of height_limit tokens.now) }
+) -> Result<((Box<StartedCall>, usize), &[Token]), ReadError>
+    ensures { Gives (ahead (inside view_started)) result (Reading.started_of height_limit tokens.now) }
 {
     match function_call(alloc, tokens) {
         Err(ReadError::Wrong) => clock_start(alloc, tokens),

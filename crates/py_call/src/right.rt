@@ -6,6 +6,7 @@ ghost use Rattle.py_syntax.specs.declared.call.Argument as argument;
 ghost use Rattle.py_syntax.specs.ExpressionTrees.{view};
 ghost use Rattle.py_syntax.specs.StatementTrees.{view_right, view_argument};
 ghost use Rattle.py_phrase.specs.Gives.{Gives};
+ghost use Rattle.py_expression.specs.Boxes.{inside};
 ghost use Rattle.py_call.specs.Reading;
 ghost use Rattle.py_call.specs.Words;
 ghost use Rattle.py_call.specs.Views.{tall, values_ahead};
@@ -15,6 +16,7 @@ use crate::awaited::{await_operand, closed_start};
 use crate::tokens::{after_call, after_member, after_text};
 use crate::values::whole_value;
 use port_io::NoMemory;
+use py_expression::boxed;
 use py_phrase::{Mark, ReadError, after, after_last, end_of_line};
 use py_syntax::{Argument, Bracket, Expression, Keyword, RightSide, Token};
 use std::alloc::Global;
@@ -75,14 +77,15 @@ fn two(mut list: Vec<Expression>) -> Option<(Expression, Expression)>
 
 /// `random.randint(low, high)`, behind the bracket.
 #[tactic(auto, unfolding(crate::specs::Reading::random_int_of))]
-fn random_int(alloc: Global, tokens: &[Token]) -> Result<(RightSide, usize), ReadError>
-    ensures { Gives (tall view_right) result (Reading.random_int_of height_limit tokens.now) }
+fn random_int(alloc: Global, tokens: &[Token]) -> Result<(Box<RightSide>, usize), ReadError>
+    ensures { Gives (tall (inside view_right)) result (Reading.random_int_of height_limit tokens.now) }
 {
     let ((list, height), rest) = value_list(alloc, tokens)?;
     match two(list) {
         Some((low, high)) => {
+            let side = boxed(alloc, RightSide::RandomInt(low, high))?;
             end_of_line(rest)?;
-            Ok((RightSide::RandomInt(low, high), height))
+            Ok((side, height))
         }
         None => Err(ReadError::Wrong),
     }
@@ -101,8 +104,8 @@ fn after_new(tokens: &[Token]) -> Option<&[Token]>
 
 /// `Event()` or `Lock()`, behind the bracket.
 #[tactic(auto, unfolding(crate::specs::Reading::new_of))]
-fn new(side: RightSide, tokens: &[Token]) -> Result<(RightSide, usize), ReadError>
-    ensures { Gives (tall view_right) result (Reading.new_of (view_right side) tokens.now) }
+fn new(side: Box<RightSide>, tokens: &[Token]) -> Result<(Box<RightSide>, usize), ReadError>
+    ensures { Gives (tall (inside view_right)) result (Reading.new_of (view_right side.value) tokens.now) }
 {
     match after_new(tokens) {
         Some(rest) => {
@@ -115,26 +118,28 @@ fn new(side: RightSide, tokens: &[Token]) -> Result<(RightSide, usize), ReadErro
 
 /// `cocotb.start_soon(call)`, behind the bracket.
 #[tactic(auto, unfolding(crate::specs::Reading::start_soon_of))]
-fn start_soon(alloc: Global, tokens: &[Token]) -> Result<(RightSide, usize), ReadError>
-    ensures { Gives (tall view_right) result (Reading.start_soon_of height_limit tokens.now) }
+fn start_soon(alloc: Global, tokens: &[Token]) -> Result<(Box<RightSide>, usize), ReadError>
+    ensures { Gives (tall (inside view_right)) result (Reading.start_soon_of height_limit tokens.now) }
 {
     let (call, height) = closed_start(alloc, tokens)?;
-    Ok((RightSide::StartSoon(call), height))
+    let side = RightSide::StartSoon(Box::into_inner(call));
+    Ok((boxed(alloc, side)?, height))
 }
 
 /// An expression.
 #[tactic(auto, unfolding(crate::specs::Reading::right_value_of))]
-fn right_value(alloc: Global, tokens: &[Token]) -> Result<(RightSide, usize), ReadError>
-    ensures { Gives (tall view_right) result (Reading.right_value_of height_limit tokens.now) }
+fn right_value(alloc: Global, tokens: &[Token]) -> Result<(Box<RightSide>, usize), ReadError>
+    ensures { Gives (tall (inside view_right)) result (Reading.right_value_of height_limit tokens.now) }
 {
     let (value, height) = whole_value(alloc, tokens)?;
-    Ok((RightSide::Value(value), height))
+    let side = RightSide::Value(Box::into_inner(value));
+    Ok((boxed(alloc, side)?, height))
 }
 
 /// A right side that begins with no `await`.
 #[tactic(auto, unfolding(crate::specs::Reading::call_or_value_of))]
-fn call_or_value(alloc: Global, tokens: &[Token]) -> Result<(RightSide, usize), ReadError>
-    ensures { Gives (tall view_right) result (Reading.call_or_value_of height_limit tokens.now) }
+fn call_or_value(alloc: Global, tokens: &[Token]) -> Result<(Box<RightSide>, usize), ReadError>
+    ensures { Gives (tall (inside view_right)) result (Reading.call_or_value_of height_limit tokens.now) }
 {
     if let Some(rest) = after_member(b"cocotb", b"start_soon", tokens) {
         return start_soon(alloc, rest);
@@ -143,23 +148,24 @@ fn call_or_value(alloc: Global, tokens: &[Token]) -> Result<(RightSide, usize), 
         return random_int(alloc, rest);
     }
     if let Some(rest) = after_call(b"Event", tokens) {
-        return new(RightSide::Event, rest);
+        return new(boxed(alloc, RightSide::Event)?, rest);
     }
     if let Some(rest) = after_call(b"Lock", tokens) {
-        return new(RightSide::Lock, rest);
+        return new(boxed(alloc, RightSide::Lock)?, rest);
     }
     right_value(alloc, tokens)
 }
 
 /// The right side that these tokens are, with its height.
 #[tactic(auto, unfolding(crate::specs::Reading::right_of))]
-pub fn right_side(alloc: Global, tokens: &[Token]) -> Result<(RightSide, usize), ReadError>
-    ensures { Gives (tall view_right) result (Reading.right_of height_limit tokens.now) }
+pub fn right_side(alloc: Global, tokens: &[Token]) -> Result<(Box<RightSide>, usize), ReadError>
+    ensures { Gives (tall (inside view_right)) result (Reading.right_of height_limit tokens.now) }
 {
     match after(Mark::Keyword(Keyword::Await), tokens) {
         Some(rest) => {
             let (awaited, height) = await_operand(alloc, rest)?;
-            Ok((RightSide::Await(awaited), height))
+            let side = RightSide::Await(Box::into_inner(awaited));
+            Ok((boxed(alloc, side)?, height))
         }
         None => call_or_value(alloc, tokens),
     }

@@ -1,14 +1,16 @@
 //! Expressions within the limit on their height.
 
 ghost use Rattle.py_expression.specs.Shown.{height_limit};
-ghost use Rattle.std.specs.Prelude.{◌≡◌, ◌≤◌};
+ghost use Rattle.std.specs.Prelude.{◌≡◌, ◌≤◌, IfOk};
 ghost use Rattle.py_syntax.specs.ExpressionTrees.{view};
 ghost use Rattle.py_phrase.specs.Gives.{Gives};
+ghost use Rattle.py_expression.specs.Boxes.{inside};
 ghost use Rattle.py_call.specs.Kept;
 ghost use Rattle.py_call.specs.Reading;
 ghost use Rattle.py_call.specs.Views.{tall, ahead};
 
-use py_expression::{expression, primary};
+use port_io::NoMemory;
+use py_expression::{boxed, expression, primary};
 use py_phrase::{ReadError, end_of_line};
 use py_syntax::{Const, Expression, Token};
 use std::alloc::Global;
@@ -19,30 +21,40 @@ pub const LIMIT: usize = 64;
 /// A tree of this height, from which so many attributes were taken that don't count, and its height without them. Where that is over
 /// the limit, another tree, and a height over the limit.
 #[tactic(auto, unfolding(crate::specs::Kept::lowered))]
-pub fn within(tree: Expression, height: usize, attributes: usize) -> (Expression, usize)
+pub fn within(
+    alloc: Global,
+    tree: Box<Expression>,
+    height: usize,
+    attributes: usize,
+) -> Result<(Box<Expression>, usize), NoMemory>
     requires { attributes ≤ 2 }
-    ensures { tall view result ≡ Kept.lowered height_limit attributes (view tree) height }
+    ensures { IfOk result (λ x. tall (inside view) x ≡ Kept.lowered height_limit attributes (view tree.value) height) }
 {
     if height <= LIMIT + attributes {
-        (tree, height.saturating_sub(attributes))
+        Ok((tree, height.saturating_sub(attributes)))
     } else {
-        (Expression::Constant(Const::Absent), LIMIT + 1)
+        let nothing = boxed(alloc, Expression::Constant(Const::Absent))?;
+        Ok((nothing, LIMIT + 1))
     }
 }
 
 /// The expression at the front with its height, and the tokens after it.
 #[tactic(auto, unfolding(crate::specs::Reading::value_of))]
-pub fn value(alloc: Global, tokens: &[Token]) -> Result<((Expression, usize), &[Token]), ReadError>
-    ensures { Gives (ahead view) result (Reading.value_of height_limit tokens.now) }
+pub fn value(
+    alloc: Global,
+    tokens: &[Token],
+) -> Result<((Box<Expression>, usize), &[Token]), ReadError>
+    ensures { Gives (ahead (inside view)) result (Reading.value_of height_limit tokens.now) }
 {
     let (found, rest) = expression(alloc, tokens)?;
-    Ok((within(found.tree, found.height, 0), rest))
+    let tree = boxed(alloc, found.tree)?;
+    Ok((within(alloc, tree, found.height, 0)?, rest))
 }
 
 /// The expression that these tokens are, with its height.
 #[tactic(auto, unfolding(crate::specs::Reading::whole_value_of))]
-pub fn whole_value(alloc: Global, tokens: &[Token]) -> Result<(Expression, usize), ReadError>
-    ensures { Gives (tall view) result (Reading.whole_value_of height_limit tokens.now) }
+pub fn whole_value(alloc: Global, tokens: &[Token]) -> Result<(Box<Expression>, usize), ReadError>
+    ensures { Gives (tall (inside view)) result (Reading.whole_value_of height_limit tokens.now) }
 {
     let (found, rest) = value(alloc, tokens)?;
     end_of_line(rest)?;
@@ -51,10 +63,11 @@ pub fn whole_value(alloc: Global, tokens: &[Token]) -> Result<(Expression, usize
 
 /// The primary that these tokens are, with its height.
 #[tactic(auto, unfolding(crate::specs::Reading::whole_primary_of))]
-pub fn whole_primary(alloc: Global, tokens: &[Token]) -> Result<(Expression, usize), ReadError>
-    ensures { Gives (tall view) result (Reading.whole_primary_of height_limit tokens.now) }
+pub fn whole_primary(alloc: Global, tokens: &[Token]) -> Result<(Box<Expression>, usize), ReadError>
+    ensures { Gives (tall (inside view)) result (Reading.whole_primary_of height_limit tokens.now) }
 {
     let (found, rest) = primary(alloc, tokens)?;
+    let tree = boxed(alloc, found.tree)?;
     end_of_line(rest)?;
-    Ok(within(found.tree, found.height, 0))
+    Ok(within(alloc, tree, found.height, 0)?)
 }

@@ -7,3 +7,4 @@ pub mod Spots
 pub mod Reading
 pub mod Ends
 pub mod Attributes
+pub mod Boxes

@@ -9,11 +9,11 @@ use py_syntax::Expression;
 
 /// An attribute's object and name (the language reference, 6.3.1). None where the tree is no attribute.
 #[tactic(auto, unfolding(crate::specs::Attributes::split_of))]
-pub fn split(tree: Expression) -> Option<(Expression, Name)>
-    ensures { MatchOption result (split_of (view tree) ≡ None) (λ x. split_of (view tree) ≡ Some (view x.0, x.1)) }
+pub fn split(tree: Expression) -> Option<(Box<Expression>, Name)>
+    ensures { MatchOption result (split_of (view tree) ≡ None) (λ x. split_of (view tree) ≡ Some (view x.0.value, x.1)) }
 {
     match tree {
-        Expression::Attribute(base, name) => Some((Box::into_inner(base), name)),
+        Expression::Attribute(base, name) => Some((base, name)),
         _ => None,
     }
 }

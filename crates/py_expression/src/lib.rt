@@ -7,6 +7,7 @@ mod begin;
 mod close;
 mod follow;
 mod frame;
+mod heap;
 mod laws;
 mod measured;
 mod parts;
@@ -14,6 +15,7 @@ mod reader;
 mod tokens;
 
 pub use attribute::split;
+pub use heap::boxed;
 pub use laws::one_expression;
 pub use measured::{KEPT, Measured};
 pub use reader::{expression, primary};

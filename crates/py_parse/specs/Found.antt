@@ -1,5 +1,5 @@
 -- What a call gave, against what reading gives.
-use Rattle.std.specs.Prelude.{◌≡◌, List, map, Result, Ok, Err}
+use Rattle.std.specs.Prelude.{◌≡◌, List, map, Result, Ok, Err, Box}
 use Rattle.std.proofs.Common.{Vec, Global}
 use Rattle.py_syntax.specs.Line.{Line}
 use Rattle.py_syntax.specs.Outline.{Placed, view_placed, view_content, Refusal, bad_line, no_block, too_deep, Refused, at_start}
@@ -52,8 +52,8 @@ IsRefused r (Err e) = IsFault r e
 
 -- What the code gave for a line, against what is read of it.
 
-abbrev pub IsSaid : Result code.Content ContentFault → Said → Type 0
-IsSaid (Ok c) said = said ≡ says (view_content c)
+abbrev pub IsSaid : {Z : Type 0} → Result (Box code.Content Z) ContentFault → Said → Type 0
+IsSaid (Ok c) said = said ≡ says (view_content c.value)
 IsSaid (Err content_fault.Nothing) said = said ≡ nothing
 IsSaid (Err content_fault.TooHigh) said = said ≡ high
 IsSaid (Err content_fault.OutOfMemory) said = Unit {0}

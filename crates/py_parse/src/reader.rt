@@ -22,7 +22,7 @@ const DEEPEST: usize = 32;
 fn placed(
     blocks: Blocks,
     line: &LogicalLine,
-    said: Result<Content, ContentFault>,
+    said: Result<Box<Content>, ContentFault>,
     has_block: bool,
 ) -> Result<(Blocks, PlacedLine), PyFault>
     ensures { (said_is : Reading.Said) → IsSaid said said_is → IsOutcome line.now result (Reading.outcome_in line.now blocks said_is has_block) }
@@ -41,6 +41,7 @@ fn placed(
     match content {
         Some(content) if depth <= DEEPEST => {
             let depth = depth as u32;
+            let content = Box::into_inner(content);
             Ok((
                 blocks,
                 PlacedLine {

@@ -5,6 +5,7 @@ ghost use Rattle.std.specs.Prelude.{◌≡◌, List, [], ◌∷◌, ◌++◌, ma
 ghost use Rattle.py_syntax.specs.ExpressionTrees.{view};
 ghost use Rattle.py_syntax.specs.StatementTrees.{view_caught, view_span, view_header};
 ghost use Rattle.py_phrase.specs.Gives.{Gives};
+ghost use Rattle.py_expression.specs.Boxes.{inside};
 ghost use Rattle.py_call.specs.Chosen.{made};
 ghost use Rattle.py_call.specs.Views.{tall};
 ghost use Rattle.py_statement.specs.Reading;
@@ -14,14 +15,15 @@ use crate::tree::{kind, range};
 use crate::words::{colon_of_line, kind_at};
 use port_io::{Name, NoMemory};
 use py_call::{after_call, value, value_list};
+use py_expression::boxed;
 use py_phrase::{Mark, ReadError, after, constants, name_at};
 use py_syntax::{Bracket, Caught, Expression, FaultKind, Header, Keyword, Span, Token};
 use std::alloc::Global;
 
 /// An expression and `:` at the end of the line.
 #[tactic(auto, unfolding(crate::specs::Reading::test_of))]
-pub fn test(alloc: Global, tokens: &[Token]) -> Result<(Expression, usize), ReadError>
-    ensures { Gives (tall view) result (Reading.test_of height_limit tokens.now) }
+pub fn test(alloc: Global, tokens: &[Token]) -> Result<(Box<Expression>, usize), ReadError>
+    ensures { Gives (tall (inside view)) result (Reading.test_of height_limit tokens.now) }
 {
     let (found, rest) = value(alloc, tokens)?;
     colon_of_line(rest)?;
@@ -29,8 +31,12 @@ pub fn test(alloc: Global, tokens: &[Token]) -> Result<(Expression, usize), Read
 }
 
 /// What a `for` goes over, of this height, where `:` alone follows.
-fn before_colon(span: Span, height: usize, rest: &[Token]) -> Result<(Span, usize), ReadError>
-    ensures { Gives (tall view_span) result (made (λ _. (view_span span, height)) (colon_of rest.now)) }
+fn before_colon(
+    span: Box<Span>,
+    height: usize,
+    rest: &[Token],
+) -> Result<(Box<Span>, usize), ReadError>
+    ensures { Gives (tall (inside view_span)) result (made (λ _. (view_span span.value, height)) (colon_of rest.now)) }
 {
     match colon_of_line(rest) {
         Ok(()) => Ok((span, height)),
@@ -40,29 +46,29 @@ fn before_colon(span: Span, height: usize, rest: &[Token]) -> Result<(Span, usiz
 
 /// `range(..):`, behind the `(`.
 #[tactic(auto, unfolding(crate::specs::Reading::range_span_of))]
-fn range_span(alloc: Global, tokens: &[Token]) -> Result<(Span, usize), ReadError>
-    ensures { Gives (tall view_span) result (Reading.range_span_of height_limit tokens.now) }
+fn range_span(alloc: Global, tokens: &[Token]) -> Result<(Box<Span>, usize), ReadError>
+    ensures { Gives (tall (inside view_span)) result (Reading.range_span_of height_limit tokens.now) }
 {
     let ((list, height), rest) = value_list(alloc, tokens)?;
     match range(list) {
-        Some(span) => before_colon(span, height, rest),
+        Some(span) => before_colon(boxed(alloc, span)?, height, rest),
         None => Err(ReadError::Wrong),
     }
 }
 
 /// `[constant, ..]:`, behind the `[`.
 #[tactic(auto, unfolding(crate::specs::Reading::constants_span_of))]
-fn constants_span(alloc: Global, tokens: &[Token]) -> Result<(Span, usize), ReadError>
-    ensures { Gives (tall view_span) result (Reading.constants_span_of tokens.now) }
+fn constants_span(alloc: Global, tokens: &[Token]) -> Result<(Box<Span>, usize), ReadError>
+    ensures { Gives (tall (inside view_span)) result (Reading.constants_span_of tokens.now) }
 {
     let (list, rest) = constants(alloc, tokens)?;
-    before_colon(Span::Constants(list), 0, rest)
+    before_colon(boxed(alloc, Span::Constants(list))?, 0, rest)
 }
 
 /// Behind `for name in`.
 #[tactic(auto, unfolding(crate::specs::Reading::span_of))]
-fn span(alloc: Global, tokens: &[Token]) -> Result<(Span, usize), ReadError>
-    ensures { Gives (tall view_span) result (Reading.span_of height_limit tokens.now) }
+fn span(alloc: Global, tokens: &[Token]) -> Result<(Box<Span>, usize), ReadError>
+    ensures { Gives (tall (inside view_span)) result (Reading.span_of height_limit tokens.now) }
 {
     if let Some(rest) = after_call(b"range", tokens) {
         return range_span(alloc, rest);
@@ -75,8 +81,8 @@ fn span(alloc: Global, tokens: &[Token]) -> Result<(Span, usize), ReadError>
 
 /// Behind `for`.
 #[tactic(auto, unfolding(crate::specs::Reading::for_of))]
-pub fn for_header(alloc: Global, tokens: &[Token]) -> Result<(Header, usize), ReadError>
-    ensures { Gives (tall view_header) result (Reading.for_of height_limit tokens.now) }
+pub fn for_header(alloc: Global, tokens: &[Token]) -> Result<(Box<Header>, usize), ReadError>
+    ensures { Gives (tall (inside view_header)) result (Reading.for_of height_limit tokens.now) }
 {
     let Some((name, rest)) = name_at(tokens) else {
         return Err(ReadError::Wrong);
@@ -86,7 +92,8 @@ pub fn for_header(alloc: Global, tokens: &[Token]) -> Result<(Header, usize), Re
     };
     let name = Name::of(alloc, name.bytes())?;
     let (span, height) = span(alloc, rest)?;
-    Ok((Header::For(name, span), height))
+    let header = Header::For(name, Box::into_inner(span));
+    Ok((boxed(alloc, header)?, height))
 }
 
 /// These kinds and one more.
@@ -114,8 +121,8 @@ fn kinds(alloc: Global, list: &[Expression]) -> Result<Vec<FaultKind>, ReadError
 
 /// `(kind, ..):`, behind the `(`.
 #[tactic(auto, unfolding(crate::specs::Reading::caught_kinds_of))]
-fn caught_kinds(alloc: Global, tokens: &[Token]) -> Result<Caught, ReadError>
-    ensures { Gives view_caught result (Reading.caught_kinds_of height_limit tokens.now) }
+fn caught_kinds(alloc: Global, tokens: &[Token]) -> Result<Box<Caught>, ReadError>
+    ensures { Gives (inside view_caught) result (Reading.caught_kinds_of height_limit tokens.now) }
 {
     let ((list, _), rest) = value_list(alloc, tokens)?;
     let kinds = kinds(alloc, &list)?;
@@ -123,39 +130,40 @@ fn caught_kinds(alloc: Global, tokens: &[Token]) -> Result<Caught, ReadError>
         return Err(ReadError::Wrong);
     }
     colon_of_line(rest)?;
-    Ok(Caught::Kinds(kinds))
+    Ok(boxed(alloc, Caught::Kinds(kinds))?)
 }
 
 /// `name:`, behind `kind as`.
 #[tactic(auto, unfolding(crate::specs::Reading::as_name_of))]
-fn as_name(alloc: Global, kind: FaultKind, tokens: &[Token]) -> Result<Caught, ReadError>
-    ensures { Gives view_caught result (Reading.as_name_of kind tokens.now) }
+fn as_name(alloc: Global, kind: FaultKind, tokens: &[Token]) -> Result<Box<Caught>, ReadError>
+    ensures { Gives (inside view_caught) result (Reading.as_name_of kind tokens.now) }
 {
     let Some((name, rest)) = name_at(tokens) else {
         return Err(ReadError::Wrong);
     };
     colon_of_line(rest)?;
-    Ok(Caught::As(kind, Name::of(alloc, name.bytes())?))
+    let name = Name::of(alloc, name.bytes())?;
+    Ok(boxed(alloc, Caught::As(kind, name))?)
 }
 
 /// Behind `except` and one kind.
 #[tactic(auto, unfolding(crate::specs::Reading::caught_kind_of))]
-fn caught_kind(alloc: Global, kind: FaultKind, tokens: &[Token]) -> Result<Caught, ReadError>
-    ensures { Gives view_caught result (Reading.caught_kind_of (kind, tokens.now)) }
+fn caught_kind(alloc: Global, kind: FaultKind, tokens: &[Token]) -> Result<Box<Caught>, ReadError>
+    ensures { Gives (inside view_caught) result (Reading.caught_kind_of (kind, tokens.now)) }
 {
     match after(Mark::Keyword(Keyword::As), tokens) {
         Some(rest) => as_name(alloc, kind, rest),
         None => {
             colon_of_line(tokens)?;
-            Ok(Caught::Kind(kind))
+            Ok(boxed(alloc, Caught::Kind(kind))?)
         }
     }
 }
 
 /// What an `except` catches, behind the word.
 #[tactic(auto, unfolding(crate::specs::Reading::caught_of))]
-fn caught(alloc: Global, tokens: &[Token]) -> Result<Caught, ReadError>
-    ensures { Gives view_caught result (Reading.caught_of height_limit tokens.now) }
+fn caught(alloc: Global, tokens: &[Token]) -> Result<Box<Caught>, ReadError>
+    ensures { Gives (inside view_caught) result (Reading.caught_of height_limit tokens.now) }
 {
     if let Some(rest) = after(Mark::Open(Bracket::Round), tokens) {
         return caught_kinds(alloc, rest);
@@ -164,46 +172,49 @@ fn caught(alloc: Global, tokens: &[Token]) -> Result<Caught, ReadError>
         Some((kind, rest)) => caught_kind(alloc, kind, rest),
         None => {
             colon_of_line(tokens)?;
-            Ok(Caught::All)
+            Ok(boxed(alloc, Caught::All)?)
         }
     }
 }
 
 /// Behind `except`.
 #[tactic(auto, unfolding(crate::specs::Reading::except_of))]
-pub fn except_header(alloc: Global, tokens: &[Token]) -> Result<(Header, usize), ReadError>
-    ensures { Gives (tall view_header) result (Reading.except_of height_limit tokens.now) }
+pub fn except_header(alloc: Global, tokens: &[Token]) -> Result<(Box<Header>, usize), ReadError>
+    ensures { Gives (tall (inside view_header)) result (Reading.except_of height_limit tokens.now) }
 {
-    Ok((Header::Except(caught(alloc, tokens)?), 0))
+    let caught = caught(alloc, tokens)?;
+    let header = Header::Except(Box::into_inner(caught));
+    Ok((boxed(alloc, header)?, 0))
 }
 
 /// Behind `else`.
 #[tactic(auto, unfolding(crate::specs::Reading::header_only))]
-pub fn else_header(tokens: &[Token]) -> Result<(Header, usize), ReadError>
-    ensures { Gives (tall view_header) result (Reading.header_only (view_header Header.Else) tokens.now) }
+pub fn else_header(alloc: Global, tokens: &[Token]) -> Result<(Box<Header>, usize), ReadError>
+    ensures { Gives (tall (inside view_header)) result (Reading.header_only (view_header Header.Else) tokens.now) }
 {
     colon_of_line(tokens)?;
-    Ok((Header::Else, 0))
+    Ok((boxed(alloc, Header::Else)?, 0))
 }
 
 /// Behind `try`.
 #[tactic(auto, unfolding(crate::specs::Reading::header_only))]
-pub fn try_header(tokens: &[Token]) -> Result<(Header, usize), ReadError>
-    ensures { Gives (tall view_header) result (Reading.header_only (view_header Header.Try) tokens.now) }
+pub fn try_header(alloc: Global, tokens: &[Token]) -> Result<(Box<Header>, usize), ReadError>
+    ensures { Gives (tall (inside view_header)) result (Reading.header_only (view_header Header.Try) tokens.now) }
 {
     colon_of_line(tokens)?;
-    Ok((Header::Try, 0))
+    Ok((boxed(alloc, Header::Try)?, 0))
 }
 
 /// Behind `async`.
 #[tactic(auto, unfolding(crate::specs::Reading::with_of))]
-pub fn with_header(alloc: Global, tokens: &[Token]) -> Result<(Header, usize), ReadError>
-    ensures { Gives (tall view_header) result (Reading.with_of height_limit tokens.now) }
+pub fn with_header(alloc: Global, tokens: &[Token]) -> Result<(Box<Header>, usize), ReadError>
+    ensures { Gives (tall (inside view_header)) result (Reading.with_of height_limit tokens.now) }
 {
     match after(Mark::Keyword(Keyword::With), tokens) {
         Some(rest) => {
             let (lock, height) = test(alloc, rest)?;
-            Ok((Header::With(lock), height))
+            let header = Header::With(Box::into_inner(lock));
+            Ok((boxed(alloc, header)?, height))
         }
         None => Err(ReadError::Wrong),
     }

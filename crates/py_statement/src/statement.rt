@@ -5,6 +5,7 @@ ghost use Rattle.std.specs.Prelude.{◌≡◌, Some, None};
 ghost use Rattle.py_syntax.specs.ExpressionTrees.{view};
 ghost use Rattle.py_syntax.specs.StatementTrees.{optional, view_statement};
 ghost use Rattle.py_phrase.specs.Gives.{Gives};
+ghost use Rattle.py_expression.specs.Boxes.{inside};
 ghost use Rattle.py_call.specs.Chosen.{ended};
 ghost use Rattle.py_call.specs.Views.{tall};
 ghost use Rattle.py_statement.specs.Reading;
@@ -12,17 +13,18 @@ ghost use Rattle.py_statement.specs.Reading;
 use crate::tree::one;
 use crate::words::kind_at;
 use py_call::{await_operand, right_side, value, value_list, whole_value};
+use py_expression::boxed;
 use py_phrase::{Mark, ReadError, after, end_of_line};
 use py_syntax::{Bracket, Expression, Operator, Statement, Token};
 use std::alloc::Global;
 
 /// A statement of this height, where nothing follows.
 pub fn ending(
-    statement: Statement,
+    statement: Box<Statement>,
     height: usize,
     tokens: &[Token],
-) -> Result<(Statement, usize), ReadError>
-    ensures { Gives (tall view_statement) result (ended (view_statement statement, height) tokens.now) }
+) -> Result<(Box<Statement>, usize), ReadError>
+    ensures { Gives (tall (inside view_statement)) result (ended (view_statement statement.value, height) tokens.now) }
 {
     match end_of_line(tokens) {
         Ok(()) => Ok((statement, height)),
@@ -32,32 +34,38 @@ pub fn ending(
 
 /// A statement of a word alone, behind the word.
 #[tactic(auto, unfolding(crate::specs::Reading::only))]
-pub fn only(statement: Statement, tokens: &[Token]) -> Result<(Statement, usize), ReadError>
-    ensures { Gives (tall view_statement) result (Reading.only (view_statement statement) tokens.now) }
+pub fn only(
+    alloc: Global,
+    statement: Statement,
+    tokens: &[Token],
+) -> Result<(Box<Statement>, usize), ReadError>
+    ensures { Gives (tall (inside view_statement)) result (Reading.only (view_statement statement) tokens.now) }
 {
-    ending(statement, 0, tokens)
+    ending(boxed(alloc, statement)?, 0, tokens)
 }
 
 /// Behind `return`.
 #[tactic(auto, unfolding(crate::specs::Reading::return_of))]
-pub fn returning(alloc: Global, tokens: &[Token]) -> Result<(Statement, usize), ReadError>
-    ensures { Gives (tall view_statement) result (Reading.return_of height_limit tokens.now) }
+pub fn returning(alloc: Global, tokens: &[Token]) -> Result<(Box<Statement>, usize), ReadError>
+    ensures { Gives (tall (inside view_statement)) result (Reading.return_of height_limit tokens.now) }
 {
     if tokens.is_empty() {
-        return Ok((Statement::Return(None), 0));
+        return Ok((boxed(alloc, Statement::Return(None))?, 0));
     }
     let (side, height) = right_side(alloc, tokens)?;
-    Ok((Statement::Return(Some(side)), height))
+    let statement = Statement::Return(Some(Box::into_inner(side)));
+    Ok((boxed(alloc, statement)?, height))
 }
 
 /// One expression and `)` at the end of the line, behind a `(`.
 #[tactic(auto, unfolding(crate::specs::Reading::one_value_of))]
-pub fn one_value(alloc: Global, tokens: &[Token]) -> Result<(Expression, usize), ReadError>
-    ensures { Gives (tall view) result (Reading.one_value_of height_limit tokens.now) }
+pub fn one_value(alloc: Global, tokens: &[Token]) -> Result<(Box<Expression>, usize), ReadError>
+    ensures { Gives (tall (inside view)) result (Reading.one_value_of height_limit tokens.now) }
 {
     let ((list, height), rest) = value_list(alloc, tokens)?;
     match one(list) {
         Some(value) => {
+            let value = boxed(alloc, value)?;
             end_of_line(rest)?;
             Ok((value, height))
         }
@@ -73,7 +81,7 @@ fn raised(alloc: Global, tokens: &[Token]) -> Result<(Option<Expression>, usize)
     match after(Mark::Open(Bracket::Round), tokens) {
         Some(rest) => {
             let (value, height) = one_value(alloc, rest)?;
-            Ok((Some(value), height))
+            Ok((Some(Box::into_inner(value)), height))
         }
         None => {
             end_of_line(tokens)?;
@@ -84,14 +92,14 @@ fn raised(alloc: Global, tokens: &[Token]) -> Result<(Option<Expression>, usize)
 
 /// Behind `raise`.
 #[tactic(auto, unfolding(crate::specs::Reading::raise_of))]
-pub fn raising(alloc: Global, tokens: &[Token]) -> Result<(Statement, usize), ReadError>
-    ensures { Gives (tall view_statement) result (Reading.raise_of height_limit tokens.now) }
+pub fn raising(alloc: Global, tokens: &[Token]) -> Result<(Box<Statement>, usize), ReadError>
+    ensures { Gives (tall (inside view_statement)) result (Reading.raise_of height_limit tokens.now) }
 {
     let Some((kind, rest)) = kind_at(tokens) else {
         return Err(ReadError::Wrong);
     };
     let (value, height) = raised(alloc, rest)?;
-    Ok((Statement::Raise(kind, value), height))
+    Ok((boxed(alloc, Statement::Raise(kind, value))?, height))
 }
 
 /// The value behind an assertion's condition, if there is one.
@@ -102,7 +110,7 @@ fn message(alloc: Global, tokens: &[Token]) -> Result<(Option<Expression>, usize
     match after(Mark::Operator(Operator::Comma), tokens) {
         Some(rest) => {
             let (value, height) = whole_value(alloc, rest)?;
-            Ok((Some(value), height))
+            Ok((Some(Box::into_inner(value)), height))
         }
         None => {
             end_of_line(tokens)?;
@@ -113,22 +121,21 @@ fn message(alloc: Global, tokens: &[Token]) -> Result<(Option<Expression>, usize
 
 /// Behind `assert`.
 #[tactic(auto, unfolding(crate::specs::Reading::assert_of))]
-pub fn asserting(alloc: Global, tokens: &[Token]) -> Result<(Statement, usize), ReadError>
-    ensures { Gives (tall view_statement) result (Reading.assert_of height_limit tokens.now) }
+pub fn asserting(alloc: Global, tokens: &[Token]) -> Result<(Box<Statement>, usize), ReadError>
+    ensures { Gives (tall (inside view_statement)) result (Reading.assert_of height_limit tokens.now) }
 {
     let ((condition, height), rest) = value(alloc, tokens)?;
     let (message, message_height) = message(alloc, rest)?;
-    Ok((
-        Statement::Assert(condition, message),
-        height.max(message_height),
-    ))
+    let statement = Statement::Assert(Box::into_inner(condition), message);
+    Ok((boxed(alloc, statement)?, height.max(message_height)))
 }
 
 /// Behind `await`.
 #[tactic(auto, unfolding(crate::specs::Reading::await_of))]
-pub fn awaiting(alloc: Global, tokens: &[Token]) -> Result<(Statement, usize), ReadError>
-    ensures { Gives (tall view_statement) result (Reading.await_of height_limit tokens.now) }
+pub fn awaiting(alloc: Global, tokens: &[Token]) -> Result<(Box<Statement>, usize), ReadError>
+    ensures { Gives (tall (inside view_statement)) result (Reading.await_of height_limit tokens.now) }
 {
     let (awaited, height) = await_operand(alloc, tokens)?;
-    Ok((Statement::Await(awaited), height))
+    let statement = Statement::Await(Box::into_inner(awaited));
+    Ok((boxed(alloc, statement)?, height))
 }
