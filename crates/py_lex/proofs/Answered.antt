@@ -60,10 +60,10 @@ lines_answer text s ls h e b = (h.pieces, spelled_of_read text s h, (sym (broken
 
 pub fault_answer : (text : List ℕ) (s : State) (b : Broken) → HasRead text [] s → Some b ≡ broken_in s
     → (ps : List Piece) × IsSpelled first_place ps text × Answers ps (Err (fault_of b))
-fault_answer text s b h e = (h.pieces, spelled_of_read text s h, fault_answers h.pieces b.line b.rule (sym (broken_of_read text s h) ∙ sym e))
+fault_answer text s b h e = (h.pieces, spelled_of_read text s h, fault_answers h.pieces b.line.0 b.rule (sym (broken_of_read text s h) ∙ sym e))
 
 pub is_answered : (text : List ℕ) (b : Broken) → ((ps : List Piece) × IsSpelled first_place ps text × Answers ps (Err (fault_of b))) → IsAnswered text (Err (fault_of b))
-is_answered text b h = go b.rule b.line h
+is_answered text b h = go b.rule b.line.0 h
   where
     go : (r : LineRule) (n : ℕ) → ((ps : List Piece) × IsSpelled first_place ps text × Answers ps (Err (fault_by r n))) → IsAnswered text (Err (fault_by r n))
     go rule.Tab n h = h

@@ -3,7 +3,7 @@ use Rattle.std.proofs.Common.{◌≡◌, Bool, true, false, List, [], ◌∷◌,
 use Rattle.std.specs.Prelude.{if◌then◌else◌, slice_get}
 use Rattle.std.specs.List.{filter_map, flat_map, cons_option}
 use Rattle.std.specs.Option.{option_map, option_to_list}
-use Rattle.py_syntax.specs.Line.{Line}
+use Rattle.py_syntax.specs.Line.{Line, physical_line}
 use Rattle.py_syntax.specs.Places.{Place, first_place, place_after, is_token}
 use Rattle.py_syntax.specs.Logical.{Placed, placed_from, place_behind, groups, into_first, ends_line, has_token, line_of, line_from, lines_of, tokens_of, is_docstring, broken_by, broken_at_end, broken_rules, first_broken, first_dedent, open_format, open_line, earlier}
 use Rattle.py_syntax.specs.declared.token.Token.{Token}
@@ -40,7 +40,7 @@ fold_broken s (p ∷ ps) =
 -- The lines.
 
 start_of : Placed → Start
-start_of x = record { indentation = x.place.spaces; number = x.place.line; is_docstring = is_docstring x.piece }
+start_of x = record { indentation = x.place.spaces; number = physical_line x.place.line; is_docstring = is_docstring x.piece }
 
 tokens_at : Placed → List Token
 tokens_at x = tokens_of x.piece

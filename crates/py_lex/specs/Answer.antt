@@ -18,7 +18,7 @@ fault_by rule.UnclosedText n = fault.UnclosedText n
 fault_by rule.BadByte n = fault.BadByte n
 
 abbrev pub fault_of : Broken → LineFault
-fault_of b = fault_by b.rule b.line
+fault_of b = fault_by b.rule b.line.0
 
 -- Of a text that these pieces spell: its lines if no rule is broken, else the fault of the first broken rule. Memory may
 -- always run out.

@@ -1,7 +1,7 @@
 -- A means of proof: a scan of a text, piece by piece. It follows the code.
 use Rattle.std.specs.Prelude.{◌≡◌, ℕ, Bool, List, [], ◌∷◌, ◌++◌, Option, None, Some, if◌then◌else◌, fold, slice_get}
 use Rattle.std.specs.Option.{option_map, option_to_list}
-use Rattle.py_syntax.specs.Line.{Line}
+use Rattle.py_syntax.specs.Line.{Line, physical_line}
 use Rattle.py_syntax.specs.Places.{Place, first_place, place_after, is_token, is_logical_end}
 use Rattle.py_syntax.specs.Found.{IsMadeOf}
 use Rattle.py_syntax.specs.Logical.{is_docstring, tokens_of, broken_by, open_format, open_line, first_dedent, earlier}
@@ -18,7 +18,7 @@ pub record Gathered : Type 0 where
 abbrev pub start_after : Option Start → ℕ → ℕ → Piece → Option Start
 start_after (Some s) spaces line p = Some s
 start_after None spaces line p =
-    if is_token p then Some (record { indentation = spaces; number = line; is_docstring = is_docstring p }) else None
+    if is_token p then Some (record { indentation = spaces; number = physical_line line; is_docstring = is_docstring p }) else None
 
 abbrev pub gathered_after : Gathered → ℕ → ℕ → Piece → Gathered
 gathered_after g spaces line p = record { start = start_after g.start spaces line p; tokens = g.tokens ++ tokens_of p }
@@ -28,7 +28,7 @@ nothing_gathered = record { start = None; tokens = [] }
 
 -- the line that was gathered
 abbrev pub line_with : List Token → Start → Line
-line_with ts s = record { indentation = s.indentation; number = s.number; is_docstring = s.is_docstring; tokens = ts }
+line_with ts s = record { indentation = s.indentation; number = s.number.0; is_docstring = s.is_docstring; tokens = ts }
 
 abbrev pub gathered_line : Gathered → Option Line
 gathered_line g = option_map (line_with g.tokens) g.start

@@ -35,9 +35,9 @@ pub fn fault_of(broken: Broken) -> LineFault
     ensures { result ≡ fault_of broken }
 {
     match broken.rule {
-        LineRule::Tab => LineFault::Tab(broken.line),
-        LineRule::Dedent => LineFault::Dedent(broken.line),
-        LineRule::UnclosedText => LineFault::UnclosedText(broken.line),
-        LineRule::BadByte => LineFault::BadByte(broken.line),
+        LineRule::Tab => LineFault::Tab(broken.line.0),
+        LineRule::Dedent => LineFault::Dedent(broken.line.0),
+        LineRule::UnclosedText => LineFault::UnclosedText(broken.line.0),
+        LineRule::BadByte => LineFault::BadByte(broken.line.0),
     }
 }

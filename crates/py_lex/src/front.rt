@@ -13,7 +13,7 @@ use crate::numbers::{base_of, number_of};
 use crate::texts::{docstring_end, is_line_empty, literal_len, said, text_end};
 use crate::words::{line_feeds, line_len, number_len, word_len};
 use port_io::{Name, NoMemory};
-use py_syntax::{Context, Keyword, Piece, Region, Token};
+use py_syntax::{Context, Keyword, Piece, Mode, Token};
 use std::alloc::Global;
 
 #[tactic(auto, unfolding(py_syntax::specs::Pieces::word_piece))]
@@ -281,14 +281,14 @@ pub fn piece_at(alloc: Global, context: Context, text: &[u8]) -> Result<(Piece, 
     ensures value { IfOk result (λ x. (x.0, x.1) ≡ Pieces.piece_at context text.now) }
     ensures fits { IfOk result (λ x. FitsIn text.now x.0 x.1) }
 {
-    if let Region::Format(quote) = context.region {
+    if let Mode::Format(quote) = context.mode {
         return format_piece(alloc, quote, text);
     }
     if let Some(front) = blank_piece(text) {
         return Ok(front);
     }
-    match context.region {
-        Region::Expression(quote) => expression_piece(alloc, quote, text),
+    match context.mode {
+        Mode::Expression(quote) => expression_piece(alloc, quote, text),
         _ => code_piece(alloc, context, text),
     }
 }

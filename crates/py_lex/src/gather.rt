@@ -7,7 +7,7 @@ ghost use Rattle.py_syntax.specs.Logical;
 ghost use Rattle.py_lex.specs.Scan.{nothing_gathered, gathered_after, gathered_line};
 
 use port_io::NoMemory;
-use py_syntax::{LogicalLine, Piece, Token};
+use py_syntax::{LineNumber, LogicalLine, Piece, Token};
 use std::alloc::Global;
 use std::marker::Model;
 
@@ -15,7 +15,7 @@ use std::marker::Model;
 #[derive(Clone, Copy, Debug, PartialEq, Eq)]
 pub struct Start {
     pub indentation: u32,
-    pub number: u32,
+    pub number: LineNumber,
     pub is_docstring: bool,
 }
 
@@ -81,8 +81,8 @@ impl Gather {
     }
 
     /// Adds the piece that stands behind so many spaces on that line.
-    pub fn add(&mut self, spaces: u32, line: u32, piece: Piece) -> Result<(), NoMemory>
-        ensures { OnOk result (self.new ≡ gathered_after self.old spaces line piece) }
+    pub fn add(&mut self, spaces: u32, line: LineNumber, piece: Piece) -> Result<(), NoMemory>
+        ensures { OnOk result (self.new ≡ gathered_after self.old spaces line.0 piece) }
     {
         if self.start.is_none() && is_token(&piece) {
             self.start = Some(Start {

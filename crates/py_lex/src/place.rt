@@ -4,22 +4,23 @@ ghost use Rattle.std.specs.Prelude.{◌≡◌, ◌≤◌, ◌<◌, ◌+◌, ◌^
 ghost use Rattle.std.specs.Option.{option_to_list};
 ghost use Rattle.py_syntax.specs.Places.{place_after, context_of, first_place, line_ends};
 ghost use Rattle.py_syntax.specs.Places;
+ghost use Rattle.py_syntax.specs.Line.{physical_line};
 ghost use Rattle.py_syntax.specs.Logical;
 
 use crate::gather::is_token;
 use port_io::NoMemory;
-use py_syntax::{Bracket, Broken, Context, LineRule, OpenBracket, Piece, Region, Token};
+use py_syntax::{Bracket, Broken, Context, LineNumber, LineRule, OpenBracket, Piece, Mode, Token};
 use std::alloc::Global;
 use std::marker::Model;
 
 /// A place in a text, by what stands before it.
 #[derive(Drop)]
 pub struct Position {
-    region: Region,
+    mode: Mode,
     at_front: bool,
     is_fresh: bool,
     spaces: u32,
-    line: u32,
+    line: LineNumber,
     open_brackets: Vec<OpenBracket>,
 }
 
@@ -28,7 +29,7 @@ impl Model for Position {
 
     ghost Value = { Place };
 
-    ghost view = { λ a. record { region = a.region; at_front = a.at_front; is_fresh = a.is_fresh; spaces = a.spaces; line = a.line; open_brackets = a.open_brackets.items } };
+    ghost view = { λ a. record { mode = a.mode; at_front = a.at_front; is_fresh = a.is_fresh; spaces = a.spaces; line = a.line.0; open_brackets = a.open_brackets.items } };
 }
 
 fn is_line_end(piece: &Piece) -> bool
@@ -47,33 +48,33 @@ fn line_ends(piece: &Piece) -> u32
     }
 }
 
-fn part_of(region: Region) -> Region
-    ensures { result ≡ Places.part_of region }
+fn part_of(mode: Mode) -> Mode
+    ensures { result ≡ Places.part_of mode }
 {
-    match region {
-        Region::Format(quote) => Region::Expression(quote),
+    match mode {
+        Mode::Format(quote) => Mode::Expression(quote),
         other => other,
     }
 }
 
-fn literal_of(region: Region) -> Region
-    ensures { result ≡ Places.literal_of region }
+fn literal_of(mode: Mode) -> Mode
+    ensures { result ≡ Places.literal_of mode }
 {
-    match region {
-        Region::Expression(quote) => Region::Format(quote),
+    match mode {
+        Mode::Expression(quote) => Mode::Format(quote),
         other => other,
     }
 }
 
-fn region_after(region: Region, piece: &Piece) -> Region
-    ensures { result ≡ Places.region_after region piece.now }
+fn mode_after(mode: Mode, piece: &Piece) -> Mode
+    ensures { result ≡ Places.mode_after mode piece.now }
 {
     match piece {
-        Piece::FormatStart(quote) => Region::Format(*quote),
-        Piece::FormatOpen => part_of(region),
-        Piece::FormatClose => literal_of(region),
-        Piece::FormatEnd | Piece::FormatCut | Piece::LineEnd => Region::Code,
-        _ => region,
+        Piece::FormatStart(quote) => Mode::Format(*quote),
+        Piece::FormatOpen => part_of(mode),
+        Piece::FormatClose => literal_of(mode),
+        Piece::FormatEnd | Piece::FormatCut | Piece::LineEnd => Mode::Code,
+        _ => mode,
     }
 }
 
@@ -97,10 +98,10 @@ fn same_bracket(left: Bracket, right: Bracket) -> bool
     }
 }
 
-fn is_code(region: Region) -> bool
-    ensures { result ≡ Places.is_code region }
+fn is_code(mode: Mode) -> bool
+    ensures { result ≡ Places.is_code mode }
 {
-    matches!(region, Region::Code)
+    matches!(mode, Mode::Code)
 }
 
 fn closes(open_brackets: &[OpenBracket], bracket: Bracket) -> bool
@@ -113,11 +114,11 @@ fn closes(open_brackets: &[OpenBracket], bracket: Bracket) -> bool
 }
 
 fn open_after_token(
-    line: u32,
+    line: LineNumber,
     open_brackets: &mut Vec<OpenBracket>,
     token: &Token,
 ) -> Result<(), NoMemory>
-    ensures { OnOk result (open_brackets.new.items ≡ Places.open_after_token line open_brackets.old.items token.now) }
+    ensures { OnOk result (open_brackets.new.items ≡ Places.open_after_token line.0 open_brackets.old.items token.now) }
 {
     match token {
         Token::Open(bracket) => open_brackets.push(OpenBracket {
@@ -143,14 +144,14 @@ fn closing_rule(open_brackets: &[OpenBracket], token: &Token) -> Option<LineRule
 }
 
 /// The rule that a piece breaks.
-fn rule_of(region: Region, open_brackets: &[OpenBracket], piece: &Piece) -> Option<LineRule>
-    ensures { result ≡ Logical.rule_of region open_brackets.now piece.now }
+fn rule_of(mode: Mode, open_brackets: &[OpenBracket], piece: &Piece) -> Option<LineRule>
+    ensures { result ≡ Logical.rule_of mode open_brackets.now piece.now }
 {
     match piece {
         Piece::Token(token, is_printable) => {
             if !*is_printable {
                 Some(LineRule::BadByte)
-            } else if is_code(region) {
+            } else if is_code(mode) {
                 closing_rule(open_brackets, token)
             } else {
                 None
@@ -159,7 +160,7 @@ fn rule_of(region: Region, open_brackets: &[OpenBracket], piece: &Piece) -> Opti
         Piece::Tab => Some(LineRule::Tab),
         Piece::BadByte => Some(LineRule::BadByte),
         Piece::OpenText | Piece::OpenDocstring => Some(LineRule::UnclosedText),
-        Piece::LineEnd if !is_code(region) => Some(LineRule::UnclosedText),
+        Piece::LineEnd if !is_code(mode) => Some(LineRule::UnclosedText),
         _ => None,
     }
 }
@@ -170,11 +171,11 @@ impl Position {
         ensures { result ≡ first_place }
     {
         Position {
-            region: Region::Code,
+            mode: Mode::Code,
             at_front: true,
             is_fresh: true,
             spaces: 0,
-            line: 1,
+            line: LineNumber(1),
             open_brackets: Vec::new(alloc),
         }
     }
@@ -183,7 +184,7 @@ impl Position {
         ensures { result ≡ context_of self.now }
     {
         Context {
-            region: self.region,
+            mode: self.mode,
             at_front: self.at_front,
             is_fresh: self.is_fresh,
         }
@@ -195,8 +196,8 @@ impl Position {
         self.spaces
     }
 
-    pub fn line(&self) -> u32
-        ensures { result ≡ self.now.line }
+    pub fn line(&self) -> LineNumber
+        ensures { result ≡ physical_line self.now.line }
     {
         self.line
     }
@@ -206,7 +207,7 @@ impl Position {
     pub fn broken_by(&self, piece: &Piece) -> Option<Broken>
         ensures { result ≡ Logical.broken_by (record { place = self.now; piece = piece.now }) }
     {
-        let rule = rule_of(self.region, &self.open_brackets, piece)?;
+        let rule = rule_of(self.mode, &self.open_brackets, piece)?;
         Some(Broken {
             line: self.line,
             rule,
@@ -229,7 +230,7 @@ impl Position {
     {
         let is_token = is_token(piece);
         let is_logical_end = self.is_logical_end(piece);
-        if is_code(self.region)
+        if is_code(self.mode)
             && let Piece::Token(token, _) = piece
         {
             open_after_token(self.line, &mut self.open_brackets, token)?;
@@ -237,8 +238,8 @@ impl Position {
         self.spaces = spaces_after(self.at_front, self.spaces, piece);
         self.at_front = is_line_end(piece) || (self.at_front && !is_token);
         self.is_fresh = is_logical_end || (self.is_fresh && !is_token);
-        self.line += line_ends(piece);
-        self.region = region_after(self.region, piece);
+        self.line = LineNumber(self.line.0 + line_ends(piece));
+        self.mode = mode_after(self.mode, piece);
         Ok(())
     }
 
@@ -246,7 +247,7 @@ impl Position {
     pub fn open_format(&self) -> Option<Broken>
         ensures { option_to_list result ≡ Logical.open_format self.now }
     {
-        if is_code(self.region) {
+        if is_code(self.mode) {
             return None;
         }
         Some(Broken {

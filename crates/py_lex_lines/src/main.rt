@@ -12,7 +12,7 @@ fn main(rt: HostRuntime) -> Result<()> {
     match logical_lines(rt.alloc(), &text) {
         Ok(lines) => {
             for line in lines.as_slice() {
-                let number = line.number();
+                let number = line.number().0;
                 let indentation = line.indentation();
                 println!(rt; "{number} {indentation}")?;
             }

@@ -14,12 +14,12 @@ ghost use Rattle.py_parse.specs.Nesting;
 use crate::list::push;
 use crate::partial_block::PartialBlocks;
 use port_io::NoMemory;
-use py_syntax::{BlockItem, BodyLine, Content, Header, Module, ModuleItem, ModuleLine, PlacedLine};
+use py_syntax::{BlockItem, BodyLine, Content, Header, LineNumber, Module, ModuleItem, ModuleLine, PlacedLine};
 use std::alloc::Global;
 
 /// A header with its block.
-fn clause(number: u32, header: Header, block: Vec<BlockItem>) -> BlockItem
-    ensures { view_item result ≡ trees.ClauseAt number (view_header header) (block_of block.items) }
+fn clause(number: LineNumber, header: Header, block: Vec<BlockItem>) -> BlockItem
+    ensures { view_item result ≡ trees.ClauseAt number.0 (view_header header) (block_of block.items) }
 {
     BlockItem::Clause {
         number,
@@ -30,8 +30,8 @@ fn clause(number: u32, header: Header, block: Vec<BlockItem>) -> BlockItem
 
 /// A line of a function's body, with the block that it heads.
 #[tactic(auto, unfolding(crate::specs::Nesting::item_of))]
-fn body_item(number: u32, line: BodyLine, block: Vec<BlockItem>) -> BlockItem
-    ensures { view_item result ≡ Nesting.item_of number (InBody (view_line line)) (block_of block.items) }
+fn body_item(number: LineNumber, line: BodyLine, block: Vec<BlockItem>) -> BlockItem
+    ensures { view_item result ≡ Nesting.item_of number.0 (InBody (view_line line)) (block_of block.items) }
 {
     match line {
         BodyLine::Statement(statement) => BlockItem::Statement { number, statement },
@@ -41,8 +41,8 @@ fn body_item(number: u32, line: BodyLine, block: Vec<BlockItem>) -> BlockItem
 
 /// What stands in a block.
 #[tactic(auto, unfolding(crate::specs::Nesting::item_of))]
-fn item_of(number: u32, content: Content, block: Vec<BlockItem>) -> BlockItem
-    ensures { view_item result ≡ Nesting.item_of number (view_content content) (block_of block.items) }
+fn item_of(number: LineNumber, content: Content, block: Vec<BlockItem>) -> BlockItem
+    ensures { view_item result ≡ Nesting.item_of number.0 (view_content content) (block_of block.items) }
 {
     match content {
         Content::Body(line) => body_item(number, line, block),
@@ -52,8 +52,8 @@ fn item_of(number: u32, content: Content, block: Vec<BlockItem>) -> BlockItem
 
 /// A line of a module, with the block that it heads.
 #[tactic(auto, unfolding(crate::specs::Nesting::module_item_of))]
-fn line_item(number: u32, line: ModuleLine, body: Vec<BlockItem>) -> ModuleItem
-    ensures { view_module_item result ≡ Nesting.module_item_of number (InModule (view_module_line line)) (block_of body.items) }
+fn line_item(number: LineNumber, line: ModuleLine, body: Vec<BlockItem>) -> ModuleItem
+    ensures { view_module_item result ≡ Nesting.module_item_of number.0 (InModule (view_module_line line)) (block_of body.items) }
 {
     match line {
         ModuleLine::Function(name, parameters) => ModuleItem::Function {
@@ -68,8 +68,8 @@ fn line_item(number: u32, line: ModuleLine, body: Vec<BlockItem>) -> ModuleItem
 
 /// What stands in a module.
 #[tactic(auto, unfolding(crate::specs::Nesting::module_item_of))]
-fn module_item_of(number: u32, content: Content, body: Vec<BlockItem>) -> ModuleItem
-    ensures { view_module_item result ≡ Nesting.module_item_of number (view_content content) (block_of body.items) }
+fn module_item_of(number: LineNumber, content: Content, body: Vec<BlockItem>) -> ModuleItem
+    ensures { view_module_item result ≡ Nesting.module_item_of number.0 (view_content content) (block_of body.items) }
 {
     match content {
         Content::Module(line) => line_item(number, line, body),

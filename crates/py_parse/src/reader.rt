@@ -31,11 +31,11 @@ fn placed(
     let content = match said {
         Ok(content) => Some(content),
         Err(ContentFault::TooHigh) => None,
-        Err(ContentFault::Nothing) => return Err(PyFault::BadLine(number)),
+        Err(ContentFault::Nothing) => return Err(PyFault::BadLine(number.0)),
         Err(ContentFault::OutOfMemory) => return Err(PyFault::OutOfMemory),
     };
     if !has_block {
-        return Err(PyFault::NoBlock(number));
+        return Err(PyFault::NoBlock(number.0));
     }
     let depth = blocks.depth();
     match content {
@@ -51,7 +51,7 @@ fn placed(
                 },
             ))
         }
-        _ => Err(PyFault::TooDeep(number)),
+        _ => Err(PyFault::TooDeep(number.0)),
     }
 }
 
@@ -66,7 +66,7 @@ fn stand(
     ensures { IsOutcome line.now result (Reading.outcome blocks line.now following.now) }
 {
     let Some(inside) = place(blocks, line)? else {
-        return Err(PyFault::BadLine(line.number()));
+        return Err(PyFault::BadLine(line.number().0));
     };
     let said = content(alloc, inside.depth(), line);
     placed(inside, line, said, has_block(line, following))

@@ -25,8 +25,8 @@ use Rattle.py_syntax.specs.declared.token.Token.{Token}
 use Rattle.py_syntax.specs.declared.token.Token.TheVariants as token
 use Rattle.py_syntax.specs.declared.piece.Piece.{Piece}
 use Rattle.py_syntax.specs.declared.piece.Piece.TheVariants as piece
-use Rattle.py_syntax.specs.declared.piece.Region.{Region}
-use Rattle.py_syntax.specs.declared.piece.Region.TheVariants as region
+use Rattle.py_syntax.specs.declared.piece.Mode.{Mode}
+use Rattle.py_syntax.specs.declared.piece.Mode.TheVariants as mode
 use Rattle.py_syntax.specs.declared.piece.Context.{Context}
 use Rattle.py_syntax.proofs.Tests.{equal, different, not_equal, same, both, one_of, neither, not_true, to_false, any_all, apart, base_of_front}
 use Rattle.py_syntax.proofs.MarkLaws.{at_front, next_is, specials, is_special, is_none, may_mark, mark_first, mark_found, formless_found, no_operator}
@@ -42,18 +42,18 @@ by_bytes : (c : Context) (p q : Piece) (bytes xs rest : List ℕ) → p ≡ q �
 by_bytes c p q bytes xs rest f e h =
     ap (λ (t : List ℕ). piece_at c (t ++ rest)) e ∙ h ∙ sym (ap (λ (x : Piece). (x, length bytes)) f ∙ ap (λ (t : List ℕ). (q, length t)) e)
 
-in_region : (c : Context) (r : Region) (text : List ℕ) (x : Front) → c.region ≡ r → piece_in r c text ≡ x → piece_at c text ≡ x
+in_mode : (c : Context) (r : Mode) (text : List ℕ) (x : Front) → c.mode ≡ r → piece_in r c text ≡ x → piece_at c text ≡ x
 unfolding piece_at
-in_region c r text x e h = ap (λ (s : Region). piece_in s c text) e ∙ h
+in_mode c r text x e h = ap (λ (s : Mode). piece_in s c text) e ∙ h
 
--- Where code is read: in two regions.
-of_code : (c : Context) (text : List ℕ) (x : Front) → IsOfCode c.region → piece_in region.Code c text ≡ x → ((quote : ℕ) → is_quote quote ≡ true → piece_in (region.Expression quote) c text ≡ x) → piece_at c text ≡ x
-of_code c text x code f g = go c.region refl code
+-- Where code is read: in two modes.
+of_code : (c : Context) (text : List ℕ) (x : Front) → IsOfCode c.mode → piece_in mode.Code c text ≡ x → ((quote : ℕ) → is_quote quote ≡ true → piece_in (mode.Expression quote) c text ≡ x) → piece_at c text ≡ x
+of_code c text x code f g = go c.mode refl code
   where
-    go : (r : Region) → c.region ≡ r → IsOfCode r → piece_at c text ≡ x
-    go region.Code e k = in_region c region.Code text x e f
-    go (region.Expression quote) e k = in_region c (region.Expression quote) text x e (g quote k)
-    go (region.Format quote) e k = absurd k
+    go : (r : Mode) → c.mode ≡ r → IsOfCode r → piece_at c text ≡ x
+    go mode.Code e k = in_mode c mode.Code text x e f
+    go (mode.Expression quote) e k = in_mode c (mode.Expression quote) text x e (g quote k)
+    go (mode.Format quote) e k = absurd k
 
 turn : (a b : ℕ) → (a == b) ≡ false → (b == a) ≡ false
 turn a b e = not_equal b a (λ f. different a b e (sym f))
@@ -118,14 +118,14 @@ part_ordinary quote b bs h o =
     let e : (b == quote) ≡ false = turn quote b (differs is_quote b quote h o.quote) in
     rw (o.brace, e, o.backslash) refl
 
-ordinary : (c : Context) (b : ℕ) (bs : List ℕ) (x : Front) → IsOfCode c.region → IsOrdinary b → (c.region ≡ region.Code → ((b == 102) && is_quote (slice_index bs 0)) ≡ false) → word_or_mark (b ∷ bs) ≡ x
+ordinary : (c : Context) (b : ℕ) (bs : List ℕ) (x : Front) → IsOfCode c.mode → IsOrdinary b → (c.mode ≡ mode.Code → ((b == 102) && is_quote (slice_index bs 0)) ≡ false) → word_or_mark (b ∷ bs) ≡ x
     → piece_at c (b ∷ bs) ≡ x
-ordinary c b bs x code o f e = go c.region refl code
+ordinary c b bs x code o f e = go c.mode refl code
   where
-    go : (r : Region) → c.region ≡ r → IsOfCode r → piece_at c (b ∷ bs) ≡ x
-    go region.Code k h = in_region c region.Code (b ∷ bs) x k (ap (λ (y : Option Front). or_else y (code_piece c (b ∷ bs))) (blank_none b bs o) ∙ code_ordinary c b bs o (f k) ∙ e)
-    go (region.Expression quote) k h = in_region c (region.Expression quote) (b ∷ bs) x k (ap (λ (y : Option Front). or_else y (expression_piece quote (b ∷ bs))) (blank_none b bs o) ∙ part_ordinary quote b bs h o ∙ e)
-    go (region.Format quote) k h = absurd h
+    go : (r : Mode) → c.mode ≡ r → IsOfCode r → piece_at c (b ∷ bs) ≡ x
+    go mode.Code k h = in_mode c mode.Code (b ∷ bs) x k (ap (λ (y : Option Front). or_else y (code_piece c (b ∷ bs))) (blank_none b bs o) ∙ code_ordinary c b bs o (f k) ∙ e)
+    go (mode.Expression quote) k h = in_mode c (mode.Expression quote) (b ∷ bs) x k (ap (λ (y : Option Front). or_else y (expression_piece quote (b ∷ bs))) (blank_none b bs o) ∙ part_ordinary quote b bs h o ∙ e)
+    go (mode.Format quote) k h = absurd h
 
 -- Words.
 
@@ -158,11 +158,11 @@ word_found b bs rest h k e =
     ∙ first_of (is_letter b) (word_piece (b ∷ (bs ++ rest))) (mark_piece (b ∷ (bs ++ rest))) h
     ∙ ap (λ (w : List ℕ). (piece.Token (word_token w (keyword_of w)) true, length w)) (taken is_word_byte (b ∷ bs) rest k e)
 
-finds_word : (c : Context) (bytes rest : List ℕ) → IsOfCode c.region → is_letter (slice_index bytes 0) ≡ true → list_all is_word_byte bytes ≡ true → EndsBefore is_word_byte rest → begins_format c.region bytes rest ≡ false
+finds_word : (c : Context) (bytes rest : List ℕ) → IsOfCode c.mode → is_letter (slice_index bytes 0) ≡ true → list_all is_word_byte bytes ≡ true → EndsBefore is_word_byte rest → begins_format c.mode bytes rest ≡ false
     → Finds c (piece.Token (word_token bytes (keyword_of bytes)) true) bytes rest
 finds_word c [] rest code h k e f = cc
 finds_word c (b ∷ bs) rest code h k e f =
-    ordinary c b (bs ++ rest) _ code (ordinary_by is_letter b h refl) (λ r. no_format bs (both (is_word_byte b) (list_all is_word_byte bs) k).1 (subst (λ (s : Region). begins_format s (b ∷ bs) rest ≡ false) r f)) (word_found b bs rest h k e)
+    ordinary c b (bs ++ rest) _ code (ordinary_by is_letter b h refl) (λ r. no_format bs (both (is_word_byte b) (list_all is_word_byte bs) k).1 (subst (λ (s : Mode). begins_format s (b ∷ bs) rest ≡ false) r f)) (word_found b bs rest h k e)
   where
     no_format : (ds : List ℕ) → list_all is_word_byte ds ≡ true → (bytes_eq (b ∷ ds) (102 ∷ []) && is_quote (slice_index rest 0)) ≡ false → ((b == 102) && is_quote (slice_index (ds ++ rest) 0)) ≡ false
     no_format [] l g = go (b == 102) (is_quote (slice_index rest 0)) g
@@ -188,7 +188,7 @@ number_found b bs rest h k e =
 no_letter_f : (t : ℕ → Bool) (b : ℕ) (x : Bool) → t b ≡ true → t 102 ≡ false → ((b == 102) && x) ≡ false
 no_letter_f t b x h k = rw (differs t 102 b h k) refl
 
-finds_number : (c : Context) (bytes rest : List ℕ) → IsOfCode c.region → is_digit (slice_index bytes 0) ≡ true → list_all (is_number_byte (base_of bytes)) bytes ≡ true → EndsBefore (is_number_byte (base_of bytes)) rest
+finds_number : (c : Context) (bytes rest : List ℕ) → IsOfCode c.mode → is_digit (slice_index bytes 0) ≡ true → list_all (is_number_byte (base_of bytes)) bytes ≡ true → EndsBefore (is_number_byte (base_of bytes)) rest
     → Finds c (piece.Token (number_token (number_of bytes)) true) bytes rest
 finds_number c [] rest code h k e = cc
 finds_number c (b ∷ bs) rest code h k e =
@@ -196,12 +196,12 @@ finds_number c (b ∷ bs) rest code h k e =
 
 -- Brackets and marks.
 
-finds_open : (c : Context) (b : Bracket) (rest : List ℕ) → IsOfCode c.region → Finds c (piece.Token (token.Open b) true) (open_bytes b) rest
+finds_open : (c : Context) (b : Bracket) (rest : List ℕ) → IsOfCode c.mode → Finds c (piece.Token (token.Open b) true) (open_bytes b) rest
 unfolding word_or_mark mark_piece
 finds_open c Round rest code = ordinary c 40 rest _ code (ordinary_of 40 refl) (λ r. refl) refl
 finds_open c Square rest code = ordinary c 91 rest _ code (ordinary_of 91 refl) (λ r. refl) refl
 
-finds_close : (c : Context) (b : Bracket) (rest : List ℕ) → IsOfCode c.region → Finds c (piece.Token (token.Close b) true) (close_bytes b) rest
+finds_close : (c : Context) (b : Bracket) (rest : List ℕ) → IsOfCode c.mode → Finds c (piece.Token (token.Close b) true) (close_bytes b) rest
 unfolding word_or_mark mark_piece
 finds_close c Round rest code = ordinary c 41 rest _ code (ordinary_of 41 refl) (λ r. refl) refl
 finds_close c Square rest code = ordinary c 93 rest _ code (ordinary_of 93 refl) (λ r. refl) refl
@@ -241,7 +241,7 @@ mark_word : (b : ℕ) (bs : List ℕ) (o : Option (Operator × ℕ)) → is_digi
 unfolding word_or_mark mark_piece
 mark_word b bs o d l k e = rw (d, l, k) (ap (operator_piece b) e)
 
-finds_front : (c : Context) (b : ℕ) (bs : List ℕ) (x : Front) → IsOfCode c.region → may_mark b ≡ true → (o : Option (Operator × ℕ)) → at_front (b ∷ bs) ≡ o → operator_piece b o ≡ x → piece_at c (b ∷ bs) ≡ x
+finds_front : (c : Context) (b : ℕ) (bs : List ℕ) (x : Front) → IsOfCode c.mode → may_mark b ≡ true → (o : Option (Operator × ℕ)) → at_front (b ∷ bs) ≡ o → operator_piece b o ≡ x → piece_at c (b ∷ bs) ≡ x
 finds_front c b bs x code h o e f =
     let m = may_mark_says b h in
     ordinary c b bs x code m.ordinary (λ r. no_letter_f may_mark b _ h refl) (mark_word b bs o m.digit m.letter m.bracket e ∙ f)
@@ -253,14 +253,14 @@ mark_positive op behind = go (slice_index (operator_bytes op ++ behind) 0) (mark
     go zero e = cc
     go (suc b) e = omega arith
 
-finds_mark : (c : Context) (op : Operator) (rest : List ℕ) → IsOfCode c.region → IsLongest (operator_bytes op) rest → Finds c (piece.Token (token.Operator op) true) (operator_bytes op) rest
+finds_mark : (c : Context) (op : Operator) (rest : List ℕ) → IsOfCode c.mode → IsLongest (operator_bytes op) rest → Finds c (piece.Token (token.Operator op) true) (operator_bytes op) rest
 finds_mark c op rest code longest =
     let b : ℕ = slice_index (operator_bytes op ++ rest) 0 in
     let bs : List ℕ = drop 1 (operator_bytes op ++ rest) in
     let split : operator_bytes op ++ rest ≡ b ∷ bs = next_is (operator_bytes op ++ rest) (mark_positive op rest) in
     ap (piece_at c) split ∙ finds_front c b bs _ code (mark_first op rest) (Some (op, length (operator_bytes op))) (mark_found op b bs rest (sym split) longest) refl
 
-finds_formless : (c : Context) (b : ℕ) (rest : List ℕ) → IsOfCode c.region → is_formless b ≡ true → IsLongest (b ∷ []) rest → Finds c (piece.Token token.Invalid true) (b ∷ []) rest
+finds_formless : (c : Context) (b : ℕ) (rest : List ℕ) → IsOfCode c.mode → is_formless b ≡ true → IsLongest (b ∷ []) rest → Finds c (piece.Token token.Invalid true) (b ∷ []) rest
 finds_formless c b rest code h longest =
     let m : may_mark b ≡ true = any_all may_mark b (33 ∷ 36 ∷ 47 ∷ 59 ∷ 63 ∷ 96 ∷ 123 ∷ []) refl h in
     let k = may_mark_says b m in
@@ -270,26 +270,26 @@ finds_formless c b rest code h longest =
 special_word : (b : ℕ) (bs : List ℕ) (x : Front) → is_digit b ≡ false → is_letter b ≡ false → bracket_of b ≡ None → may_mark b ≡ false → other_piece b ≡ x → word_or_mark (b ∷ bs) ≡ x
 special_word b bs x d l k m e = mark_word b bs None d l k (no_operator b bs m) ∙ e
 
-finds_closing_brace : (c : Context) (rest : List ℕ) → c.region ≡ region.Code → Finds c (piece.Token token.Invalid true) (125 ∷ []) rest
+finds_closing_brace : (c : Context) (rest : List ℕ) → c.mode ≡ mode.Code → Finds c (piece.Token token.Invalid true) (125 ∷ []) rest
 unfolding blank_piece code_piece
-finds_closing_brace c rest e = in_region c region.Code (125 ∷ rest) _ e (special_word 125 rest _ refl refl refl refl refl)
+finds_closing_brace c rest e = in_mode c mode.Code (125 ∷ rest) _ e (special_word 125 rest _ refl refl refl refl refl)
 
-finds_backslash : (c : Context) (rest : List ℕ) → c.region ≡ region.Code → Finds c piece.BadByte (92 ∷ []) rest
+finds_backslash : (c : Context) (rest : List ℕ) → c.mode ≡ mode.Code → Finds c piece.BadByte (92 ∷ []) rest
 unfolding blank_piece code_piece
-finds_backslash c rest e = in_region c region.Code (92 ∷ rest) _ e (special_word 92 rest _ refl refl refl refl refl)
+finds_backslash c rest e = in_mode c mode.Code (92 ∷ rest) _ e (special_word 92 rest _ refl refl refl refl refl)
 
-finds_hash : (c : Context) (quote : ℕ) (rest : List ℕ) → c.region ≡ region.Expression quote → is_quote quote ≡ true → Finds c (piece.Token token.Invalid true) (35 ∷ []) rest
+finds_hash : (c : Context) (quote : ℕ) (rest : List ℕ) → c.mode ≡ mode.Expression quote → is_quote quote ≡ true → Finds c (piece.Token token.Invalid true) (35 ∷ []) rest
 unfolding blank_piece expression_piece
 finds_hash c quote rest e h =
     let k : (35 == quote) ≡ false = turn quote 35 (differs is_quote 35 quote h refl) in
-    in_region c (region.Expression quote) (35 ∷ rest) _ e (rw k (special_word 35 rest _ refl refl refl refl refl))
+    in_mode c (mode.Expression quote) (35 ∷ rest) _ e (rw k (special_word 35 rest _ refl refl refl refl refl))
 
-finds_other_quote : (c : Context) (quote b : ℕ) (rest : List ℕ) → c.region ≡ region.Expression quote → is_quote b ≡ true → b ≢ quote → Finds c (piece.Token token.Invalid true) (b ∷ []) rest
+finds_other_quote : (c : Context) (quote b : ℕ) (rest : List ℕ) → c.mode ≡ mode.Expression quote → is_quote b ≡ true → b ≢ quote → Finds c (piece.Token token.Invalid true) (b ∷ []) rest
 unfolding blank_piece expression_piece
 finds_other_quote c quote b rest e h n = go (one_of (b == 34) (b == 39) h)
   where
-    of : (d : ℕ) → (d == quote) ≡ false → piece_in (region.Expression quote) c (d ∷ rest) ≡ (piece.Token token.Invalid true, 1) → piece_at c (d ∷ rest) ≡ (piece.Token token.Invalid true, 1)
-    of d k f = in_region c (region.Expression quote) (d ∷ rest) _ e f
+    of : (d : ℕ) → (d == quote) ≡ false → piece_in (mode.Expression quote) c (d ∷ rest) ≡ (piece.Token token.Invalid true, 1) → piece_at c (d ∷ rest) ≡ (piece.Token token.Invalid true, 1)
+    of d k f = in_mode c (mode.Expression quote) (d ∷ rest) _ e f
 
     go : ((b == 34) ≡ true) ⊎ ((b == 39) ≡ true) → piece_at c (b ∷ rest) ≡ (piece.Token token.Invalid true, 1)
     go (inl k) =
@@ -315,9 +315,9 @@ bracket_printable b e = rw (misses is_printable 40 b e refl, misses is_printable
 bad_word : (b : ℕ) (bs : List ℕ) → is_printable b ≡ false → word_or_mark (b ∷ bs) ≡ (piece.BadByte, 1)
 bad_word b bs e = special_word b bs _ (digit_printable b e) (letter_printable b e) (bracket_printable b e) (rw e refl) (rw e refl)
 
-finds_bad : (c : Context) (b : ℕ) (rest : List ℕ) → IsOfCode c.region → is_printable b ≡ false → b ≢ 10 → (b ≡ 13 → EndsBefore (λ d. d == 10) rest) → (b ≡ 9 → c.region ≡ region.Code → c.at_front ≡ true → ⊥) → Finds c piece.BadByte (b ∷ []) rest
+finds_bad : (c : Context) (b : ℕ) (rest : List ℕ) → IsOfCode c.mode → is_printable b ≡ false → b ≢ 10 → (b ≡ 13 → EndsBefore (λ d. d == 10) rest) → (b ≡ 9 → c.mode ≡ mode.Code → c.at_front ≡ true → ⊥) → Finds c piece.BadByte (b ∷ []) rest
 unfolding blank_piece code_piece expression_piece
-finds_bad c b rest code e f g k = go c.region refl code
+finds_bad c b rest code e f g k = go c.mode refl code
   where
     feed : (b == 10) ≡ false
     feed = not_equal b 10 f
@@ -332,52 +332,52 @@ finds_bad c b rest code e f g k = go c.region refl code
     space : (b == 32) ≡ false
     space = misses is_printable 32 b e refl
 
-    go : (r : Region) → c.region ≡ r → IsOfCode r → piece_at c (b ∷ rest) ≡ (piece.BadByte, 1)
-    go region.Code r h =
+    go : (r : Mode) → c.mode ≡ r → IsOfCode r → piece_at c (b ∷ rest) ≡ (piece.BadByte, 1)
+    go mode.Code r h =
         let tab : ((b == 9) && c.at_front) ≡ false = to_false _ (λ t. let u = both (b == 9) c.at_front t in k (equal b 9 u.0) r u.1) in
         let quote : is_quote b ≡ false = no_quote b (misses is_printable 34 b e refl) (misses is_printable 39 b e refl) in
-        in_region c region.Code (b ∷ rest) _ r (rw (feed, return, space, tab, misses is_printable 35 b e refl, quote, misses is_printable 102 b e refl) (bad_word b rest e))
-    go (region.Expression quote) r h =
+        in_mode c mode.Code (b ∷ rest) _ r (rw (feed, return, space, tab, misses is_printable 35 b e refl, quote, misses is_printable 102 b e refl) (bad_word b rest e))
+    go (mode.Expression quote) r h =
         let q : (b == quote) ≡ false = misses is_printable quote b e (quote_printable quote h) in
-        in_region c (region.Expression quote) (b ∷ rest) _ r (rw (feed, return, space, misses is_printable 125 b e refl, q, misses is_printable 92 b e refl) (bad_word b rest e))
+        in_mode c (mode.Expression quote) (b ∷ rest) _ r (rw (feed, return, space, misses is_printable 125 b e refl, q, misses is_printable 92 b e refl) (bad_word b rest e))
       where
         quote_printable : (d : ℕ) → is_quote d ≡ true → is_printable d ≡ true
         quote_printable d h = grind (arith, nat_tests)
-    go (region.Format quote) r h = absurd h
+    go (mode.Format quote) r h = absurd h
 
 -- Blanks and comments.
 
 finds_feed : (c : Context) (rest : List ℕ) → Finds c piece.LineEnd (10 ∷ []) rest
 unfolding blank_piece format_piece
-finds_feed c rest = go c.region refl
+finds_feed c rest = go c.mode refl
   where
-    go : (r : Region) → c.region ≡ r → piece_at c (10 ∷ rest) ≡ (piece.LineEnd, 1)
-    go region.Code e = in_region c region.Code (10 ∷ rest) _ e refl
-    go (region.Expression quote) e = in_region c (region.Expression quote) (10 ∷ rest) _ e refl
-    go (region.Format quote) e = in_region c (region.Format quote) (10 ∷ rest) _ e refl
+    go : (r : Mode) → c.mode ≡ r → piece_at c (10 ∷ rest) ≡ (piece.LineEnd, 1)
+    go mode.Code e = in_mode c mode.Code (10 ∷ rest) _ e refl
+    go (mode.Expression quote) e = in_mode c (mode.Expression quote) (10 ∷ rest) _ e refl
+    go (mode.Format quote) e = in_mode c (mode.Format quote) (10 ∷ rest) _ e refl
 
-finds_return : (c : Context) (rest : List ℕ) → IsOfCode c.region → Finds c piece.LineEnd (13 ∷ 10 ∷ []) rest
+finds_return : (c : Context) (rest : List ℕ) → IsOfCode c.mode → Finds c piece.LineEnd (13 ∷ 10 ∷ []) rest
 unfolding blank_piece
 finds_return c rest code = of_code c (13 ∷ 10 ∷ rest) _ code refl (λ quote h. refl)
 
-finds_space : (c : Context) (rest : List ℕ) → IsOfCode c.region → Finds c piece.Space (32 ∷ []) rest
+finds_space : (c : Context) (rest : List ℕ) → IsOfCode c.mode → Finds c piece.Space (32 ∷ []) rest
 unfolding blank_piece
 finds_space c rest code = of_code c (32 ∷ rest) _ code refl (λ quote h. refl)
 
-finds_tab : (c : Context) (rest : List ℕ) → c.region ≡ region.Code → c.at_front ≡ true → Finds c piece.Tab (9 ∷ []) rest
+finds_tab : (c : Context) (rest : List ℕ) → c.mode ≡ mode.Code → c.at_front ≡ true → Finds c piece.Tab (9 ∷ []) rest
 unfolding blank_piece code_piece
-finds_tab c rest e f = in_region c region.Code (9 ∷ rest) _ e (rw f refl)
+finds_tab c rest e f = in_mode c mode.Code (9 ∷ rest) _ e (rw f refl)
 
-finds_comment : (c : Context) (body rest : List ℕ) → c.region ≡ region.Code → list_all not_line_feed body ≡ true → EndsBefore not_line_feed rest → Finds c piece.Comment (35 ∷ body) rest
+finds_comment : (c : Context) (body rest : List ℕ) → c.mode ≡ mode.Code → list_all not_line_feed body ≡ true → EndsBefore not_line_feed rest → Finds c piece.Comment (35 ∷ body) rest
 unfolding blank_piece code_piece
-finds_comment c body rest e h k = in_region c region.Code (35 ∷ (body ++ rest)) _ e (ap (λ (xs : List ℕ). (piece.Comment, length xs)) (taken not_line_feed (35 ∷ body) rest h k))
+finds_comment c body rest e h k = in_mode c mode.Code (35 ∷ (body ++ rest)) _ e (ap (λ (xs : List ℕ). (piece.Comment, length xs)) (taken not_line_feed (35 ∷ body) rest h k))
 
 -- Texts and docstrings.
 
-quoted : (c : Context) (quote : ℕ) (bs : List ℕ) (x : Front) → c.region ≡ region.Code → is_quote quote ≡ true → quoted_piece c.is_fresh (quote ∷ bs) ≡ x → piece_at c (quote ∷ bs) ≡ x
+quoted : (c : Context) (quote : ℕ) (bs : List ℕ) (x : Front) → c.mode ≡ mode.Code → is_quote quote ≡ true → quoted_piece c.is_fresh (quote ∷ bs) ≡ x → piece_at c (quote ∷ bs) ≡ x
 unfolding blank_piece code_piece
 quoted c quote bs x e h k =
-    in_region c region.Code (quote ∷ bs) x e
+    in_mode c mode.Code (quote ∷ bs) x e
     (rw (differs is_quote 10 quote h refl, differs is_quote 13 quote h refl, differs is_quote 32 quote h refl, differs is_quote 9 quote h refl, differs is_quote 35 quote h refl, h) k)
 
 no_docstring : (c : Context) (quote : ℕ) (bs : List ℕ) → is_quote quote ≡ true → IsNoDocstring c (quote ∷ bs) → quoted_piece c.is_fresh (quote ∷ bs) ≡ text_piece (quote ∷ bs)
@@ -401,7 +401,7 @@ text_found quote items rest h k =
     let size : length (bytes_of items) + 1 + 1 ≡ length (quote ∷ (bytes_of items ++ quote ∷ [])) = simp length-append (omega arith) in
     rw (text_closed quote items rest h k, body, said_items quote items k, size) refl
 
-finds_text : (c : Context) (quote : ℕ) (items : List Item) (rest : List ℕ) → c.region ≡ region.Code → is_quote quote ≡ true → AreInText quote items → IsNoDocstring c ((quote ∷ (bytes_of items ++ quote ∷ [])) ++ rest)
+finds_text : (c : Context) (quote : ℕ) (items : List Item) (rest : List ℕ) → c.mode ≡ mode.Code → is_quote quote ≡ true → AreInText quote items → IsNoDocstring c ((quote ∷ (bytes_of items ++ quote ∷ [])) ++ rest)
     → Finds c (piece.Token (text_token (said_by items)) (are_printable (bytes_of items))) (quote ∷ (bytes_of items ++ quote ∷ [])) rest
 finds_text c quote items rest e h k alone =
     let split : (bytes_of items ++ quote ∷ []) ++ rest ≡ bytes_of items ++ quote ∷ rest = append_assoc (bytes_of items) (quote ∷ []) rest in
@@ -429,7 +429,7 @@ open_alone c quote bs stays fresh p bytes rest split d = go d
     go (standing.long items k e empty f) = three _ (split ∙ ap (λ (xs : List ℕ). xs ++ rest) e)
     go (standing.endless body h e nothing f) = three _ (split ∙ ap (λ (xs : List ℕ). xs ++ rest) e)
 
-finds_open_text : (c : Context) (quote : ℕ) (body rest : List ℕ) → c.region ≡ region.Code → is_quote quote ≡ true → list_all not_line_feed body ≡ true → EndsBefore not_line_feed rest → StaysOpenOnLine quote (body ++ rest)
+finds_open_text : (c : Context) (quote : ℕ) (body rest : List ℕ) → c.mode ≡ mode.Code → is_quote quote ≡ true → list_all not_line_feed body ≡ true → EndsBefore not_line_feed rest → StaysOpenOnLine quote (body ++ rest)
     → Finds c piece.OpenText (quote ∷ body) rest
 unfolding text_piece
 finds_open_text c quote body rest e h k ends stays =
@@ -440,11 +440,11 @@ finds_open_text c quote body rest e h k ends stays =
     ∙ ap (λ (o : Option ℕ). text_until (quote ∷ (body ++ rest)) o) (text_open quote (body ++ rest) stays)
     ∙ ap (λ (xs : List ℕ). (piece.OpenText, length xs)) (taken not_line_feed (quote ∷ body) rest all ends))
 
-docstring_found : (c : Context) (b : ℕ) (bs : List ℕ) (x : Front) → c.region ≡ region.Code → c.is_fresh ≡ true → is_quote b ≡ true → docstring_piece (b ∷ bs) ≡ Some x → piece_at c (b ∷ bs) ≡ x
+docstring_found : (c : Context) (b : ℕ) (bs : List ℕ) (x : Front) → c.mode ≡ mode.Code → c.is_fresh ≡ true → is_quote b ≡ true → docstring_piece (b ∷ bs) ≡ Some x → piece_at c (b ∷ bs) ≡ x
 unfolding quoted_piece
 docstring_found c b bs x e fresh h k = quoted c b bs x e h (rw (fresh, k) refl)
 
-finds_docstrings : (c : Context) (p : Piece) (bytes rest : List ℕ) → c.region ≡ region.Code → c.is_fresh ≡ true → IsDocstring p bytes rest → Finds c p bytes rest
+finds_docstrings : (c : Context) (p : Piece) (bytes rest : List ℕ) → c.mode ≡ mode.Code → c.is_fresh ≡ true → IsDocstring p bytes rest → Finds c p bytes rest
 finds_docstrings c p bytes rest e fresh d = go d
   where
     by : (b : ℕ) (bs : List ℕ) → is_quote b ≡ true → bytes ++ rest ≡ b ∷ bs → Finds c p bytes rest
@@ -457,34 +457,34 @@ finds_docstrings c p bytes rest e fresh d = go d
 
 -- F-strings.
 
-finds_start : (c : Context) (quote : ℕ) (rest : List ℕ) → c.region ≡ region.Code → is_quote quote ≡ true → Finds c (piece.FormatStart quote) (102 ∷ quote ∷ []) rest
+finds_start : (c : Context) (quote : ℕ) (rest : List ℕ) → c.mode ≡ mode.Code → is_quote quote ≡ true → Finds c (piece.FormatStart quote) (102 ∷ quote ∷ []) rest
 unfolding blank_piece code_piece
-finds_start c quote rest e h = in_region c region.Code (102 ∷ quote ∷ rest) _ e (rw h refl)
+finds_start c quote rest e h = in_mode c mode.Code (102 ∷ quote ∷ rest) _ e (rw h refl)
 
-finds_end : (c : Context) (quote : ℕ) (rest : List ℕ) → c.region ≡ region.Format quote → is_quote quote ≡ true → Finds c piece.FormatEnd (quote ∷ []) rest
+finds_end : (c : Context) (quote : ℕ) (rest : List ℕ) → c.mode ≡ mode.Format quote → is_quote quote ≡ true → Finds c piece.FormatEnd (quote ∷ []) rest
 unfolding format_piece
-finds_end c quote rest e h = in_region c (region.Format quote) (quote ∷ rest) _ e (rw (differs is_quote 10 quote h refl, same quote) refl)
+finds_end c quote rest e h = in_mode c (mode.Format quote) (quote ∷ rest) _ e (rw (differs is_quote 10 quote h refl, same quote) refl)
 
 not_the_quote : (n quote : ℕ) → is_quote quote ≡ true → is_quote n ≡ false → (n == quote) ≡ false
 not_the_quote n quote h k = turn quote n (differs is_quote n quote h k)
 
-finds_brace : (c : Context) (b quote : ℕ) (rest : List ℕ) → c.region ≡ region.Format quote → is_quote quote ≡ true → is_brace b ≡ true → Finds c (piece.Token (token.FormatText (b ∷ [])) true) (b ∷ b ∷ []) rest
+finds_brace : (c : Context) (b quote : ℕ) (rest : List ℕ) → c.mode ≡ mode.Format quote → is_quote quote ≡ true → is_brace b ≡ true → Finds c (piece.Token (token.FormatText (b ∷ [])) true) (b ∷ b ∷ []) rest
 unfolding format_piece
 finds_brace c b quote rest e h k =
-    in_region c (region.Format quote) (b ∷ b ∷ rest) _ e
+    in_mode c (mode.Format quote) (b ∷ b ∷ rest) _ e
     (rw (differs is_brace 10 b k refl, not_the_quote b quote h (no_quote b (differs is_brace 34 b k refl) (differs is_brace 39 b k refl)), k, same b) refl)
 
 next_differs : (n : ℕ) (rest : List ℕ) → (n == 0) ≡ false → EndsBefore (λ d. d == n) rest → (n == slice_index rest 0) ≡ false
 next_differs n [] z h = z
 next_differs n (d ∷ ds) z h = turn d n h
 
-finds_format_open : (c : Context) (quote : ℕ) (rest : List ℕ) → c.region ≡ region.Format quote → is_quote quote ≡ true → EndsBefore (λ b. b == 123) rest → Finds c piece.FormatOpen (123 ∷ []) rest
+finds_format_open : (c : Context) (quote : ℕ) (rest : List ℕ) → c.mode ≡ mode.Format quote → is_quote quote ≡ true → EndsBefore (λ b. b == 123) rest → Finds c piece.FormatOpen (123 ∷ []) rest
 unfolding format_piece
-finds_format_open c quote rest e h k = in_region c (region.Format quote) (123 ∷ rest) _ e (rw (not_the_quote 123 quote h refl, next_differs 123 rest refl k) refl)
+finds_format_open c quote rest e h k = in_mode c (mode.Format quote) (123 ∷ rest) _ e (rw (not_the_quote 123 quote h refl, next_differs 123 rest refl k) refl)
 
-finds_lone_brace : (c : Context) (quote : ℕ) (rest : List ℕ) → c.region ≡ region.Format quote → is_quote quote ≡ true → EndsBefore (λ b. b == 125) rest → Finds c (piece.Token token.Invalid true) (125 ∷ []) rest
+finds_lone_brace : (c : Context) (quote : ℕ) (rest : List ℕ) → c.mode ≡ mode.Format quote → is_quote quote ≡ true → EndsBefore (λ b. b == 125) rest → Finds c (piece.Token token.Invalid true) (125 ∷ []) rest
 unfolding format_piece
-finds_lone_brace c quote rest e h k = in_region c (region.Format quote) (125 ∷ rest) _ e (rw (not_the_quote 125 quote h refl, next_differs 125 rest refl k) refl)
+finds_lone_brace c quote rest e h k = in_mode c (mode.Format quote) (125 ∷ rest) _ e (rw (not_the_quote 125 quote h refl, next_differs 125 rest refl k) refl)
 
 literal_front : (quote b : ℕ) (bs : List ℕ) → goes_on quote b ≡ true → format_piece quote (b ∷ bs) ≡ literal_piece (take (literal_len quote false (b ∷ bs)) (b ∷ bs))
 unfolding format_piece
@@ -507,18 +507,18 @@ literal_first quote [] (b ∷ bs) h k some first rest = literal_front quote b (b
 literal_first quote (plain b ∷ items) tail h k some first rest = literal_front quote b ((bytes_of items ++ tail) ++ rest) (plain_goes_on quote b k.0 k.2 k.3)
 literal_first quote (escaped b ∷ items) tail h k some first rest = literal_front quote 92 (b ∷ ((bytes_of items ++ tail) ++ rest)) (backslash_goes_on quote h)
 
-literal_by : (c : Context) (quote : ℕ) (bytes rest : List ℕ) (t : Token) → c.region ≡ region.Format quote
+literal_by : (c : Context) (quote : ℕ) (bytes rest : List ℕ) (t : Token) → c.mode ≡ mode.Format quote
     → format_piece quote (bytes ++ rest) ≡ literal_piece (take (literal_len quote false (bytes ++ rest)) (bytes ++ rest)) → literal_len quote false (bytes ++ rest) ≡ length bytes
     → literal_token (said_from false bytes) ≡ t → Finds c (piece.Token t (are_printable bytes)) bytes rest
 literal_by c quote bytes rest t e f size g =
     let front : take (literal_len quote false (bytes ++ rest)) (bytes ++ rest) ≡ bytes = ap (λ (n : ℕ). take n (bytes ++ rest)) size ∙ take-append_seam bytes rest in
-    in_region c (region.Format quote) (bytes ++ rest) _ e (f ∙ ap (λ (xs : List ℕ). literal_piece xs) front ∙ ap (λ (u : Token). (piece.Token u (are_printable bytes), length bytes)) g)
+    in_mode c (mode.Format quote) (bytes ++ rest) _ e (f ∙ ap (λ (xs : List ℕ). literal_piece xs) front ∙ ap (λ (u : Token). (piece.Token u (are_printable bytes), length bytes)) g)
 
 append_none : (xs : List ℕ) → xs ++ [] ≡ xs
 append_none [] = refl
 append_none (x ∷ xs) = ap (λ (ys : List ℕ). x ∷ ys) (append_none xs)
 
-finds_literal : (c : Context) (quote : ℕ) (items : List Item) (rest : List ℕ) → c.region ≡ region.Format quote → is_quote quote ≡ true → bytes_of items ≢ [] → AreInLiteral quote items → EndsBefore (goes_on quote) rest
+finds_literal : (c : Context) (quote : ℕ) (items : List Item) (rest : List ℕ) → c.mode ≡ mode.Format quote → is_quote quote ≡ true → bytes_of items ≢ [] → AreInLiteral quote items → EndsBefore (goes_on quote) rest
     → Finds c (piece.Token (literal_token (said_by items)) (are_printable (bytes_of items))) (bytes_of items) rest
 finds_literal c quote items rest e h some k ends =
     let first : format_piece quote (bytes_of items ++ rest) ≡ literal_piece (take (literal_len quote false (bytes_of items ++ rest)) (bytes_of items ++ rest)) =
@@ -527,7 +527,7 @@ finds_literal c quote items rest e h some k ends =
     (literal_more quote items rest h k ∙ ap (λ (n : ℕ). length (bytes_of items) + n) (literal_ends quote rest ends) ∙ (let z : length (bytes_of items) + 0 ≡ length (bytes_of items) = omega arith in z))
     (ap (λ (x : Option (List ℕ)). literal_token x) (said_literal quote items k))
 
-finds_cut : (c : Context) (quote : ℕ) (items : List Item) (rest : List ℕ) → c.region ≡ region.Format quote → is_quote quote ≡ true → AreInLiteral quote items → EndsBefore not_line_feed rest
+finds_cut : (c : Context) (quote : ℕ) (items : List Item) (rest : List ℕ) → c.mode ≡ mode.Format quote → is_quote quote ≡ true → AreInLiteral quote items → EndsBefore not_line_feed rest
     → Finds c (piece.Token token.Invalid (are_printable (bytes_of items ++ 92 ∷ []))) (bytes_of items ++ 92 ∷ []) rest
 finds_cut c quote items rest e h k ends =
     literal_by c quote (bytes_of items ++ 92 ∷ []) rest _ e (literal_first quote items (92 ∷ []) h k (λ z. absurd (no_byte z)) (λ z. backslash_goes_on quote h) rest)
@@ -537,24 +537,24 @@ finds_cut c quote items rest e h k ends =
     no_byte : ◌≡◌ {A = List ℕ} (92 ∷ []) [] → ⊥
     no_byte e = cc
 
-finds_format_close : (c : Context) (quote : ℕ) (rest : List ℕ) → c.region ≡ region.Expression quote → Finds c piece.FormatClose (125 ∷ []) rest
+finds_format_close : (c : Context) (quote : ℕ) (rest : List ℕ) → c.mode ≡ mode.Expression quote → Finds c piece.FormatClose (125 ∷ []) rest
 unfolding blank_piece expression_piece
-finds_format_close c quote rest e = in_region c (region.Expression quote) (125 ∷ rest) _ e refl
+finds_format_close c quote rest e = in_mode c (mode.Expression quote) (125 ∷ rest) _ e refl
 
-finds_format_cut : (c : Context) (quote : ℕ) (rest : List ℕ) → c.region ≡ region.Expression quote → is_quote quote ≡ true → Finds c piece.FormatCut (quote ∷ []) rest
+finds_format_cut : (c : Context) (quote : ℕ) (rest : List ℕ) → c.mode ≡ mode.Expression quote → is_quote quote ≡ true → Finds c piece.FormatCut (quote ∷ []) rest
 unfolding blank_piece expression_piece
 finds_format_cut c quote rest e h =
-    in_region c (region.Expression quote) (quote ∷ rest) _ e
+    in_mode c (mode.Expression quote) (quote ∷ rest) _ e
     (rw (differs is_quote 10 quote h refl, differs is_quote 13 quote h refl, differs is_quote 32 quote h refl, differs is_quote 125 quote h refl, same quote) refl)
 
-finds_escape : (c : Context) (b quote : ℕ) (rest : List ℕ) → c.region ≡ region.Expression quote → is_quote quote ≡ true → b ≢ 10 → Finds c (piece.Token token.Invalid (is_printable b)) (92 ∷ b ∷ []) rest
+finds_escape : (c : Context) (b quote : ℕ) (rest : List ℕ) → c.mode ≡ mode.Expression quote → is_quote quote ≡ true → b ≢ 10 → Finds c (piece.Token token.Invalid (is_printable b)) (92 ∷ b ∷ []) rest
 unfolding blank_piece expression_piece
-finds_escape c b quote rest e h k = in_region c (region.Expression quote) (92 ∷ b ∷ rest) _ e (rw (not_the_quote 92 quote h refl, not_equal b 10 k) refl)
+finds_escape c b quote rest e h k = in_mode c (mode.Expression quote) (92 ∷ b ∷ rest) _ e (rw (not_the_quote 92 quote h refl, not_equal b 10 k) refl)
 
-finds_last_backslash : (c : Context) (quote : ℕ) (rest : List ℕ) → c.region ≡ region.Expression quote → is_quote quote ≡ true → EndsBefore not_line_feed rest → Finds c (piece.Token token.Invalid true) (92 ∷ []) rest
+finds_last_backslash : (c : Context) (quote : ℕ) (rest : List ℕ) → c.mode ≡ mode.Expression quote → is_quote quote ≡ true → EndsBefore not_line_feed rest → Finds c (piece.Token token.Invalid true) (92 ∷ []) rest
 unfolding blank_piece expression_piece
-finds_last_backslash c quote [] e h k = in_region c (region.Expression quote) (92 ∷ []) _ e (rw (not_the_quote 92 quote h refl) refl)
-finds_last_backslash c quote (d ∷ ds) e h k = in_region c (region.Expression quote) (92 ∷ d ∷ ds) _ e (rw (not_the_quote 92 quote h refl, is_feed (d == 10) k) refl)
+finds_last_backslash c quote [] e h k = in_mode c (mode.Expression quote) (92 ∷ []) _ e (rw (not_the_quote 92 quote h refl) refl)
+finds_last_backslash c quote (d ∷ ds) e h k = in_mode c (mode.Expression quote) (92 ∷ d ∷ ds) _ e (rw (not_the_quote 92 quote h refl, is_feed (d == 10) k) refl)
   where
     is_feed : (x : Bool) → not x ≡ false → x ≡ true
     is_feed true e = refl

@@ -13,7 +13,7 @@ use Rattle.py_syntax.specs.Numbers.{base_of, number_of}
 use Rattle.py_syntax.specs.Marks.{bracket_of, single}
 use Rattle.py_syntax.specs.Texts.{text_end, said_from, literal_len, docstring_end}
 use Rattle.py_syntax.specs.Pieces.{Front, or_else, piece_at, piece_in, blank_piece, code_piece, expression_piece, format_piece, word_or_mark, word_piece, number_piece, mark_piece, mark_or_bracket, operator_piece, other_piece, quoted_piece, docstring_piece, docstring_of, long_docstring, short_docstring, text_piece, text_until, after_backslash, brace_piece, literal_piece}
-use Rattle.py_syntax.specs.Places.{Place, context_of, place_after, region_after, HasQuote}
+use Rattle.py_syntax.specs.Places.{Place, context_of, place_after, mode_after, HasQuote}
 use Rattle.py_syntax.specs.Found.{IsMadeOf}
 use Rattle.py_syntax.specs.Items.{Item, bytes_of, said_by, AreInLiteral}
 use Rattle.py_syntax.specs.Standing.{EndsBefore, IsOfCode, IsLongest, IsDocstring, IsNoDocstring, StaysOpenOnLine, is_formless, is_line_empty, operator_bytes, word_token, number_token, text_token, literal_token, begins_format, Stands}
@@ -25,8 +25,8 @@ use Rattle.py_syntax.specs.declared.token.Token.{Token}
 use Rattle.py_syntax.specs.declared.token.Token.TheVariants as token
 use Rattle.py_syntax.specs.declared.piece.Piece.{Piece}
 use Rattle.py_syntax.specs.declared.piece.Piece.TheVariants as piece
-use Rattle.py_syntax.specs.declared.piece.Region.{Region}
-use Rattle.py_syntax.specs.declared.piece.Region.TheVariants as region
+use Rattle.py_syntax.specs.declared.piece.Mode.{Mode}
+use Rattle.py_syntax.specs.declared.piece.Mode.TheVariants as mode
 use Rattle.py_syntax.specs.declared.piece.Context.{Context}
 use Rattle.py_syntax.proofs.Tests.{equal, different, not_equal, both, either, one_of, not_true, to_false, all_below, below, Run, run, first_in, letter_is_word, digit_is_number, base_of_front, digit_known}
 use Rattle.py_syntax.proofs.MarkLaws.{when, at_front, next_is, found_first, found_longest, none_longest, single_none}
@@ -60,13 +60,13 @@ single_byte b n e = ap (λ (x : ℕ). x ∷ []) (equal b n e)
 
 -- Words.
 
-no_format : (c : Context) (bytes rest : List ℕ) → IsOfCode c.region → (c.region ≡ region.Code → (bytes_eq bytes (102 ∷ []) && is_quote (slice_index rest 0)) ≡ false) → begins_format c.region bytes rest ≡ false
-no_format c bytes rest code h = go c.region code h
+no_format : (c : Context) (bytes rest : List ℕ) → IsOfCode c.mode → (c.mode ≡ mode.Code → (bytes_eq bytes (102 ∷ []) && is_quote (slice_index rest 0)) ≡ false) → begins_format c.mode bytes rest ≡ false
+no_format c bytes rest code h = go c.mode code h
   where
-    go : (r : Region) → IsOfCode r → (r ≡ region.Code → (bytes_eq bytes (102 ∷ []) && is_quote (slice_index rest 0)) ≡ false) → begins_format r bytes rest ≡ false
-    go region.Code code h = h refl
-    go (region.Expression quote) code h = refl
-    go (region.Format quote) code h = refl
+    go : (r : Mode) → IsOfCode r → (r ≡ mode.Code → (bytes_eq bytes (102 ∷ []) && is_quote (slice_index rest 0)) ≡ false) → begins_format r bytes rest ≡ false
+    go mode.Code code h = h refl
+    go (mode.Expression quote) code h = refl
+    go (mode.Format quote) code h = refl
 
 alone : (x y : Bool) → (x && y) ≡ false → ((x && true) && y) ≡ false
 alone true y e = e
@@ -76,7 +76,7 @@ longer : (x y : Bool) → ((x && false) && y) ≡ false
 longer true y = refl
 longer false y = refl
 
-word_stands : (c : Context) (b : ℕ) (bs : List ℕ) → IsOfCode c.region → (c.region ≡ region.Code → ((b == 102) && is_quote (slice_index bs 0)) ≡ false) → is_letter b ≡ true → IsFront c (b ∷ bs) (word_piece (b ∷ bs))
+word_stands : (c : Context) (b : ℕ) (bs : List ℕ) → IsOfCode c.mode → (c.mode ≡ mode.Code → ((b == 102) && is_quote (slice_index bs 0)) ≡ false) → is_letter b ≡ true → IsFront c (b ∷ bs) (word_piece (b ∷ bs))
 unfolding word_piece
 word_stands c b bs code plain h =
     let r = run is_word_byte (b ∷ bs) in
@@ -94,7 +94,7 @@ word_stands c b bs code plain h =
     f_alone (x ∷ []) rest e k = let p : b ≡ x = cc in let q : bs ≡ rest = cc in alone (x == 102) (is_quote (slice_index rest 0)) (rw (p, q) at k)
     f_alone (x ∷ y ∷ ys) rest e k = longer (x == 102) (is_quote (slice_index rest 0))
 
-number_stands : (c : Context) (text : List ℕ) → IsOfCode c.region → is_digit (slice_index text 0) ≡ true → IsFront c text (number_piece text)
+number_stands : (c : Context) (text : List ℕ) → IsOfCode c.mode → is_digit (slice_index text 0) ≡ true → IsFront c text (number_piece text)
 unfolding number_piece
 number_stands c text code h =
     let base : ℕ = base_of text in
@@ -112,7 +112,7 @@ number_stands c text code h =
 
 -- Brackets and operators.
 
-bracket_stands : (c : Context) (b : ℕ) (bs : List ℕ) → IsOfCode c.region → IfSome (bracket_of b) (λ t. IsFront c (b ∷ bs) (piece.Token t true, 1))
+bracket_stands : (c : Context) (b : ℕ) (bs : List ℕ) → IsOfCode c.mode → IfSome (bracket_of b) (λ t. IsFront c (b ∷ bs) (piece.Token t true, 1))
 bracket_stands c b bs code =
     let P : Token → Type 0 = λ t. IsFront c (b ∷ bs) (piece.Token t true, 1) in
     when P (b == 40) _ _ (λ e. one c _ b bs (standing.open_bracket Round code refl (single_byte b 40 e)))
@@ -128,13 +128,13 @@ pub record IsLeft (b : ℕ) (bs : List ℕ) : Type 0 where
   pub no_mark : single b ≡ None
   pub longest : IsLongest (b ∷ []) bs
 
-operator_front : (c : Context) (b : ℕ) (bs : List ℕ) (o : Option (Operator × ℕ)) → IsOfCode c.region → at_front (b ∷ bs) ≡ o → (o ≡ None → IsFront c (b ∷ bs) (other_piece b)) → IsFront c (b ∷ bs) (operator_piece b o)
+operator_front : (c : Context) (b : ℕ) (bs : List ℕ) (o : Option (Operator × ℕ)) → IsOfCode c.mode → at_front (b ∷ bs) ≡ o → (o ≡ None → IsFront c (b ∷ bs) (other_piece b)) → IsFront c (b ∷ bs) (operator_piece b o)
 operator_front c b bs None code e other = other refl
 operator_front c b bs (Some x) code e other =
     let f = found_first b bs x e in
     front_by c (b ∷ bs) (operator_bytes x.0) f.behind _ x.1 f.split f.size (standing.mark x.0 code refl refl (found_longest (b ∷ bs) (operator_bytes x.0) f.behind x e f.split f.size))
 
-mark_stands : (c : Context) (b : ℕ) (bs : List ℕ) → IsOfCode c.region → is_digit b ≡ false → is_letter b ≡ false → (IsLeft b bs → IsFront c (b ∷ bs) (other_piece b)) → IsFront c (b ∷ bs) (mark_piece (b ∷ bs))
+mark_stands : (c : Context) (b : ℕ) (bs : List ℕ) → IsOfCode c.mode → is_digit b ≡ false → is_letter b ≡ false → (IsLeft b bs → IsFront c (b ∷ bs) (other_piece b)) → IsFront c (b ∷ bs) (mark_piece (b ∷ bs))
 unfolding mark_piece
 mark_stands c b bs code no_digit no_letter other = go (bracket_of b) refl (bracket_stands c b bs code)
   where
@@ -145,7 +145,7 @@ mark_stands c b bs code no_digit no_letter other = go (bracket_of b) refl (brack
     go (Some t) e h = h
     go None e h = operator_front c b bs (at_front (b ∷ bs)) code refl (λ f. other (left e f))
 
-word_or_mark_stands : (c : Context) (b : ℕ) (bs : List ℕ) → IsOfCode c.region → (c.region ≡ region.Code → ((b == 102) && is_quote (slice_index bs 0)) ≡ false)
+word_or_mark_stands : (c : Context) (b : ℕ) (bs : List ℕ) → IsOfCode c.mode → (c.mode ≡ mode.Code → ((b == 102) && is_quote (slice_index bs 0)) ≡ false)
     → (IsLeft b bs → IsFront c (b ∷ bs) (other_piece b)) → IsFront c (b ∷ bs) (word_or_mark (b ∷ bs))
 unfolding word_or_mark
 word_or_mark_stands c b bs code plain other =
@@ -191,19 +191,19 @@ no_feed_behind : (b : ℕ) (bs : List ℕ) → IsNoBlank b bs → b ≡ 13 → E
 no_feed_behind b [] h e = tt
 no_feed_behind b (d ∷ ds) h e = rw e at h.no_return
 
-bad_stands : (c : Context) (b : ℕ) (bs : List ℕ) → IsOfCode c.region → IsNoBlank b bs → is_printable b ≡ false → (b ≡ 9 → c.region ≡ region.Code → c.at_front ≡ true → ⊥) → IsFront c (b ∷ bs) (piece.BadByte, 1)
+bad_stands : (c : Context) (b : ℕ) (bs : List ℕ) → IsOfCode c.mode → IsNoBlank b bs → is_printable b ≡ false → (b ≡ 9 → c.mode ≡ mode.Code → c.at_front ≡ true → ⊥) → IsFront c (b ∷ bs) (piece.BadByte, 1)
 bad_stands c b bs code h e k = one c _ b bs (standing.bad_byte b code refl refl e (different b 10 h.no_feed) (no_feed_behind b bs h) k)
 
 code_left : (x y z w : Bool) → y ≡ false → z ≡ false → (x || (y || (z || w))) ≡ true → (x || w) ≡ true
 code_left x y z w e f h = rw (e, f) at h
 
-other_in_code : (c : Context) (b : ℕ) (bs : List ℕ) → c.region ≡ region.Code → IsNoBlank b bs → ((b == 9) && c.at_front) ≡ false → (b == 35) ≡ false → is_quote b ≡ false → IsLeft b bs → IsFront c (b ∷ bs) (other_piece b)
+other_in_code : (c : Context) (b : ℕ) (bs : List ℕ) → c.mode ≡ mode.Code → IsNoBlank b bs → ((b == 9) && c.at_front) ≡ false → (b == 35) ≡ false → is_quote b ≡ false → IsLeft b bs → IsFront c (b ∷ bs) (other_piece b)
 other_in_code c b bs code blank no_tab no_hash no_quote h = by_if (IsFront c (b ∷ bs)) (is_printable b && not (b == 92)) _ _
     (λ e. let t = both (is_printable b) (not (b == 92)) e in
     formless (one_of (is_formless b) (b == 125) (code_left (is_formless b) (b == 35) (is_quote b) (b == 125) no_hash no_quote (left_is b bs h t.0 blank.no_space (not_backslash (b == 92) t.1)))))
     (λ e. bad (either (is_printable b) (b == 92) e))
   where
-    of_code : IsOfCode c.region
+    of_code : IsOfCode c.mode
     of_code = rw code tt
 
     not_backslash : (x : Bool) → not x ≡ true → x ≡ false
@@ -214,28 +214,28 @@ other_in_code c b bs code blank no_tab no_hash no_quote h = by_if (IsFront c (b 
     formless (inl e) = one c _ b bs (standing.no_form b of_code refl refl e h.longest)
     formless (inr e) = one c _ b bs (standing.closing_brace code refl (single_byte b 125 e))
 
-    no_indent : b ≡ 9 → c.region ≡ region.Code → c.at_front ≡ true → ⊥
+    no_indent : b ≡ 9 → c.mode ≡ mode.Code → c.at_front ≡ true → ⊥
     no_indent e f g = not_true ((b == 9) && c.at_front) no_tab (rw (e, g) refl)
 
     bad : (is_printable b ≡ false) ⊎ ((b == 92) ≡ true) → IsFront c (b ∷ bs) (piece.BadByte, 1)
     bad (inl e) = bad_stands c b bs of_code blank e no_indent
     bad (inr e) = one c _ b bs (standing.backslash code refl (single_byte b 92 e))
 
-not_code : (quote : ℕ) → region.Expression quote ≡ region.Code → ⊥
+not_code : (quote : ℕ) → mode.Expression quote ≡ mode.Code → ⊥
 not_code quote e = subst is_part e tt
   where
-    is_part : Region → Type 0
-    is_part region.Code = ⊥
-    is_part (region.Expression q) = Unit {0}
-    is_part (region.Format q) = Unit {0}
+    is_part : Mode → Type 0
+    is_part mode.Code = ⊥
+    is_part (mode.Expression q) = Unit {0}
+    is_part (mode.Format q) = Unit {0}
 
-other_in_part : (c : Context) (quote b : ℕ) (bs : List ℕ) → c.region ≡ region.Expression quote → is_quote quote ≡ true → IsNoBlank b bs → (b == 125) ≡ false → (b == quote) ≡ false → (b == 92) ≡ false
+other_in_part : (c : Context) (quote b : ℕ) (bs : List ℕ) → c.mode ≡ mode.Expression quote → is_quote quote ≡ true → IsNoBlank b bs → (b == 125) ≡ false → (b == quote) ≡ false → (b == 92) ≡ false
     → IsLeft b bs → IsFront c (b ∷ bs) (other_piece b)
 other_in_part c quote b bs part proper blank no_brace no_quote no_backslash h = by_if (IsFront c (b ∷ bs)) (is_printable b && not (b == 92)) _ _
     (λ e. let t = both (is_printable b) (not (b == 92)) e in formless (one_of (is_formless b) ((b == 35) || is_quote b) (simpler (left_is b bs h t.0 blank.no_space no_backslash))))
     (λ e. bad (either (is_printable b) (b == 92) e))
   where
-    of_code : IsOfCode c.region
+    of_code : IsOfCode c.mode
     of_code = rw part proper
 
     simpler : (is_formless b || ((b == 35) || (is_quote b || (b == 125)))) ≡ true → (is_formless b || ((b == 35) || is_quote b)) ≡ true
@@ -261,7 +261,7 @@ other_in_part c quote b bs part proper blank no_brace no_quote no_backslash h = 
 
 -- Blanks.
 
-blank_or : (c : Context) (b : ℕ) (bs : List ℕ) (x : Front) → IsOfCode c.region → (IsNoBlank b bs → IsFront c (b ∷ bs) x) → IsFront c (b ∷ bs) (or_else (blank_piece (b ∷ bs)) x)
+blank_or : (c : Context) (b : ℕ) (bs : List ℕ) (x : Front) → IsOfCode c.mode → (IsNoBlank b bs → IsFront c (b ∷ bs) x) → IsFront c (b ∷ bs) (or_else (blank_piece (b ∷ bs)) x)
 unfolding blank_piece
 blank_or c b bs x code other = go (b == 10) ((b == 13) && (slice_index bs 0 == 10)) (b == 32) refl refl refl
   where
@@ -283,7 +283,7 @@ first_run p b bs h r = take_while-cons p b bs ∙ rw h (ap (λ (xs : List ℕ). 
 is_no_feed : (b : ℕ) → (b == 10) ≡ false → not_line_feed b ≡ true
 is_no_feed b e = rw e refl
 
-text_stands : (c : Context) (quote : ℕ) (bs : List ℕ) → c.region ≡ region.Code → is_quote quote ≡ true → IsNoDocstring c (quote ∷ bs) → IsFront c (quote ∷ bs) (text_piece (quote ∷ bs))
+text_stands : (c : Context) (quote : ℕ) (bs : List ℕ) → c.mode ≡ mode.Code → is_quote quote ≡ true → IsNoDocstring c (quote ∷ bs) → IsFront c (quote ∷ bs) (text_piece (quote ∷ bs))
 unfolding text_piece
 text_stands c quote bs code h alone = go (text_end quote false bs) refl
   where
@@ -380,7 +380,7 @@ docstring_stands b bs quote =
         (λ empty. standing.short b k.items quote k.proper refl empty refl)
 
 -- Where no docstring is found, none stands.
-quoted_stands : (c : Context) (b : ℕ) (bs : List ℕ) → c.region ≡ region.Code → is_quote b ≡ true
+quoted_stands : (c : Context) (b : ℕ) (bs : List ℕ) → c.mode ≡ mode.Code → is_quote b ≡ true
     → FindsDocstrings (b ∷ bs) → IsFront c (b ∷ bs) (quoted_piece c.is_fresh (b ∷ bs))
 unfolding quoted_piece
 quoted_stands c b bs code quote found = by_if (IsFront c (b ∷ bs)) c.is_fresh _ _ (λ e. go e (docstring_piece (b ∷ bs)) refl (docstring_stands b bs quote)) (λ e. text_stands c b bs code quote (λ f. absurd (not_true c.is_fresh e f)))
@@ -394,7 +394,7 @@ quoted_stands c b bs code quote found = by_if (IsFront c (b ∷ bs)) c.is_fresh 
 
 -- Code.
 
-comment_stands : (c : Context) (b : ℕ) (bs : List ℕ) → c.region ≡ region.Code → b ≡ 35 → IsFront c (b ∷ bs) (piece.Comment, length (take_while not_line_feed (b ∷ bs)))
+comment_stands : (c : Context) (b : ℕ) (bs : List ℕ) → c.mode ≡ mode.Code → b ≡ 35 → IsFront c (b ∷ bs) (piece.Comment, length (take_while not_line_feed (b ∷ bs)))
 comment_stands c b bs code e =
     let r = run not_line_feed bs in
     let h : not_line_feed b ≡ true = rw e refl in
@@ -405,11 +405,11 @@ quote_positive : (b : ℕ) → is_quote b ≡ true → 0 < b
 quote_positive zero e = cc
 quote_positive (suc b) e = omega arith
 
-code_stands : (c : Context) (b : ℕ) (bs : List ℕ) → c.region ≡ region.Code → IsNoBlank b bs → (is_quote b ≡ true → FindsDocstrings (b ∷ bs)) → IsFront c (b ∷ bs) (code_piece c (b ∷ bs))
+code_stands : (c : Context) (b : ℕ) (bs : List ℕ) → c.mode ≡ mode.Code → IsNoBlank b bs → (is_quote b ≡ true → FindsDocstrings (b ∷ bs)) → IsFront c (b ∷ bs) (code_piece c (b ∷ bs))
 unfolding code_piece
 code_stands c b bs code blank found =
     let P : Front → Type 0 = IsFront c (b ∷ bs) in
-    let of_code : IsOfCode c.region = rw code tt in
+    let of_code : IsOfCode c.mode = rw code tt in
     by_if P ((b == 9) && c.at_front) _ _
     (λ e. let t = both (b == 9) c.at_front e in one c _ b bs (standing.tab code t.1 refl (single_byte b 9 t.0)))
     (λ e1. by_if P (b == 35) _ _ (λ e. comment_stands c b bs code (equal b 35 e))
@@ -422,11 +422,11 @@ code_stands c b bs code blank found =
 
 -- F-strings.
 
-expression_stands : (c : Context) (quote b : ℕ) (bs : List ℕ) → c.region ≡ region.Expression quote → is_quote quote ≡ true → IsNoBlank b bs → IsFront c (b ∷ bs) (expression_piece quote (b ∷ bs))
+expression_stands : (c : Context) (quote b : ℕ) (bs : List ℕ) → c.mode ≡ mode.Expression quote → is_quote quote ≡ true → IsNoBlank b bs → IsFront c (b ∷ bs) (expression_piece quote (b ∷ bs))
 unfolding expression_piece
 expression_stands c quote b bs part proper blank =
     let P : Front → Type 0 = IsFront c (b ∷ bs) in
-    let of_code : IsOfCode c.region = rw part proper in
+    let of_code : IsOfCode c.mode = rw part proper in
     by_if P (b == 125) _ _ (λ e. one c _ b bs (standing.format_close quote part proper refl (single_byte b 125 e)))
     (λ e1. by_if P (b == quote) _ _ (λ e. one c _ b bs (standing.format_cut quote part proper refl (single_byte b quote e)))
     (λ e2. by_if P (b == 92) _ _ (λ e. escape bs (equal b 92 e))
@@ -453,7 +453,7 @@ no_second : (b : ℕ) (bs : List ℕ) → (b == slice_index bs 0) ≡ false → 
 no_second b [] e = tt
 no_second b (d ∷ ds) e = not_equal d b (λ k. different b d e (sym k))
 
-brace_stands : (c : Context) (quote b : ℕ) (bs : List ℕ) → c.region ≡ region.Format quote → is_quote quote ≡ true → is_brace b ≡ true → IsFront c (b ∷ bs) (brace_piece b (slice_index bs 0))
+brace_stands : (c : Context) (quote b : ℕ) (bs : List ℕ) → c.mode ≡ mode.Format quote → is_quote quote ≡ true → is_brace b ≡ true → IsFront c (b ∷ bs) (brace_piece b (slice_index bs 0))
 brace_stands c quote b bs literal proper h =
     let P : Front → Type 0 = IsFront c (b ∷ bs) in
     by_if P (b == slice_index bs 0) _ _
@@ -469,7 +469,7 @@ literal_front c text bytes behind n t split size e s =
     let u : Stands c (piece.Token (literal_token (said_from false bytes)) (are_printable bytes)) bytes behind = subst (λ (x : Token). Stands c (piece.Token x (are_printable bytes)) bytes behind) (sym e) s in
     subst (λ (xs : List ℕ). IsFront c text (literal_piece xs)) (sym front) (front_by c text bytes behind _ (length bytes) split refl u)
 
-literal_stands : (c : Context) (quote b : ℕ) (bs : List ℕ) → c.region ≡ region.Format quote → is_quote quote ≡ true → goes_on quote b ≡ true
+literal_stands : (c : Context) (quote b : ℕ) (bs : List ℕ) → c.mode ≡ mode.Format quote → is_quote quote ≡ true → goes_on quote b ≡ true
     → IsFront c (b ∷ bs) (literal_piece (take (literal_len quote false (b ∷ bs)) (b ∷ bs)))
 literal_stands c quote b bs literal proper more =
     let k = literal_of quote (b ∷ bs) in
@@ -493,7 +493,7 @@ literal_stands c quote b bs literal proper more =
         (ap (λ (x : Option (List ℕ)). literal_token x) (said_cut quote items are))
         (standing.cut_literal quote items literal proper refl refl are e)
 
-format_stands : (c : Context) (quote b : ℕ) (bs : List ℕ) → c.region ≡ region.Format quote → is_quote quote ≡ true → IsFront c (b ∷ bs) (format_piece quote (b ∷ bs))
+format_stands : (c : Context) (quote b : ℕ) (bs : List ℕ) → c.mode ≡ mode.Format quote → is_quote quote ≡ true → IsFront c (b ∷ bs) (format_piece quote (b ∷ bs))
 unfolding format_piece
 format_stands c quote b bs literal proper =
     let P : Front → Type 0 = IsFront c (b ∷ bs) in
@@ -502,65 +502,65 @@ format_stands c quote b bs literal proper =
     (λ e2. by_if P (is_brace b) _ _ (λ e. brace_stands c quote b bs literal proper e)
     (λ e3. literal_stands c quote b bs literal proper (rw (e1, e2, e3) refl))))
 
-piece_stands : (c : Context) (text : List ℕ) → HasQuote c.region → 0 < length text → IsFront c text (piece_at c text)
+piece_stands : (c : Context) (text : List ℕ) → HasQuote c.mode → 0 < length text → IsFront c text (piece_at c text)
 unfolding piece_at
 piece_stands c [] proper h = absurd (omega arith)
-piece_stands c (b ∷ bs) proper h = go c.region refl proper
+piece_stands c (b ∷ bs) proper h = go c.mode refl proper
   where
-    go : (r : Region) → c.region ≡ r → HasQuote r → IsFront c (b ∷ bs) (piece_in r c (b ∷ bs))
-    go region.Code e k = blank_or c b bs _ (rw e tt) (λ h. code_stands c b bs e h (λ f. finds_docstring (b ∷ bs)))
-    go (region.Expression quote) e k = blank_or c b bs _ (rw e k) (λ h. expression_stands c quote b bs e k h)
-    go (region.Format quote) e k = format_stands c quote b bs e k
+    go : (r : Mode) → c.mode ≡ r → HasQuote r → IsFront c (b ∷ bs) (piece_in r c (b ∷ bs))
+    go mode.Code e k = blank_or c b bs _ (rw e tt) (λ h. code_stands c b bs e h (λ f. finds_docstring (b ∷ bs)))
+    go (mode.Expression quote) e k = blank_or c b bs _ (rw e k) (λ h. expression_stands c quote b bs e k h)
+    go (mode.Format quote) e k = format_stands c quote b bs e k
 
--- Behind a piece that stands the region has a quote again.
+-- Behind a piece that stands the mode has a quote again.
 
-keeps : (p q : Piece) (r : Region) → p ≡ q → HasQuote (region_after r q) → HasQuote (region_after r p)
-keeps p q r e h = subst (λ (x : Piece). HasQuote (region_after r x)) (sym e) h
+keeps : (p q : Piece) (r : Mode) → p ≡ q → HasQuote (mode_after r q) → HasQuote (mode_after r p)
+keeps p q r e h = subst (λ (x : Piece). HasQuote (mode_after r x)) (sym e) h
 
-part_keeps : (r s : Region) → r ≡ s → HasQuote (region_after s piece.FormatOpen) → HasQuote (region_after r piece.FormatOpen)
-part_keeps r s e h = subst (λ (x : Region). HasQuote (region_after x piece.FormatOpen)) (sym e) h
+part_keeps : (r s : Mode) → r ≡ s → HasQuote (mode_after s piece.FormatOpen) → HasQuote (mode_after r piece.FormatOpen)
+part_keeps r s e h = subst (λ (x : Mode). HasQuote (mode_after x piece.FormatOpen)) (sym e) h
 
-literal_keeps : (r s : Region) → r ≡ s → HasQuote (region_after s piece.FormatClose) → HasQuote (region_after r piece.FormatClose)
-literal_keeps r s e h = subst (λ (x : Region). HasQuote (region_after x piece.FormatClose)) (sym e) h
+literal_keeps : (r s : Mode) → r ≡ s → HasQuote (mode_after s piece.FormatClose) → HasQuote (mode_after r piece.FormatClose)
+literal_keeps r s e h = subst (λ (x : Mode). HasQuote (mode_after x piece.FormatClose)) (sym e) h
 
-docstring_keeps : (p : Piece) (bytes rest : List ℕ) (r : Region) → IsDocstring p bytes rest → HasQuote r → HasQuote (region_after r p)
+docstring_keeps : (p : Piece) (bytes rest : List ℕ) (r : Mode) → IsDocstring p bytes rest → HasQuote r → HasQuote (mode_after r p)
 docstring_keeps p bytes rest r (standing.short quote items a b d e f) h = keeps p _ r f h
 docstring_keeps p bytes rest r (standing.long items a b d f) h = keeps p _ r f h
 docstring_keeps p bytes rest r (standing.endless body a b d f) h = keeps p _ r f h
 
-keeps_quote : (c : Context) (p : Piece) (bytes rest : List ℕ) → Stands c p bytes rest → HasQuote c.region → HasQuote (region_after c.region p)
-keeps_quote c p bytes rest (standing.line_feed e f) h = keeps p _ c.region e tt
-keeps_quote c p bytes rest (standing.carriage_return k e f) h = keeps p _ c.region e tt
-keeps_quote c p bytes rest (standing.space k e f) h = keeps p _ c.region e h
-keeps_quote c p bytes rest (standing.tab k l e f) h = keeps p _ c.region e h
-keeps_quote c p bytes rest (standing.comment body k e f g i) h = keeps p _ c.region e h
-keeps_quote c p bytes rest (standing.word k e f g i j) h = keeps p _ c.region e h
-keeps_quote c p bytes rest (standing.number k e f g i) h = keeps p _ c.region e h
-keeps_quote c p bytes rest (standing.open_bracket b k e f) h = keeps p _ c.region e h
-keeps_quote c p bytes rest (standing.close_bracket b k e f) h = keeps p _ c.region e h
-keeps_quote c p bytes rest (standing.mark op k e f g) h = keeps p _ c.region e h
-keeps_quote c p bytes rest (standing.no_form b k e f g i) h = keeps p _ c.region e h
-keeps_quote c p bytes rest (standing.closing_brace k e f) h = keeps p _ c.region e h
-keeps_quote c p bytes rest (standing.hash_in_part quote k l e f) h = keeps p _ c.region e h
-keeps_quote c p bytes rest (standing.quote_in_part b quote k l e f g i) h = keeps p _ c.region e h
-keeps_quote c p bytes rest (standing.bad_byte b k e f g i j l) h = keeps p _ c.region e h
-keeps_quote c p bytes rest (standing.backslash k e f) h = keeps p _ c.region e h
-keeps_quote c p bytes rest (standing.text quote items k e f g i j) h = keeps p _ c.region e h
-keeps_quote c p bytes rest (standing.open_text quote body k e f g i j l) h = keeps p _ c.region e h
-keeps_quote c p bytes rest (standing.docstring k l d) h = docstring_keeps p bytes rest c.region d h
-keeps_quote c p bytes rest (standing.format_start quote k e f g) h = keeps p _ c.region e f
-keeps_quote c p bytes rest (standing.format_end quote k l e f) h = keeps p _ c.region e tt
-keeps_quote c p bytes rest (standing.brace b quote k l e f g) h = keeps p _ c.region e h
-keeps_quote c p bytes rest (standing.format_open quote k l e f g) h = keeps p _ c.region e (part_keeps c.region _ k l)
-keeps_quote c p bytes rest (standing.lone_brace quote k l e f g) h = keeps p _ c.region e h
-keeps_quote c p bytes rest (standing.literal quote items k l e f g i j) h = keeps p _ c.region e h
-keeps_quote c p bytes rest (standing.cut_literal quote items k l e f g i) h = keeps p _ c.region e h
-keeps_quote c p bytes rest (standing.format_close quote k l e f) h = keeps p _ c.region e (literal_keeps c.region _ k l)
-keeps_quote c p bytes rest (standing.format_cut quote k l e f) h = keeps p _ c.region e tt
-keeps_quote c p bytes rest (standing.escape_in_part b quote k l e f g) h = keeps p _ c.region e h
-keeps_quote c p bytes rest (standing.backslash_in_part quote k l e f g) h = keeps p _ c.region e h
+keeps_quote : (c : Context) (p : Piece) (bytes rest : List ℕ) → Stands c p bytes rest → HasQuote c.mode → HasQuote (mode_after c.mode p)
+keeps_quote c p bytes rest (standing.line_feed e f) h = keeps p _ c.mode e tt
+keeps_quote c p bytes rest (standing.carriage_return k e f) h = keeps p _ c.mode e tt
+keeps_quote c p bytes rest (standing.space k e f) h = keeps p _ c.mode e h
+keeps_quote c p bytes rest (standing.tab k l e f) h = keeps p _ c.mode e h
+keeps_quote c p bytes rest (standing.comment body k e f g i) h = keeps p _ c.mode e h
+keeps_quote c p bytes rest (standing.word k e f g i j) h = keeps p _ c.mode e h
+keeps_quote c p bytes rest (standing.number k e f g i) h = keeps p _ c.mode e h
+keeps_quote c p bytes rest (standing.open_bracket b k e f) h = keeps p _ c.mode e h
+keeps_quote c p bytes rest (standing.close_bracket b k e f) h = keeps p _ c.mode e h
+keeps_quote c p bytes rest (standing.mark op k e f g) h = keeps p _ c.mode e h
+keeps_quote c p bytes rest (standing.no_form b k e f g i) h = keeps p _ c.mode e h
+keeps_quote c p bytes rest (standing.closing_brace k e f) h = keeps p _ c.mode e h
+keeps_quote c p bytes rest (standing.hash_in_part quote k l e f) h = keeps p _ c.mode e h
+keeps_quote c p bytes rest (standing.quote_in_part b quote k l e f g i) h = keeps p _ c.mode e h
+keeps_quote c p bytes rest (standing.bad_byte b k e f g i j l) h = keeps p _ c.mode e h
+keeps_quote c p bytes rest (standing.backslash k e f) h = keeps p _ c.mode e h
+keeps_quote c p bytes rest (standing.text quote items k e f g i j) h = keeps p _ c.mode e h
+keeps_quote c p bytes rest (standing.open_text quote body k e f g i j l) h = keeps p _ c.mode e h
+keeps_quote c p bytes rest (standing.docstring k l d) h = docstring_keeps p bytes rest c.mode d h
+keeps_quote c p bytes rest (standing.format_start quote k e f g) h = keeps p _ c.mode e f
+keeps_quote c p bytes rest (standing.format_end quote k l e f) h = keeps p _ c.mode e tt
+keeps_quote c p bytes rest (standing.brace b quote k l e f g) h = keeps p _ c.mode e h
+keeps_quote c p bytes rest (standing.format_open quote k l e f g) h = keeps p _ c.mode e (part_keeps c.mode _ k l)
+keeps_quote c p bytes rest (standing.lone_brace quote k l e f g) h = keeps p _ c.mode e h
+keeps_quote c p bytes rest (standing.literal quote items k l e f g i j) h = keeps p _ c.mode e h
+keeps_quote c p bytes rest (standing.cut_literal quote items k l e f g i) h = keeps p _ c.mode e h
+keeps_quote c p bytes rest (standing.format_close quote k l e f) h = keeps p _ c.mode e (literal_keeps c.mode _ k l)
+keeps_quote c p bytes rest (standing.format_cut quote k l e f) h = keeps p _ c.mode e tt
+keeps_quote c p bytes rest (standing.escape_in_part b quote k l e f g) h = keeps p _ c.mode e h
+keeps_quote c p bytes rest (standing.backslash_in_part quote k l e f g) h = keeps p _ c.mode e h
 
-pub spelled : (a : Place) (text : List ℕ) (ps : List Piece) → HasQuote a.region → IsMadeOf a text ps → IsSpelled a ps text
+pub spelled : (a : Place) (text : List ℕ) (ps : List Piece) → HasQuote a.mode → IsMadeOf a text ps → IsSpelled a ps text
 unfolding place_after
 spelled a text [] proper m = m
 spelled a text (p ∷ ps) proper m =
@@ -576,5 +576,5 @@ spelled a text (p ∷ ps) proper m =
       subst (λ (t : List ℕ). IsSpelled (place_after a p) ps t) left (spelled (place_after a p) (drop x.1 text) ps (next stands) m.2),
     )
   where
-    next : {bytes rest : List ℕ} → Stands (context_of a) p bytes rest → HasQuote (place_after a p).region
+    next : {bytes rest : List ℕ} → Stands (context_of a) p bytes rest → HasQuote (place_after a p).mode
     next s = keeps_quote (context_of a) p _ _ s proper

@@ -29,9 +29,9 @@ pub data ModuleItem : Type 0 where
 
 abbrev mutual
   pub view_item : code.BlockItem → BlockItem
-  view_item (item.Docstring n) = DocstringAt n
-  view_item (item.Statement n s) = StatementAt n (view_statement s)
-  view_item (item.Clause' n h shape all) = ClauseAt n (view_header h) (view_block all)
+  view_item (item.Docstring n) = DocstringAt n.0
+  view_item (item.Statement n s) = StatementAt n.0 (view_statement s)
+  view_item (item.Clause' n h shape all) = ClauseAt n.0 (view_header h) (view_block all)
 
   pub view_block : {m : _} → Row_of-BlockItem m → Block
   view_block end_of-BlockItem = NoItem
@@ -42,9 +42,9 @@ block_of [] = NoItem
 block_of (x ∷ xs) = Then (view_item x) (block_of xs)
 
 abbrev pub view_module_item : part.ModuleItem → ModuleItem
-view_module_item (part_value.Docstring n) = TextAt n
-view_module_item (part_value.Line n l) = LineAt n (view_module_line l)
-view_module_item (part_value.Function n f ps b) = FunctionAt n f ps.items (block_of b.items)
+view_module_item (part_value.Docstring n) = TextAt n.0
+view_module_item (part_value.Line n l) = LineAt n.0 (view_module_line l)
+view_module_item (part_value.Function n f ps b) = FunctionAt n.0 f ps.items (block_of b.items)
 
 abbrev pub view_module : Module → List ModuleItem
 view_module m = map view_module_item m.items.items

@@ -5,7 +5,7 @@ use Rattle.py_syntax.specs.declared.line.LogicalLine.TheInside.{Inside as LineIn
 use Rattle.py_syntax.specs.declared.line.Lines.TheInside.{Inside as LinesInside}
 
 abbrev pub line_view : LineInside → Line
-line_view a = record { indentation = a.indentation; number = a.number; is_docstring = a.is_docstring; tokens = a.tokens.items }
+line_view a = record { indentation = a.indentation; number = a.number.0; is_docstring = a.is_docstring; tokens = a.tokens.items }
 
 abbrev pub lines_view : LinesInside → List Line
 lines_view a = a.lines.items

@@ -2,13 +2,13 @@
 use Rattle.std.specs.Prelude.{ℕ, Bool, true, false, ◌&&◌, ◌||◌, not, ◌==◌, nat_lt, List, [], ◌∷◌, ◌++◌, Option, None, Some, if◌then◌else◌, find, filter, fold, slice_get, slice_index, length, ◌-◌}
 use Rattle.std.specs.List.{filter_map, flat_map, list_any}
 use Rattle.std.specs.Option.{option_map}
-use Rattle.py_syntax.specs.Line.{Line}
+use Rattle.py_syntax.specs.Line.{Line, physical_line}
 use Rattle.py_syntax.specs.Places.{Place, first_place, place_after, is_token, is_logical_end, is_code, closes}
 use Rattle.py_syntax.specs.declared.token.Token.{Token}
 use Rattle.py_syntax.specs.declared.token.Token.TheVariants as token
 use Rattle.py_syntax.specs.declared.piece.Piece.{Piece}
 use Rattle.py_syntax.specs.declared.piece.Piece.TheVariants as piece
-use Rattle.py_syntax.specs.declared.piece.Region.{Region}
+use Rattle.py_syntax.specs.declared.piece.Mode.{Mode}
 use Rattle.py_syntax.specs.declared.piece.OpenBracket.{OpenBracket}
 use Rattle.py_syntax.specs.declared.piece.LineRule.{LineRule}
 use Rattle.py_syntax.specs.declared.piece.LineRule.TheVariants as rule
@@ -86,12 +86,12 @@ abbrev pub closing_rule : List OpenBracket → Token → Option LineRule
 closing_rule open_brackets (token.Close b) = if closes open_brackets b then None else Some rule.BadByte
 closing_rule open_brackets _ = None
 
-abbrev pub token_rule : Region → List OpenBracket → Token → Bool → Option LineRule
+abbrev pub token_rule : Mode → List OpenBracket → Token → Bool → Option LineRule
 token_rule r open_brackets t printable =
     if printable then (if is_code r then closing_rule open_brackets t else None) else Some rule.BadByte
 
 -- the rule that a piece breaks at its place
-abbrev pub rule_of : Region → List OpenBracket → Piece → Option LineRule
+abbrev pub rule_of : Mode → List OpenBracket → Piece → Option LineRule
 rule_of r open_brackets (piece.Token t printable) = token_rule r open_brackets t printable
 rule_of r open_brackets piece.Tab = Some rule.Tab
 rule_of r open_brackets piece.BadByte = Some rule.BadByte
@@ -101,18 +101,18 @@ rule_of r open_brackets piece.LineEnd = if is_code r then None else Some rule.Un
 rule_of r open_brackets _ = None
 
 abbrev pub broken_on : ℕ → LineRule → Broken
-broken_on line r = record { line = line; rule = r }
+broken_on line r = record { line = physical_line line; rule = r }
 
 unfoldable pub broken_by : Placed → Option Broken
-broken_by x = option_map (broken_on x.place.line) (rule_of x.place.region x.place.open_brackets x.piece)
+broken_by x = option_map (broken_on x.place.line) (rule_of x.place.mode x.place.open_brackets x.piece)
 
 -- An f-string that is open where the text ends, on its line; and the outermost open bracket, on its own.
 abbrev pub open_line : Option OpenBracket → List Broken
 open_line None = []
-open_line (Some o) = broken_on o.line rule.UnclosedText ∷ []
+open_line (Some o) = broken_on o.line.0 rule.UnclosedText ∷ []
 
 abbrev pub open_format : Place → List Broken
-open_format a = if is_code a.region then [] else broken_on a.line rule.UnclosedText ∷ []
+open_format a = if is_code a.mode then [] else broken_on a.line rule.UnclosedText ∷ []
 
 unfoldable pub broken_at_end : Place → List Broken
 broken_at_end a = open_format a ++ open_line (slice_get a.open_brackets 0)
@@ -143,7 +143,7 @@ rank rule.BadByte = 3
 
 -- by line, and on one line by rule
 abbrev pub comes_before : Broken → Broken → Bool
-comes_before a b = nat_lt a.line b.line || ((a.line == b.line) && nat_lt (rank a.rule) (rank b.rule))
+comes_before a b = nat_lt a.line.0 b.line.0 || ((a.line.0 == b.line.0) && nat_lt (rank a.rule) (rank b.rule))
 
 abbrev pub earlier : Option Broken → Broken → Option Broken
 earlier None b = Some b

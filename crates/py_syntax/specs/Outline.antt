@@ -32,7 +32,7 @@ view_content (content.Module l) = InModule (view_module_line l)
 view_content (content.Body l) = InBody (view_line l)
 
 abbrev pub view_placed : placed.PlacedLine → Placed
-view_placed p = record { depth = p.depth; number = p.number; content = view_content p.content }
+view_placed p = record { depth = p.depth; number = p.number.0; content = view_content p.content }
 
 -- The reserved word with which a line begins.
 abbrev pub word_of : List Token → Option Keyword

@@ -12,8 +12,8 @@ use Rattle.py_syntax.specs.declared.token.Token.{Token}
 use Rattle.py_syntax.specs.declared.token.Token.TheVariants as token
 use Rattle.py_syntax.specs.declared.piece.Piece.{Piece}
 use Rattle.py_syntax.specs.declared.piece.Piece.TheVariants as piece
-use Rattle.py_syntax.specs.declared.piece.Region.{Region}
-use Rattle.py_syntax.specs.declared.piece.Region.TheVariants as region
+use Rattle.py_syntax.specs.declared.piece.Mode.{Mode}
+use Rattle.py_syntax.specs.declared.piece.Mode.TheVariants as mode
 use Rattle.py_syntax.specs.declared.piece.Context.{Context}
 
 -- a piece and its length in bytes
@@ -139,11 +139,11 @@ format_piece quote text =
     else (if is_brace b then brace_piece b (slice_index text 1)
     else literal_piece (take (literal_len quote false text) text)))
 
-abbrev pub piece_in : Region → Context → List ℕ → Front
-piece_in region.Code c text = or_else (blank_piece text) (code_piece c text)
-piece_in (region.Expression quote) c text = or_else (blank_piece text) (expression_piece quote text)
-piece_in (region.Format quote) c text = format_piece quote text
+abbrev pub piece_in : Mode → Context → List ℕ → Front
+piece_in mode.Code c text = or_else (blank_piece text) (code_piece c text)
+piece_in (mode.Expression quote) c text = or_else (blank_piece text) (expression_piece quote text)
+piece_in (mode.Format quote) c text = format_piece quote text
 
 -- the piece that stands here
 unfoldable pub piece_at : Context → List ℕ → Front
-piece_at c text = piece_in c.region c text
+piece_at c text = piece_in c.mode c text

@@ -15,8 +15,8 @@ use Rattle.py_syntax.specs.declared.token.Token.{Token}
 use Rattle.py_syntax.specs.declared.token.Token.TheVariants as token
 use Rattle.py_syntax.specs.declared.piece.Piece.{Piece}
 use Rattle.py_syntax.specs.declared.piece.Piece.TheVariants as piece
-use Rattle.py_syntax.specs.declared.piece.Region.{Region}
-use Rattle.py_syntax.specs.declared.piece.Region.TheVariants as region
+use Rattle.py_syntax.specs.declared.piece.Mode.{Mode}
+use Rattle.py_syntax.specs.declared.piece.Mode.TheVariants as mode
 use Rattle.py_syntax.specs.declared.piece.Context.{Context}
 
 -- no byte that passes follows
@@ -25,10 +25,10 @@ EndsBefore passes [] = Unit {0}
 EndsBefore passes (b ∷ rest) = passes b ≡ false
 
 -- Where code is read: outside of f-strings, and in a part of one.
-abbrev pub IsOfCode : Region → Type 0
-IsOfCode region.Code = Unit {0}
-IsOfCode (region.Expression quote) = is_quote quote ≡ true
-IsOfCode (region.Format quote) = ⊥
+abbrev pub IsOfCode : Mode → Type 0
+IsOfCode mode.Code = Unit {0}
+IsOfCode (mode.Expression quote) = is_quote quote ≡ true
+IsOfCode (mode.Format quote) = ⊥
 
 -- Words, marks and what texts say.
 
@@ -99,8 +99,8 @@ abbrev pub is_formless : ℕ → Bool
 is_formless b = list_any (λ x. x == b) (codes "!$/;?`{")
 
 -- Outside of f-strings `f` right before a quote begins one.
-abbrev pub begins_format : Region → List ℕ → List ℕ → Bool
-begins_format region.Code bytes rest = bytes_eq bytes (codes "f") && is_quote (slice_index rest 0)
+abbrev pub begins_format : Mode → List ℕ → List ℕ → Bool
+begins_format mode.Code bytes rest = bytes_eq bytes (codes "f") && is_quote (slice_index rest 0)
 begins_format r bytes rest = false
 
 -- Docstrings.
@@ -138,44 +138,44 @@ StaysOpenOnLine quote body = (items : List Item) (behind : List ℕ) → AreInTe
 pub data Stands (c : Context) (p : Piece) (bytes rest : List ℕ) : Type 0 where
   -- Ends of lines, blanks and comments. A line ends with a line feed, or a carriage return and a line feed.
   line_feed : p ≡ piece.LineEnd → bytes ≡ 10 ∷ [] → Stands c p bytes rest
-  carriage_return : IsOfCode c.region → p ≡ piece.LineEnd → bytes ≡ 13 ∷ 10 ∷ [] → Stands c p bytes rest
-  space : IsOfCode c.region → p ≡ piece.Space → bytes ≡ 32 ∷ [] → Stands c p bytes rest
-  tab : c.region ≡ region.Code → c.at_front ≡ true → p ≡ piece.Tab → bytes ≡ 9 ∷ [] → Stands c p bytes rest
-  comment : (body : List ℕ) → c.region ≡ region.Code → p ≡ piece.Comment → bytes ≡ 35 ∷ body → list_all not_line_feed body ≡ true → EndsBefore not_line_feed rest → Stands c p bytes rest
+  carriage_return : IsOfCode c.mode → p ≡ piece.LineEnd → bytes ≡ 13 ∷ 10 ∷ [] → Stands c p bytes rest
+  space : IsOfCode c.mode → p ≡ piece.Space → bytes ≡ 32 ∷ [] → Stands c p bytes rest
+  tab : c.mode ≡ mode.Code → c.at_front ≡ true → p ≡ piece.Tab → bytes ≡ 9 ∷ [] → Stands c p bytes rest
+  comment : (body : List ℕ) → c.mode ≡ mode.Code → p ≡ piece.Comment → bytes ≡ 35 ∷ body → list_all not_line_feed body ≡ true → EndsBefore not_line_feed rest → Stands c p bytes rest
   -- Words, brackets and marks, each as long as can be.
-  word : IsOfCode c.region → p ≡ piece.Token (word_token bytes (keyword_of bytes)) true → is_letter (slice_index bytes 0) ≡ true → list_all is_word_byte bytes ≡ true → EndsBefore is_word_byte rest
-      → begins_format c.region bytes rest ≡ false → Stands c p bytes rest
-  number : IsOfCode c.region → p ≡ piece.Token (number_token (number_of bytes)) true → is_digit (slice_index bytes 0) ≡ true → list_all (is_number_byte (base_of bytes)) bytes ≡ true
+  word : IsOfCode c.mode → p ≡ piece.Token (word_token bytes (keyword_of bytes)) true → is_letter (slice_index bytes 0) ≡ true → list_all is_word_byte bytes ≡ true → EndsBefore is_word_byte rest
+      → begins_format c.mode bytes rest ≡ false → Stands c p bytes rest
+  number : IsOfCode c.mode → p ≡ piece.Token (number_token (number_of bytes)) true → is_digit (slice_index bytes 0) ≡ true → list_all (is_number_byte (base_of bytes)) bytes ≡ true
       → EndsBefore (is_number_byte (base_of bytes)) rest → Stands c p bytes rest
-  open_bracket : (b : Bracket) → IsOfCode c.region → p ≡ piece.Token (token.Open b) true → bytes ≡ open_bytes b → Stands c p bytes rest
-  close_bracket : (b : Bracket) → IsOfCode c.region → p ≡ piece.Token (token.Close b) true → bytes ≡ close_bytes b → Stands c p bytes rest
-  mark : (op : Operator) → IsOfCode c.region → p ≡ piece.Token (token.Operator op) true → bytes ≡ operator_bytes op → IsLongest bytes rest → Stands c p bytes rest
+  open_bracket : (b : Bracket) → IsOfCode c.mode → p ≡ piece.Token (token.Open b) true → bytes ≡ open_bytes b → Stands c p bytes rest
+  close_bracket : (b : Bracket) → IsOfCode c.mode → p ≡ piece.Token (token.Close b) true → bytes ≡ close_bytes b → Stands c p bytes rest
+  mark : (op : Operator) → IsOfCode c.mode → p ≡ piece.Token (token.Operator op) true → bytes ≡ operator_bytes op → IsLongest bytes rest → Stands c p bytes rest
   -- Printable bytes that begin no token of a form. In a part of an f-string no comment and no text begins.
-  no_form : (b : ℕ) → IsOfCode c.region → p ≡ piece.Token token.Invalid true → bytes ≡ b ∷ [] → is_formless b ≡ true → IsLongest bytes rest → Stands c p bytes rest
-  closing_brace : c.region ≡ region.Code → p ≡ piece.Token token.Invalid true → bytes ≡ 125 ∷ [] → Stands c p bytes rest
-  hash_in_part : (quote : ℕ) → c.region ≡ region.Expression quote → is_quote quote ≡ true → p ≡ piece.Token token.Invalid true → bytes ≡ 35 ∷ [] → Stands c p bytes rest
-  quote_in_part : (b quote : ℕ) → c.region ≡ region.Expression quote → is_quote quote ≡ true → p ≡ piece.Token token.Invalid true → bytes ≡ b ∷ [] → is_quote b ≡ true → b ≢ quote → Stands c p bytes rest
+  no_form : (b : ℕ) → IsOfCode c.mode → p ≡ piece.Token token.Invalid true → bytes ≡ b ∷ [] → is_formless b ≡ true → IsLongest bytes rest → Stands c p bytes rest
+  closing_brace : c.mode ≡ mode.Code → p ≡ piece.Token token.Invalid true → bytes ≡ 125 ∷ [] → Stands c p bytes rest
+  hash_in_part : (quote : ℕ) → c.mode ≡ mode.Expression quote → is_quote quote ≡ true → p ≡ piece.Token token.Invalid true → bytes ≡ 35 ∷ [] → Stands c p bytes rest
+  quote_in_part : (b quote : ℕ) → c.mode ≡ mode.Expression quote → is_quote quote ≡ true → p ≡ piece.Token token.Invalid true → bytes ≡ b ∷ [] → is_quote b ≡ true → b ≢ quote → Stands c p bytes rest
   -- Bytes that have no place: those that aren't printable, where they don't end a line and don't stand in front of one, and a backslash.
-  bad_byte : (b : ℕ) → IsOfCode c.region → p ≡ piece.BadByte → bytes ≡ b ∷ [] → is_printable b ≡ false → b ≢ 10 → (b ≡ 13 → EndsBefore (λ d. d == 10) rest)
-      → (b ≡ 9 → c.region ≡ region.Code → c.at_front ≡ true → ⊥) → Stands c p bytes rest
-  backslash : c.region ≡ region.Code → p ≡ piece.BadByte → bytes ≡ 92 ∷ [] → Stands c p bytes rest
+  bad_byte : (b : ℕ) → IsOfCode c.mode → p ≡ piece.BadByte → bytes ≡ b ∷ [] → is_printable b ≡ false → b ≢ 10 → (b ≡ 13 → EndsBefore (λ d. d == 10) rest)
+      → (b ≡ 9 → c.mode ≡ mode.Code → c.at_front ≡ true → ⊥) → Stands c p bytes rest
+  backslash : c.mode ≡ mode.Code → p ≡ piece.BadByte → bytes ≡ 92 ∷ [] → Stands c p bytes rest
   -- Texts and docstrings.
-  text : (quote : ℕ) (items : List Item) → c.region ≡ region.Code → p ≡ piece.Token (text_token (said_by items)) (are_printable (bytes_of items)) → bytes ≡ quote ∷ (bytes_of items ++ quote ∷ [])
+  text : (quote : ℕ) (items : List Item) → c.mode ≡ mode.Code → p ≡ piece.Token (text_token (said_by items)) (are_printable (bytes_of items)) → bytes ≡ quote ∷ (bytes_of items ++ quote ∷ [])
       → is_quote quote ≡ true → AreInText quote items → IsNoDocstring c (bytes ++ rest) → Stands c p bytes rest
-  open_text : (quote : ℕ) (body : List ℕ) → c.region ≡ region.Code → p ≡ piece.OpenText → bytes ≡ quote ∷ body → is_quote quote ≡ true → list_all not_line_feed body ≡ true
+  open_text : (quote : ℕ) (body : List ℕ) → c.mode ≡ mode.Code → p ≡ piece.OpenText → bytes ≡ quote ∷ body → is_quote quote ≡ true → list_all not_line_feed body ≡ true
       → EndsBefore not_line_feed rest → StaysOpenOnLine quote (body ++ rest) → Stands c p bytes rest
-  docstring : c.region ≡ region.Code → c.is_fresh ≡ true → IsDocstring p bytes rest → Stands c p bytes rest
+  docstring : c.mode ≡ mode.Code → c.is_fresh ≡ true → IsDocstring p bytes rest → Stands c p bytes rest
   -- F-strings: their quotes, what stands for itself, where `{{` and `}}` say a brace, and parts.
-  format_start : (quote : ℕ) → c.region ≡ region.Code → p ≡ piece.FormatStart quote → is_quote quote ≡ true → bytes ≡ 102 ∷ quote ∷ [] → Stands c p bytes rest
-  format_end : (quote : ℕ) → c.region ≡ region.Format quote → is_quote quote ≡ true → p ≡ piece.FormatEnd → bytes ≡ quote ∷ [] → Stands c p bytes rest
-  brace : (b quote : ℕ) → c.region ≡ region.Format quote → is_quote quote ≡ true → p ≡ piece.Token (token.FormatText (b ∷ [])) true → is_brace b ≡ true → bytes ≡ b ∷ b ∷ [] → Stands c p bytes rest
-  format_open : (quote : ℕ) → c.region ≡ region.Format quote → is_quote quote ≡ true → p ≡ piece.FormatOpen → bytes ≡ 123 ∷ [] → EndsBefore (λ b. b == 123) rest → Stands c p bytes rest
-  lone_brace : (quote : ℕ) → c.region ≡ region.Format quote → is_quote quote ≡ true → p ≡ piece.Token token.Invalid true → bytes ≡ 125 ∷ [] → EndsBefore (λ b. b == 125) rest → Stands c p bytes rest
-  literal : (quote : ℕ) (items : List Item) → c.region ≡ region.Format quote → is_quote quote ≡ true → p ≡ piece.Token (literal_token (said_by items)) (are_printable bytes) → bytes ≡ bytes_of items → bytes ≢ []
+  format_start : (quote : ℕ) → c.mode ≡ mode.Code → p ≡ piece.FormatStart quote → is_quote quote ≡ true → bytes ≡ 102 ∷ quote ∷ [] → Stands c p bytes rest
+  format_end : (quote : ℕ) → c.mode ≡ mode.Format quote → is_quote quote ≡ true → p ≡ piece.FormatEnd → bytes ≡ quote ∷ [] → Stands c p bytes rest
+  brace : (b quote : ℕ) → c.mode ≡ mode.Format quote → is_quote quote ≡ true → p ≡ piece.Token (token.FormatText (b ∷ [])) true → is_brace b ≡ true → bytes ≡ b ∷ b ∷ [] → Stands c p bytes rest
+  format_open : (quote : ℕ) → c.mode ≡ mode.Format quote → is_quote quote ≡ true → p ≡ piece.FormatOpen → bytes ≡ 123 ∷ [] → EndsBefore (λ b. b == 123) rest → Stands c p bytes rest
+  lone_brace : (quote : ℕ) → c.mode ≡ mode.Format quote → is_quote quote ≡ true → p ≡ piece.Token token.Invalid true → bytes ≡ 125 ∷ [] → EndsBefore (λ b. b == 125) rest → Stands c p bytes rest
+  literal : (quote : ℕ) (items : List Item) → c.mode ≡ mode.Format quote → is_quote quote ≡ true → p ≡ piece.Token (literal_token (said_by items)) (are_printable bytes) → bytes ≡ bytes_of items → bytes ≢ []
       → AreInLiteral quote items → EndsBefore (λ b. not (b == 10) && not ((b == quote) || is_brace b)) rest → Stands c p bytes rest
-  cut_literal : (quote : ℕ) (items : List Item) → c.region ≡ region.Format quote → is_quote quote ≡ true → p ≡ piece.Token token.Invalid (are_printable bytes) → bytes ≡ bytes_of items ++ 92 ∷ []
+  cut_literal : (quote : ℕ) (items : List Item) → c.mode ≡ mode.Format quote → is_quote quote ≡ true → p ≡ piece.Token token.Invalid (are_printable bytes) → bytes ≡ bytes_of items ++ 92 ∷ []
       → AreInLiteral quote items → EndsBefore not_line_feed rest → Stands c p bytes rest
-  format_close : (quote : ℕ) → c.region ≡ region.Expression quote → is_quote quote ≡ true → p ≡ piece.FormatClose → bytes ≡ 125 ∷ [] → Stands c p bytes rest
-  format_cut : (quote : ℕ) → c.region ≡ region.Expression quote → is_quote quote ≡ true → p ≡ piece.FormatCut → bytes ≡ quote ∷ [] → Stands c p bytes rest
-  escape_in_part : (b quote : ℕ) → c.region ≡ region.Expression quote → is_quote quote ≡ true → p ≡ piece.Token token.Invalid (is_printable b) → bytes ≡ 92 ∷ b ∷ [] → b ≢ 10 → Stands c p bytes rest
-  backslash_in_part : (quote : ℕ) → c.region ≡ region.Expression quote → is_quote quote ≡ true → p ≡ piece.Token token.Invalid true → bytes ≡ 92 ∷ [] → EndsBefore not_line_feed rest → Stands c p bytes rest
+  format_close : (quote : ℕ) → c.mode ≡ mode.Expression quote → is_quote quote ≡ true → p ≡ piece.FormatClose → bytes ≡ 125 ∷ [] → Stands c p bytes rest
+  format_cut : (quote : ℕ) → c.mode ≡ mode.Expression quote → is_quote quote ≡ true → p ≡ piece.FormatCut → bytes ≡ quote ∷ [] → Stands c p bytes rest
+  escape_in_part : (b quote : ℕ) → c.mode ≡ mode.Expression quote → is_quote quote ≡ true → p ≡ piece.Token token.Invalid (is_printable b) → bytes ≡ 92 ∷ b ∷ [] → b ≢ 10 → Stands c p bytes rest
+  backslash_in_part : (quote : ℕ) → c.mode ≡ mode.Expression quote → is_quote quote ≡ true → p ≡ piece.Token token.Invalid true → bytes ≡ 92 ∷ [] → EndsBefore not_line_feed rest → Stands c p bytes rest

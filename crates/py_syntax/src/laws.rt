@@ -8,7 +8,7 @@ ghost use Rattle.py_syntax.specs.declared.piece.Piece.{Piece};
 
 /// The pieces that a text is made of spell it.
 pub fn pieces_spell_the_text()
-    ensures { (place : Place) (text : List ℕ) (pieces : List Piece) → HasQuote place.region → IsMadeOf place text pieces → IsSpelled place pieces text }
+    ensures { (place : Place) (text : List ℕ) (pieces : List Piece) → HasQuote place.mode → IsMadeOf place text pieces → IsSpelled place pieces text }
 {}
 
 /// The pieces that spell a text are those that it is made of.

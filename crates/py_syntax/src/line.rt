@@ -1,16 +1,16 @@
 //! Logical lines.
 
 ghost use Rattle.std.specs.Prelude.{◌≡◌, ℕ, ◌<◌, length, slice_get, Some};
-ghost use Rattle.py_syntax.specs.Line.{Line};
+ghost use Rattle.py_syntax.specs.Line.{Line, physical_line};
 
-use crate::Token;
+use crate::{LineNumber, Token};
 use std::marker::Model;
 
 /// A logical line (the language reference, 2.1.1).
 #[derive(Drop)]
 pub struct LogicalLine {
     indentation: u32,
-    number: u32,
+    number: LineNumber,
     is_docstring: bool,
     tokens: Vec<Token>,
 }
@@ -27,8 +27,8 @@ impl Model for LogicalLine {
 
 impl LogicalLine {
     /// A line with these parts.
-    pub fn new(indentation: u32, number: u32, is_docstring: bool, tokens: Vec<Token>) -> Self
-        ensures { result ≡ record { indentation = indentation; number = number; is_docstring = is_docstring; tokens = tokens.items } }
+    pub fn new(indentation: u32, number: LineNumber, is_docstring: bool, tokens: Vec<Token>) -> Self
+        ensures { result ≡ record { indentation = indentation; number = number.0; is_docstring = is_docstring; tokens = tokens.items } }
     {
         LogicalLine {
             indentation,
@@ -46,8 +46,8 @@ impl LogicalLine {
     }
 
     /// The number of the physical line on which the first token stands, from 1.
-    pub fn number(&self) -> u32
-        ensures { result ≡ self.now.number }
+    pub fn number(&self) -> LineNumber
+        ensures { result ≡ physical_line self.now.number }
     {
         self.number
     }

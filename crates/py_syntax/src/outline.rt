@@ -1,6 +1,6 @@
 //! The lines of a text with the blocks in which they stand.
 
-use crate::{BodyLine, Keyword, ModuleLine};
+use crate::{BodyLine, Keyword, LineNumber, ModuleLine};
 
 /// What a logical line says.
 #[derive(Drop)]
@@ -19,7 +19,7 @@ pub struct PlacedLine {
     /// How many blocks it stands in: 0 in the module, 1 in a function's body.
     pub depth: u32,
     /// The number of its first physical line, from 1.
-    pub number: u32,
+    pub number: LineNumber,
     pub content: Content,
 }
 

@@ -1,6 +1,6 @@
 //! What a text is made of, piece by piece, and the rules that a piece can break.
 
-use crate::{Bracket, Token};
+use crate::{Bracket, LineNumber, Token};
 
 /// What stands next in a text.
 #[derive(Drop)]
@@ -38,7 +38,7 @@ pub enum Piece {
 /// Where a place lies: outside of f-strings, where an f-string stands for itself, or in a part `{..}` of one. The byte is the
 /// f-string's quote.
 #[derive(Clone, Copy, Debug, PartialEq, Eq)]
-pub enum Region {
+pub enum Mode {
     Code,
     Format(u8),
     Expression(u8),
@@ -47,7 +47,7 @@ pub enum Region {
 /// What decides which piece stands at a place, besides the bytes from there on.
 #[derive(Clone, Copy, Debug, PartialEq, Eq)]
 pub struct Context {
-    pub region: Region,
+    pub mode: Mode,
     /// Whether no token stands before the place on its physical line.
     pub at_front: bool,
     /// Whether no token stands before the place in its logical line.
@@ -58,7 +58,7 @@ pub struct Context {
 #[derive(Clone, Copy, Debug, PartialEq, Eq)]
 pub struct OpenBracket {
     pub bracket: Bracket,
-    pub line: u32,
+    pub line: LineNumber,
 }
 
 /// A rule of lines.
@@ -77,6 +77,6 @@ pub enum LineRule {
 /// A rule, and the line that breaks it. Lines count from 1.
 #[derive(Clone, Copy, Debug, PartialEq, Eq)]
 pub struct Broken {
-    pub line: u32,
+    pub line: LineNumber,
     pub rule: LineRule,
 }

@@ -1,6 +1,6 @@
 //! Modules, and the blocks of their functions.
 
-use crate::{Header, ModuleLine, Parameter, Statement};
+use crate::{Header, LineNumber, ModuleLine, Parameter, Statement};
 use port_io::Name;
 
 /// A statement of a block, or a clause of a compound statement (the language reference, 7 and 8), with the number of the physical
@@ -13,16 +13,16 @@ use port_io::Name;
 pub enum BlockItem {
     /// A text alone: it says nothing.
     Docstring {
-        number: u32,
+        number: LineNumber,
     },
     /// A statement of one line.
     Statement {
-        number: u32,
+        number: LineNumber,
         statement: Statement,
     },
     /// A header and its block.
     Clause {
-        number: u32,
+        number: LineNumber,
         header: Header,
         block: Vec<BlockItem>,
     },
@@ -33,16 +33,16 @@ pub enum BlockItem {
 pub enum ModuleItem {
     /// A text alone: it says nothing.
     Docstring {
-        number: u32,
+        number: LineNumber,
     },
     /// A line that is no function's header.
     Line {
-        number: u32,
+        number: LineNumber,
         line: ModuleLine,
     },
     /// `async def name(parameters):` and its block (the language reference, 8.9.1).
     Function {
-        number: u32,
+        number: LineNumber,
         name: Name,
         parameters: Vec<Parameter>,
         body: Vec<BlockItem>,

@@ -8,7 +8,7 @@ use std::alloc::{AllocError, Global};
 
 /// A line.
 fn push_line(alloc: Global, out: &mut Vec<u8>, line: &LogicalLine) -> Result<(), AllocError> {
-    let number = line.number();
+    let number = line.number().0;
     let indentation = line.indentation();
     out.extend_from_slice(format!(in alloc; "{number}:{indentation}")?.as_bytes())?;
     if line.is_docstring() {
