@@ -6,4 +6,5 @@ pub mod Copies
 pub mod Steps
 pub mod SameKeys
 pub mod Sound
+pub mod Trees
 mod WorkedSteps

@@ -20,7 +20,7 @@ use Rattle.gpi.specs.Activation.{acts_of, row_length, IsSound, AreSound, SoundLi
 use Rattle.gpi.specs.Design.{widths}
 use Rattle.gpi.proofs.Rows.{list_sound}
 use Rattle.gpi.proofs.Made.{case_sound, case_back}
-use Rattle.gpi.specs.Soundness.{AreProcesses, are_wide, are_wakes, are_spots, are_nodes, is_spot, is_child, times_among, times_child, parent_from}
+use Rattle.gpi.specs.Soundness.{AreProcesses, are_wide, are_wakes, are_spots, are_nodes, is_spot}
 
 -- ---- any list
 
@@ -70,29 +70,6 @@ nodes_step nodes signals ns n x h = rw (drop_found ns n x h, add-one) refl
 
 pub nodes_end : (nodes signals : ℕ) (ns : List Node) (n : ℕ) → length ns ≤ n → are_nodes nodes signals (drop n ns) ≡ true
 nodes_end nodes signals ns n h = rw (drop_all n ns h) refl
-
--- ---- the tree
-
-pub among_step : (v : ℕ) (cs : List (List ℕ × Spot)) (n : ℕ) (c : List ℕ × Spot) → slice_get cs n ≡ Some c
-    → times_among v (drop n cs) ≡ times_among v (c ∷ drop (n + 1) cs)
-among_step v cs n c h = ap (times_among v) (drop_next cs n c h)
-
-pub among_end : (v : ℕ) (cs : List (List ℕ × Spot)) (n : ℕ) → length cs ≤ n → times_among v (drop n cs) ≡ 0
-among_end v cs n h = rw (drop_all n cs h) refl
-
-pub child_step : (v : ℕ) (ns : List Node) (n : ℕ) (x : Node) → slice_get ns n ≡ Some x
-    → times_child v (drop n ns) ≡ times_child v (x ∷ drop (n + 1) ns)
-child_step v ns n x h = ap (times_child v) (drop_next ns n x h)
-
-pub child_end : (v : ℕ) (ns : List Node) (n : ℕ) → length ns ≤ n → times_child v (drop n ns) ≡ 0
-child_end v ns n h = rw (drop_all n ns h) refl
-
-pub parent_step : (v : ℕ) (ns : List Node) (n : ℕ) (x : Node) → slice_get ns n ≡ Some x
-    → parent_from v n (drop n ns) ≡ (if nat_lt 0 (times_among v x.children) then Some n else parent_from v (n + 1) (drop (n + 1) ns))
-parent_step v ns n x h = rw (drop_found ns n x h, add-one) refl
-
-pub parent_end : (v : ℕ) (ns : List Node) (n : ℕ) → length ns ≤ n → parent_from v n (drop n ns) ≡ None
-parent_end v ns n h = rw (drop_all n ns h) refl
 
 -- ---- labels, statements, processes: what is so of those from n on
 
@@ -174,30 +151,10 @@ processes_last ps n ws h = rw (drop_all n ps h) tt
 
 -- ---- counting from the end
 
-drop_back : {A : Type 0} (xs : List A) (n : ℕ) (x : A) → 0 < n → slice_get xs (n - 1) ≡ Some x → drop (n - 1) xs ≡ x ∷ drop n xs
+pub drop_back : {A : Type 0} (xs : List A) (n : ℕ) (x : A) → 0 < n → slice_get xs (n - 1) ≡ Some x → drop (n - 1) xs ≡ x ∷ drop n xs
 drop_back {A} xs n x h e =
     let k : n - 1 + 1 ≡ n = omega arith in
     drop_next xs (n - 1) x e ∙ ap (λ (m : ℕ). x ∷ drop m xs) k
-
-pub among_yes : (v : ℕ) (cs : List (List ℕ × Spot)) (n t k : ℕ) (c : List ℕ × Spot) → 0 < n → slice_get cs (n - 1) ≡ Some c → is_child v c.1 ≡ true
-    → t ≡ times_among v (drop n cs) → k ≡ min 2 (t + 1) → k ≡ times_among v (drop (n - 1) cs)
-among_yes v cs n t k c h g y e f = rw (drop_back cs n c h g, y, f, e) refl
-
-pub among_no : (v : ℕ) (cs : List (List ℕ × Spot)) (n t : ℕ) (c : List ℕ × Spot) → 0 < n → slice_get cs (n - 1) ≡ Some c → is_child v c.1 ≡ false
-    → t ≡ times_among v (drop n cs) → t ≡ times_among v (drop (n - 1) cs)
-among_no v cs n t c h g y e = rw (drop_back cs n c h g, y, e) refl
-
-pub child_more : (v : ℕ) (ns : List Node) (n t k : ℕ) (x : Node) → 0 < n → slice_get ns (n - 1) ≡ Some x
-    → t ≡ times_child v (drop n ns) → k ≡ min 2 (times_among v x.children + t) → k ≡ times_child v (drop (n - 1) ns)
-child_more v ns n t k x h g e f = rw (drop_back ns n x h g, f, e) refl
-
-pub parent_yes : (v : ℕ) (ns : List Node) (n : ℕ) (x : Node) (o : Option ℕ) → slice_get ns n ≡ Some x → nat_lt 0 (times_among v x.children) ≡ true
-    → o ≡ parent_from v n (drop n ns) → Some n ≡ o
-parent_yes v ns n x o h y e = rw (e, drop_found ns n x h, y) refl
-
-pub parent_no : (v : ℕ) (ns : List Node) (n : ℕ) (x : Node) (o : Option ℕ) → slice_get ns n ≡ Some x → nat_lt 0 (times_among v x.children) ≡ false
-    → o ≡ parent_from v n (drop n ns) → o ≡ parent_from v (n + 1) (drop (n + 1) ns)
-parent_no v ns n x o h y e = rw (e, drop_found ns n x h, y, add-one) refl
 
 pub ruleset signals = (length_signals, width_at, wide_at)
 

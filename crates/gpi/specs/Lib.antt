@@ -7,6 +7,7 @@ pub mod Cases
 pub mod Activation
 pub mod Design
 pub mod Soundness
+pub mod Tables
 pub mod Keys
 pub mod State
 pub mod Events

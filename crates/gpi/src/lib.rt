@@ -7,9 +7,11 @@
 
 mod acts;
 mod boxed;
+mod depths;
 mod design;
 mod interface;
 mod operators;
+mod parents;
 mod selects;
 mod soundness;
 mod targets;

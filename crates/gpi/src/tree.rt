@@ -1,17 +1,17 @@
-//! Whether a design is sound: its lists, and the tree of its nodes.
-ghost use Rattle.std.specs.Prelude.{◌≡◌, ℕ, ◌<◌, ◌≤◌, ◌==◌, ◌↔◌, length, IsTrue, if◌then◌else◌, slice_get, Some, Option};
+//! Whether a design is sound: its lists.
+ghost use Rattle.std.specs.Prelude.{◌≡◌, ◌≤◌, ◌↔◌, length, IsTrue};
 ghost use Rattle.gpi.specs.Design.{widths};
 ghost use Rattle.gpi.specs.Activation.{IsSound};
-ghost use Rattle.gpi.specs.Soundness.{IsSoundFlat, IsTree, IsPlaced, AreProcesses, are_wide, are_wakes, are_spots, are_nodes, is_spot, is_child, times_among, times_child, parent_from, climbs};
+ghost use Rattle.gpi.specs.Soundness.{IsSoundFlat, AreProcesses, are_wide, are_wakes, are_spots, are_nodes, is_spot};
 
 use crate::design::{Flat, Node, Process, Signal, Spot, Wake};
+use crate::parents::is_tree;
 use port_io::{Name, Sequence};
 
 impl Flat {
     /// Whether the design is sound: none of its lists has more than 65,536 elements; each number of a signal or a node lies
     /// in its list, and so do the words of a memory; each width is 1 to 128 and fits its node; the nodes form one tree
-    /// below node 0; and the step is at least 1. It takes no memory, so its time grows with the square of the number of
-    /// nodes, times their depth.
+    /// below node 0; and the step is at least 1. It takes no memory, but 1 MiB of the stack. Its time grows with the design.
     pub fn is_sound(&self) -> bool
         ensures { IsTrue result ↔ IsSoundFlat self.now }
     {
@@ -118,100 +118,6 @@ fn are_nodes(nodes: &Sequence<Node>, signals: usize) -> bool
 {
     for at in 0..nodes.len() {
         if !are_spots(&nodes.get(at).children, nodes.len(), signals) {
-            return false;
-        }
-    }
-    true
-}
-
-/// Whether a child is this node.
-fn is_child(node: u32, spot: Spot) -> bool
-    ensures { result ≡ is_child node spot }
-{
-    match spot {
-        Spot::Inner(child) => child == node,
-        _ => false,
-    }
-}
-
-/// How often a node is among the children, where 2 stands for more than once.
-fn times_among(node: u32, children: &Sequence<(Name, Spot)>) -> u8
-    ensures is { result ≡ times_among node children.now }
-    ensures few { result ≤ 2 }
-{
-    let mut times = 0u8;
-    let mut at = children.len();
-    'back: while at > 0 {
-        at -= 1;
-        if is_child(node, children.get(at).1) {
-            times = 2.min(times + 1);
-        }
-    }
-    times
-}
-
-/// How often a node is a child of these nodes, counted so.
-fn times_child(node: u32, nodes: &Sequence<Node>) -> u8
-    ensures { result ≡ times_child node nodes.now }
-{
-    let mut times = 0u8;
-    let mut at = nodes.len();
-    'back: while at > 0 {
-        at -= 1;
-        times = 2.min(times_among(node, &nodes.get(at).children) + times);
-    }
-    times
-}
-
-/// The first node that has this one as a child.
-fn parent(node: u32, nodes: &Sequence<Node>) -> Option<u32>
-    requires { length nodes.now ≤ 65536 }
-    ensures { result ≡ parent_from node 0 nodes.now }
-{
-    for at in 0..nodes.len() {
-        if times_among(node, &nodes.get(at).children) > 0 {
-            return Some(at as u32);
-        }
-    }
-    None
-}
-
-/// Whether one comes from a node to node 0 by going from child to parent.
-fn climbs(node: u32, nodes: &Sequence<Node>) -> bool
-    requires { length nodes.now ≤ 65536 }
-    ensures { result ≡ climbs (length nodes.now) nodes.now node }
-{
-    let mut at = node;
-    let mut steps = nodes.len();
-    'up: while at != 0 && steps > 0 {
-        match parent(at, nodes) {
-            Some(above) => at = above,
-            None => return false,
-        }
-        steps -= 1;
-    }
-    at == 0
-}
-
-/// Whether a node has its place in the tree.
-fn is_placed(node: u32, nodes: &Sequence<Node>) -> bool
-    requires { length nodes.now ≤ 65536 }
-    ensures { IsTrue result ↔ IsPlaced nodes.now node }
-{
-    let wanted = if node == 0 { 0 } else { 1 };
-    times_child(node, nodes) == wanted && climbs(node, nodes)
-}
-
-/// Whether the nodes form one tree below node 0.
-fn is_tree(nodes: &Sequence<Node>) -> bool
-    requires { length nodes.now ≤ 65536 }
-    ensures { IsTrue result ↔ IsTree nodes.now }
-{
-    if nodes.is_empty() {
-        return false;
-    }
-    for node in 0..nodes.len() {
-        if !is_placed(node as u32, nodes) {
             return false;
         }
     }

@@ -1,0 +1,8 @@
+use Rattle.gpi.proofs.Trees.{empty_new}
+use Rattle.gpi.proofs.parents.is_tree.Goals as goal
+
+pub is_tree_in-requires-clause-parents : goal.is_tree_in-requires-clause-parents
+is_tree_in-requires-clause-parents c = empty_new 65536
+
+pub is_tree_in-requires-clause-depths : goal.is_tree_in-requires-clause-depths
+is_tree_in-requires-clause-depths c = empty_new 65536
