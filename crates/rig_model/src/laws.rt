@@ -5,6 +5,8 @@ ghost use Rattle.gpi.specs.Content as content;
 ghost use Rattle.gpi.specs.Events.{Event, event};
 ghost use Rattle.gpi.specs.Keys.{among};
 ghost use Rattle.gpi.specs.declared.types.Key.{Key};
+ghost use Rattle.gpi.specs.declared.types.Counts.{Counts};
+ghost use Rattle.rig_model.specs.Counts.{counts_after};
 ghost use Rattle.rig_model.specs.Kernel.{StandsAhead, StandsFor};
 ghost use Rattle.rig_model.specs.Keys.{Reprimed};
 ghost use Rattle.rig_model.specs.Rig.{Rig, Setup, event_of, named, staged_key};
@@ -74,4 +76,12 @@ pub fn serving_is_done()
         → StandsAhead fired setup before c
         → Reprimed before after fired (named c.waiting (staged_key c.staged)) (named (all_waiting fired c.waiting) (staged_key c.staged))
         → StandsFor setup after (served fired [] c).rig }
+{}
+
+/// What the counts are after an effect depends on which keys are awaited before it and after it: neither on their order nor on how often
+/// a key stands in the lists.
+pub fn counts_are_of_the_keys()
+    ensures { (fired before before' after after' : List Key) (counts : Counts)
+        → ((k : Key) → among k before ≡ among k before') → ((k : Key) → among k after ≡ among k after')
+        → counts_after fired before after counts ≡ counts_after fired before' after' counts }
 {}
