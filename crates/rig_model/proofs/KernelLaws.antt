@@ -168,18 +168,17 @@ among_then x fired waiting waiting' held held' w a =
     ∙ named_same x (all_waiting fired waiting) held' (without_all fired held) (alike_among held' (without_all fired held) a x)
     ∙ among_kept x fired waiting held
 
--- once keys are served that had fired
-pub but_served : (k k' : Content) (fired : List Key) (waiting waiting' : List Waiting) (held held' : List Key) → waiting' ≡ all_waiting fired waiting → AreAlike held' (without_all fired held)
-    → AreKeysBut k.keys (fired ++ held) (named waiting held) → Reprimed k k' fired (named waiting held) (named waiting' held')
-    → AreKeysBut k'.keys held' (named waiting' held')
-but_served k k' fired waiting waiting' held held' w a b r = record {
+-- once keys are served that had fired, others are still to be
+pub but_served : (k k' : Content) (fired others : List Key) (waiting waiting' : List Waiting) (held held' : List Key) → waiting' ≡ all_waiting fired waiting → AreAlike held' (without_all fired held)
+    → AreKeysBut k.keys (fired ++ others) (named waiting held) → Reprimed k k' fired (named waiting held) (named waiting' held')
+    → AreKeysBut k'.keys others (named waiting' held')
+but_served k k' fired others waiting waiting' held held' w a b r = record {
   within = λ x h. left_of (among x (named waiting' held')) (has x k.keys || among x fired) (sym (r.keys x) ∙ h);
   rest = λ x m h.
       let none : (has x k.keys ≡ false) × (among x fired ≡ false) = no_either (has x k.keys) (among x fired) (rw m at (sym (r.keys x) ∙ h)) in
       let old : among x (named waiting held) ≡ true = left_of (among x (named waiting held)) (not (among x fired)) (sym (among_then x fired waiting waiting' held held' w a) ∙ m) in
-      let one : (among x fired || among x held) ≡ true = sym (among-append x fired held) ∙ b.rest x old none.0 in
-      let there : among x held ≡ true = rw none.1 at one in
-      alike_among held' (without_all fired held) a x ∙ among_without_all x fired held ∙ rw (there, none.1) refl;
+      let one : (among x fired || among x others) ≡ true = sym (among-append x fired others) ∙ b.rest x old none.0 in
+      rw none.1 at one;
 }
 
 -- ---- counts

@@ -1,5 +1,5 @@
 //! What holds of all runs.
-ghost use Rattle.std.specs.Prelude.{◌≡◌, ◌≤◌, ◌++◌, ℕ, List, [], true, false};
+ghost use Rattle.std.specs.Prelude.{◌≡◌, ◌≤◌, ◌++◌, ℕ, List, [], Option, true, false};
 ghost use Rattle.gpi.specs.Content.{Content, Does};
 ghost use Rattle.gpi.specs.Content as content;
 ghost use Rattle.gpi.specs.Events.{Event, event};
@@ -9,6 +9,11 @@ ghost use Rattle.gpi.specs.declared.types.Counts.{Counts};
 ghost use Rattle.rig_model.specs.Counts.{counts_after};
 ghost use Rattle.rig_model.specs.Kernel.{StandsAhead, StandsFor};
 ghost use Rattle.rig_model.specs.Keys.{Reprimed};
+ghost use Rattle.rig_model.specs.Placed.{ArePlaced, StandsOnce, placed};
+ghost use Rattle.rig_model.specs.Task.{Task};
+ghost use Rattle.rig_model.specs.declared.task.Entry.{Entry};
+ghost use Rattle.rig_model.specs.declared.task.TaskNo.{TaskNo};
+ghost use Rattle.rig_model.specs.declared.tree.Waiting.{Waiting};
 ghost use Rattle.rig_model.specs.Rig.{Rig, Setup, event_of, named, staged_key};
 ghost use Rattle.rig_model.specs.Serve.{all_waiting, served, after_put};
 ghost use Rattle.rig_model.specs.Run.{Run, opening, IsRun, IsStart, step_cost, written};
@@ -84,4 +89,10 @@ pub fn counts_are_of_the_keys()
     ensures { (fired before before' after after' : List Key) (counts : Counts)
         → ((k : Key) → among k before ≡ among k before') → ((k : Key) → among k after ≡ among k after')
         → counts_after fired before after counts ≡ counts_after fired before' after' counts }
+{}
+
+/// Where the tasks of a test are placed, each that has its turn, is ready or waits is live, and stands there alone and once.
+pub fn a_task_stands_once()
+    ensures { (tasks : List Task) (started : ℕ) (turn : Option TaskNo) (ready : List Entry) (waiting : List Waiting)
+        → ArePlaced tasks started (placed turn ready waiting) → (number : TaskNo) → StandsOnce tasks turn ready waiting number }
 {}
