@@ -1,12 +1,12 @@
 -- Keys that lists tell.
-use Rattle.std.proofs.Common.{◌≡◌, ◌≤◌, ℕ, zero, suc, if◌then◌else◌, arith, ◌==◌, ◌||◌, ◌&&◌, Bool, true, false, not, List, [], ◌∷◌, ◌++◌, refl, sym, ap, ◌∙◌, rules, eqb-true}
+use Rattle.std.proofs.Common.{◌≡◌, ◌≤◌, ℕ, zero, suc, if◌then◌else◌, arith, ◌+◌, ◌==◌, ◌||◌, ◌&&◌, Bool, true, false, not, List, [], ◌∷◌, ◌++◌, refl, sym, ap, ◌∙◌, rules, eqb-true}
 use Rattle.std.specs.Prelude.{filter}
 use Rattle.gpi.specs.declared.types.Key.{Key}
 use Rattle.gpi.specs.declared.types.Key.TheVariants as key
 use Rattle.gpi.specs.declared.types.Key.TheVariants.{ReadWrite}
 use Rattle.gpi.specs.declared.types.SigId.{SigId}
 use Rattle.gpi.specs.Keys.{Keys, no_keys, holds, among, same_key, set_of, times_of, AreSame}
-use Rattle.rig_model.specs.Keys.{AreAlike, AreKeys, times_in, without, without_all}
+use Rattle.rig_model.specs.Keys.{AreAlike, AreKeys, AreOnce, times_in, without, without_all}
 use Rattle.rig_model.specs.Rig.{keys_of, named}
 use Rattle.rig_model.specs.Serve as serve
 use Rattle.rig_model.specs.Serve.{Cause, Progress, still, done, fire, rest_of, still_waiting, all_waiting}
@@ -254,3 +254,26 @@ named_unheld x waiting held h = among-append x (keys_of waiting) held ∙ rw h (
     or_no : (b : Bool) → (b || false) ≡ b
     or_no true = refl
     or_no false = refl
+
+-- ---- keys that are held once
+
+times_in-append : (k : Key) (xs ys : List Key) → times_in k (xs ++ ys) ≡ times_in k xs + times_in k ys
+times_in-append k [] ys = omega arith
+times_in-append k (x ∷ xs) ys = decided (same_key k x) (times_in-append k xs ys)
+  where
+    decided : (b : Bool) → times_in k (xs ++ ys) ≡ times_in k xs + times_in k ys
+        → (if b then suc (times_in k (xs ++ ys)) else times_in k (xs ++ ys)) ≡ (if b then suc (times_in k xs) else times_in k xs) + times_in k ys
+    decided true h = omega (arith, h)
+    decided false h = h
+
+no_times : (k : Key) (xs : List Key) → times_in k xs ≡ 0 → among k xs ≡ false
+no_times k xs h = among_times k xs ∙ ap some_times h
+
+-- no key of the list stands there again
+pub once_alone : (own ks : List Key) → AreOnce own ks → (front back : List Key) (k : Key) → own ≡ front ++ k ∷ back → among k (front ++ back) ≡ false
+once_alone own ks o front back k is =
+    let few : times_in k own ≤ 1 = o.once k in
+    let all : times_in k own ≡ times_in k front + times_in k (k ∷ back) = ap (times_in k) is ∙ times_in-append k front (k ∷ back) in
+    let one : times_in k (k ∷ back) ≡ suc (times_in k back) = rw (same_self k) refl in
+    let rest : times_in k (front ++ back) ≡ times_in k front + times_in k back = times_in-append k front back in
+    no_times k (front ++ back) (omega (arith, few, all, one, rest))

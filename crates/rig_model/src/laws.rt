@@ -1,5 +1,5 @@
 //! What holds of all runs.
-ghost use Rattle.std.specs.Prelude.{◌≡◌, ◌≤◌, ◌++◌, ℕ, List, [], Option, true, false};
+ghost use Rattle.std.specs.Prelude.{◌≡◌, ◌≤◌, ◌++◌, ◌∷◌, ℕ, List, [], Option, true, false};
 ghost use Rattle.gpi.specs.Content.{Content, Does};
 ghost use Rattle.gpi.specs.Content as content;
 ghost use Rattle.gpi.specs.Events.{Event, event};
@@ -8,7 +8,7 @@ ghost use Rattle.gpi.specs.declared.types.Key.{Key};
 ghost use Rattle.gpi.specs.declared.types.Counts.{Counts};
 ghost use Rattle.rig_model.specs.Counts.{counts_after};
 ghost use Rattle.rig_model.specs.Kernel.{StandsAhead, StandsFor};
-ghost use Rattle.rig_model.specs.Keys.{Reprimed};
+ghost use Rattle.rig_model.specs.Keys.{AreOnce, Reprimed};
 ghost use Rattle.rig_model.specs.Placed.{ArePlaced, StandsOnce, placed};
 ghost use Rattle.rig_model.specs.Task.{Task};
 ghost use Rattle.rig_model.specs.declared.task.Entry.{Entry};
@@ -95,4 +95,10 @@ pub fn counts_are_of_the_keys()
 pub fn a_task_stands_once()
     ensures { (tasks : List Task) (started : ℕ) (turn : Option TaskNo) (ready : List Entry) (waiting : List Waiting)
         → ArePlaced tasks started (placed turn ready waiting) → (number : TaskNo) → StandsOnce tasks turn ready waiting number }
+{}
+
+/// Of keys that a list has once each, none stands there again.
+pub fn a_key_is_held_once()
+    ensures { (own keys : List Key) → AreOnce own keys → (front back : List Key) (key : Key)
+        → own ≡ front ++ key ∷ back → among key (front ++ back) ≡ false }
 {}
