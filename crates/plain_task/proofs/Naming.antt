@@ -5,14 +5,14 @@ use Rattle.gpi.specs.Keys.{has, among, same_key}
 use Rattle.gpi.specs.declared.types.Counts.{Counts}
 use Rattle.gpi.specs.declared.types.Key.{Key}
 use Rattle.rig_model.specs.Counts.{count_keys, counts_after, raised_times}
-use Rattle.rig_model.specs.Keys.{AreKeys, AreKeysBut, AreOut, Rekeyed, AreCounted, Reprimed, without_all}
+use Rattle.rig_model.specs.Keys.{AreKeys, AreKeysBut, AreOut, AreThere, Clears, Rekeyed, AreCounted, Reprimed, without_all}
 use Rattle.rig_model.specs.Rig.{leaves, keys_of, named}
 use Rattle.rig_model.specs.Serve.{all_waiting}
 use Rattle.rig_model.specs.declared.tree.Waiting.{Waiting}
-use Rattle.rig_model.proofs.KeyLaws.{same_is, among-append, fired_gone}
+use Rattle.rig_model.proofs.KeyLaws.{same_is, same_self, among-append, fired_gone}
 use Rattle.rig_model.proofs.KernelLaws.{among_kept}
 use Rattle.rig_model.proofs.CountLaws.{count_none, among-more, counts_more, counts_less}
-use Rattle.plain_task.specs.Left.{counts_left}
+use Rattle.plain_task.specs.Left.{IsLeft, counts_left, has_left}
 
 pub named_waited : (k : Key) (waiting : List Waiting) (held : List Key) → among k (keys_of waiting) ≡ true → true ≡ among k (named waiting held)
 named_waited k waiting held h = sym (among-append k (keys_of waiting) held ∙ rw h refl)
@@ -20,38 +20,66 @@ named_waited k waiting held h = sym (among-append k (keys_of waiting) held ∙ r
 pub named_held : (k : Key) (waiting : List Waiting) (held : List Key) → among k (keys_of waiting) ≡ false → among k held ≡ among k (named waiting held)
 named_held k waiting held h = sym (among-append k (keys_of waiting) held ∙ rw h refl)
 
--- what is registered once a key that was named first is named no more
-less_key : (k key : Key) (ks : List Key) (n : Bool) → n ≡ among key ks → (among k (key ∷ ks) && (n || not (same_key k key))) ≡ among k ks
-less_key k key ks n e = decided (same_key k key) n refl refl
+-- a key more is removed
+one_less : (h n s m : Bool) → (s ≡ true → n ≡ m) → ((h && (n || not s)) && not m) ≡ (h && not (s || m))
+one_less false n s m e = refl
+one_less true n true m e = rw (e refl) (neither m)
   where
-    decided : (s m : Bool) → same_key k key ≡ s → n ≡ m → ((same_key k key || among k ks) && (n || not (same_key k key))) ≡ among k ks
-    decided true true s m = let there : among k ks ≡ true = ap (λ (x : Key). among x ks) (same_is k key s) ∙ sym e ∙ m in rw (s, m, there) refl
-    decided true false s m = let there : among k ks ≡ false = ap (λ (x : Key). among x ks) (same_is k key s) ∙ sym e ∙ m in rw (s, m, there) refl
-    decided false true s m = rw (s, m) (both (among k ks))
-      where
-        both : (b : Bool) → (b && true) ≡ b
-        both true = refl
-        both false = refl
-    decided false false s m = rw (s, m) (both (among k ks))
-      where
-        both : (b : Bool) → (b && true) ≡ b
-        both true = refl
-        both false = refl
+    neither : (b : Bool) → ((b || false) && not b) ≡ false
+    neither true = refl
+    neither false = refl
+one_less true true false m e = refl
+one_less true false false m e = refl
 
--- the first of the named keys is named no more
-module _ (first before after : Content) (key : Key) (ks : List Key) (n : Bool) (is : n ≡ among key ks) where
-  pub rekeyed_less : Rekeyed first before (key ∷ ks) → after.procs ≡ before.procs → after.state ≡ before.state
-      → ((k : Key) → has k after.keys ≡ (has k before.keys && (n || not (same_key k key)))) → Rekeyed first after ks
-  rekeyed_less r p s h = record {
-    procs = p ∙ r.procs;
-    state = s ∙ r.state;
-    keys = λ k. h k ∙ ap (λ (b : Bool). b && (n || not (same_key k key))) (r.keys k) ∙ less_key k key ks n is;
+-- nothing is removed yet
+pub left_first : (k : Content) (ks : List Key) → AreThere k.keys ks → IsLeft k k ks ks
+left_first k ks t = record { procs = refl; state = refl; there = t; keys = λ x. refl; counts = refl }
+
+-- the first of the keys is removed, unless it is still named
+module _ (first before after : Content) (all : List Key) (key : Key) (ks : List Key) (n : Bool) (is : n ≡ among key ks) where
+  same_left : (k : Key) → same_key k key ≡ true → n ≡ among k ks
+  same_left k s = is ∙ ap (λ (x : Key). among x ks) (sym (same_is k key s))
+
+  pub left_there : IsLeft first before all (key ∷ ks) → has key before.keys ≡ true
+  left_there l = l.there key (rw (same_self key) refl)
+
+  pub left_less : IsLeft first before all (key ∷ ks) → after.procs ≡ before.procs → after.state ≡ before.state
+      → ((k : Key) → has k after.keys ≡ (has k before.keys && (n || not (same_key k key))))
+      → after.counts ≡ record before.counts { removed = raised_times (if n then 0 else 1) before.counts.removed } → IsLeft first after all ks
+  left_less l p s h c = record {
+    procs = p ∙ l.procs;
+    state = s ∙ l.state;
+    there = λ k m. h k ∙ rw (l.there k (behind k (same_key k key) m)) (kept k (same_key k key) refl m);
+    keys = λ k. ap (λ (b : Bool). b && not (among k ks)) (h k) ∙ one_less (has k before.keys) n (same_key k key) (among k ks) (same_left k) ∙ l.keys k;
+    counts = ap (λ (x : Counts). counts_after [] ks [] x) (c ∙ ap (λ (b : Bool). let x : Counts = record before.counts { removed = raised_times (if b then 0 else 1) before.counts.removed } in x) is)
+        ∙ sym (counts_less key ks before.counts)
+        ∙ l.counts;
   }
+    where
+      behind : (k : Key) (b : Bool) → among k ks ≡ true → (b || among k ks) ≡ true
+      behind k true m = refl
+      behind k false m = m
 
-  pub left_less : after.counts ≡ record before.counts { removed = raised_times (if n then 0 else 1) before.counts.removed } → counts_left ks after ≡ counts_left (key ∷ ks) before
-  left_less c =
-      ap (λ (x : Counts). counts_after [] ks [] x) (c ∙ ap (λ (b : Bool). let x : Counts = record before.counts { removed = raised_times (if b then 0 else 1) before.counts.removed } in x) is)
-      ∙ sym (counts_less key ks before.counts)
+      kept : (k : Key) (b : Bool) → same_key k key ≡ b → among k ks ≡ true → (n || not b) ≡ true
+      kept k true e m = rw (same_left k e ∙ m) refl
+      kept k false e m = either n
+        where
+          either : (x : Bool) → (x || true) ≡ true
+          either true = refl
+          either false = refl
+
+-- all are removed
+pub left_none : (first mid after : Content) (all held : List Key) → IsLeft first mid all held → IsLeft mid after held [] → Clears first after all
+left_none first mid after all held a b = record {
+  procs = b.procs ∙ a.procs;
+  state = b.state ∙ a.state;
+  keys = λ k. sym (whole (has k after.keys)) ∙ b.keys k ∙ a.keys k;
+  counts = b.counts ∙ a.counts;
+}
+  where
+    whole : (x : Bool) → (x && true) ≡ x
+    whole true = refl
+    whole false = refl
 
 -- the keys of the waiting tasks from one of them on
 pub named_from : (waiting : List Waiting) (at : ℕ) (w : Waiting) (held : List Key) → drop at waiting ≡ w ∷ drop (at + 1) waiting
@@ -64,6 +92,10 @@ pub named_next : (waiting : List Waiting) (at : ℕ) (w : Waiting) (key : Key) (
 named_next waiting at w key held i h e =
     named_from waiting at w held (rw add-one (drop-cons waiting at w i ∙ ap (λ (x : Waiting). x ∷ drop (suc at) waiting) (sym h)))
     ∙ ap (λ (ks : List Key). ks ++ named (drop (at + 1) waiting) held) e
+
+-- the keys that are held from one of them on
+pub held_next : (held : List Key) (at : ℕ) (key : Key) → at < length held → key ≡ get_or held at key → drop at held ≡ key ∷ drop (at + 1) held
+held_next held at key i h = rw add-one (drop-cons held at key i ∙ ap (λ (x : Key). x ∷ drop (suc at) held) (sym h))
 
 -- ---- a key more
 

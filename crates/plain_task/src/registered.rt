@@ -1,5 +1,5 @@
 //! Keys that are registered and removed, each once.
-ghost use Rattle.std.specs.Prelude.{◌≡◌, ◌||◌, ◌&&◌, Bool, not, true, length, OnOk, OnErr, if◌then◌else◌};
+ghost use Rattle.std.specs.Prelude.{◌≡◌, ◌||◌, ◌&&◌, Bool, not, true, false, length, OnOk, OnErr, if◌then◌else◌};
 ghost use Rattle.gpi.specs.Content.{IsAsked};
 ghost use Rattle.gpi.specs.Keys.{has, same_key};
 ghost use Rattle.gpi.specs.declared.types.Key.{Key};
@@ -28,10 +28,10 @@ pub fn register_unless<K: Gpi>(kernel: &mut K, named: bool, key: Key) -> Result<
     kernel.register(key)
 }
 
-/// Removes a registered key, unless it is still named.
+/// Removes a key, which is registered, unless it is still named.
 pub fn remove_unless<K: Gpi>(kernel: &mut K, named: bool, key: Key)
     requires loaded { K.is_loaded kernel.old }
-    requires there { has key (K.content kernel.old).keys ≡ true }
+    requires there { named ≡ false → has key (K.content kernel.old).keys ≡ true }
     ensures loaded { K.is_loaded kernel.new }
     ensures procs { (K.content kernel.new).procs ≡ (K.content kernel.old).procs }
     ensures state { (K.content kernel.new).state ≡ (K.content kernel.old).state }

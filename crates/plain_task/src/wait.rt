@@ -1,10 +1,10 @@
 //! The waiting tasks as a list.
 ghost use Rattle.std.specs.Prelude.{◌≡◌, ◌≤◌, ◌+◌, ◌++◌, [], length};
 ghost use Rattle.gpi.specs.Keys.{among};
-ghost use Rattle.rig_model.specs.Keys.{AreKeys, Rekeyed, AreCounted, key_list, without, without_all};
+ghost use Rattle.rig_model.specs.Keys.{AreThere, key_list, without, without_all};
 ghost use Rattle.rig_model.specs.Rig.{named};
 ghost use Rattle.rig_model.specs.Serve.{key, woken, still_waiting, all_woken, all_waiting};
-ghost use Rattle.plain_task.specs.Left.{counts_left};
+ghost use Rattle.plain_task.specs.Left.{IsLeft};
 
 use crate::named::{is_held, is_same, is_waited, leaf_key};
 use crate::registered::{register_unless, remove_unless};
@@ -107,10 +107,9 @@ impl WaitList {
     /// The keys of the waiting tasks are removed, but for those that the runner holds.
     fn remove_waited<K: Gpi>(&self, kernel: &mut K)
         requires loaded { K.is_loaded kernel.old }
-        requires keys { AreKeys (K.content kernel.old).keys (named self.now.waiting.items self.now.held.items) }
+        requires there { AreThere (K.content kernel.old).keys (named self.now.waiting.items self.now.held.items) }
         ensures loaded { K.is_loaded kernel.new }
-        ensures keys { Rekeyed (K.content kernel.old) (K.content kernel.new) self.now.held.items }
-        ensures counts { counts_left self.now.held.items (K.content kernel.new) ≡ counts_left (named self.now.waiting.items self.now.held.items) (K.content kernel.old) }
+        ensures left { IsLeft (K.content kernel.old) (K.content kernel.new) (named self.now.waiting.items self.now.held.items) self.now.held.items }
     {
         let mut at = 0;
         while at < self.waiting.len() {
@@ -125,10 +124,9 @@ impl WaitList {
     /// The keys that the runner holds are removed.
     fn remove_held<K: Gpi>(&self, kernel: &mut K)
         requires loaded { K.is_loaded kernel.old }
-        requires keys { AreKeys (K.content kernel.old).keys self.now.held.items }
+        requires there { AreThere (K.content kernel.old).keys self.now.held.items }
         ensures loaded { K.is_loaded kernel.new }
-        ensures keys { Rekeyed (K.content kernel.old) (K.content kernel.new) [] }
-        ensures counts { counts_left [] (K.content kernel.new) ≡ counts_left self.now.held.items (K.content kernel.old) }
+        ensures left { IsLeft (K.content kernel.old) (K.content kernel.new) self.now.held.items [] }
     {
         let mut at = 0;
         while at < self.held.len() {

@@ -1,6 +1,7 @@
 -- The configuration that a simulator stands for, known from an engine's.
 use Rattle.std.proofs.Common.{◌≡◌, List, [], refl, ap, sym, subst, ◌∙◌}
 use Rattle.gpi.specs.Content.{Content, no_counts, opening}
+use Rattle.gpi.specs.Keys.{among}
 use Rattle.gpi.specs.State.{State}
 use Rattle.gpi.specs.declared.design.Flat.{Flat}
 use Rattle.gpi.specs.declared.types.Counts.{Counts}
@@ -8,9 +9,10 @@ use Rattle.gpi.specs.declared.types.Key.{Key}
 use Rattle.rig_model.specs.FitSteps.{SameRest}
 use Rattle.rig_model.specs.Kernel.{ahead, StandsFor}
 use Rattle.rig_model.specs.Keys.{AreKeys}
-use Rattle.rig_model.specs.Rig.{Rig, Setup, awaited, named}
+use Rattle.rig_model.specs.Rig.{Rig, Setup, awaited, named, staged_key}
 use Rattle.rig_model.specs.Run.{emptied, opening_sim}
 use Rattle.rig_model.proofs.KernelLaws.{awaited_named}
+use Rattle.rig_model.proofs.KeyLaws.{named_same}
 use Rattle.scheduler.specs.Parts.{FitsContent}
 
 same_awaited : (d e : Rig) → SameRest d e → awaited d ≡ awaited e
@@ -42,4 +44,5 @@ opening_begins flat of content c f o e = e ∙ ap (λ (k : Content). emptied k.s
 
 -- the registered keys are those that are named
 pub named_keys : (setup : Setup) (content : Content) (held : List Key) (c : Rig) → c.fired ≡ [] → FitsContent setup held content c → AreKeys content.keys (named c.waiting held)
-named_keys setup content held c n f = subst (AreKeys content.keys) (awaited_named c n ∙ ap (named c.waiting) (sym f.held_is)) f.stands.keys_are
+named_keys setup content held c n f = λ x.
+    f.stands.keys_are x ∙ ap (among x) (awaited_named c n) ∙ sym (named_same x c.waiting held (staged_key c.staged) (f.held_is.same x))

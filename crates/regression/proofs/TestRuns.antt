@@ -1,5 +1,5 @@
 -- How a test begins, turns and ends, known from the answers.
-use Rattle.std.proofs.Common.{◌≡◌, ◌≢◌, ℕ, List, Option, Result, Ok, Err, IsErr, refl, subst}
+use Rattle.std.proofs.Common.{◌≡◌, ◌≢◌, ℕ, List, Option, Result, Ok, Err, IsErr, refl, subst, true}
 use Rattle.port_io.specs.declared.ports.NoMemory.{NoMemory}
 use Rattle.gpi.specs.Content.{Content}
 use Rattle.rig_model.specs.Rig.{Rig, Setup}
@@ -7,7 +7,7 @@ use Rattle.rig_model.specs.FitSteps.{FitSteps, anywhere}
 use Rattle.rig_model.specs.Line.{test_line}
 use Rattle.rig_model.specs.Run.{test_begun}
 use Rattle.rig_model.specs.declared.file.TestCase.{TestCase}
-use Rattle.scheduler.specs.Turns.{Turning, BeginsTo}
+use Rattle.scheduler.specs.Turns.{Turning, BeginsTo, has_gone}
 use Rattle.scheduler.specs.declared.turn.Turn.{Turn}
 use Rattle.scheduler.specs.declared.turn.Turn.TheVariants.{Went, Over, Spent, WriteFault}
 use Rattle.regression.specs.Runs.{Unfinished, RunsTo, status_in}
@@ -26,6 +26,13 @@ module _ {O : Type 0} (takes breaks : O → List ℕ → O → Type 0) (told : O
   begun_went setup case c (Over o) e out out' n b = absurd b
   begun_went setup case c Spent e out out' n b = absurd b
   begun_went setup case c WriteFault e out out' n b = absurd (n refl)
+
+  -- such a test runs
+  pub begun_goes : (setup : Setup) (case : TestCase) (c : Rig) (t : Turn) (e : Rig) (out out' : O) → t ≢ WriteFault → BeginsTo takes breaks told setup case c (Ok t) e out out' → has_gone (Ok t) ≡ true
+  begun_goes setup case c Went e out out' n b = refl
+  begun_goes setup case c (Over o) e out out' n b = absurd b
+  begun_goes setup case c Spent e out out' n b = absurd b
+  begun_goes setup case c WriteFault e out out' n b = absurd (n refl)
 
   -- a test whose line broke
   pub begun_broke : (setup : Setup) (case : TestCase) (c : Rig) (t : Turn) (e : Rig) (out out' : O) → t ≡ WriteFault → BeginsTo takes breaks told setup case c (Ok t) e out out' → breaks out (test_line c.sim.time case.name) out'

@@ -1,10 +1,10 @@
 //! A whole run.
-ghost use Rattle.std.specs.Prelude.{◌≡◌, ◌≢◌, ◌<◌, [], ◌∷◌, length, IfOk, Ok};
+ghost use Rattle.std.specs.Prelude.{◌≡◌, ◌≢◌, ◌<◌, [], ◌∷◌, length, IfOk, Ok, true};
 ghost use Rattle.gpi.specs.Content.{no_counts};
 ghost use Rattle.rig_model.specs.FitSteps.{FitSteps, anywhere};
 ghost use Rattle.rig_model.specs.Line.{verdict_line, budget_line};
 ghost use Rattle.rig_model.specs.Run.{emptied, opening_sim, report_of, passes};
-ghost use Rattle.scheduler.specs.Engine.{rig_of, setup_of};
+ghost use Rattle.scheduler.specs.Engine.{rig_of, runs_test, setup_of};
 ghost use Rattle.scheduler.specs.Fits.{FitsKernel, FitsAfter};
 ghost use Rattle.scheduler.specs.Turns.{Turning};
 ghost use Rattle.regression.specs.Runs.{RunsTo, PutsLine, PutsLines, EndsTo, status_in, verdict_status, ended_status, short_status};
@@ -106,7 +106,7 @@ fn end_run<O: Sink>(
     }
 }
 
-/// Turns, until one does anything but go.
+/// Turns of a test that runs, until one does anything but go.
 fn run_turns<O: Sink, K: Gpi, M: FlowMaker + Drop, W: Awaits, L: Ledger>(
     alloc: Global,
     engine: &mut Engine<'_, M, W>,
@@ -117,6 +117,7 @@ fn run_turns<O: Sink, K: Gpi, M: FlowMaker + Drop, W: Awaits, L: Ledger>(
 ) -> Result<Turn, NoMemory>
     requires loaded { K.is_loaded kernel.old }
     requires fits { FitsKernel M.functions W.waiting W.held engine.old (K.content kernel.old) }
+    requires runs { runs_test engine.old ≡ true }
     ensures turning { Turning O.takes O.breaks O.told (FitSteps anywhere (setup_of M.functions engine.old)) (setup_of M.functions engine.old)
         fuel.old (rig_of W.waiting engine.old (K.content kernel.old)) out.old result fuel.new (rig_of W.waiting engine.new (K.content kernel.new)) out.new }
     ensures stops { result ≢ Ok Turn.Went }

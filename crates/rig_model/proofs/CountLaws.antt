@@ -1,10 +1,11 @@
 -- How many keys of a list pass a test.
-use Rattle.std.proofs.Common.{◌≡◌, suc, ◌||◌, ◌&&◌, Bool, true, false, not, if◌then◌else◌, List, [], ◌∷◌, ◌++◌, refl, sym, ap, ◌∙◌}
+use Rattle.std.proofs.Common.{◌≡◌, ℕ, suc, ◌||◌, ◌&&◌, Bool, true, false, not, if◌then◌else◌, List, [], ◌∷◌, ◌++◌, refl, sym, ap, ◌∙◌}
 use Rattle.gpi.specs.declared.types.Counts.{Counts}
 use Rattle.gpi.specs.declared.types.Key.{Key}
 use Rattle.gpi.specs.Keys.{among, same_key}
 use Rattle.rig_model.specs.Counts.{count_keys, counts_after, raised_times, removed_keys, primed_keys}
-use Rattle.rig_model.proofs.KeyLaws.{same_is, same_self}
+use Rattle.rig_model.specs.Keys.{without}
+use Rattle.rig_model.proofs.KeyLaws.{same_is, same_self, same_sym, among-without}
 
 or_true : (b : Bool) → (b || true) ≡ true
 or_true true = refl
@@ -117,3 +118,94 @@ counts_without key old new c there is = decided (among key new) refl
     decided : (b : Bool) → among key new ≡ b → counts_after [] old new c ≡ record c { removed = raised_times (if among key new then 0 else 1) c.removed }
     decided true n = let none : removed_keys [] old new ≡ 0 = count_none (λ k. not (among k new || among k [])) old (all_stay n) in rw (no_primed, none, n) refl
     decided false n = let one : removed_keys [] old new ≡ 1 = count_single (λ k. not (among k new || among k [])) key old there (one_goes n) in rw (no_primed, one, n) refl
+
+-- ---- lists of the same keys
+
+and_false : (b : Bool) → (b && false) ≡ false
+and_false true = refl
+and_false false = refl
+
+and_true : (b : Bool) → (b && true) ≡ b
+and_true true = refl
+and_true false = refl
+
+-- tests that agree on the keys of the list
+pub count_tests : (p q : Key → Bool) (ks : List Key) → ((k : Key) → among k ks ≡ true → p k ≡ q k) → count_keys p ks ≡ count_keys q ks
+count_tests p q [] h = refl
+count_tests p q (k ∷ ks) h =
+    ap (λ (b : Bool). (let n : ℕ = if b && not (among k ks) then suc (count_keys p ks) else count_keys p ks in n)) (h k (first k ks))
+    ∙ ap (λ (m : ℕ). (let n : ℕ = if q k && not (among k ks) then suc m else m in n)) (count_tests p q ks (λ j m. h j (later j k ks m)))
+
+without_none : (key : Key) (ks : List Key) → among key ks ≡ false → without key ks ≡ ks
+without_none key [] h = refl
+without_none key (k ∷ ks) h = decided (same_key key k) refl h (λ m. without_none key ks m)
+  where
+    decided : (b : Bool) → same_key key k ≡ b → (b || among key ks) ≡ false → (among key ks ≡ false → without key ks ≡ ks) → without key (k ∷ ks) ≡ k ∷ ks
+    decided true e m more = cc
+    decided false e m more = rw e (ap (λ (xs : List Key). k ∷ xs) (more m))
+
+-- a key that is there is counted once, apart from the others
+count_apart : (test : Key → Bool) (key : Key) (ks : List Key) → among key ks ≡ true
+    → count_keys test ks ≡ (if test key then suc (count_keys test (without key ks)) else count_keys test (without key ks))
+count_apart test key [] h = cc
+count_apart test key (k ∷ ks) h = decided (same_key key k) (among key ks) refl refl (λ m. count_apart test key ks m)
+  where
+    swapped : (a b : Bool) (n : ℕ) → (let l : ℕ = if a then suc (if b then suc n else n) else (if b then suc n else n) in l) ≡ (if b then suc (if a then suc n else n) else (if a then suc n else n))
+    swapped true true n = refl
+    swapped true false n = refl
+    swapped false true n = refl
+    swapped false false n = refl
+
+    decided : (s m : Bool) → same_key key k ≡ s → among key ks ≡ m
+        → (among key ks ≡ true → count_keys test ks ≡ (if test key then suc (count_keys test (without key ks)) else count_keys test (without key ks)))
+        → count_keys test (k ∷ ks) ≡ (if test key then suc (count_keys test (without key (k ∷ ks))) else count_keys test (without key (k ∷ ks)))
+    decided true true s m more =
+        let own : key ≡ k = same_is key k s in
+        let there : among k ks ≡ true = ap (λ (j : Key). among j ks) (sym own) ∙ m in
+        rw (s, there, and_false (test k)) (more m)
+    decided true false s m more =
+        let own : key ≡ k = same_is key k s in
+        let none : among k ks ≡ false = ap (λ (j : Key). among j ks) (sym own) ∙ m in
+        let same : test key ≡ test k = ap test own in
+        rw (s, none, and_true (test k), without_none key ks m, same) refl
+    decided false true s m more =
+        let kept : among k (without key ks) ≡ among k ks = among-without k key ks ∙ rw s (and_true (among k ks)) in
+        rw (s, kept, more m) (swapped (test k && not (among k ks)) (test key) (count_keys test (without key ks)))
+    decided false false s m more = absurd (let z : true ≡ false = sym h ∙ rw (s, m) refl in cc)
+
+-- how many pass depends on which keys are there, and neither on their order nor on how often they are
+pub count_members : (test : Key → Bool) (xs ys : List Key) → ((k : Key) → among k xs ≡ among k ys) → count_keys test xs ≡ count_keys test ys
+count_members test [] ys h = sym (count_none test ys (λ k m. absurd (let z : true ≡ false = sym m ∙ sym (h k) in cc)))
+count_members test (x ∷ xs) ys h = decided (among x xs) refl (λ zs g. count_members test xs zs g)
+  where
+    same_left : (k : Key) (s : Bool) → among x xs ≡ true → same_key k x ≡ s → among k xs ≡ (s || among k xs)
+    same_left k true m s = ap (λ (j : Key). among j xs) (same_is k x s) ∙ m
+    same_left k false m s = refl
+
+    taken : (k : Key) (s : Bool) → among x xs ≡ false → same_key k x ≡ s → among k xs ≡ ((s || among k xs) && not s)
+    taken k true m s = ap (λ (j : Key). among j xs) (same_is k x s) ∙ m
+    taken k false m s = sym (and_true (among k xs))
+
+    decided : (m : Bool) → among x xs ≡ m → ((zs : List Key) → ((k : Key) → among k xs ≡ among k zs) → count_keys test xs ≡ count_keys test zs) → count_keys test (x ∷ xs) ≡ count_keys test ys
+    decided true m more =
+        rw (m, and_false (test x)) (more ys (λ k. same_left k (same_key k x) m refl ∙ h k))
+    decided false m more =
+        let rest : count_keys test xs ≡ count_keys test (without x ys)
+        = more (without x ys)
+        (λ k. taken k (same_key k x) m refl ∙ ap (λ (b : Bool). b && not (same_key k x)) (h k) ∙ ap (λ (b : Bool). among k ys && not b) (same_sym k x) ∙ sym (among-without k x ys)) in
+        rw (m, and_true (test x), rest) (sym (count_apart test x ys (sym (h x) ∙ first x xs)))
+
+-- so do the counts that an effect leaves
+pub counts_same : (fired before before' after after' : List Key) (c : Counts) → ((k : Key) → among k before ≡ among k before') → ((k : Key) → among k after ≡ among k after')
+    → counts_after fired before after c ≡ counts_after fired before' after' c
+counts_same fired before before' after after' c b a = rw (primed, removed) refl
+  where
+    primed : primed_keys fired before after ≡ primed_keys fired before' after'
+    primed =
+        count_tests (λ k. not (among k before) || among k fired) (λ k. not (among k before') || among k fired) after (λ k m. ap (λ (x : Bool). not x || among k fired) (b k))
+        ∙ count_members (λ k. not (among k before') || among k fired) after after' a
+
+    removed : removed_keys fired before after ≡ removed_keys fired before' after'
+    removed =
+        count_tests (λ k. not (among k after || among k fired)) (λ k. not (among k after' || among k fired)) before (λ k m. ap (λ (x : Bool). not (x || among k fired)) (a k))
+        ∙ count_members (λ k. not (among k after' || among k fired)) before before' b

@@ -1,5 +1,5 @@
 -- A simulator stands for a configuration, before and after each effect.
-use Rattle.std.proofs.Common.{◌≡◌, ℕ, ◌||◌, ◌&&◌, Bool, true, false, not, if◌then◌else◌, List, [], ◌∷◌, ◌++◌, refl, sym, ap, ◌∙◌, append_assoc, append-nil}
+use Rattle.std.proofs.Common.{◌≡◌, ◌≤◌, ℕ, suc, arith, ◌||◌, ◌&&◌, Bool, true, false, not, if◌then◌else◌, List, [], ◌∷◌, ◌++◌, refl, sym, ap, ◌∙◌, append_assoc, append-nil}
 use Rattle.std.specs.Prelude.{filter}
 use Rattle.four_value.specs.declared.Digit.{Digit}
 use Rattle.gpi.specs.Content.{Content, Does}
@@ -14,15 +14,15 @@ use Rattle.gpi.specs.declared.types.SigId.{SigId}
 use Rattle.gpi.proofs.SameKeys.{event_same, put_same}
 use Rattle.rig_model.specs.Counts.{count_keys, counts_after, primed_keys, raised_times, removed_keys, counted}
 use Rattle.rig_model.specs.Kernel.{ahead, StandsAhead, StandsFor}
-use Rattle.rig_model.specs.Keys.{AreKeys, AreKeysBut, AreOut, Registers, Rekeyed, AreCounted, Reprimed, without, without_all}
+use Rattle.rig_model.specs.Keys.{AreAlike, AreKeys, AreKeysBut, AreOnce, AreOut, Clears, Registers, Rekeyed, AreCounted, Reprimed, times_in, without, without_all}
 use Rattle.rig_model.specs.declared.file.TestCase.{TestCase}
 use Rattle.rig_model.specs.Run.{opening}
 use Rattle.rig_model.specs.Rig.{Rig, Setup, procs, awaited, named, keys_of, staged_key, event_of}
 use Rattle.rig_model.specs.Serve as serve
 use Rattle.rig_model.specs.Serve.{still_waiting, woken, all_waiting, all_woken, serve_keys, served, put_of, written_digits, after_put, deposited}
 use Rattle.rig_model.specs.declared.tree.Waiting.{Waiting}
-use Rattle.rig_model.proofs.CountLaws.{among-more, count_none, counts_more}
-use Rattle.rig_model.proofs.KeyLaws.{no_keys_are, same_sym, has_set, among-append, among-filter, among-still, among-without, served_gone}
+use Rattle.rig_model.proofs.CountLaws.{among-more, count_none, counts_more, counts_same}
+use Rattle.rig_model.proofs.KeyLaws.{no_keys_are, same_is, same_sym, has_set, alike_among, among-append, among-filter, among-still, among-without, named_same, none_times, served_gone, times_without_all}
 
 -- a simulator that was just handed the design stands for the configuration in which a run begins
 pub opening_stands : (setup : Setup) (case : TestCase) → StandsFor setup (content.opening setup.flat) (opening setup case).rig
@@ -156,28 +156,30 @@ module _ (k k1 : Content) (fired ks : List Key) (d : (x : Key) → has x k1.keys
 pub but_more : (keys : Keys) (a b ks : List Key) → AreKeysBut keys a ks → AreKeysBut keys (a ++ b) ks
 but_more keys a b ks p = record { within = p.within; rest = λ x m h. among-append x a b ∙ rw (p.rest x m h) refl }
 
--- once keys are served that had fired
-pub but_served : (k k' : Content) (fired : List Key) (waiting : List Waiting) (held : List Key) → AreKeysBut k.keys (fired ++ held) (named waiting held)
-    → Reprimed k k' fired (named waiting held) (named (all_waiting fired waiting) (without_all fired held))
-    → AreKeysBut k'.keys (without_all fired held) (named (all_waiting fired waiting) (without_all fired held))
-but_served k k' fired waiting held b r = record {
-  within = λ x h. left_of (among x (named (all_waiting fired waiting) (without_all fired held))) (has x k.keys || among x fired) (sym (r.keys x) ∙ h);
+-- the others may be more
+pub but_others : (keys : Keys) (a b ks : List Key) → ((x : Key) → among x a ≡ true → among x b ≡ true) → AreKeysBut keys a ks → AreKeysBut keys b ks
+but_others keys a b ks more p = record { within = p.within; rest = λ x m h. more x (p.rest x m h) }
+
+-- the keys that are named once keys are served, whatever the order in which the others are held
+pub among_then : (x : Key) (fired : List Key) (waiting waiting' : List Waiting) (held held' : List Key) → waiting' ≡ all_waiting fired waiting → AreAlike held' (without_all fired held)
+    → among x (named waiting' held') ≡ (among x (named waiting held) && not (among x fired))
+among_then x fired waiting waiting' held held' w a =
+    ap (λ (ws : List Waiting). among x (named ws held')) w
+    ∙ named_same x (all_waiting fired waiting) held' (without_all fired held) (alike_among held' (without_all fired held) a x)
+    ∙ among_kept x fired waiting held
+
+-- once keys are served that had fired, others are still to be
+pub but_served : (k k' : Content) (fired others : List Key) (waiting waiting' : List Waiting) (held held' : List Key) → waiting' ≡ all_waiting fired waiting → AreAlike held' (without_all fired held)
+    → AreKeysBut k.keys (fired ++ others) (named waiting held) → Reprimed k k' fired (named waiting held) (named waiting' held')
+    → AreKeysBut k'.keys others (named waiting' held')
+but_served k k' fired others waiting waiting' held held' w a b r = record {
+  within = λ x h. left_of (among x (named waiting' held')) (has x k.keys || among x fired) (sym (r.keys x) ∙ h);
   rest = λ x m h.
       let none : (has x k.keys ≡ false) × (among x fired ≡ false) = no_either (has x k.keys) (among x fired) (rw m at (sym (r.keys x) ∙ h)) in
-      let old : among x (named waiting held) ≡ true = left_of (among x (named waiting held)) (not (among x fired)) (sym (among_kept x fired waiting held) ∙ m) in
-      let one : (among x fired || among x held) ≡ true = sym (among-append x fired held) ∙ b.rest x old none.0 in
-      let there : among x held ≡ true = rw none.1 at one in
-      among_without_all x fired held ∙ rw (there, none.1) refl;
+      let old : among x (named waiting held) ≡ true = left_of (among x (named waiting held)) (not (among x fired)) (sym (among_then x fired waiting waiting' held held' w a) ∙ m) in
+      let one : (among x fired || among x others) ≡ true = sym (among-append x fired others) ∙ b.rest x old none.0 in
+      rw none.1 at one;
 }
-
--- where a key isn't held it is registered exactly where it is named
-pub named_is : (keys : Keys) (held ks : List Key) (key : Key) → AreKeysBut keys held ks → among key held ≡ false → has key keys ≡ among key ks
-named_is keys held ks key b h = decided (has key keys) (among key ks) refl refl
-  where
-    decided : (r n : Bool) → has key keys ≡ r → among key ks ≡ n → has key keys ≡ among key ks
-    decided true n r e = r ∙ sym (b.within key r)
-    decided false true r e = absurd (let z : true ≡ false = sym (b.rest key e r) ∙ h in cc)
-    decided false false r e = r ∙ sym e
 
 -- ---- counts
 
@@ -434,16 +436,70 @@ deposit_stands setup k mid k' c e fired own free s d r =
 
 -- ---- a key that the runner begins to hold
 
-pub all_but : (keys : Keys) (others ks : List Key) → AreKeys keys ks → AreKeysBut keys others ks
-all_but keys others ks a = record { within = λ x h. sym (a x) ∙ h; rest = λ x m h. absurd (let z : true ≡ false = sym m ∙ sym (a x) ∙ h in cc) }
+module _ (before after : Content) (key : Key) (ks ks' : List Key) (a : AreKeys before.keys ks) (more : (x : Key) → among x ks' ≡ (same_key x key || among x ks)) (r : Registers before after key) where
+  pub registers_rekeyed : Rekeyed before after ks'
+  registers_rekeyed = record { procs = r.procs; state = r.state; keys = λ x. r.keys x ∙ ap (λ (b : Bool). same_key x key || b) (a x) ∙ sym (more x) }
 
-module _ (before after : Content) (key : Key) (ks : List Key) (a : AreKeys before.keys ks) (r : Registers before after key) where
-  pub registers_rekeyed : Rekeyed before after (ks ++ key ∷ [])
-  registers_rekeyed = record { procs = r.procs; state = r.state; keys = λ x. r.keys x ∙ ap (λ (b : Bool). same_key x key || b) (a x) ∙ sym (among-more x key ks [] ∙ ap (λ (l : List Key). same_key x key || among x l) (append-nil ks)) }
-
-  pub registers_counted : AreCounted before after ks (ks ++ key ∷ [])
+  pub registers_counted : AreCounted before after ks ks'
   registers_counted =
       r.counts
       ∙ ap (λ (b : Bool). let x : Counts = record before.counts { primed = raised_times (if b then 0 else 1) before.counts.primed } in x) (a key ∙ ap (among key) (sym (append-nil ks)))
       ∙ sym (counts_more key ks [] before.counts)
       ∙ ap (λ (l : List Key). counts_after [] l (ks ++ key ∷ []) before.counts) (append-nil ks)
+      ∙ counts_same [] ks ks (ks ++ key ∷ []) ks' before.counts (λ x. refl) (λ x. among-more x key ks [] ∙ ap (λ (l : List Key). same_key x key || among x l) (append-nil ks) ∙ sym (more x))
+
+-- ---- all keys are removed
+
+pub clears_rekeyed : (before after : Content) (ks : List Key) → AreKeys before.keys ks → Clears before after ks → Rekeyed before after []
+clears_rekeyed before after ks a c = record {
+  procs = c.procs;
+  state = c.state;
+  keys = λ x. c.keys x ∙ ap (λ (b : Bool). b && not (among x ks)) (a x) ∙ neither (among x ks);
+}
+  where
+    neither : (b : Bool) → (b && not b) ≡ false
+    neither true = refl
+    neither false = refl
+
+-- ---- keys that are held, each once
+
+pub once_alike : (own other ks : List Key) → AreAlike own other → AreOnce other ks → AreOnce own ks
+once_alike own other ks a o = record {
+  same = λ x. alike_among own other a x ∙ o.same x;
+  once = λ x. (let e : times_in x own ≡ times_in x other = a x in let h : times_in x other ≤ 1 = o.once x in omega arith);
+}
+
+-- others are served
+pub once_stays : (fired held ks : List Key) → ((x : Key) → among x ks ≡ true → among x fired ≡ false) → AreOnce held ks → AreOnce (without_all fired held) ks
+once_stays fired held ks free o = record {
+  same = λ x. among_without_all x fired held ∙ ap (λ (b : Bool). b && not (among x fired)) (o.same x) ∙ no_both (among x ks) (among x fired) (free x);
+  once = λ x. (let l : times_in x (without_all fired held) ≤ times_in x held = times_without_all x fired held in let h : times_in x held ≤ 1 = o.once x in omega arith);
+}
+
+-- all are served
+pub once_goes : (fired held ks : List Key) → ((x : Key) → among x ks ≡ true → among x fired ≡ true) → AreOnce held ks → AreOnce (without_all fired held) []
+once_goes fired held ks all o = record {
+  same = λ x. among_without_all x fired held ∙ ap (λ (b : Bool). b && not (among x fired)) (o.same x) ∙ gone (among x ks) (among x fired) (all x);
+  once = λ x. (let l : times_in x (without_all fired held) ≤ times_in x held = times_without_all x fired held in let h : times_in x held ≤ 1 = o.once x in omega arith);
+}
+  where
+    gone : (a f : Bool) → (a ≡ true → f ≡ true) → (a && not f) ≡ false
+    gone true f h = rw (h refl) refl
+    gone false f h = refl
+
+-- one is held besides
+pub once_more : (key : Key) (own held ks : List Key) → AreAlike own (key ∷ held) → among key held ≡ false → AreOnce held ks → AreOnce own (key ∷ ks)
+once_more key own held ks a none o = record {
+  same = λ x. alike_among own (key ∷ held) a x ∙ ap (λ (b : Bool). same_key x key || b) (o.same x);
+  once = λ x. decided x (same_key x key) refl;
+}
+  where
+    decided : (x : Key) (b : Bool) → same_key x key ≡ b → times_in x own ≤ 1
+    decided x true e =
+        let n : times_in x held ≡ 0 = none_times x held (ap (λ (y : Key). among y held) (same_is x key e) ∙ none) in
+        let s : times_in x own ≡ suc (times_in x held) = a x ∙ rw e refl in
+        omega arith
+    decided x false e =
+        let s : times_in x own ≡ times_in x held = a x ∙ rw e refl in
+        let h : times_in x held ≤ 1 = o.once x in
+        omega arith

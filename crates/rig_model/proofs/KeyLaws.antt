@@ -1,12 +1,12 @@
 -- Keys that lists tell.
-use Rattle.std.proofs.Common.{◌≡◌, ℕ, ◌==◌, ◌||◌, ◌&&◌, Bool, true, false, not, List, [], ◌∷◌, ◌++◌, refl, sym, ap, ◌∙◌, rules, eqb-true}
+use Rattle.std.proofs.Common.{◌≡◌, ◌≤◌, ℕ, zero, suc, if◌then◌else◌, arith, ◌+◌, ◌==◌, ◌||◌, ◌&&◌, Bool, true, false, not, List, [], ◌∷◌, ◌++◌, refl, sym, ap, ◌∙◌, rules, eqb-true}
 use Rattle.std.specs.Prelude.{filter}
 use Rattle.gpi.specs.declared.types.Key.{Key}
 use Rattle.gpi.specs.declared.types.Key.TheVariants as key
 use Rattle.gpi.specs.declared.types.Key.TheVariants.{ReadWrite}
 use Rattle.gpi.specs.declared.types.SigId.{SigId}
 use Rattle.gpi.specs.Keys.{Keys, no_keys, holds, among, same_key, set_of, times_of, AreSame}
-use Rattle.rig_model.specs.Keys.{AreKeys, without, without_all}
+use Rattle.rig_model.specs.Keys.{AreAlike, AreKeys, AreOnce, times_in, without, without_all}
 use Rattle.rig_model.specs.Rig.{keys_of, named}
 use Rattle.rig_model.specs.Serve as serve
 use Rattle.rig_model.specs.Serve.{Cause, Progress, still, done, fire, rest_of, still_waiting, all_waiting}
@@ -186,3 +186,94 @@ without_gone j (k ∷ ks) held h = decided (same_key j k) refl (λ m. without_go
 pub fired_gone : (j : Key) (ks : List Key) (waiting : List Waiting) (held : List Key) → among j ks ≡ true → among j (named (all_waiting ks waiting) (without_all ks held)) ≡ false
 fired_gone j ks waiting held h =
     among-append j (keys_of (all_waiting ks waiting)) (without_all ks held) ∙ rw (served_gone j ks waiting h, without_gone j ks held h) refl
+
+-- ---- lists that have each key equally often
+
+abbrev some_times : ℕ → Bool
+some_times zero = false
+some_times (suc n) = true
+
+among_times : (k : Key) (xs : List Key) → among k xs ≡ some_times (times_in k xs)
+among_times k [] = refl
+among_times k (x ∷ xs) = decided (same_key k x) (among_times k xs)
+  where
+    decided : (b : Bool) → among k xs ≡ some_times (times_in k xs) → (b || among k xs) ≡ some_times (if b then suc (times_in k xs) else times_in k xs)
+    decided true h = refl
+    decided false h = h
+
+-- they have the same keys
+pub alike_among : (xs ys : List Key) → AreAlike xs ys → (k : Key) → among k xs ≡ among k ys
+alike_among xs ys a k = among_times k xs ∙ ap some_times (a k) ∙ sym (among_times k ys)
+
+pub none_times : (k : Key) (xs : List Key) → among k xs ≡ false → times_in k xs ≡ 0
+none_times k [] h = refl
+none_times k (x ∷ xs) h = decided (same_key k x) h (λ m. none_times k xs m)
+  where
+    decided : (b : Bool) → (b || among k xs) ≡ false → (among k xs ≡ false → times_in k xs ≡ 0) → (if b then suc (times_in k xs) else times_in k xs) ≡ 0
+    decided true m more = cc
+    decided false m more = more m
+
+-- a key at the end or in front
+pub alike_push : (y : Key) (xs : List Key) → AreAlike (xs ++ y ∷ []) (y ∷ xs)
+alike_push y [] k = refl
+alike_push y (x ∷ xs) k = swapped (same_key k x) (same_key k y) (alike_push y xs k)
+  where
+    swapped : (a b : Bool) → times_in k (xs ++ y ∷ []) ≡ (if b then suc (times_in k xs) else times_in k xs)
+        → (if a then suc (times_in k (xs ++ y ∷ [])) else times_in k (xs ++ y ∷ [])) ≡ (if b then suc (if a then suc (times_in k xs) else times_in k xs) else (if a then suc (times_in k xs) else times_in k xs))
+    swapped true true h = ap suc h
+    swapped true false h = ap suc h
+    swapped false true h = h
+    swapped false false h = h
+
+times_without : (k gone : Key) (xs : List Key) → times_in k (without gone xs) ≤ times_in k xs
+times_without k gone [] = omega arith
+times_without k gone (x ∷ xs) = decided (same_key gone x) (same_key k x) refl refl (times_without k gone xs)
+  where
+    decided : (g s : Bool) → same_key gone x ≡ g → same_key k x ≡ s → times_in k (without gone xs) ≤ times_in k xs → times_in k (without gone (x ∷ xs)) ≤ times_in k (x ∷ xs)
+    decided true true g s h = rw (g, s) (omega arith)
+    decided true false g s h = rw (g, s) h
+    decided false true g s h = rw (g, s) (omega arith)
+    decided false false g s h = rw (g, s) h
+
+-- no key is there more often once others are taken out
+pub times_without_all : (k : Key) (gone xs : List Key) → times_in k (without_all gone xs) ≤ times_in k xs
+times_without_all k [] xs = omega arith
+times_without_all k (g ∷ gs) xs = let one : times_in k (without g xs) ≤ times_in k xs = times_without k g xs in
+    let more : times_in k (without_all gs (without g xs)) ≤ times_in k (without g xs) = times_without_all k gs (without g xs) in
+    omega arith
+
+-- the named keys, where the same keys are held
+pub named_same : (x : Key) (waiting : List Waiting) (held other : List Key) → among x held ≡ among x other → among x (named waiting held) ≡ among x (named waiting other)
+named_same x waiting held other h =
+    among-append x (keys_of waiting) held ∙ ap (λ (b : Bool). among x (keys_of waiting) || b) h ∙ sym (among-append x (keys_of waiting) other)
+
+-- a key that isn't held is named where a task waits for it
+pub named_unheld : (x : Key) (waiting : List Waiting) (held : List Key) → among x held ≡ false → among x (named waiting held) ≡ among x (keys_of waiting)
+named_unheld x waiting held h = among-append x (keys_of waiting) held ∙ rw h (or_no (among x (keys_of waiting)))
+  where
+    or_no : (b : Bool) → (b || false) ≡ b
+    or_no true = refl
+    or_no false = refl
+
+-- ---- keys that are held once
+
+times_in-append : (k : Key) (xs ys : List Key) → times_in k (xs ++ ys) ≡ times_in k xs + times_in k ys
+times_in-append k [] ys = omega arith
+times_in-append k (x ∷ xs) ys = decided (same_key k x) (times_in-append k xs ys)
+  where
+    decided : (b : Bool) → times_in k (xs ++ ys) ≡ times_in k xs + times_in k ys
+        → (if b then suc (times_in k (xs ++ ys)) else times_in k (xs ++ ys)) ≡ (if b then suc (times_in k xs) else times_in k xs) + times_in k ys
+    decided true h = omega (arith, h)
+    decided false h = h
+
+no_times : (k : Key) (xs : List Key) → times_in k xs ≡ 0 → among k xs ≡ false
+no_times k xs h = among_times k xs ∙ ap some_times h
+
+-- no key of the list stands there again
+pub once_alone : (own ks : List Key) → AreOnce own ks → (front back : List Key) (k : Key) → own ≡ front ++ k ∷ back → among k (front ++ back) ≡ false
+once_alone own ks o front back k is =
+    let few : times_in k own ≤ 1 = o.once k in
+    let all : times_in k own ≡ times_in k front + times_in k (k ∷ back) = ap (times_in k) is ∙ times_in-append k front (k ∷ back) in
+    let one : times_in k (k ∷ back) ≡ suc (times_in k back) = rw (same_self k) refl in
+    let rest : times_in k (front ++ back) ≡ times_in k front + times_in k back = times_in-append k front back in
+    no_times k (front ++ back) (omega (arith, few, all, one, rest))

@@ -4,7 +4,7 @@ use Rattle.std.proofs.Common.{◌≡◌, ℕ, zero, suc, ◌+◌, ◌<◌, ◌�
 use Rattle.std.proofs.lemmas.List.{length-map}
 use Rattle.gpi.specs.declared.types.Key.{Key}
 use Rattle.rig_model.specs.Effect.{is_numbered, dropped}
-use Rattle.rig_model.specs.Placed.{one_if, times, tasks_ready, tasks_waiting, in_turn, placed, ArePlaced}
+use Rattle.rig_model.specs.Placed.{one_if, times, tasks_ready, tasks_waiting, in_turn, placed, ArePlaced, StandsOnce, has_turn, is_ready, is_waiting}
 use Rattle.rig_model.specs.Serve as serve
 use Rattle.rig_model.specs.Serve.{Cause, Progress, still, done, fire, entry_of, rest_of, woken, still_waiting, all_woken, all_waiting}
 use Rattle.rig_model.specs.Step.{task_at, stored}
@@ -291,3 +291,81 @@ pub turn_lives : (tasks : List Task) (started : ℕ) (task : TaskNo) (ready : Li
 turn_lives tasks started task ready waiting h =
     let own : one_if (task.0 == task.0) ≡ 1 = ap one_if (eq-eqb task.0 task.0 refl) in
     h.live task (omega arith)
+
+-- ---- task by task
+
+ready_some : (n : TaskNo) (es : List Entry) → is_ready n es ≡ true → 0 < times n (tasks_ready es)
+ready_some n [] h = cc
+ready_some n (e ∷ es) h = decided (e.task.0 == n.0) h (λ m. ready_some n es m)
+  where
+    decided : (b : Bool) → (b || is_ready n es) ≡ true → (is_ready n es ≡ true → 0 < times n (tasks_ready es)) → 0 < one_if b + times n (tasks_ready es)
+    decided true k more = omega arith
+    decided false k more = let m : 0 < times n (tasks_ready es) = more k in omega arith
+
+ready_none : (n : TaskNo) (es : List Entry) → times n (tasks_ready es) ≡ 0 → is_ready n es ≡ false
+ready_none n [] h = refl
+ready_none n (e ∷ es) h = decided (e.task.0 == n.0) h (λ m. ready_none n es m)
+  where
+    decided : (b : Bool) → one_if b + times n (tasks_ready es) ≡ 0 → (times n (tasks_ready es) ≡ 0 → is_ready n es ≡ false) → (b || is_ready n es) ≡ false
+    decided true k more = absurd (omega (arith, k))
+    decided false k more = more (omega (arith, k))
+
+waiting_some : (n : TaskNo) (ws : List Waiting) → is_waiting n ws ≡ true → 0 < times n (tasks_waiting ws)
+waiting_some n [] h = cc
+waiting_some n (w ∷ ws) h = decided (w.task.0 == n.0) h (λ m. waiting_some n ws m)
+  where
+    decided : (b : Bool) → (b || is_waiting n ws) ≡ true → (is_waiting n ws ≡ true → 0 < times n (tasks_waiting ws)) → 0 < one_if b + times n (tasks_waiting ws)
+    decided true k more = omega arith
+    decided false k more = let m : 0 < times n (tasks_waiting ws) = more k in omega arith
+
+waiting_none : (n : TaskNo) (ws : List Waiting) → times n (tasks_waiting ws) ≡ 0 → is_waiting n ws ≡ false
+waiting_none n [] h = refl
+waiting_none n (w ∷ ws) h = decided (w.task.0 == n.0) h (λ m. waiting_none n ws m)
+  where
+    decided : (b : Bool) → one_if b + times n (tasks_waiting ws) ≡ 0 → (times n (tasks_waiting ws) ≡ 0 → is_waiting n ws ≡ false) → (b || is_waiting n ws) ≡ false
+    decided true k more = absurd (omega (arith, k))
+    decided false k more = more (omega (arith, k))
+
+turn_some : (n : TaskNo) (turn : Option TaskNo) → has_turn n turn ≡ true → 0 < times n (in_turn turn)
+turn_some n None h = cc
+turn_some n (Some m) h = rw h (omega arith)
+
+module _ (tasks : List Task) (started : ℕ) (turn : Option TaskNo) (ready : List Entry) (waiting : List Waiting) (p : ArePlaced tasks started (placed turn ready waiting)) (n : TaskNo) where
+  in_all : times n (placed turn ready waiting) ≡ times n (in_turn turn) + (times n (tasks_ready ready) + times n (tasks_waiting waiting))
+  in_all = times-append n (in_turn turn) (tasks_ready ready ++ tasks_waiting waiting) ∙ ap (λ (m : ℕ). times n (in_turn turn) + m) (times-append n (tasks_ready ready) (tasks_waiting waiting))
+
+  one_place : times n (in_turn turn) + (times n (tasks_ready ready) + times n (tasks_waiting waiting)) ≤ 1
+  one_place = let h : times n (placed turn ready waiting) ≤ 1 = p.once n in let e : times n (placed turn ready waiting) ≡ times n (in_turn turn) + (times n (tasks_ready ready) + times n (tasks_waiting waiting)) = in_all in omega arith
+
+  lives : 0 < times n (in_turn turn) + (times n (tasks_ready ready) + times n (tasks_waiting waiting)) → IsSome (task_at n tasks)
+  lives h = p.live n (let e : times n (placed turn ready waiting) ≡ times n (in_turn turn) + (times n (tasks_ready ready) + times n (tasks_waiting waiting)) = in_all in omega arith)
+
+  own : (m : TaskNo) → m ≡ n → one_if (m.0 == n.0) ≡ 1
+  own m e = rw (eq-eqb m.0 n.0 (ap (λ (k : TaskNo). k.0) e)) refl
+
+  pub stands_once : StandsOnce tasks turn ready waiting n
+  stands_once = record {
+    turn_live = λ h. lives (let k : 0 < times n (in_turn turn) = turn_some n turn h in omega arith);
+    ready_live = λ h. lives (let k : 0 < times n (tasks_ready ready) = ready_some n ready h in omega arith);
+    waiting_live = λ h. lives (let k : 0 < times n (tasks_waiting waiting) = waiting_some n waiting h in omega arith);
+    turn_alone = λ h.
+        let k : 0 < times n (in_turn turn) = turn_some n turn h in
+        let o : times n (in_turn turn) + (times n (tasks_ready ready) + times n (tasks_waiting waiting)) ≤ 1 = one_place in
+        (ready_none n ready (omega arith), waiting_none n waiting (omega arith));
+    ready_alone = λ h.
+        let k : 0 < times n (tasks_ready ready) = ready_some n ready h in
+        let o : times n (in_turn turn) + (times n (tasks_ready ready) + times n (tasks_waiting waiting)) ≤ 1 = one_place in
+        waiting_none n waiting (omega arith);
+    ready_once = λ front back e is same.
+        let o : times n (in_turn turn) + (times n (tasks_ready ready) + times n (tasks_waiting waiting)) ≤ 1 = one_place in
+        let all : times n (tasks_ready ready) ≡ times n (tasks_ready front) + times n (tasks_ready (e ∷ back)) = ap (λ (es : List Entry). times n (tasks_ready es)) is ∙ ready-append n front (e ∷ back) in
+        let one : one_if (e.task.0 == n.0) ≡ 1 = own e.task same in
+        let rest : times n (tasks_ready (front ++ back)) ≡ times n (tasks_ready front) + times n (tasks_ready back) = ready-append n front back in
+        ready_none n (front ++ back) (omega arith);
+    waiting_once = λ front back w is same.
+        let o : times n (in_turn turn) + (times n (tasks_ready ready) + times n (tasks_waiting waiting)) ≤ 1 = one_place in
+        let all : times n (tasks_waiting waiting) ≡ times n (tasks_waiting front) + times n (tasks_waiting (w ∷ back)) = ap (λ (ws : List Waiting). times n (tasks_waiting ws)) is ∙ waiting-append n front (w ∷ back) in
+        let one : one_if (w.task.0 == n.0) ≡ 1 = own w.task same in
+        let rest : times n (tasks_waiting (front ++ back)) ≡ times n (tasks_waiting front) + times n (tasks_waiting back) = waiting-append n front back in
+        waiting_none n (front ++ back) (omega arith);
+  }

@@ -1,5 +1,5 @@
 -- Registered keys, told by lists.
-use Rattle.std.specs.Prelude.{◌≡◌, ℕ, true, false, ◌||◌, ◌&&◌, List, [], ◌∷◌, ◌++◌, filter, not, if◌then◌else◌, Option, None, Some}
+use Rattle.std.specs.Prelude.{◌≡◌, ◌≤◌, ℕ, suc, true, false, ◌||◌, ◌&&◌, List, [], ◌∷◌, ◌++◌, filter, not, if◌then◌else◌, Option, None, Some}
 use Rattle.gpi.specs.declared.types.Fired.{Fired}
 use Rattle.gpi.specs.declared.types.Key.{Key}
 use Rattle.gpi.specs.Keys.{Keys, has, among, same_key}
@@ -10,6 +10,24 @@ use Rattle.rig_model.specs.Counts.{count_keys, counts_after, raised_times}
 -- the registered keys are those of the list
 abbrev pub AreKeys : Keys → List Key → Type 0
 AreKeys keys ks = (k : Key) → has k keys ≡ among k ks
+
+-- each of these keys is registered
+abbrev pub AreThere : Keys → List Key → Type 0
+AreThere keys ks = (k : Key) → among k ks ≡ true → has k keys ≡ true
+
+-- how often a key is in a list
+abbrev pub times_in : Key → List Key → ℕ
+times_in k [] = 0
+times_in k (x ∷ xs) = if same_key k x then suc (times_in k xs) else times_in k xs
+
+-- the two lists have each key equally often, in whatever order
+abbrev pub AreAlike : List Key → List Key → Type 0
+AreAlike xs ys = (k : Key) → times_in k xs ≡ times_in k ys
+
+-- The first list has the keys of the second, each of them once, in whatever order.
+pub record AreOnce (own ks : List Key) : Type 0 where
+  pub same : (k : Key) → among k own ≡ among k ks
+  pub once : (k : Key) → times_in k own ≤ 1
 
 -- each of these keys may be registered, where n is the number of signals
 abbrev pub AreAsked : ℕ → State → List Key → Type 0
@@ -85,3 +103,11 @@ pub record Unregisters (before after : Content) (key : Key) (ks : List Key) : Ty
   pub state : after.state ≡ before.state
   pub keys : (k : Key) → has k after.keys ≡ (has k before.keys && (among key ks || not (same_key k key)))
   pub counts : after.counts ≡ record before.counts { removed = raised_times (if among key ks then 0 else 1) before.counts.removed }
+
+-- Of what a simulator holds only the registered keys and the counts have changed: none of these keys is registered any more, and each of
+-- them is counted so, once.
+pub record Clears (before after : Content) (ks : List Key) : Type 0 where
+  pub procs : after.procs ≡ before.procs
+  pub state : after.state ≡ before.state
+  pub keys : (k : Key) → has k after.keys ≡ (has k before.keys && not (among k ks))
+  pub counts : AreCounted before after ks []

@@ -1,5 +1,5 @@
 -- Where the tasks of a test stand: at most one has its turn, some are ready and some wait.
-use Rattle.std.specs.Prelude.{ℕ, ◌+◌, ◌<◌, ◌≤◌, ◌==◌, Bool, true, false, List, [], ◌∷◌, ◌++◌, map, Option, None, Some, IsSome}
+use Rattle.std.specs.Prelude.{◌≡◌, ◌||◌, ℕ, ◌+◌, ◌<◌, ◌≤◌, ◌==◌, Bool, true, false, List, [], ◌∷◌, ◌++◌, map, Option, None, Some, IsSome}
 use Rattle.rig_model.specs.Step.{task_at}
 use Rattle.rig_model.specs.Task.{Task}
 use Rattle.rig_model.specs.declared.task.Entry.{Entry}
@@ -34,3 +34,27 @@ pub record ArePlaced (tasks : List Task) (started : ℕ) (numbers : List TaskNo)
   pub live : (n : TaskNo) → 0 < times n numbers → IsSome (task_at n tasks)
   pub once : (n : TaskNo) → times n numbers ≤ 1
   pub young : (n : TaskNo) → IsSome (task_at n tasks) → n.0 < started
+
+-- ---- the same, task by task
+
+abbrev pub has_turn : TaskNo → Option TaskNo → Bool
+has_turn number None = false
+has_turn number (Some other) = other.0 == number.0
+
+abbrev pub is_ready : TaskNo → List Entry → Bool
+is_ready number [] = false
+is_ready number (e ∷ es) = (e.task.0 == number.0) || is_ready number es
+
+abbrev pub is_waiting : TaskNo → List Waiting → Bool
+is_waiting number [] = false
+is_waiting number (w ∷ ws) = (w.task.0 == number.0) || is_waiting number ws
+
+-- A task that has its turn, is ready or waits is live, and does one of these alone, and once.
+pub record StandsOnce (tasks : List Task) (turn : Option TaskNo) (ready : List Entry) (waiting : List Waiting) (number : TaskNo) : Type 0 where
+  pub turn_live : has_turn number turn ≡ true → IsSome (task_at number tasks)
+  pub ready_live : is_ready number ready ≡ true → IsSome (task_at number tasks)
+  pub waiting_live : is_waiting number waiting ≡ true → IsSome (task_at number tasks)
+  pub turn_alone : has_turn number turn ≡ true → (is_ready number ready ≡ false) × (is_waiting number waiting ≡ false)
+  pub ready_alone : is_ready number ready ≡ true → is_waiting number waiting ≡ false
+  pub ready_once : (front back : List Entry) (e : Entry) → ready ≡ front ++ e ∷ back → e.task ≡ number → is_ready number (front ++ back) ≡ false
+  pub waiting_once : (front back : List Waiting) (w : Waiting) → waiting ≡ front ++ w ∷ back → w.task ≡ number → is_waiting number (front ++ back) ≡ false

@@ -1,12 +1,19 @@
 //! What holds of all runs.
-ghost use Rattle.std.specs.Prelude.{◌≡◌, ◌≤◌, ◌++◌, ℕ, List, [], true, false};
+ghost use Rattle.std.specs.Prelude.{◌≡◌, ◌≤◌, ◌++◌, ◌∷◌, ℕ, List, [], Option, true, false};
 ghost use Rattle.gpi.specs.Content.{Content, Does};
 ghost use Rattle.gpi.specs.Content as content;
 ghost use Rattle.gpi.specs.Events.{Event, event};
 ghost use Rattle.gpi.specs.Keys.{among};
 ghost use Rattle.gpi.specs.declared.types.Key.{Key};
+ghost use Rattle.gpi.specs.declared.types.Counts.{Counts};
+ghost use Rattle.rig_model.specs.Counts.{counts_after};
 ghost use Rattle.rig_model.specs.Kernel.{StandsAhead, StandsFor};
-ghost use Rattle.rig_model.specs.Keys.{Reprimed};
+ghost use Rattle.rig_model.specs.Keys.{AreOnce, Reprimed};
+ghost use Rattle.rig_model.specs.Placed.{ArePlaced, StandsOnce, placed};
+ghost use Rattle.rig_model.specs.Task.{Task};
+ghost use Rattle.rig_model.specs.declared.task.Entry.{Entry};
+ghost use Rattle.rig_model.specs.declared.task.TaskNo.{TaskNo};
+ghost use Rattle.rig_model.specs.declared.tree.Waiting.{Waiting};
 ghost use Rattle.rig_model.specs.Rig.{Rig, Setup, event_of, named, staged_key};
 ghost use Rattle.rig_model.specs.Serve.{all_waiting, served, after_put};
 ghost use Rattle.rig_model.specs.Run.{Run, opening, IsRun, IsStart, step_cost, written};
@@ -74,4 +81,24 @@ pub fn serving_is_done()
         → StandsAhead fired setup before c
         → Reprimed before after fired (named c.waiting (staged_key c.staged)) (named (all_waiting fired c.waiting) (staged_key c.staged))
         → StandsFor setup after (served fired [] c).rig }
+{}
+
+/// What the counts are after an effect depends on which keys are awaited before it and after it: neither on their order nor on how often
+/// a key stands in the lists.
+pub fn counts_are_of_the_keys()
+    ensures { (fired before before' after after' : List Key) (counts : Counts)
+        → ((k : Key) → among k before ≡ among k before') → ((k : Key) → among k after ≡ among k after')
+        → counts_after fired before after counts ≡ counts_after fired before' after' counts }
+{}
+
+/// Where the tasks of a test are placed, each that has its turn, is ready or waits is live, and stands there alone and once.
+pub fn a_task_stands_once()
+    ensures { (tasks : List Task) (started : ℕ) (turn : Option TaskNo) (ready : List Entry) (waiting : List Waiting)
+        → ArePlaced tasks started (placed turn ready waiting) → (number : TaskNo) → StandsOnce tasks turn ready waiting number }
+{}
+
+/// Of keys that a list has once each, none stands there again.
+pub fn a_key_is_held_once()
+    ensures { (own keys : List Key) → AreOnce own keys → (front back : List Key) (key : Key)
+        → own ≡ front ++ key ∷ back → among key (front ++ back) ≡ false }
 {}

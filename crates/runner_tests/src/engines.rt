@@ -1,4 +1,4 @@
-//! An engine in which no test runs.
+//! An engine, and the first turn of a test.
 ghost use Rattle.std.specs.Prelude.{◌≡◌, ◌<◌, length};
 ghost use Rattle.text_forms.specs.DesignForm.{ArePorts};
 ghost use Rattle.text_forms.specs.TestsForm.{IsOneTest};
@@ -44,7 +44,7 @@ fn turn_text(alloc: Global, turn: &Turn) -> Result<String, NoMemory> {
     }
 }
 
-/// The turn of an engine in which no test was begun, on a design that does nothing by itself.
+/// The first turn of a test that was begun, within three statements and events.
 fn turn<K: Gpi, L: Ledger>(
     alloc: Global,
     ports: &[u8],
@@ -64,8 +64,14 @@ fn turn<K: Gpi, L: Ledger>(
     let mut engine = Engine::new(alloc, maker, WaitList::new(alloc), &flat, false)?;
     let mut steps = Steps::<L>::new(blank);
     let mut sink = MemSink::new(alloc);
-    let mut fuel = 1;
-    engine.turn(alloc, kernel, &mut sink, &mut fuel, &mut steps)
+    let case = file.cases.get(0);
+    match engine.begin_test(alloc, kernel, case, &mut sink, &mut steps)? {
+        Turn::Went => {
+            let mut fuel = 3;
+            engine.turn(alloc, kernel, &mut sink, &mut fuel, &mut steps)
+        }
+        other => Ok(other),
+    }
 }
 
 /// The path and the turn of a design and tests.

@@ -9,7 +9,7 @@
 //! - `run`: a run within a budget, of a design and tests; `trace`: a run whose told changes are written;
 //! - `design`, `flat`: what a design is read as, and what is simulated; `tests`: what tests are read as beside a design;
 //! - `release`: a key that the runner holds and lets go, at a simulator of the design, with the counts of keys;
-//! - `engine`: the path of the design's first signal, and the turn of an engine without a test;
+//! - `engine`: the path of the design's first signal, and what the first turn of the test comes to;
 //! - `sig`, `stalled`, `fault`, `closing`: lines.
 //!
 //! The gate compares what is printed with `stdout`.

@@ -20,19 +20,19 @@ use Rattle.gpi.specs.declared.types.Told.{Told}
 use Rattle.port_io.specs.declared.ports.SinkFault.{SinkFault}
 use Rattle.rig_model.specs.Fires.{Fires, PutFires}
 use Rattle.rig_model.specs.Kernel.{StandsAhead, StandsFor}
-use Rattle.rig_model.specs.Keys.{AreKeysBut, AreOut, Reprimed, keys_in, without_all}
+use Rattle.rig_model.specs.Keys.{AreAlike, AreKeysBut, AreOnce, AreOut, Reprimed, keys_in, without_all}
 use Rattle.rig_model.specs.Rig.{Rig, Setup, After, quiet, and_then, awaited, named, keys_of, staged_key, told_lines, procs}
 use Rattle.rig_model.specs.Serve.{all_waiting, all_woken, serve_keys, after_put, put_of, flushed, flushed_if, served, written_digits}
 use Rattle.rig_model.proofs.FireLaws.{told_back, put_fires, event_fires}
-use Rattle.rig_model.proofs.KernelLaws.{event_stands, put_stands, event_ahead, put_ahead, served_stands, serve_keys_is, among_all, among_awaited, among_kept, but_deposit, but_event, but_served, out_fired, reprimed_stands}
-use Rattle.rig_model.proofs.KeyLaws.{fired_gone, among-append, same_is, same_sym}
+use Rattle.rig_model.proofs.KernelLaws.{event_stands, put_stands, event_ahead, put_ahead, served_stands, serve_keys_is, among_all, among_awaited, among_then, but_deposit, but_event, but_others, but_served, once_alike, once_stays, out_fired, reprimed_stands}
+use Rattle.rig_model.proofs.KeyLaws.{among-append, same_is}
 use Rattle.rig_model.specs.Step.{evented}
 use Rattle.rig_model.specs.declared.task.Entry.{Entry}
 use Rattle.rig_model.specs.declared.task.Staged.{Staged}
 use Rattle.rig_model.specs.declared.tree.Waiting.{Waiting}
 use Rattle.scheduler.specs.Parts.{Parts, rig_amid, StaysOpen, FitsContent}
 use Rattle.scheduler.specs.Puts.{PutsOn}
-use Rattle.scheduler.specs.Serves.{Serves, IsOpen, IsEvented}
+use Rattle.scheduler.specs.Serves.{Serves, Stays, IsEvented}
 use Rattle.scheduler.proofs.PutLaws.{puts_on_none, puts_on_then}
 use Rattle.scheduler.proofs.StandLaws.{rig_between, awaited_held, keys_named}
 
@@ -47,29 +47,9 @@ held_free (w ∷ ws) fired h x e = ap (λ (y : Key). among y fired) (same_is x R
     only true q = refl
     only false q = q
 
-no_or : (a b : Bool) → (a || b) ≡ false → (a ≡ false) × (b ≡ false)
-no_or true b h = cc
-no_or false b h = (refl, h)
-
--- it is held on where other keys are served
-held_on : (ks : List Key) → among ReadWrite ks ≡ false → without_all ks (ReadWrite ∷ []) ≡ ReadWrite ∷ []
-held_on [] h = refl
-held_on (k ∷ ks) h =
-    let parts : (same_key ReadWrite k ≡ false) × (among ReadWrite ks ≡ false) = no_or (same_key ReadWrite k) (among ReadWrite ks) h in
-    let other : same_key k ReadWrite ≡ false = same_sym k ReadWrite ∙ parts.0 in
-    rw other (held_on ks parts.1)
-
-none_held : (ks : List Key) → without_all ks [] ≡ []
-none_held [] = refl
-none_held (k ∷ ks) = none_held ks
-
-pub key_stays : (ks : List Key) (ws : List Staged) → among ReadWrite ks ≡ false → without_all ks (staged_key ws) ≡ staged_key ws
-key_stays ks [] h = none_held ks
-key_stays ks (w ∷ ws) h = held_on ks h
-
-pub key_goes : (ks : List Key) (ws : List Staged) → ks ≡ ReadWrite ∷ [] → without_all ks (staged_key ws) ≡ []
-key_goes ks [] e = none_held ks
-key_goes ks (w ∷ ws) e = ap (λ (xs : List Key). without_all xs (ReadWrite ∷ [])) e
+pub held_all : (ws : List Staged) (x : Key) → among x (staged_key ws) ≡ true → among x (ReadWrite ∷ []) ≡ true
+held_all [] x h = cc
+held_all (w ∷ ws) x h = h
 
 -- where a write is left the runner has held the key of the read-write phase
 pub no_write : (ws : List Staged) (w : Staged) (rest : List Staged) → ws ≡ w ∷ rest → ws ≡ [] → ⊥
@@ -106,10 +86,6 @@ told_same setup k sig old bits time change t o h =
     ∙ ap (told_lines setup k.state.time)
     (h ∙ ap (λ (ds : List Digit). (let x : Option Told = if same_digits ds bits then None else Some (record { sig = sig; bits = bits }) in x)) o ∙ sym (told_is k.procs k.state k.keys sig bits))
 
--- no task begins to wait for the end of the time step
-still_no_end : (ks : List Key) (ws : List Waiting) → among ReadOnly (keys_of ws) ≡ false → among ReadOnly (keys_of (all_waiting ks ws)) ≡ false
-still_no_end ks ws h = among_all ReadOnly ks ws ∙ ap (λ (b : Bool). b && not (among ReadOnly ks)) h
-
 length_widths : (m : List (List Digit)) → length (widths_of m) ≡ length m
 length_widths [] = refl
 length_widths (v ∷ vs) = let h : length (widths_of vs) ≡ length vs = length_widths vs in omega arith
@@ -120,8 +96,8 @@ same_length m n e = sym (length_widths m) ∙ ap length e ∙ length_widths n
 module _ (setup : Setup) (p : Parts) (k k1 k2 : Content) (write : Staged) (bits : List Digit) (held held' : List Key) (fired : Fired) (ready' : List Entry) (waiting' : List Waiting)
     (fired_is : fired ≡ fired_of (put k.procs k.state k.keys write.sig bits).fired)
     (done : Does k (put k.procs k.state k.keys write.sig bits) k1)
-    (waiting_is : waiting' ≡ all_waiting (keys_in fired) p.waiting) (held_is : held' ≡ without_all (keys_in fired) held) (ready_is : ready' ≡ p.ready ++ all_woken (keys_in fired) p.waiting)
-    (b : AreKeysBut k.keys held (named p.waiting held))
+    (waiting_is : waiting' ≡ all_waiting (keys_in fired) p.waiting) (held_is : AreAlike held' (without_all (keys_in fired) held)) (ready_is : ready' ≡ p.ready ++ all_woken (keys_in fired) p.waiting)
+    (b : AreKeysBut k.keys (ReadWrite ∷ []) (named p.waiting held))
     (r : Reprimed k1 k2 (keys_in fired) (named p.waiting held) (named waiting' held')) where
   abbrev e : Event
   e = put k.procs k.state k.keys write.sig bits
@@ -135,27 +111,32 @@ module _ (setup : Setup) (p : Parts) (k k1 k2 : Content) (write : Staged) (bits 
   pub keys_are : keys_in fired ≡ e.fired
   keys_are = ap keys_in fired_is ∙ told_back e.fired fires.few
 
-  pub held_stays : (ws : List Staged) → held ≡ staged_key ws → held' ≡ staged_key ws
-  held_stays ws h = held_is ∙ ap (without_all (keys_in fired)) h ∙ key_stays (keys_in fired) ws (ap (among ReadWrite) keys_are ∙ fires.other)
+  pub held_stays : AreOnce held (ReadWrite ∷ []) → AreOnce held' (ReadWrite ∷ [])
+  held_stays o = once_alike held' (without_all (keys_in fired) held) (ReadWrite ∷ []) held_is
+      (once_stays (keys_in fired) held (ReadWrite ∷ []) (held_free (write ∷ []) (keys_in fired) (ap (among ReadWrite) keys_are ∙ fires.other)) o)
 
-  region_is : is_end k2.state.region ≡ is_end k.state.region
-  region_is = ap (λ (st : State). is_end st.region) (r.state ∙ done.state) ∙ ap is_end fires.region_stays
+  pub put_signals : (n : ℕ) → widths_of k1.state.signals ≡ widths_of k.state.signals → length k.state.signals ≡ n → length k2.state.signals ≡ n
+  put_signals n w h = ap (λ (st : State). length st.signals) r.state ∙ same_length k1.state.signals k.state.signals w ∙ h
 
-  pub put_open : widths_of k1.state.signals ≡ widths_of k.state.signals → IsOpen setup k → IsOpen setup k2
-  put_open w o = record {
-    signals = ap (λ (st : State). length st.signals) r.state ∙ same_length k1.state.signals k.state.signals w ∙ o.signals;
-    writable = region_is ∙ o.writable;
+  pub put_stays : Stays k k2 p.waiting waiting'
+  put_stays = record {
+    region = ap (λ (st : State). st.region) (r.state ∙ done.state) ∙ fires.region_stays;
+    waits = λ x m. first_of (among x (keys_of p.waiting)) (not (among x (keys_in fired))) (sym (ap (λ (ws : List Waiting). among x (keys_of ws)) waiting_is ∙ among_all x (keys_in fired) p.waiting) ∙ m);
   }
+    where
+      first_of : (a c : Bool) → (a && c) ≡ true → a ≡ true
+      first_of true c h = refl
+      first_of false c h = cc
 
-  pub put_ends : StaysOpen k p.waiting → StaysOpen k2 waiting'
-  put_ends o = record {
-    writable = region_is ∙ o.writable;
-    no_end = ap (λ (ws : List Waiting). among ReadOnly (keys_of ws)) waiting_is ∙ still_no_end (keys_in fired) p.waiting o.no_end;
-  }
+  kept : (x : Key) → among x (named waiting' held') ≡ (among x (named p.waiting held) && not (among x (keys_in fired)))
+  kept x = among_then x (keys_in fired) p.waiting waiting' held held' waiting_is held_is
 
   gone : (x : Key) → among x (keys_in fired) ≡ true → among x (named waiting' held') ≡ false
-  gone x h = ap (λ (ws : List Waiting). among x (named ws held')) waiting_is ∙ ap (λ (hs : List Key). among x (named (all_waiting (keys_in fired) p.waiting) hs)) held_is
-      ∙ fired_gone x (keys_in fired) p.waiting held h
+  gone x h = kept x ∙ rw h (no (among x (named p.waiting held)))
+    where
+      no : (a : Bool) → (a && false) ≡ false
+      no true = refl
+      no false = refl
 
   -- the change's keys have left the registered ones
   left : (x : Key) → has x k1.keys ≡ (has x k.keys && not (among x (keys_in fired)))
@@ -164,9 +145,7 @@ module _ (setup : Setup) (p : Parts) (k k1 k2 : Content) (write : Staged) (bits 
   -- each key that is registered then is named on
   stays : (x : Key) → has x k1.keys ≡ true → among x (named waiting' held') ≡ true
   stays x h =
-      ap (λ (ws : List Waiting). among x (named ws held')) waiting_is
-      ∙ ap (λ (hs : List Key). among x (named (all_waiting (keys_in fired) p.waiting) hs)) held_is
-      ∙ among_kept x (keys_in fired) p.waiting held
+      kept x
       ∙ both (has x k.keys) (among x (keys_in fired)) (sym (left x) ∙ h) (λ n. b.within x n)
     where
       both : (a f : Bool) → (a && not f) ≡ true → (a ≡ true → among x (named p.waiting held) ≡ true) → (among x (named p.waiting held) && not f) ≡ true
@@ -174,12 +153,12 @@ module _ (setup : Setup) (p : Parts) (k k1 k2 : Content) (write : Staged) (bits 
       both true true q n = cc
       both false f q n = cc
 
-  -- what isn't registered then is held
-  pub put_but : AreKeysBut k2.keys held' (named waiting' held')
-  put_but = rw (waiting_is, held_is) (but_served k1 k2 (keys_in fired) p.waiting held (but_deposit k k1 (keys_in fired) (named p.waiting held) left held b) (rw (waiting_is, held_is) at r))
+  -- of what is named then the read-write phase alone may not be registered
+  pub put_but : AreKeysBut k2.keys (ReadWrite ∷ []) (named waiting' held')
+  put_but = but_served k1 k2 (keys_in fired) (ReadWrite ∷ []) p.waiting waiting' held held' waiting_is held_is (but_deposit k k1 (keys_in fired) (named p.waiting held) left (ReadWrite ∷ []) b) r
 
   -- the read-write phase isn't registered then, where it wasn't before
-  pub put_out_key : has ReadWrite k.keys ≡ false → has ReadWrite k2.keys ≡ false
+  put_out_key : has ReadWrite k.keys ≡ false → has ReadWrite k2.keys ≡ false
   put_out_key h =
       r.keys ReadWrite
       ∙ rw (left ReadWrite, h, ap (among ReadWrite) keys_are ∙ fires.other) (no (among ReadWrite (named waiting' held')))
@@ -187,6 +166,9 @@ module _ (setup : Setup) (p : Parts) (k k1 k2 : Content) (write : Staged) (bits 
       no : (a : Bool) → (a && false) ≡ false
       no true = refl
       no false = refl
+
+  pub put_out_one : AreOut k.keys (ReadWrite ∷ []) → AreOut k2.keys (ReadWrite ∷ [])
+  put_out_one o = out_of_one k2.keys (put_out_key (o ReadWrite refl))
 
   module _ (ahead : List Key) (counts : Counts) (s : StandsAhead ahead setup k (rig_amid p k.state ahead counts)) where
     abbrev c : Rig
@@ -229,8 +211,11 @@ module _ (k k1 : Content) (sig : SigId) (bits : List Digit) (fired : Fired) (fir
   gone_then : (x : Key) → has x k1.keys ≡ (has x k.keys && not (among x (keys_in fired)))
   gone_then x = done.keys x ∙ ap (λ (ks : List Key). has x k.keys && not (among x ks)) (sym same_fired)
 
-  pub change_but : (waiting : List Waiting) (held : List Key) → AreKeysBut k.keys held (named waiting held) → AreKeysBut k1.keys (keys_in fired ++ held) (named waiting held)
-  change_but waiting held b = but_deposit k k1 (keys_in fired) (named waiting held) gone_then held b
+  pub change_but : (waiting : List Waiting) (held : List Key) → AreOnce held (ReadWrite ∷ []) → AreKeysBut k.keys (ReadWrite ∷ []) (named waiting held) → AreKeysBut k1.keys (keys_in fired ++ held) (named waiting held)
+  change_but waiting held o b =
+      but_others k1.keys (keys_in fired ++ ReadWrite ∷ []) (keys_in fired ++ held) (named waiting held)
+      (λ x m. among-append x (keys_in fired) held ∙ ap (λ (c : Bool). among x (keys_in fired) || c) (o.same x) ∙ sym (among-append x (keys_in fired) (ReadWrite ∷ [])) ∙ m)
+      (but_deposit k k1 (keys_in fired) (named waiting held) gone_then (ReadWrite ∷ []) b)
 
   pub change_out : AreOut k1.keys (keys_in fired)
   change_out = out_fired k k1 (keys_in fired) [] gone_then
@@ -334,6 +319,21 @@ pub nothing_staged : (ws : List Staged) (fired : List Key) → ws ≡ [] → (x 
 nothing_staged [] fired h x e = cc
 nothing_staged (w ∷ ws) fired h x e = cc
 
+-- ---- what stays while writes go out
+
+pub stays_same : (k : Content) (waiting : List Waiting) → Stays k k waiting waiting
+stays_same k waiting = record { region = refl; waits = λ x m. m }
+
+pub stays_then : (k1 k2 k3 : Content) (w1 w2 w3 : List Waiting) → Stays k1 k2 w1 w2 → Stays k2 k3 w2 w3 → Stays k1 k3 w1 w3
+stays_then k1 k2 k3 w1 w2 w3 s t = record { region = t.region ∙ s.region; waits = λ x m. s.waits x (t.waits x m) }
+
+pub stays_open : (k k' : Content) (w w' : List Waiting) → Stays k k' w w' → StaysOpen k w → StaysOpen k' w'
+stays_open k k' w w' s o = record { writable = ap is_end s.region ∙ o.writable; no_end = none (among ReadOnly (keys_of w')) refl }
+  where
+    none : (b : Bool) → among ReadOnly (keys_of w') ≡ b → among ReadOnly (keys_of w') ≡ false
+    none true e = absurd (let z : true ≡ false = sym (s.waits ReadOnly e) ∙ o.no_end in cc)
+    none false e = e
+
 -- ---- an event
 
 -- the next event
@@ -392,10 +392,10 @@ module _ (setup : Setup) (p : Parts) (k k1 : Content) (held : List Key) (f : Fit
   no_end_key : has ReadOnly k.keys ≡ false
   no_end_key =
       f.stands.keys_are ReadOnly
-      ∙ ap (among ReadOnly) (awaited_held held p k.state k.counts f.held_is)
+      ∙ awaited_held held p k.state k.counts f.held_is ReadOnly
       ∙ among-append ReadOnly (keys_of p.waiting) held
       ∙ ap (λ (b : Bool). b || among ReadOnly held) f.stays_open.no_end
-      ∙ ap (among ReadOnly) f.held_is
+      ∙ f.held_is.same ReadOnly
       ∙ other p.staged
     where
       other : (ws : List Staged) → among ReadOnly (staged_key ws) ≡ false
@@ -428,8 +428,8 @@ module _ (setup : Setup) (p : Parts) (k k1 : Content) (held : List Key) (f : Fit
   -- the staged writes have gone out if they were to, and then the keys are served
   module _ {O : Type 0} (takes breaks : O → List ℕ → O → Type 0) (told : O → Option (List ℕ)) (p2 : Parts) (k2 k3 : Content) (f1 : Option SinkFault) (o1 : O) (f2 : Option SinkFault) (o2 : O)
       (fl : Serves takes breaks told setup own_keys (flushed_if setup (among ReadWrite own_keys) (rig_amid p k1.state own_keys k.counts)) p2 k2 f1 o1 f2 o2)
-      (free : (x : Key) → among x (staged_key p2.staged) ≡ true → among x own_keys ≡ false) (held2 held3 : List Key) (goes : without_all own_keys held2 ≡ staged_key p2.staged)
-      (s2 : length k2.state.signals ≡ length setup.flat.signals) (o : StaysOpen k2 p2.waiting) (ready3 : List Entry) (waiting3 : List Waiting) (waiting_is : waiting3 ≡ all_waiting own_keys p2.waiting) (held_is : held3 ≡ without_all own_keys held2)
+      (free : (x : Key) → among x (staged_key p2.staged) ≡ true → among x own_keys ≡ false) (held2 held3 : List Key) (goes : AreOnce (without_all own_keys held2) (staged_key p2.staged))
+      (s2 : length k2.state.signals ≡ length setup.flat.signals) (o : StaysOpen k2 p2.waiting) (ready3 : List Entry) (waiting3 : List Waiting) (waiting_is : waiting3 ≡ all_waiting own_keys p2.waiting) (held_is : AreAlike held3 (without_all own_keys held2))
       (ready_is : ready3 ≡ p2.ready ++ all_woken own_keys p2.waiting) (b : AreKeysBut k2.keys own_keys (named p2.waiting held2)) (out_is : AreOut k2.keys own_keys)
       (r : Reprimed k2 k3 own_keys (named p2.waiting held2) (named waiting3 held3)) where
     abbrev flush_of : List Key → State → After
@@ -441,16 +441,19 @@ module _ (setup : Setup) (p : Parts) (k k1 : Content) (held : List Key) (f : Fit
     abbrev mid : Rig
     mid = rig_amid p2 k2.state own_keys (flush_of own_keys k1.state).rig.counts
 
+    kept_then : (x : Key) → among x (named waiting3 held3) ≡ (among x (named p2.waiting held2) && not (among x own_keys))
+    kept_then x = among_then x own_keys p2.waiting waiting3 held2 held3 waiting_is held_is
+
     served_gone : (x : Key) → among x own_keys ≡ true → among x (named waiting3 held3) ≡ false
-    served_gone x h = ap (λ (ws : List Waiting). among x (named ws held3)) waiting_is ∙ ap (λ (hs : List Key). among x (named (all_waiting own_keys p2.waiting) hs)) held_is
-        ∙ fired_gone x own_keys p2.waiting held2 h
+    served_gone x h = kept_then x ∙ rw h (no (among x (named p2.waiting held2)))
+      where
+        no : (a : Bool) → (a && false) ≡ false
+        no true = refl
+        no false = refl
 
     registered_stay : (x : Key) → has x k2.keys ≡ true → among x (named waiting3 held3) ≡ true
     registered_stay x h =
-        ap (λ (ws : List Waiting). among x (named ws held3)) waiting_is
-        ∙ ap (λ (hs : List Key). among x (named (all_waiting own_keys p2.waiting) hs)) held_is
-        ∙ among_kept x own_keys p2.waiting held2
-        ∙ rw (b.within x h, unfired (among x own_keys) refl) refl
+        kept_then x ∙ rw (b.within x h, unfired (among x own_keys) refl) refl
       where
         unfired : (q : Bool) → among x own_keys ≡ q → among x own_keys ≡ false
         unfired true q = absurd (let z : true ≡ false = sym h ∙ out_is x q in cc)
@@ -471,11 +474,11 @@ module _ (setup : Setup) (p : Parts) (k k1 : Content) (held : List Key) (f : Fit
     pub event_fits : FitsContent setup held3 k3 (rig_between p3 k3)
     event_fits = record {
       stands = subst (λ (d : Rig). StandsFor setup k3 d) after_is stands_after;
-      held_is = held_is ∙ goes;
+      held_is = once_alike held3 (without_all own_keys held2) (staged_key p2.staged) held_is goes;
       signals = ap (λ (st : State). length st.signals) r.state ∙ s2;
       stays_open = record {
         writable = ap (λ (st : State). is_end st.region) r.state ∙ o.writable;
-        no_end = ap (λ (ws : List Waiting). among ReadOnly (keys_of ws)) waiting_is ∙ still_no_end own_keys p2.waiting o.no_end;
+        no_end = ap (λ (ws : List Waiting). among ReadOnly (keys_of ws)) waiting_is ∙ among_all ReadOnly own_keys p2.waiting ∙ ap (λ (b : Bool). b && not (among ReadOnly own_keys)) o.no_end;
       };
     }
 

@@ -1,6 +1,9 @@
 -- What holds of the engine's own parts is kept.
 use Rattle.std.proofs.Common.{◌≡◌, ℕ, ◌+◌, ◌≤◌, ◌<◌, Bool, true, false, List, [], ◌∷◌, ◌++◌, length, Option, None, Some, IsSome, refl, ap, sym, subst, arith, rules, ◌∙◌, length-append, get_or, zero, suc}
-use Rattle.std.specs.Prelude.{nat_le, ◌||◌, not, filter, ◌==◌}
+use Rattle.std.specs.Prelude.{nat_le, ◌||◌, not, filter, ◌==◌, IfOk, Result, Ok, Err}
+use Rattle.gpi.specs.Content.{Content}
+use Rattle.port_io.specs.declared.ports.NoMemory.{NoMemory}
+use Rattle.rig_model.specs.declared.file.Function.{Function}
 use Rattle.gpi.specs.declared.types.Key.{Key}
 use Rattle.gpi.specs.declared.types.SigId.{SigId}
 use Rattle.rig_model.specs.Task.{Task, View, fresh}
@@ -22,7 +25,11 @@ use Rattle.rig_model.specs.declared.task.Staged.{Staged}
 use Rattle.rig_model.specs.declared.task.Turned.{Turned}
 use Rattle.rig_model.specs.declared.tree.Waiting.{Waiting}
 use Rattle.scheduler.specs.Tasks.{PollsTask}
+use Rattle.scheduler.specs.Fits.{FitsAfter, FitsKernel}
 use Rattle.scheduler.specs.Parts.{Parts, Fits, bounds_of, AreSoundWrites}
+use Rattle.scheduler.specs.declared.engine.Engine.{Engine}
+use Rattle.scheduler.specs.declared.turn.Turn.{Turn}
+use Rattle.scheduler.specs.declared.turn.Turn.TheVariants.{Went, Over, Spent, WriteFault}
 
 length-stored : (t : Task) (ts : List Task) → length (stored t ts) ≡ length ts
 length-stored t [] = refl
@@ -210,3 +217,19 @@ has_room setup room p task f =
 -- the parts of a configuration
 abbrev pub parts_in : Rig → Parts
 parts_in c = record { tasks = c.tasks; started = c.started; ready = c.ready; waiting = c.waiting; staged = c.staged }
+
+-- whether a test runs doesn't matter to what fits
+module _ {M W F : Type 0} (functions : M → List Function) (waiting : W → List Waiting) (held : W → List Key) where
+  fits_anyhow : (e : Engine M W F) (runs : Bool) (content : Content) → FitsKernel functions waiting held e content → FitsKernel functions waiting held (record e { runs_test = runs }) content
+  fits_anyhow e runs content f = record { own = f.own; kernel = f.kernel }
+
+  fits_after : (turn : Turn) (e : Engine M W F) (runs : Bool) (content : Content) → FitsAfter functions waiting held turn e content → FitsAfter functions waiting held turn (record e { runs_test = runs }) content
+  fits_after Went e runs content f = fits_anyhow e runs content f
+  fits_after (Over outcome) e runs content f = fits_anyhow e runs content f
+  fits_after Spent e runs content f = fits_anyhow e runs content f
+  fits_after WriteFault e runs content f = tt
+
+  pub fits_result : (r : Result Turn NoMemory) (e : Engine M W F) (runs : Bool) (content : Content) → IfOk r (λ turn. FitsAfter functions waiting held turn e content)
+      → IfOk r (λ turn. FitsAfter functions waiting held turn (record e { runs_test = runs }) content)
+  fits_result (Ok turn) e runs content f = fits_after turn e runs content f
+  fits_result (Err x) e runs content f = tt

@@ -2,7 +2,7 @@
 use Rattle.std.proofs.Common.{◌≡◌, ℕ, ◌||◌, Bool, true, false, not, List, [], ◌∷◌, ◌++◌, length, refl, sym, ap, subst, ◌∙◌, append_assoc, eqb-true, arith, Option, None}
 use Rattle.std.specs.Prelude.{filter, ◌==◌}
 use Rattle.gpi.specs.Content.{Content, opening}
-use Rattle.gpi.specs.Keys.{among}
+use Rattle.gpi.specs.Keys.{among, has, same_key}
 use Rattle.gpi.specs.State.{State, is_end}
 use Rattle.gpi.specs.Design.{procs_of, start_map}
 use Rattle.gpi.specs.declared.design.Flat.{Flat}
@@ -14,12 +14,13 @@ use Rattle.gpi.specs.declared.types.SigId.{SigId}
 use Rattle.rig_model.specs.Counts.{counts_after, counted}
 use Rattle.rig_model.specs.Effect.{restaged, with_waiting, refusal, begun, awaits}
 use Rattle.rig_model.specs.Kernel.{StandsFor}
-use Rattle.rig_model.specs.Keys.{AreKeys, Registers, KeepsKeys, Rekeyed, AreCounted}
+use Rattle.rig_model.specs.Keys.{AreAlike, AreKeys, AreOnce, Registers, KeepsKeys, Rekeyed, AreCounted}
 use Rattle.rig_model.specs.Rig.{Rig, Setup, awaited, named, keys_of, staged_key, leaves}
 use Rattle.rig_model.specs.Run.{ended}
 use Rattle.rig_model.specs.Task.{Task}
-use Rattle.rig_model.proofs.KernelLaws.{awaited_named, effect_stands, same_stands, registers_rekeyed, registers_counted}
-use Rattle.rig_model.proofs.KeyLaws.{no_keys_are, among-append}
+use Rattle.rig_model.proofs.CountLaws.{among-more, counts_same}
+use Rattle.rig_model.proofs.KernelLaws.{awaited_named, effect_stands, same_stands, once_alike, once_more, registers_rekeyed, registers_counted}
+use Rattle.rig_model.proofs.KeyLaws.{alike_among, among-append, named_same, named_unheld, no_keys_are}
 use Rattle.rig_model.specs.declared.task.Entry.{Entry}
 use Rattle.rig_model.specs.declared.task.Staged.{Staged}
 use Rattle.rig_model.specs.declared.task.TaskNo.{TaskNo}
@@ -41,16 +42,17 @@ pub keys_named : (setup : Setup) (held : List Key) (k : Content) (p : Parts) →
 keys_named setup held k p f x =
     f.stands.keys_are x
     ∙ ap (among x) (awaited_named (rig_between p k) refl)
-    ∙ ap (λ (h : List Key). among x (named p.waiting h)) (sym f.held_is)
+    ∙ sym (named_same x p.waiting held (staged_key p.staged) (f.held_is.same x))
 
 -- so they are where the same keys stay registered
-pub keys_kept : (k k' : Content) (waiting waiting' : List Waiting) (held held' : List Key) → AreKeys k.keys (named waiting held) → KeepsKeys k k' → waiting' ≡ waiting → held' ≡ held
+pub keys_kept : (k k' : Content) (waiting waiting' : List Waiting) (held held' : List Key) → AreKeys k.keys (named waiting held) → KeepsKeys k k' → waiting' ≡ waiting → AreAlike held' held
     → AreKeys k'.keys (named waiting' held')
-keys_kept k k' waiting waiting' held held' a s w h = rw (w, h) (λ x. s.keys x ∙ a x)
+keys_kept k k' waiting waiting' held held' a s w h = rw w (λ x. s.keys x ∙ a x ∙ sym (named_same x waiting held' held (alike_among held' held h x)))
 
--- the awaited keys are the named ones
-pub awaited_held : (held : List Key) (p : Parts) (sim : State) (counts : Counts) → held ≡ staged_key p.staged → awaited (rig_amid p sim [] counts) ≡ named p.waiting held
-awaited_held held p sim counts e = awaited_named (rig_amid p sim [] counts) refl ∙ ap (named p.waiting) (sym e)
+-- the awaited keys are the named ones, whatever their order
+pub awaited_held : (held : List Key) (p : Parts) (sim : State) (counts : Counts) → AreOnce held (staged_key p.staged) → (x : Key) → among x (awaited (rig_amid p sim [] counts)) ≡ among x (named p.waiting held)
+awaited_held held p sim counts o x =
+    ap (among x) (awaited_named (rig_amid p sim [] counts) refl) ∙ sym (named_same x p.waiting held (staged_key p.staged) (o.same x))
 
 -- ---- other parts have changed alone
 
@@ -69,7 +71,7 @@ module _ {W : Type 0} (waiting : W → List Waiting) (held : W → List Key) whe
 
 -- ---- effects that fire nothing
 
-module _ (setup : Setup) (p : Parts) (k k' : Content) (held : List Key) (f : FitsContent setup held k (rig_between p k)) (p' : Parts) (held' : List Key) (own : held' ≡ staged_key p'.staged)
+module _ (setup : Setup) (p : Parts) (k k' : Content) (held : List Key) (f : FitsContent setup held k (rig_between p k)) (p' : Parts) (held' : List Key) (own : AreOnce held' (staged_key p'.staged))
     (r : Rekeyed k k' (named p'.waiting held')) (n : AreCounted k k' (named p.waiting held) (named p'.waiting held')) where
   abbrev before : Rig
   before = rig_between p k
@@ -77,14 +79,14 @@ module _ (setup : Setup) (p : Parts) (k k' : Content) (held : List Key) (f : Fit
   abbrev after : Rig
   after = rig_amid p' k.state [] k.counts
 
-  old_keys : awaited before ≡ named p.waiting held
+  old_keys : (x : Key) → among x (awaited before) ≡ among x (named p.waiting held)
   old_keys = awaited_held held p k.state k.counts f.held_is
 
-  new_keys : awaited after ≡ named p'.waiting held'
+  new_keys : (x : Key) → among x (awaited after) ≡ among x (named p'.waiting held')
   new_keys = awaited_held held' p' k.state k.counts own
 
   counts_are : AreCounted k k' (awaited before) (awaited after)
-  counts_are = n ∙ ap (λ (ks : List Key). counts_after [] ks (named p'.waiting held') k.counts) (sym old_keys) ∙ ap (λ (ks : List Key). counts_after [] (awaited before) ks k.counts) (sym new_keys)
+  counts_are = n ∙ counts_same [] (named p.waiting held) (awaited before) (named p'.waiting held') (awaited after) k.counts (λ x. sym (old_keys x)) (λ x. sym (new_keys x))
 
   -- the effect, counted, is what the engine and its simulator stand for then
   pub effect_is : counted [] before after ≡ rig_between p' k'
@@ -93,7 +95,7 @@ module _ (setup : Setup) (p : Parts) (k k' : Content) (held : List Key) (f : Fit
       ∙ ap (λ (st : State). rig_amid p' st [] k'.counts) (sym r.state)
 
   rekeyed : Rekeyed k k' (awaited after)
-  rekeyed = record { procs = r.procs; state = r.state; keys = λ x. r.keys x ∙ ap (among x) (sym new_keys) }
+  rekeyed = record { procs = r.procs; state = r.state; keys = λ x. r.keys x ∙ sym (new_keys x) }
 
   pub effect_fits : among ReadOnly (keys_of p'.waiting) ≡ false → FitsContent setup held' k' (rig_between p' k')
   effect_fits e = record {
@@ -117,19 +119,22 @@ waits_no_end ws task due trig h =
     ∙ ap (λ (b : Bool). b || false) h
 
 module _ (setup : Setup) (p : Parts) (k k' : Content) (held held' : List Key) (f : FitsContent setup held k (rig_between p k)) (task : TaskNo) (trig : Trig) (due : ℕ) (waiting' : List Waiting)
-    (waits : waiting' ≡ p.waiting ++ record { task = task; tree = Leaf (At due) trig } ∷ []) (same : held' ≡ held)
+    (waits : waiting' ≡ p.waiting ++ record { task = task; tree = Leaf (At due) trig } ∷ []) (same : AreAlike held' held)
     (r : Rekeyed k k' (named waiting' held')) (n : AreCounted k k' (named p.waiting held) (named waiting' held')) where
+  own_held : AreOnce held' (staged_key p.staged)
+  own_held = once_alike held' held (staged_key p.staged) same f.held_is
+
   pub wait_is : refusal trig.form k.state.time ≡ None → begun trig.form trig k.state.time ≡ Leaf (At due) trig
       → (awaits task trig (refusal trig.form k.state.time) (rig_between p k)).rig ≡ rig_between (record p { waiting = waiting' }) k'
   wait_is h b =
       ap (λ (o : Option Fault). (awaits task trig o (rig_between p k)).rig) h
       ∙ ap (λ (t : Tree). counted [] (rig_between p k) (with_waiting task t (rig_between p k))) b
       ∙ ap (λ (ws : List Waiting). counted [] (rig_between p k) (rig_amid (record p { waiting = ws }) k.state [] k.counts)) (sym waits)
-      ∙ effect_is setup p k k' held f (record p { waiting = waiting' }) held' (same ∙ f.held_is) r n
+      ∙ effect_is setup p k k' held f (record p { waiting = waiting' }) held' own_held r n
 
   pub wait_fits : FitsContent setup held' k' (rig_between (record p { waiting = waiting' }) k')
   wait_fits =
-      effect_fits setup p k k' held f (record p { waiting = waiting' }) held' (same ∙ f.held_is) r n
+      effect_fits setup p k k' held f (record p { waiting = waiting' }) held' own_held r n
       (ap (λ (ws : List Waiting). among ReadOnly (keys_of ws)) waits ∙ waits_no_end p.waiting task due trig f.stays_open.no_end)
 
 -- ---- a write is staged
@@ -161,7 +166,7 @@ module _ (setup : Setup) (p : Parts) (k : Content) (held : List Key) (f : FitsCo
     pub restage_fits : FitsContent setup held k restaged_rig
     restage_fits = record {
       stands = subst (λ (c : Rig). StandsFor setup k c) restage_is still_stands;
-      held_is = f.held_is ∙ sym same;
+      held_is = subst (AreOnce held) (sym same) f.held_is;
       signals = f.signals;
       stays_open = f.stays_open;
     }
@@ -174,6 +179,14 @@ some_write : (ws : List Staged) → (length ws == 0) ≡ false → staged_key ws
 some_write [] h = cc
 some_write (w ∷ ws) h = refl
 
+-- no write is staged, so the read-write phase isn't held, and is registered where a task waits for it
+module _ (setup : Setup) (p : Parts) (k : Content) (held : List Key) (f : FitsContent setup held k (rig_between p k)) (first : (length p.staged == 0) ≡ true) where
+  pub unheld : among ReadWrite held ≡ false
+  unheld = f.held_is.same ReadWrite ∙ ap (among ReadWrite) (no_write p.staged first)
+
+  pub unheld_waited : has ReadWrite k.keys ≡ among ReadWrite (keys_of p.waiting)
+  unheld_waited = keys_named setup held k p f ReadWrite ∙ named_unheld ReadWrite p.waiting held unheld
+
 module _ (setup : Setup) (p : Parts) (k : Content) (held : List Key) (f : FitsContent setup held k (rig_between p k)) (sig : SigId) (number : ℕ) (staged' : List Staged) (is : staged' ≡ restaged sig number p.staged) where
   abbrev wanted : Rig
   wanted = counted [] (rig_between p k) (record (rig_between p k) { staged = restaged sig number p.staged })
@@ -185,25 +198,26 @@ module _ (setup : Setup) (p : Parts) (k : Content) (held : List Key) (f : FitsCo
   wanted_is = ap (λ (ws : List Staged). counted [] (rig_between p k) (record (rig_between p k) { staged = ws })) (sym is)
 
   -- the first write is staged
-  module _ (first : (length p.staged == 0) ≡ true) (k' : Content) (waiting' : List Waiting) (held' : List Key) (same : waiting' ≡ p.waiting) (holds : held' ≡ held ++ ReadWrite ∷ [])
+  module _ (first : (length p.staged == 0) ≡ true) (k' : Content) (waiting' : List Waiting) (held' : List Key) (same : waiting' ≡ p.waiting) (holds : AreAlike held' (ReadWrite ∷ held))
       (g : Registers k k' ReadWrite) where
-    named_then : named p.waiting held ++ ReadWrite ∷ [] ≡ named waiting' held'
-    named_then =
-        append_assoc (keys_of p.waiting) held (ReadWrite ∷ [])
-        ∙ ap (λ (hs : List Key). keys_of p.waiting ++ hs) (sym holds)
-        ∙ ap (λ (ws : List Waiting). named ws held') (sym same)
+    named_then : (x : Key) → among x (named waiting' held') ≡ (same_key x ReadWrite || among x (named p.waiting held))
+    named_then x =
+        ap (λ (ws : List Waiting). among x (named ws held')) same
+        ∙ named_same x p.waiting held' (ReadWrite ∷ held) (alike_among held' (ReadWrite ∷ held) holds x)
+        ∙ among-more x ReadWrite (keys_of p.waiting) held
 
     r : Rekeyed k k' (named waiting' held')
-    r = subst (λ (ks : List Key). Rekeyed k k' ks) named_then (registers_rekeyed k k' ReadWrite (named p.waiting held) (keys_named setup held k p f) g)
+    r = registers_rekeyed k k' ReadWrite (named p.waiting held) (named waiting' held') (keys_named setup held k p f) named_then g
 
     n : AreCounted k k' (named p.waiting held) (named waiting' held')
-    n = subst (λ (ks : List Key). AreCounted k k' (named p.waiting held) ks) named_then (registers_counted k k' ReadWrite (named p.waiting held) (keys_named setup held k p f) g)
+    n = registers_counted k k' ReadWrite (named p.waiting held) (named waiting' held') (keys_named setup held k p f) named_then g
 
     pub first_keys : AreKeys k'.keys (named waiting' held')
     first_keys = r.keys
 
-    own_is : held' ≡ staged_key staged'
-    own_is = holds ∙ ap (λ (ks : List Key). ks ++ ReadWrite ∷ []) (f.held_is ∙ no_write p.staged first) ∙ sym written_key
+    own_is : AreOnce held' (staged_key staged')
+    own_is = subst (AreOnce held') (sym written_key)
+        (once_more ReadWrite held' held [] holds (unheld setup p k held f first) (subst (AreOnce held) (no_write p.staged first) f.held_is))
 
     pub first_is : wanted ≡ rig_between (record p { waiting = waiting'; staged = staged' }) k'
     first_is =
@@ -229,16 +243,20 @@ module _ (setup : Setup) (p : Parts) (k : Content) (held : List Key) (f : FitsCo
 
 -- ---- a test ends, and one begins
 
+-- no key is held
+none_once : AreOnce [] []
+none_once = record { same = λ x. refl; once = λ x. omega arith }
+
 -- all of a test is dropped, and that is counted
 module _ (setup : Setup) (p : Parts) (k k' : Content) (held : List Key) (f : FitsContent setup held k (rig_between p k)) (r : Rekeyed k k' []) (n : AreCounted k k' (named p.waiting held) []) where
   abbrev nothing : Parts
   nothing = record { tasks = []; started = 0; ready = []; waiting = []; staged = [] }
 
   pub dropped_is : rig_between nothing k' ≡ ended (rig_between p k)
-  dropped_is = sym (effect_is setup p k k' held f nothing [] refl r n)
+  dropped_is = sym (effect_is setup p k k' held f nothing [] none_once r n)
 
   pub dropped_fits : FitsContent setup [] k' (rig_between nothing k')
-  dropped_fits = effect_fits setup p k k' held f nothing [] refl r n refl
+  dropped_fits = effect_fits setup p k k' held f nothing [] none_once r n refl
 
 length_start : (ss : List Signal) → length (start_map ss) ≡ length ss
 length_start [] = refl
@@ -248,7 +266,7 @@ length_start (s ∷ ss) = let h : length (start_map ss) ≡ length ss = length_s
 pub opening_fits : (setup : Setup) (flat : Flat) → setup.flat ≡ flat → FitsContent setup [] (opening flat) (rig_between (record { tasks = []; started = 0; ready = []; waiting = []; staged = [] }) (opening flat))
 opening_fits setup flat e = record {
   stands = record { procs_are = ap (λ (f : Flat). procs_of f.processes) (sym e); state_is = refl; keys_are = no_keys_are; counts_are = refl };
-  held_is = refl;
+  held_is = none_once;
   signals = length_start flat.signals ∙ ap (λ (f : Flat). length f.signals) (sym e);
   stays_open = record { writable = refl; no_end = refl };
 }

@@ -1,5 +1,5 @@
 -- The configuration that an engine stands for, together with a simulator.
-use Rattle.std.specs.Prelude.{List, []}
+use Rattle.std.specs.Prelude.{Bool, List, []}
 use Rattle.gpi.specs.Content.{Content}
 use Rattle.rig_model.specs.Rig.{Rig, Setup}
 use Rattle.rig_model.specs.declared.file.Function.{Function}
@@ -25,3 +25,7 @@ rig_of waiting e content = rig_amid (parts_of waiting e) content.state [] conten
 -- what all its tests share
 abbrev pub setup_of : {M W F : Type 0} → (M → List Function) → Engine M W F → Setup
 setup_of functions e = record { functions = functions e.maker; flat = e.flat.now; trace = e.trace }
+
+-- a test was begun, and has no outcome yet: a turn may follow
+abbrev pub runs_test : {M W F : Type 0} → Engine M W F → Bool
+runs_test e = e.runs_test

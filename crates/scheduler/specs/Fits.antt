@@ -1,7 +1,9 @@
 -- When an engine and a simulator fit.
-use Rattle.std.specs.Prelude.{List, Option, None, Some}
+use Rattle.std.specs.Prelude.{◌≡◌, List, Option, None, Some, length}
 use Rattle.gpi.specs.Content.{Content}
 use Rattle.gpi.specs.declared.types.Key.{Key}
+use Rattle.rig_model.specs.Keys.{AreKeysBut, AreOut}
+use Rattle.rig_model.specs.Rig.{named}
 use Rattle.rig_model.specs.declared.file.Function.{Function}
 use Rattle.rig_model.specs.declared.task.TaskNo.{TaskNo}
 use Rattle.rig_model.specs.declared.tree.Waiting.{Waiting}
@@ -23,6 +25,14 @@ pub record FitsAt (turn : Option TaskNo) {M W F : Type 0} (functions : M → Lis
 -- the two fit: so it is between turns
 abbrev pub FitsKernel : {M W F : Type 0} → (M → List Function) → (W → List Waiting) → (W → List Key) → Engine M W F → Content → Type 0
 FitsKernel functions waiting held e content = FitsAt None functions waiting held e content
+
+-- Amid an event, while these keys have fired and are still to be served: the parts keep their limits, the simulator has the signals of the
+-- design, and the registered keys are the named ones but for these, none of which is registered.
+pub record FitsAmid (fired : List Key) {M W F : Type 0} (functions : M → List Function) (waiting : W → List Waiting) (held : W → List Key) (e : Engine M W F) (content : Content) : Type 0 where
+  pub own : Fits (setup_of functions e) None e.ready.room (parts_of waiting e)
+  pub signals : length content.state.signals ≡ length e.flat.now.signals
+  pub keys : AreKeysBut content.keys fired (named (waiting e.awaits) (held e.awaits))
+  pub out : AreOut content.keys fired
 
 -- so it is after each answer but a failed put
 abbrev pub FitsAfter : {M W F : Type 0} → (M → List Function) → (W → List Waiting) → (W → List Key) → Turn → Engine M W F → Content → Type 0

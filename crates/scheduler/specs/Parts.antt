@@ -8,6 +8,7 @@ use Rattle.gpi.specs.declared.types.Key.{Key}
 use Rattle.gpi.specs.declared.types.Key.TheVariants.{ReadOnly}
 use Rattle.rig_model.specs.Effect.{live_limit, start_limit}
 use Rattle.rig_model.specs.Kernel.{StandsFor}
+use Rattle.rig_model.specs.Keys.{AreOnce}
 use Rattle.rig_model.specs.Placed.{ArePlaced, placed}
 use Rattle.rig_model.specs.Rig.{Rig, Setup, keys_of, staged_key}
 use Rattle.rig_model.specs.Sound.{Bounds, AreSoundFunctions, AreSoundTasks}
@@ -68,9 +69,9 @@ pub record StaysOpen (content : Content) (waiting : List Waiting) : Type 0 where
   pub no_end : among ReadOnly (keys_of waiting) ≡ false
 
 -- What holds between a configuration and a simulator: the simulator stands for it, the runner holds the read-write phase
--- while a write is staged and no other key, and the simulator has the signals of the design.
+-- while a write is staged and no other key, each once, and the simulator has the signals of the design.
 pub record FitsContent (setup : Setup) (held : List Key) (content : Content) (c : Rig) : Type 0 where
   pub stands : StandsFor setup content c
-  pub held_is : held ≡ staged_key c.staged
+  pub held_is : AreOnce held (staged_key c.staged)
   pub signals : length content.state.signals ≡ length setup.flat.signals
   pub stays_open : StaysOpen content c.waiting

@@ -1,13 +1,14 @@
 -- Effects in the midst of an event, while fired keys are still to be served.
-use Rattle.std.specs.Prelude.{◌≡◌, ℕ, false, List, Option, Some, length}
+use Rattle.std.specs.Prelude.{◌≡◌, ℕ, true, List, Option, Some}
 use Rattle.gpi.specs.Content.{Content}
 use Rattle.gpi.specs.Events.{Event}
-use Rattle.gpi.specs.State.{is_end}
+use Rattle.gpi.specs.Keys.{among}
 use Rattle.gpi.specs.declared.types.Key.{Key}
 use Rattle.port_io.specs.declared.ports.SinkFault.{SinkFault}
 use Rattle.rig_model.specs.Kernel.{StandsAhead}
-use Rattle.rig_model.specs.Rig.{Rig, Setup, After, event_of}
+use Rattle.rig_model.specs.Rig.{Rig, Setup, After, event_of, keys_of}
 use Rattle.rig_model.specs.Step.{evented}
+use Rattle.rig_model.specs.declared.tree.Waiting.{Waiting}
 use Rattle.scheduler.specs.Parts.{Parts, rig_amid}
 use Rattle.scheduler.specs.Puts.{PutsUpTo, PutsOn}
 
@@ -18,11 +19,11 @@ pub record Serves {O : Type 0} (takes breaks : O → List ℕ → O → Type 0) 
   pub stands : StandsAhead fired setup content a.rig
   pub puts : PutsOn takes breaks told fault out a.lines fault' out'
 
--- What a deposit asks of a simulator, but for its signal: it has the signals of the design, and the region isn't End. So it is from the
--- read-write phase on until the last staged write is out, whatever tasks wait for.
-pub record IsOpen (setup : Setup) (content : Content) : Type 0 where
-  pub signals : length content.state.signals ≡ length setup.flat.signals
-  pub writable : is_end content.state.region ≡ false
+-- What staged writes that go out leave, with the wakes of the keys that they fire, whatever tasks wait for: where in the time step the
+-- simulator stands; and no task waits for a key for which none waited before.
+pub record Stays (before after : Content) (waiting waiting' : List Waiting) : Type 0 where
+  pub region : after.state.region ≡ before.state.region
+  pub waits : (k : Key) → among k (keys_of waiting') ≡ true → among k (keys_of waiting) ≡ true
 
 -- The next event is done, and what it fired is served: so c leads to d, and the lines were put.
 pub record IsEvented {O : Type 0} (takes breaks : O → List ℕ → O → Type 0) (told : O → Option (List ℕ)) (setup : Setup) (c d : Rig) (out out' : O) (fault : Option SinkFault) : Type 0 where

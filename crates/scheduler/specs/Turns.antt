@@ -20,6 +20,14 @@ use Rattle.scheduler.specs.declared.turn.Turn.TheVariants.{Went, Over, Spent, Wr
 use Rattle.scheduler.specs.declared.turn.Next.{Next}
 use Rattle.scheduler.specs.declared.turn.Next.TheVariants.{GoesOn, Ends}
 
+-- the test goes on after this answer
+abbrev pub has_gone : Result Turn NoMemory → Bool
+has_gone (Ok Went) = true
+has_gone (Ok (Over outcome)) = false
+has_gone (Ok Spent) = false
+has_gone (Ok WriteFault) = false
+has_gone (Err no_memory) = false
+
 -- From c, steps of this kind write these lines and lead to e. After a failed put, and where memory was short, they are those whose lines were being put.
 abbrev pub TurnsTo : (ℕ → ℕ → Rig → List (List ℕ) → ℕ → Rig → Type 0) → Setup → ℕ → Rig → List (List ℕ) → Result Turn NoMemory → ℕ → Rig → Type 0
 TurnsTo kind setup fuel c lines (Ok Went) fuel' e = Moves kind fuel c lines fuel' e

@@ -1,5 +1,5 @@
 //! The engine, and its public calls.
-ghost use Rattle.std.specs.Prelude.{◌≡◌, ◌≤◌, ◌<◌, ◌⊎◌, [], List, length, IfOk, OnOk, Ok, IsSomeAnd, slice_get};
+ghost use Rattle.std.specs.Prelude.{◌≡◌, ◌≤◌, ◌<◌, ◌⊎◌, [], List, length, IfOk, OnOk, Ok, IsSomeAnd, slice_get, true, false};
 ghost use Rattle.gpi.specs.Content.{Content, opening};
 ghost use Rattle.rig_model.specs.Keys.{AreKeys};
 ghost use Rattle.rig_model.specs.Rig.{named};
@@ -9,7 +9,7 @@ ghost use Rattle.rig_model.specs.Run.{emptied, ended};
 
 use crate::line::test_text;
 use crate::tasks::LiveTasks;
-use crate::turn::Turn;
+use crate::turn::{Turn, has_gone};
 use gpi::{Flat, Gpi, SigId};
 use port_io::{Name, NoMemory, Sink, SinkFault};
 use rig_model::{Awaits, FlowMaker, Ready, Staged, Steps, TestCase};
@@ -33,13 +33,15 @@ pub struct Engine<'a, M: FlowMaker + Drop, W: Awaits> {
     pub(crate) live: LiveTasks<M::Flow>,
     pub(crate) ready: Ready,
     pub(crate) staged: Vec<Staged>,
+    /// A test was begun, and has no outcome yet: a turn may follow.
+    pub(crate) runs_test: bool,
 }
 
 impl<'a, M: FlowMaker + Drop, W: Awaits> Engine<'a, M, W> {
-    ghost use Rattle.scheduler.specs.Engine.{rig_of, setup_of};
+    ghost use Rattle.scheduler.specs.Engine.{rig_of, runs_test, setup_of};
     ghost use Rattle.scheduler.specs.Parts.{bounds_of};
     ghost use Rattle.scheduler.specs.Fits.{FitsKernel, FitsAfter};
-    ghost use Rattle.scheduler.specs.Turns.{Turning, BeginsTo};
+    ghost use Rattle.scheduler.specs.Turns.{Turning, BeginsTo, has_gone};
 
     /// An engine for the design, in which no test runs. With `trace` it writes a line for each told change of a signal. No
     /// task may wait in `awaits`, and it may hold no key. Only want of memory is an error.
@@ -56,6 +58,7 @@ impl<'a, M: FlowMaker + Drop, W: Awaits> Engine<'a, M, W> {
         ensures empty { IfOk result (λ engine. (content : Content) → rig_of W.waiting engine content ≡ emptied content.state content.counts) }
         ensures fits { IfOk result (λ engine. AreSoundFunctions (bounds_of (setup_of M.functions engine)) (M.functions maker)
             → FitsKernel M.functions W.waiting W.held engine (opening flat.now)) }
+        ensures runs { IfOk result (λ engine. runs_test engine ≡ false) }
     {
         Ok(Engine {
             flat,
@@ -65,6 +68,7 @@ impl<'a, M: FlowMaker + Drop, W: Awaits> Engine<'a, M, W> {
             live: LiveTasks::new(alloc),
             ready: Ready::new(alloc)?,
             staged: Vec::new(alloc),
+            runs_test: false,
         })
     }
 
@@ -97,27 +101,23 @@ impl<'a, M: FlowMaker + Drop, W: Awaits> Engine<'a, M, W> {
         ensures setup { setup_of M.functions self.new ≡ setup_of M.functions self.old }
         ensures kernel { kernel.new ≡ kernel.old }
         ensures keys { AreKeys (K.content kernel.new).keys (named (W.waiting self.new.awaits) (W.held self.new.awaits)) }
+        ensures runs { runs_test self.new ≡ has_gone result }
     {
+        self.runs_test = false;
         self.add_task(alloc, case.func)?;
         let line = test_text(alloc, kernel.now(), case.name.bytes())?;
         match out.put(alloc, line.as_slice()) {
-            Ok(()) => Ok(Turn::Went),
+            Ok(()) => {
+                self.runs_test = true;
+                Ok(Turn::Went)
+            }
             Err(SinkFault::Failed) => Ok(Turn::WriteFault),
             Err(SinkFault::OutOfMemory) => Err(NoMemory),
         }
     }
 
-    /// Does one turn: the first task that is ready runs until it waits, ends or gives way, or where none is ready
-    /// the simulator does one event, and the tasks are woken that wait for a key that it fires. Where the read-write phase
-    /// (cocotb 1.8, "Triggers", `ReadWrite`) is among these keys, the staged writes go out before, the oldest first, each with
-    /// the wakes of the keys that it fires. With `trace` each change that the simulator tells gives a line.
-    ///
-    /// The fuel falls by one for each statement that begins and for each event. The lines are put in order, one put each.
-    /// `Spent` comes exactly where the next step costs more than the fuel that is left; `Over` where the test gets its
-    /// outcome, with its parts left in place until `end_test`; `WriteFault` where the put of the next line fails, and nothing
-    /// is put after it. Whatever becomes of the lines, all keys that an event fired are served.
-    /// It is called only while the test has no outcome: after `Over`, `Spent`, `WriteFault` or `NoMemory` only `end_test` is called.
-    pub fn turn<O: Sink, K: Gpi, L: Ledger>(
+    /// Does one turn, whether or not a test runs.
+    fn take_turn<O: Sink, K: Gpi, L: Ledger>(
         &mut self,
         alloc: Global,
         kernel: &mut K,
@@ -142,6 +142,42 @@ impl<'a, M: FlowMaker + Drop, W: Awaits> Engine<'a, M, W> {
         }
     }
 
+    /// Does one turn: the first task that is ready runs until it waits, ends or gives way, or where none is ready
+    /// the simulator does one event, and the tasks are woken that wait for a key that it fires. Where the read-write phase
+    /// (cocotb 1.8, "Triggers", `ReadWrite`) is among these keys, the staged writes go out before, the oldest first, each with
+    /// the wakes of the keys that it fires. With `trace` each change that the simulator tells gives a line.
+    ///
+    /// The fuel falls by one for each statement that begins and for each event. The lines are put in order, one put each.
+    /// `Spent` comes exactly where the next step costs more than the fuel that is left; `Over` where the test gets its
+    /// outcome, with its parts left in place until `end_test`; `WriteFault` where the put of the next line fails, and nothing
+    /// is put after it. Whatever becomes of the lines, all keys that an event fired are served.
+    /// A test runs: it was begun, and has no outcome. It runs on after `Went` alone, and after `Over`, `Spent`, `WriteFault` or `NoMemory`
+    /// only `end_test` is called.
+    pub fn turn<O: Sink, K: Gpi, L: Ledger>(
+        &mut self,
+        alloc: Global,
+        kernel: &mut K,
+        out: &mut O,
+        fuel: &mut u64,
+        steps: &mut Steps<L>,
+    ) -> Result<Turn, NoMemory>
+        requires loaded { K.is_loaded kernel.old }
+        requires fits { FitsKernel M.functions W.waiting W.held self.old (K.content kernel.old) }
+        requires runs { runs_test self.old ≡ true }
+        ensures turning { Turning O.takes O.breaks O.told (TurnSteps (setup_of M.functions self.old)) (setup_of M.functions self.old)
+            fuel.old (rig_of W.waiting self.old (K.content kernel.old)) out.old result fuel.new (rig_of W.waiting self.new (K.content kernel.new)) out.new }
+        ensures falls { result ≡ Ok Turn.Went → (fuel.new < fuel.old) ⊎ ((fuel.new ≤ fuel.old) × (length self.new.ready.entries < length self.old.ready.entries)) }
+        ensures fits { IfOk result (λ turn. FitsAfter M.functions W.waiting W.held turn self.new (K.content kernel.new)) }
+        ensures setup { setup_of M.functions self.new ≡ setup_of M.functions self.old }
+        ensures loaded { K.is_loaded kernel.new }
+        ensures keys { AreKeys (K.content kernel.new).keys (named (W.waiting self.new.awaits) (W.held self.new.awaits)) }
+        ensures runs { runs_test self.new ≡ has_gone result }
+    {
+        let turn = self.take_turn(alloc, kernel, out, fuel, steps);
+        self.runs_test = has_gone(&turn);
+        turn
+    }
+
     /// Drops all of the test, whether it has an outcome or not: its tasks, those that are ready or wait, and its staged
     /// writes. No key is registered any more. What else the simulator holds stays but for the counts, which are those of the
     /// drop where engine and simulator fitted. It takes no memory.
@@ -158,7 +194,9 @@ impl<'a, M: FlowMaker + Drop, W: Awaits> Engine<'a, M, W> {
         ensures setup { setup_of M.functions self.new ≡ setup_of M.functions self.old }
         ensures loaded { K.is_loaded kernel.new }
         ensures keys { AreKeys (K.content kernel.new).keys [] }
+        ensures runs { runs_test self.new ≡ false }
     {
+        self.runs_test = false;
         self.live.clear();
         self.ready.clear();
         self.staged.clear();

@@ -1,17 +1,16 @@
 //! Events of the simulator.
-ghost use Rattle.std.specs.Prelude.{◌≡◌, ◌≤◌, ◌<◌, ◌∷◌, ◌+◌, [], List, length, IfOk, OnOk, OnErr, Ok, None, true, false};
+ghost use Rattle.std.specs.Prelude.{◌≡◌, ◌≤◌, ◌<◌, ◌∷◌, [], List, length, IfOk, OnOk, OnErr, Ok, None, true, false};
 ghost use Rattle.gpi.specs.Content.{IsChangeOf};
 ghost use Rattle.gpi.specs.Events.{idle};
-ghost use Rattle.gpi.specs.Keys.{among, has};
+ghost use Rattle.gpi.specs.Keys.{among};
 ghost use Rattle.gpi.specs.State.{is_end};
 ghost use Rattle.gpi.specs.declared.types.Counts.{Counts};
 ghost use Rattle.gpi.specs.declared.types.Key.{Key};
 ghost use Rattle.gpi.specs.declared.types.Key.TheVariants.{ReadWrite};
 ghost use Rattle.rig_model.specs.FitSteps.{TurnSteps};
 ghost use Rattle.rig_model.specs.Kernel.{StandsAhead};
-ghost use Rattle.rig_model.specs.Keys.{AreKeys, AreKeysBut, AreOut, key_list, keys_in, without_all};
+ghost use Rattle.rig_model.specs.Keys.{AreKeys, AreOnce, key_list, keys_in, without_all};
 ghost use Rattle.rig_model.specs.Rig.{named, staged_key, told_lines};
-ghost use Rattle.rig_model.specs.declared.task.Staged.{Staged};
 ghost use Rattle.rig_model.specs.Serve.{after_put, put_of, flushed, flushed_if};
 
 use crate::Engine;
@@ -40,10 +39,10 @@ fn settles(fired: Fired) -> bool
 
 impl<'a, M: FlowMaker + Drop, W: Awaits> Engine<'a, M, W> {
     ghost use Rattle.scheduler.specs.Engine.{parts_of, rig_of, setup_of};
-    ghost use Rattle.scheduler.specs.Parts.{Fits, StaysOpen, rig_amid};
+    ghost use Rattle.scheduler.specs.Parts.{rig_amid};
     ghost use Rattle.scheduler.specs.Puts.{PutsOn};
-    ghost use Rattle.scheduler.specs.Serves.{Serves, IsOpen, IsEvented};
-    ghost use Rattle.scheduler.specs.Fits.{FitsKernel, FitsAfter};
+    ghost use Rattle.scheduler.specs.Serves.{Serves, Stays, IsEvented};
+    ghost use Rattle.scheduler.specs.Fits.{FitsAmid, FitsKernel, FitsAfter};
     ghost use Rattle.scheduler.specs.Turns.{Turning};
 
     /// Puts the line of a told change, where changes are written and no put has failed.
@@ -78,22 +77,19 @@ impl<'a, M: FlowMaker + Drop, W: Awaits> Engine<'a, M, W> {
         steps: &mut Steps<L>,
     ) -> Option<SinkFault>
         requires loaded { K.is_loaded kernel.old }
-        requires own { Fits (setup_of M.functions self.old) None self.old.ready.room (parts_of W.waiting self.old) }
-        requires writable { IsOpen (setup_of M.functions self.old) (K.content kernel.old) }
+        requires amid { FitsAmid (ReadWrite ∷ []) M.functions W.waiting W.held self.old (K.content kernel.old) }
+        requires held { AreOnce (W.held self.old.awaits) (ReadWrite ∷ []) }
+        requires open { is_end (K.content kernel.old).state.region ≡ false }
         requires sig { write.sig.0 < length self.old.flat.now.signals }
-        requires keys { AreKeysBut (K.content kernel.old).keys (W.held self.old.awaits) (named (W.waiting self.old.awaits) (W.held self.old.awaits)) }
-        ensures keys { AreKeysBut (K.content kernel.new).keys (W.held self.new.awaits) (named (W.waiting self.new.awaits) (W.held self.new.awaits)) }
-        ensures out { has ReadWrite (K.content kernel.old).keys ≡ false → has ReadWrite (K.content kernel.new).keys ≡ false }
+        ensures amid { FitsAmid (ReadWrite ∷ []) M.functions W.waiting W.held self.new (K.content kernel.new) }
+        ensures held { AreOnce (W.held self.new.awaits) (ReadWrite ∷ []) }
+        ensures stays { Stays (K.content kernel.old) (K.content kernel.new) (W.waiting self.old.awaits) (W.waiting self.new.awaits) }
         ensures serves { (fired : List Key) (counts : Counts)
             → let setup = setup_of M.functions self.old in let before = K.content kernel.old in
             let c = rig_amid (parts_of W.waiting self.old) before.state fired counts in
             StandsAhead fired setup before c → Serves O.takes O.breaks O.told setup fired (after_put setup (put_of setup c write) c)
             (parts_of W.waiting self.new) (K.content kernel.new) fault out.old result out.new }
         ensures loaded { K.is_loaded kernel.new }
-        ensures own { Fits (setup_of M.functions self.new) None self.new.ready.room (parts_of W.waiting self.new) }
-        ensures writable { IsOpen (setup_of M.functions self.new) (K.content kernel.new) }
-        ensures ends { StaysOpen (K.content kernel.old) (W.waiting self.old.awaits) → StaysOpen (K.content kernel.new) (W.waiting self.new.awaits) }
-        ensures held { (writes : List Staged) → W.held self.old.awaits ≡ staged_key writes → W.held self.new.awaits ≡ staged_key writes }
         ensures setup { setup_of M.functions self.new ≡ setup_of M.functions self.old }
         ensures staged { self.new.staged ≡ self.old.staged }
     {
@@ -116,23 +112,18 @@ impl<'a, M: FlowMaker + Drop, W: Awaits> Engine<'a, M, W> {
         steps: &mut Steps<L>,
     ) -> Option<SinkFault>
         requires loaded { K.is_loaded kernel.old }
-        requires own { Fits (setup_of M.functions self.old) None self.old.ready.room (parts_of W.waiting self.old) }
-        requires writable { IsOpen (setup_of M.functions self.old) (K.content kernel.old) }
-        requires held { W.held self.old.awaits ≡ staged_key self.old.staged.items }
-        requires keys { AreKeysBut (K.content kernel.old).keys (ReadWrite ∷ []) (named (W.waiting self.old.awaits) (W.held self.old.awaits)) }
-        requires out { AreOut (K.content kernel.old).keys (ReadWrite ∷ []) }
-        ensures keys { AreKeysBut (K.content kernel.new).keys (ReadWrite ∷ []) (named (W.waiting self.new.awaits) (W.held self.new.awaits)) }
-        ensures out { AreOut (K.content kernel.new).keys (ReadWrite ∷ []) }
+        requires amid { FitsAmid (ReadWrite ∷ []) M.functions W.waiting W.held self.old (K.content kernel.old) }
+        requires held { AreOnce (W.held self.old.awaits) (staged_key self.old.staged.items) }
+        requires open { is_end (K.content kernel.old).state.region ≡ false }
+        ensures amid { FitsAmid (ReadWrite ∷ []) M.functions W.waiting W.held self.new (K.content kernel.new) }
+        ensures held { AreOnce (W.held self.new.awaits) (staged_key self.old.staged.items) }
+        ensures stays { Stays (K.content kernel.old) (K.content kernel.new) (W.waiting self.old.awaits) (W.waiting self.new.awaits) }
         ensures serves { (counts : Counts)
             → let fired = ReadWrite ∷ [] in let setup = setup_of M.functions self.old in let before = K.content kernel.old in
             let c = rig_amid (parts_of W.waiting self.old) before.state fired counts in
             StandsAhead fired setup before c → Serves O.takes O.breaks O.told setup fired (flushed setup self.old.staged.items c)
             (parts_of W.waiting self.new) (K.content kernel.new) fault out.old result out.new }
         ensures loaded { K.is_loaded kernel.new }
-        ensures own { Fits (setup_of M.functions self.new) None self.new.ready.room (parts_of W.waiting self.new) }
-        ensures writable { IsOpen (setup_of M.functions self.new) (K.content kernel.new) }
-        ensures ends { StaysOpen (K.content kernel.old) (W.waiting self.old.awaits) → StaysOpen (K.content kernel.new) (W.waiting self.new.awaits) }
-        ensures held { (writes : List Staged) → W.held self.old.awaits ≡ staged_key writes → W.held self.new.awaits ≡ staged_key writes }
         ensures setup { setup_of M.functions self.new ≡ setup_of M.functions self.old }
         ensures staged { self.new.staged.items ≡ [] }
     {
@@ -154,26 +145,20 @@ impl<'a, M: FlowMaker + Drop, W: Awaits> Engine<'a, M, W> {
         steps: &mut Steps<L>,
     ) -> Option<SinkFault>
         requires loaded { K.is_loaded kernel.old }
-        requires own { Fits (setup_of M.functions self.old) None self.old.ready.room (parts_of W.waiting self.old) }
-        requires signals { length (K.content kernel.old).state.signals ≡ length self.old.flat.now.signals }
-        requires writable { among ReadWrite (keys_in keys) ≡ true → is_end (K.content kernel.old).state.region ≡ false }
-        requires held { W.held self.old.awaits ≡ staged_key self.old.staged.items }
+        requires amid { FitsAmid (keys_in keys) M.functions W.waiting W.held self.old (K.content kernel.old) }
+        requires held { AreOnce (W.held self.old.awaits) (staged_key self.old.staged.items) }
+        requires open { among ReadWrite (keys_in keys) ≡ true → is_end (K.content kernel.old).state.region ≡ false }
         requires alone { among ReadWrite (keys_in keys) ≡ true → keys_in keys ≡ ReadWrite ∷ [] }
-        requires keys { AreKeysBut (K.content kernel.old).keys (keys_in keys) (named (W.waiting self.old.awaits) (W.held self.old.awaits)) }
-        requires out { AreOut (K.content kernel.old).keys (keys_in keys) }
-        ensures keys { AreKeysBut (K.content kernel.new).keys (keys_in keys) (named (W.waiting self.new.awaits) (W.held self.new.awaits)) }
-        ensures out { AreOut (K.content kernel.new).keys (keys_in keys) }
+        ensures amid { FitsAmid (keys_in keys) M.functions W.waiting W.held self.new (K.content kernel.new) }
+        ensures held { AreOnce (without_all (keys_in keys) (W.held self.new.awaits)) (staged_key self.new.staged.items) }
+        ensures stays { Stays (K.content kernel.old) (K.content kernel.new) (W.waiting self.old.awaits) (W.waiting self.new.awaits) }
+        ensures free { (x : Key) → among x (staged_key self.new.staged.items) ≡ true → among x (keys_in keys) ≡ false }
         ensures serves { (counts : Counts)
             → let fired = keys_in keys in let setup = setup_of M.functions self.old in let before = K.content kernel.old in
             let c = rig_amid (parts_of W.waiting self.old) before.state fired counts in
             StandsAhead fired setup before c → Serves O.takes O.breaks O.told setup fired (flushed_if setup (among ReadWrite fired) c)
             (parts_of W.waiting self.new) (K.content kernel.new) fault out.old result out.new }
         ensures loaded { K.is_loaded kernel.new }
-        ensures own { Fits (setup_of M.functions self.new) None self.new.ready.room (parts_of W.waiting self.new) }
-        ensures signals { length (K.content kernel.new).state.signals ≡ length self.old.flat.now.signals }
-        ensures ends { StaysOpen (K.content kernel.old) (W.waiting self.old.awaits) → StaysOpen (K.content kernel.new) (W.waiting self.new.awaits) }
-        ensures held { without_all (keys_in keys) (W.held self.new.awaits) ≡ staged_key self.new.staged.items }
-        ensures free { (x : Key) → among x (staged_key self.new.staged.items) ≡ true → among x (keys_in keys) ≡ false }
         ensures setup { setup_of M.functions self.new ≡ setup_of M.functions self.old }
     {
         if settles(keys) {

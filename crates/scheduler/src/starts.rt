@@ -40,6 +40,7 @@ impl<'a, M: FlowMaker + Drop, W: Awaits> Engine<'a, M, W> {
         ensures added { OnOk result ((content : Content)
             → rig_of W.waiting self.new content ≡ with_new_task (function_at (M.functions self.old.maker) func) (rig_of W.waiting self.old content)) }
         ensures room { OnOk result (length self.old.live.tasks + 1 ≤ self.new.ready.room) }
+        ensures runs { self.new.runs_test ≡ self.old.runs_test }
         ensures setup { setup_of M.functions self.new ≡ setup_of M.functions self.old }
         ensures awaits { self.new.awaits ≡ self.old.awaits }
         ensures staged { self.new.staged ≡ self.old.staged }

@@ -1,4 +1,8 @@
 //! What a turn comes to.
+ghost use Rattle.std.specs.Prelude.{◌≡◌};
+ghost use Rattle.scheduler.specs.Turns.{has_gone};
+
+use port_io::NoMemory;
 use rig_model::{Given, Outcome};
 
 /// What a turn came to.
@@ -21,4 +25,11 @@ pub enum Next {
     GoesOn(Given),
     /// The turn ends so.
     Ends(Turn),
+}
+
+/// Whether the test goes on after such an answer.
+pub fn has_gone(turn: &Result<Turn, NoMemory>) -> bool
+    ensures { result ≡ has_gone turn.now }
+{
+    matches!(turn, Ok(Turn::Went))
 }

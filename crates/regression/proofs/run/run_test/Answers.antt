@@ -4,7 +4,7 @@ use Rattle.scheduler.specs.Fits.{FitsAfter}
 use Rattle.scheduler.specs.declared.turn.Turn.{Turn}
 use Rattle.regression.proofs.RunTurns.{begin_broken, begin_cut, turns_broken, turns_cut, run_short, run_over}
 use Rattle.regression.proofs.Stands.{begins_empty, named_keys, stands_as}
-use Rattle.regression.proofs.TestRuns.{runs_err, begun_went, begun_broke, turning_as, turning_short}
+use Rattle.regression.proofs.TestRuns.{runs_err, begun_goes, begun_went, begun_broke, turning_as, turning_short}
 use Rattle.regression.proofs.run.run_test.Goals as goal
 
 pub begin_test-requires-clause-empty : goal.begin_test-requires-clause-empty
@@ -58,3 +58,9 @@ returns-in-WriteFault-turn-clause-runs g c =
     (rig_of g.W.Awaits.waiting c.begin_test.new.self (g.K.Gpi.content c.begin_test.new.kernel)) c.args.out.now c.begin_test.new.out c.in_default.not-WriteFault c.in_ok-begun.ensures.begins in
     turns_broken g.O.Sink.takes g.O.Sink.breaks g.O.Sink.told _ _ _ (rig_of g.W.Awaits.waiting c.args.engine.now (g.K.Gpi.content c.args.kernel.now)) _ c.requires.new _ _ went.0 went.1 _ (rig_of g.W.Awaits.waiting c.run_turns.new.engine (g.K.Gpi.content c.run_turns.new.kernel)) _
     (turning_as g.O.Sink.takes g.O.Sink.breaks g.O.Sink.told _ _ _ _ _ _ _ _ _ _ c.in_ok-begun.ensures.setup c.in-WriteFault-turn.is c.in_ok-turn.ensures.turning)
+
+pub run_turns-requires-clause-runs : goal.run_turns-requires-clause-runs
+run_turns-requires-clause-runs g c =
+    c.in_ok-begun.ensures.runs
+    ∙ begun_goes g.O.Sink.takes g.O.Sink.breaks g.O.Sink.told (setup_of g.M.FlowMaker.functions c.args.engine.now) c.args.case.now (rig_of g.W.Awaits.waiting c.args.engine.now (g.K.Gpi.content c.args.kernel.now)) c.in_ok-begun.begun
+    (rig_of g.W.Awaits.waiting c.begin_test.new.self (g.K.Gpi.content c.begin_test.new.kernel)) c.args.out.now c.begin_test.new.out c.in_default.not-WriteFault c.in_ok-begun.ensures.begins

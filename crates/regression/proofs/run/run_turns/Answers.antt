@@ -1,6 +1,7 @@
 use Rattle.std.proofs.Common.{◌≡◌, ◌≤◌, ◌∙◌, ap, Ok, None, subst, length, arith, inl, inr}
 use Rattle.scheduler.specs.Engine.{setup_of, parts_of}
 use Rattle.scheduler.specs.Fits.{FitsAfter, FitsKernel}
+use Rattle.scheduler.specs.Turns.{has_gone}
 use Rattle.scheduler.specs.declared.turn.Turn.{Turn}
 use Rattle.scheduler.proofs.FitLaws.{few_ready}
 use Rattle.scheduler.proofs.ManyTurns.{went_then, turning_anywhere, turning_err}
@@ -16,6 +17,7 @@ turns-preserved g c = record {
       (went_then g.O.Sink.takes g.O.Sink.breaks g.O.Sink.told _ _ _ _ _ _ _ _ _ r fuel e out c.turns.invariant.setup (ap Ok c.in-Went.is) c.in_ok-turn.ensures.turning more);
   setup = c.turn.ensures.setup ∙ c.turns.invariant.setup;
   loaded = c.turn.ensures.loaded;
+  runs = c.in_ok-turn.ensures.runs ∙ ap (λ (t : Turn). has_gone (Ok t)) c.in-Went.is;
   fits = subst (λ (t : Turn). FitsAfter g.M.FlowMaker.functions g.W.Awaits.waiting g.W.Awaits.held t c.turn.new.self (g.K.Gpi.content c.turn.new.kernel)) c.in-Went.is c.in_ok-turn.ensures.fits;
 }
 

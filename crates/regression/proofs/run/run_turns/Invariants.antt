@@ -1,8 +1,8 @@
-use Rattle.std.proofs.Common.{◌≡◌, ◌+◌, ◌*◌, ℕ, Result, length}
+use Rattle.std.proofs.Common.{◌≡◌, ◌+◌, ◌*◌, ℕ, Result, length, true}
 use Rattle.port_io.specs.declared.ports.NoMemory.{NoMemory}
 use Rattle.rig_model.specs.Rig.{Rig}
 use Rattle.rig_model.specs.FitSteps.{FitSteps, anywhere}
-use Rattle.scheduler.specs.Engine.{rig_of, setup_of}
+use Rattle.scheduler.specs.Engine.{rig_of, runs_test, setup_of}
 use Rattle.scheduler.specs.Fits.{FitsKernel}
 use Rattle.scheduler.specs.Turns.{Turning}
 use Rattle.scheduler.specs.declared.turn.Turn.{Turn}
@@ -18,6 +18,7 @@ invariant-turns g l = record {
       l.fn.fuel (rig_of g.W.Awaits.waiting l.fn.engine (g.K.Gpi.content l.fn.kernel)) l.fn.out r fuel e out;
   setup : setup_of g.M.FlowMaker.functions l.engine ≡ setup_of g.M.FlowMaker.functions l.fn.engine;
   loaded : g.K.Gpi.is_loaded l.kernel;
+  runs : runs_test l.engine ≡ true;
   fits : FitsKernel g.M.FlowMaker.functions g.W.Awaits.waiting g.W.Awaits.held l.engine (g.K.Gpi.content l.kernel);
 }
 

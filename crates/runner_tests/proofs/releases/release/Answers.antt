@@ -1,5 +1,9 @@
 use Rattle.gpi.specs.declared.types.Key.TheVariants.{ReadWrite}
+use Rattle.rig_model.proofs.KeyLaws.{alike_among}
 use Rattle.runner_tests.proofs.releases.release.Goals as goal
 
+pub release-requires-clause-there : goal.release-requires-clause-there
+release-requires-clause-there g c = alike_among _ _ c.in_ok-hold.ensures.ok ReadWrite
+
 pub release-requires-clause-registered : goal.release-requires-clause-registered
-release-requires-clause-registered g c = c.in_ok-hold.ensures.registers.keys ReadWrite
+release-requires-clause-registered g c = λ e. c.in_ok-hold.ensures.registers.keys ReadWrite

@@ -1,16 +1,13 @@
-use Rattle.std.proofs.Common.{◌≡◌, ◌≤◌, ◌-◌, length, drop}
-use Rattle.rig_model.specs.Keys.{Rekeyed}
+use Rattle.std.proofs.Common.{◌≤◌, ◌-◌, length, drop}
 use Rattle.rig_model.specs.Rig.{named}
-use Rattle.plain_task.specs.Left.{counts_left}
+use Rattle.plain_task.specs.Left.{IsLeft}
 use Rattle.plain_task.proofs.wait.WaitList.remove_waited.Given as goal
 
 abbrev pub invariant-loop-at : goal.invariant-loop-at
 invariant-loop-at g l = record {
   inside : l.at ≤ length l.self.waiting.items;
   loaded : g.K.Gpi.is_loaded l.kernel;
-  keys : Rekeyed (g.K.Gpi.content l.fn.kernel) (g.K.Gpi.content l.kernel) (named (drop l.at l.self.waiting.items) l.self.held.items);
-  counts : counts_left (named (drop l.at l.self.waiting.items) l.self.held.items) (g.K.Gpi.content l.kernel)
-      ≡ counts_left (named l.self.waiting.items l.self.held.items) (g.K.Gpi.content l.fn.kernel);
+  left : IsLeft (g.K.Gpi.content l.fn.kernel) (g.K.Gpi.content l.kernel) (named l.self.waiting.items l.self.held.items) (named (drop l.at l.self.waiting.items) l.self.held.items);
 }
 
 abbrev pub decreases-loop-at : goal.decreases-loop-at

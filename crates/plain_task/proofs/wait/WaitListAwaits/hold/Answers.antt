@@ -1,14 +1,17 @@
-use Rattle.std.proofs.Common.{◌∙◌, ap, sym, Bool, if◌then◌else◌}
+use Rattle.std.proofs.Common.{◌≡◌, ◌∙◌, ap, sym, Bool, if◌then◌else◌}
+use Rattle.gpi.specs.Keys.{has}
 use Rattle.gpi.specs.declared.types.Counts.{Counts}
 use Rattle.rig_model.specs.Counts.{raised_times}
-use Rattle.rig_model.specs.Rig.{named}
-use Rattle.rig_model.proofs.KernelLaws.{named_is}
+use Rattle.rig_model.specs.Keys.{AreAlike}
+use Rattle.rig_model.proofs.KeyLaws.{alike_push, named_unheld}
 use Rattle.plain_task.proofs.wait.WaitListAwaits.hold.Goals as goal
 
 pub register_unless-requires-clause-named : goal.register_unless-requires-clause-named
 register_unless-requires-clause-named g c =
-    named_is (g.K.Gpi.content c.args.kernel.now).keys c.args.self.now.held.items (named c.args.self.now.waiting.items c.args.self.now.held.items) c.args.key c.requires.keys c.requires.new
-    ∙ sym c.names-named.ensures
+    c.requires.waited ∙ sym (named_unheld c.args.key c.args.self.now.waiting.items c.args.self.now.held.items c.requires.new) ∙ sym c.names-named.ensures
+
+pub returns-in-Ok-clause-ok : goal.returns-in-Ok-clause-ok
+returns-in-Ok-clause-ok g c = rw c.in_ok-push.ensures.items (alike_push c.args.key c.args.self.now.held.items)
 
 pub returns-in-Ok-clause-registers : goal.returns-in-Ok-clause-registers
 returns-in-Ok-clause-registers g c = record {
@@ -17,5 +20,5 @@ returns-in-Ok-clause-registers g c = record {
   keys = c.in-Ok.ensures.keys;
   counts = c.in-Ok.ensures.counts
       ∙ ap (λ (b : Bool). let x : Counts = record (g.K.Gpi.content c.args.kernel.now).counts { primed = raised_times (if b then 0 else 1) (g.K.Gpi.content c.args.kernel.now).counts.primed } in x)
-      (c.names-named.ensures ∙ sym (named_is (g.K.Gpi.content c.args.kernel.now).keys c.args.self.now.held.items (named c.args.self.now.waiting.items c.args.self.now.held.items) c.args.key c.requires.keys c.requires.new));
+      (c.names-named.ensures ∙ named_unheld c.args.key c.args.self.now.waiting.items c.args.self.now.held.items c.requires.new ∙ sym c.requires.waited);
 }

@@ -1,7 +1,9 @@
+use Rattle.std.proofs.Common.{◌∙◌, ap, length}
 use Rattle.rig_model.specs.Keys.{keys_in}
+use Rattle.rig_model.specs.Rig.{Setup}
 use Rattle.rig_model.proofs.KernelLaws.{but_more}
 use Rattle.scheduler.specs.Engine.{setup_of, parts_of}
-use Rattle.scheduler.proofs.EventLaws.{advances_of, event_alone, event_but, event_out, event_signals, event_writable, event_ends, event_stands_ahead, event_fits, event_evented}
+use Rattle.scheduler.proofs.EventLaws.{advances_of, event_alone, event_but, event_out, event_signals, event_writable, event_ends, event_stands_ahead, event_fits, event_evented, stays_open}
 use Rattle.scheduler.proofs.FitLaws.{fits_served, room_to_wake}
 use Rattle.scheduler.proofs.StandLaws.{keys_named}
 use Rattle.scheduler.proofs.engine.Engine.do_event.Goals as goal
@@ -9,13 +11,18 @@ use Rattle.scheduler.proofs.engine.Engine.do_event.Goals as goal
 pub returns-in_err-moved-clause-keys : goal.returns-in_err-moved-clause-keys
 returns-in_err-moved-clause-keys g c = rw c.in_err-moved.ensures.kept (keys_named (setup_of g.M.FlowMaker.functions c.args.self.now) _ _ (parts_of g.W.Awaits.waiting c.args.self.now) c.requires.fits.kernel)
 
-pub flush_if-put-requires-clause-signals : goal.flush_if-put-requires-clause-signals
-flush_if-put-requires-clause-signals g c = event_signals (setup_of g.M.FlowMaker.functions c.args.self.now) (parts_of g.W.Awaits.waiting c.args.self.now) (g.K.Gpi.content c.args.kernel.now) (g.K.Gpi.content c.advance.new.self) (g.W.Awaits.held c.args.self.now.awaits) c.requires.fits.kernel c.in-Moved.moved
-    (advances_of (g.K.Gpi.content c.args.kernel.now) c.in-Moved.moved (g.K.Gpi.content c.advance.new.self) (rw c.in-Moved.is at c.in_ok-moved.ensures.is))
-    c.advance.ensures.widths
+pub flush_if-put-requires-clause-amid : goal.flush_if-put-requires-clause-amid
+flush_if-put-requires-clause-amid g c =
+    let a = (advances_of (g.K.Gpi.content c.args.kernel.now) c.in-Moved.moved (g.K.Gpi.content c.advance.new.self) (rw c.in-Moved.is at c.in_ok-moved.ensures.is)) in
+    record {
+      own = c.requires.fits.own;
+      signals = event_signals (setup_of g.M.FlowMaker.functions c.args.self.now) (parts_of g.W.Awaits.waiting c.args.self.now) (g.K.Gpi.content c.args.kernel.now) (g.K.Gpi.content c.advance.new.self) (g.W.Awaits.held c.args.self.now.awaits) c.requires.fits.kernel c.in-Moved.moved a c.advance.ensures.widths;
+      keys = event_but (setup_of g.M.FlowMaker.functions c.args.self.now) (parts_of g.W.Awaits.waiting c.args.self.now) (g.K.Gpi.content c.args.kernel.now) (g.K.Gpi.content c.advance.new.self) (g.W.Awaits.held c.args.self.now.awaits) c.requires.fits.kernel c.in-Moved.moved a;
+      out = event_out (setup_of g.M.FlowMaker.functions c.args.self.now) (parts_of g.W.Awaits.waiting c.args.self.now) (g.K.Gpi.content c.args.kernel.now) (g.K.Gpi.content c.advance.new.self) (g.W.Awaits.held c.args.self.now.awaits) c.requires.fits.kernel c.in-Moved.moved a;
+    }
 
-pub flush_if-put-requires-clause-writable : goal.flush_if-put-requires-clause-writable
-flush_if-put-requires-clause-writable g c = event_writable (setup_of g.M.FlowMaker.functions c.args.self.now) (parts_of g.W.Awaits.waiting c.args.self.now) (g.K.Gpi.content c.args.kernel.now) (g.K.Gpi.content c.advance.new.self) (g.W.Awaits.held c.args.self.now.awaits) c.requires.fits.kernel c.in-Moved.moved
+pub flush_if-put-requires-clause-open : goal.flush_if-put-requires-clause-open
+flush_if-put-requires-clause-open g c = event_writable (setup_of g.M.FlowMaker.functions c.args.self.now) (parts_of g.W.Awaits.waiting c.args.self.now) (g.K.Gpi.content c.args.kernel.now) (g.K.Gpi.content c.advance.new.self) (g.W.Awaits.held c.args.self.now.awaits) c.requires.fits.kernel c.in-Moved.moved
     (advances_of (g.K.Gpi.content c.args.kernel.now) c.in-Moved.moved (g.K.Gpi.content c.advance.new.self) (rw c.in-Moved.is at c.in_ok-moved.ensures.is))
 
 pub flush_if-put-requires-clause-alone : goal.flush_if-put-requires-clause-alone
@@ -31,13 +38,13 @@ returns-clause-done g c = event_evented (setup_of g.M.FlowMaker.functions c.args
     (event_stands_ahead (setup_of g.M.FlowMaker.functions c.args.self.now) (parts_of g.W.Awaits.waiting c.args.self.now) (g.K.Gpi.content c.args.kernel.now) (g.K.Gpi.content c.advance.new.self) (g.W.Awaits.held c.args.self.now.awaits) c.requires.fits.kernel c.in-Moved.moved
     (advances_of (g.K.Gpi.content c.args.kernel.now) c.in-Moved.moved (g.K.Gpi.content c.advance.new.self) (rw c.in-Moved.is at c.in_ok-moved.ensures.is))))
     c.flush_if-put.ensures.free _ _ c.flush_if-put.ensures.held
-    c.flush_if-put.ensures.signals (c.flush_if-put.ensures.ends (event_ends (setup_of g.M.FlowMaker.functions c.args.self.now) (parts_of g.W.Awaits.waiting c.args.self.now) (g.K.Gpi.content c.args.kernel.now) (g.K.Gpi.content c.advance.new.self) (g.W.Awaits.held c.args.self.now.awaits) c.requires.fits.kernel c.in-Moved.moved (advances_of (g.K.Gpi.content c.args.kernel.now) c.in-Moved.moved (g.K.Gpi.content c.advance.new.self) (rw c.in-Moved.is at c.in_ok-moved.ensures.is))))
-    _ _ c.fire.ensures.waiting c.fire.ensures.held c.fire.ensures.ready c.flush_if-put.ensures.keys c.flush_if-put.ensures.out c.fire.ensures.keys
+    (c.flush_if-put.ensures.amid.signals ∙ ap (λ (s : Setup). length s.flat.signals) c.flush_if-put.ensures.setup) (stays_open _ _ _ _ c.flush_if-put.ensures.stays (event_ends (setup_of g.M.FlowMaker.functions c.args.self.now) (parts_of g.W.Awaits.waiting c.args.self.now) (g.K.Gpi.content c.args.kernel.now) (g.K.Gpi.content c.advance.new.self) (g.W.Awaits.held c.args.self.now.awaits) c.requires.fits.kernel c.in-Moved.moved (advances_of (g.K.Gpi.content c.args.kernel.now) c.in-Moved.moved (g.K.Gpi.content c.advance.new.self) (rw c.in-Moved.is at c.in_ok-moved.ensures.is))))
+    _ _ c.fire.ensures.waiting c.fire.ensures.held c.fire.ensures.ready c.flush_if-put.ensures.amid.keys c.flush_if-put.ensures.amid.out c.fire.ensures.keys
     c.args.out.now _ c.now-time.ensures c.tell-told.ensures
 
 pub returns-clause-fits : goal.returns-clause-fits
 returns-clause-fits g c = record {
-  own = fits_served (setup_of g.M.FlowMaker.functions c.flush_if-put.new.self) _ (parts_of g.W.Awaits.waiting c.flush_if-put.new.self) _ _ _ _ c.flush_if-put.ensures.own c.fire.ensures.room c.fire.ensures.ready c.fire.ensures.waiting;
+  own = fits_served (setup_of g.M.FlowMaker.functions c.flush_if-put.new.self) _ (parts_of g.W.Awaits.waiting c.flush_if-put.new.self) _ _ _ _ c.flush_if-put.ensures.amid.own c.fire.ensures.room c.fire.ensures.ready c.fire.ensures.waiting;
   kernel = rw c.flush_if-put.ensures.setup (event_fits (setup_of g.M.FlowMaker.functions c.args.self.now) (parts_of g.W.Awaits.waiting c.args.self.now) (g.K.Gpi.content c.args.kernel.now) (g.K.Gpi.content c.advance.new.self) (g.W.Awaits.held c.args.self.now.awaits) c.requires.fits.kernel c.in-Moved.moved
       (advances_of (g.K.Gpi.content c.args.kernel.now) c.in-Moved.moved (g.K.Gpi.content c.advance.new.self) (rw c.in-Moved.is at c.in_ok-moved.ensures.is))
       g.O.Sink.takes g.O.Sink.breaks g.O.Sink.told (parts_of g.W.Awaits.waiting c.flush_if-put.new.self) (g.K.Gpi.content c.flush_if-put.new.kernel) (g.K.Gpi.content c.fire.new.kernel)
@@ -46,8 +53,8 @@ returns-clause-fits g c = record {
       (event_stands_ahead (setup_of g.M.FlowMaker.functions c.args.self.now) (parts_of g.W.Awaits.waiting c.args.self.now) (g.K.Gpi.content c.args.kernel.now) (g.K.Gpi.content c.advance.new.self) (g.W.Awaits.held c.args.self.now.awaits) c.requires.fits.kernel c.in-Moved.moved
       (advances_of (g.K.Gpi.content c.args.kernel.now) c.in-Moved.moved (g.K.Gpi.content c.advance.new.self) (rw c.in-Moved.is at c.in_ok-moved.ensures.is))))
       c.flush_if-put.ensures.free _ _ c.flush_if-put.ensures.held
-      c.flush_if-put.ensures.signals (c.flush_if-put.ensures.ends (event_ends (setup_of g.M.FlowMaker.functions c.args.self.now) (parts_of g.W.Awaits.waiting c.args.self.now) (g.K.Gpi.content c.args.kernel.now) (g.K.Gpi.content c.advance.new.self) (g.W.Awaits.held c.args.self.now.awaits) c.requires.fits.kernel c.in-Moved.moved (advances_of (g.K.Gpi.content c.args.kernel.now) c.in-Moved.moved (g.K.Gpi.content c.advance.new.self) (rw c.in-Moved.is at c.in_ok-moved.ensures.is))))
-      _ _ c.fire.ensures.waiting c.fire.ensures.held c.fire.ensures.ready c.flush_if-put.ensures.keys c.flush_if-put.ensures.out c.fire.ensures.keys);
+      (c.flush_if-put.ensures.amid.signals ∙ ap (λ (s : Setup). length s.flat.signals) c.flush_if-put.ensures.setup) (stays_open _ _ _ _ c.flush_if-put.ensures.stays (event_ends (setup_of g.M.FlowMaker.functions c.args.self.now) (parts_of g.W.Awaits.waiting c.args.self.now) (g.K.Gpi.content c.args.kernel.now) (g.K.Gpi.content c.advance.new.self) (g.W.Awaits.held c.args.self.now.awaits) c.requires.fits.kernel c.in-Moved.moved (advances_of (g.K.Gpi.content c.args.kernel.now) c.in-Moved.moved (g.K.Gpi.content c.advance.new.self) (rw c.in-Moved.is at c.in_ok-moved.ensures.is))))
+      _ _ c.fire.ensures.waiting c.fire.ensures.held c.fire.ensures.ready c.flush_if-put.ensures.amid.keys c.flush_if-put.ensures.amid.out c.fire.ensures.keys);
 }
 
 pub returns-clause-keys : goal.returns-clause-keys
@@ -60,19 +67,11 @@ returns-clause-keys g c = keys_named (setup_of g.M.FlowMaker.functions c.args.se
     (event_stands_ahead (setup_of g.M.FlowMaker.functions c.args.self.now) (parts_of g.W.Awaits.waiting c.args.self.now) (g.K.Gpi.content c.args.kernel.now) (g.K.Gpi.content c.advance.new.self) (g.W.Awaits.held c.args.self.now.awaits) c.requires.fits.kernel c.in-Moved.moved
     (advances_of (g.K.Gpi.content c.args.kernel.now) c.in-Moved.moved (g.K.Gpi.content c.advance.new.self) (rw c.in-Moved.is at c.in_ok-moved.ensures.is))))
     c.flush_if-put.ensures.free _ _ c.flush_if-put.ensures.held
-    c.flush_if-put.ensures.signals (c.flush_if-put.ensures.ends (event_ends (setup_of g.M.FlowMaker.functions c.args.self.now) (parts_of g.W.Awaits.waiting c.args.self.now) (g.K.Gpi.content c.args.kernel.now) (g.K.Gpi.content c.advance.new.self) (g.W.Awaits.held c.args.self.now.awaits) c.requires.fits.kernel c.in-Moved.moved (advances_of (g.K.Gpi.content c.args.kernel.now) c.in-Moved.moved (g.K.Gpi.content c.advance.new.self) (rw c.in-Moved.is at c.in_ok-moved.ensures.is))))
-    _ _ c.fire.ensures.waiting c.fire.ensures.held c.fire.ensures.ready c.flush_if-put.ensures.keys c.flush_if-put.ensures.out c.fire.ensures.keys)
-
-pub flush_if-put-requires-clause-keys : goal.flush_if-put-requires-clause-keys
-flush_if-put-requires-clause-keys g c = event_but (setup_of g.M.FlowMaker.functions c.args.self.now) (parts_of g.W.Awaits.waiting c.args.self.now) (g.K.Gpi.content c.args.kernel.now) (g.K.Gpi.content c.advance.new.self) (g.W.Awaits.held c.args.self.now.awaits) c.requires.fits.kernel c.in-Moved.moved
-    (advances_of (g.K.Gpi.content c.args.kernel.now) c.in-Moved.moved (g.K.Gpi.content c.advance.new.self) (rw c.in-Moved.is at c.in_ok-moved.ensures.is))
-
-pub flush_if-put-requires-clause-out : goal.flush_if-put-requires-clause-out
-flush_if-put-requires-clause-out g c = event_out (setup_of g.M.FlowMaker.functions c.args.self.now) (parts_of g.W.Awaits.waiting c.args.self.now) (g.K.Gpi.content c.args.kernel.now) (g.K.Gpi.content c.advance.new.self) (g.W.Awaits.held c.args.self.now.awaits) c.requires.fits.kernel c.in-Moved.moved
-    (advances_of (g.K.Gpi.content c.args.kernel.now) c.in-Moved.moved (g.K.Gpi.content c.advance.new.self) (rw c.in-Moved.is at c.in_ok-moved.ensures.is))
+    (c.flush_if-put.ensures.amid.signals ∙ ap (λ (s : Setup). length s.flat.signals) c.flush_if-put.ensures.setup) (stays_open _ _ _ _ c.flush_if-put.ensures.stays (event_ends (setup_of g.M.FlowMaker.functions c.args.self.now) (parts_of g.W.Awaits.waiting c.args.self.now) (g.K.Gpi.content c.args.kernel.now) (g.K.Gpi.content c.advance.new.self) (g.W.Awaits.held c.args.self.now.awaits) c.requires.fits.kernel c.in-Moved.moved (advances_of (g.K.Gpi.content c.args.kernel.now) c.in-Moved.moved (g.K.Gpi.content c.advance.new.self) (rw c.in-Moved.is at c.in_ok-moved.ensures.is))))
+    _ _ c.fire.ensures.waiting c.fire.ensures.held c.fire.ensures.ready c.flush_if-put.ensures.amid.keys c.flush_if-put.ensures.amid.out c.fire.ensures.keys)
 
 pub fire-requires-clause-room : goal.fire-requires-clause-room
-fire-requires-clause-room g c = room_to_wake (setup_of g.M.FlowMaker.functions c.flush_if-put.new.self) _ (parts_of g.W.Awaits.waiting c.flush_if-put.new.self) c.flush_if-put.ensures.own
+fire-requires-clause-room g c = room_to_wake (setup_of g.M.FlowMaker.functions c.flush_if-put.new.self) _ (parts_of g.W.Awaits.waiting c.flush_if-put.new.self) c.flush_if-put.ensures.amid.own
 
 pub fire-requires-clause-keys : goal.fire-requires-clause-keys
-fire-requires-clause-keys g c = but_more (g.K.Gpi.content c.flush_if-put.new.kernel).keys (keys_in c.in-Moved.moved.fired) (g.W.Awaits.held c.flush_if-put.new.self.awaits) _ c.flush_if-put.ensures.keys
+fire-requires-clause-keys g c = but_more (g.K.Gpi.content c.flush_if-put.new.kernel).keys (keys_in c.in-Moved.moved.fired) (g.W.Awaits.held c.flush_if-put.new.self.awaits) _ c.flush_if-put.ensures.amid.keys

@@ -1,26 +1,23 @@
-use Rattle.std.proofs.Common.{◌≡◌, ◌∷◌, [], List, None, length}
+use Rattle.std.proofs.Common.{◌≡◌, ◌∷◌, [], length}
 use Rattle.gpi.specs.declared.types.Counts.{Counts}
 use Rattle.gpi.specs.declared.types.Key.TheVariants.{ReadWrite}
 use Rattle.rig_model.specs.Kernel.{StandsAhead}
-use Rattle.rig_model.specs.Keys.{AreKeysBut, AreOut}
-use Rattle.rig_model.specs.Rig.{named, staged_key}
+use Rattle.rig_model.specs.Keys.{AreOnce}
+use Rattle.rig_model.specs.Rig.{staged_key}
 use Rattle.rig_model.specs.Serve.{flushed}
-use Rattle.rig_model.specs.declared.task.Staged.{Staged}
 use Rattle.scheduler.specs.Engine.{setup_of, parts_of}
-use Rattle.scheduler.specs.Parts.{Fits, StaysOpen, rig_amid}
-use Rattle.scheduler.specs.Serves.{IsOpen}
+use Rattle.scheduler.specs.Fits.{FitsAmid}
+use Rattle.scheduler.specs.Parts.{rig_amid}
+use Rattle.scheduler.specs.Serves.{Stays}
 use Rattle.scheduler.proofs.EventLaws.{Flushing}
 use Rattle.scheduler.proofs.engine.Engine.flush.Given as goal
 
 abbrev pub invariant-writes : goal.invariant-writes
 invariant-writes g l = record {
   loaded : g.K.Gpi.is_loaded l.kernel;
-  own : Fits (setup_of g.M.FlowMaker.functions l.fn.self) None l.self.ready.room (parts_of g.W.Awaits.waiting l.self);
-  writable : IsOpen (setup_of g.M.FlowMaker.functions l.fn.self) (g.K.Gpi.content l.kernel);
-  ends : StaysOpen (g.K.Gpi.content l.fn.kernel) (g.W.Awaits.waiting l.fn.self.awaits) → StaysOpen (g.K.Gpi.content l.kernel) (g.W.Awaits.waiting l.self.awaits);
-  held : (writes : List Staged) → g.W.Awaits.held l.fn.self.awaits ≡ staged_key writes → g.W.Awaits.held l.self.awaits ≡ staged_key writes;
-  keys : AreKeysBut (g.K.Gpi.content l.kernel).keys (ReadWrite ∷ []) (named (g.W.Awaits.waiting l.self.awaits) (g.W.Awaits.held l.self.awaits));
-  out : AreOut (g.K.Gpi.content l.kernel).keys (ReadWrite ∷ []);
+  amid : FitsAmid (ReadWrite ∷ []) g.M.FlowMaker.functions g.W.Awaits.waiting g.W.Awaits.held l.self (g.K.Gpi.content l.kernel);
+  held : AreOnce (g.W.Awaits.held l.self.awaits) (staged_key l.fn.self.staged.items);
+  stays : Stays (g.K.Gpi.content l.fn.kernel) (g.K.Gpi.content l.kernel) (g.W.Awaits.waiting l.fn.self.awaits) (g.W.Awaits.waiting l.self.awaits);
   begun : l.fn.self.staged.items ≡ [] → l.self.staged.items ≡ [];
   setup : setup_of g.M.FlowMaker.functions l.self ≡ setup_of g.M.FlowMaker.functions l.fn.self;
   flushing : (counts : Counts)

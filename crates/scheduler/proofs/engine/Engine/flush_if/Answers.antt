@@ -1,9 +1,12 @@
-use Rattle.std.proofs.Common.{◌∙◌, sym, ap, subst, length, List}
+use Rattle.std.proofs.Common.{◌∙◌, sym, ap, subst, List}
+use Rattle.gpi.specs.Keys.{among}
 use Rattle.gpi.specs.declared.types.Key.{Key}
-use Rattle.rig_model.specs.Keys.{AreKeysBut, AreOut, keys_in, without_all}
-use Rattle.rig_model.specs.Rig.{Setup, named, staged_key}
+use Rattle.rig_model.specs.Keys.{AreOnce, keys_in, without_all}
+use Rattle.rig_model.specs.Rig.{staged_key}
+use Rattle.rig_model.proofs.KernelLaws.{once_goes, once_stays}
 use Rattle.scheduler.specs.Engine.{setup_of, parts_of}
-use Rattle.scheduler.proofs.EventLaws.{flushed_then, flushed_else, nothing_staged, held_free, key_goes, key_stays}
+use Rattle.scheduler.specs.Fits.{FitsAmid}
+use Rattle.scheduler.proofs.EventLaws.{flushed_then, flushed_else, nothing_staged, held_all, held_free, stays_same}
 use Rattle.scheduler.proofs.engine.Engine.flush_if.Goals as goal
 
 pub returns-then-settles-clause-serves : goal.returns-then-settles-clause-serves
@@ -13,9 +16,9 @@ returns-then-settles-clause-serves g c = λ counts s.
 
 pub returns-then-settles-clause-held : goal.returns-then-settles-clause-held
 returns-then-settles-clause-held g c =
-    ap (without_all (keys_in c.args.keys)) (c.flush.ensures.held c.args.self.now.staged.items c.requires.held)
-    ∙ key_goes (keys_in c.args.keys) c.args.self.now.staged.items (c.requires.alone (sym c.settles.ensures ∙ c.if-settles.true))
-    ∙ sym (ap staged_key c.flush.ensures.staged)
+    subst (AreOnce (without_all (keys_in c.args.keys) (g.W.Awaits.held c.flush.new.self.awaits))) (sym (ap staged_key c.flush.ensures.staged))
+    (once_goes (keys_in c.args.keys) (g.W.Awaits.held c.flush.new.self.awaits) (staged_key c.args.self.now.staged.items)
+    (λ x m. ap (among x) (c.requires.alone (sym c.settles.ensures ∙ c.if-settles.true)) ∙ held_all c.args.self.now.staged.items x m) c.flush.ensures.held)
 
 pub returns-then-settles-clause-free : goal.returns-then-settles-clause-free
 returns-then-settles-clause-free g c = nothing_staged _ _ c.flush.ensures.staged
@@ -27,29 +30,24 @@ returns-else-settles-clause-serves g c = λ counts s.
 
 pub returns-else-settles-clause-held : goal.returns-else-settles-clause-held
 returns-else-settles-clause-held g c =
-    ap (without_all (keys_in c.args.keys)) c.requires.held ∙ key_stays (keys_in c.args.keys) c.args.self.now.staged.items (sym c.settles.ensures ∙ c.if-settles.false)
+    once_stays (keys_in c.args.keys) (g.W.Awaits.held c.args.self.now.awaits) (staged_key c.args.self.now.staged.items)
+    (held_free c.args.self.now.staged.items (keys_in c.args.keys) (sym c.settles.ensures ∙ c.if-settles.false)) c.requires.held
+
+pub returns-else-settles-clause-stays : goal.returns-else-settles-clause-stays
+returns-else-settles-clause-stays g c = stays_same (g.K.Gpi.content c.args.kernel.now) (g.W.Awaits.waiting c.args.self.now.awaits)
 
 pub returns-else-settles-clause-free : goal.returns-else-settles-clause-free
 returns-else-settles-clause-free g c = held_free _ _ (sym c.settles.ensures ∙ c.if-settles.false)
 
-pub flush-requires-clause-keys : goal.flush-requires-clause-keys
-flush-requires-clause-keys g c =
-    subst (λ (ks : List Key). AreKeysBut (g.K.Gpi.content c.args.kernel.now).keys ks (named (g.W.Awaits.waiting c.args.self.now.awaits) (g.W.Awaits.held c.args.self.now.awaits)))
-    (c.requires.alone (sym c.settles.ensures ∙ c.if-settles.true)) c.requires.keys
+pub flush-requires-clause-amid : goal.flush-requires-clause-amid
+flush-requires-clause-amid g c =
+    subst (λ (ks : List Key). FitsAmid ks g.M.FlowMaker.functions g.W.Awaits.waiting g.W.Awaits.held c.args.self.now (g.K.Gpi.content c.args.kernel.now))
+    (c.requires.alone (sym c.settles.ensures ∙ c.if-settles.true)) c.requires.amid
 
-pub flush-requires-clause-out : goal.flush-requires-clause-out
-flush-requires-clause-out g c = subst (λ (ks : List Key). AreOut (g.K.Gpi.content c.args.kernel.now).keys ks) (c.requires.alone (sym c.settles.ensures ∙ c.if-settles.true)) c.requires.out
+pub flush-requires-clause-open : goal.flush-requires-clause-open
+flush-requires-clause-open g c = c.requires.open (sym c.settles.ensures ∙ c.if-settles.true)
 
-pub returns-then-settles-clause-keys : goal.returns-then-settles-clause-keys
-returns-then-settles-clause-keys g c =
-    subst (λ (ks : List Key). AreKeysBut (g.K.Gpi.content c.flush.new.kernel).keys ks (named (g.W.Awaits.waiting c.flush.new.self.awaits) (g.W.Awaits.held c.flush.new.self.awaits)))
-    (sym (c.requires.alone (sym c.settles.ensures ∙ c.if-settles.true))) c.flush.ensures.keys
-
-pub returns-then-settles-clause-out : goal.returns-then-settles-clause-out
-returns-then-settles-clause-out g c = subst (λ (ks : List Key). AreOut (g.K.Gpi.content c.flush.new.kernel).keys ks) (sym (c.requires.alone (sym c.settles.ensures ∙ c.if-settles.true))) c.flush.ensures.out
-
-pub flush-requires-clause-writable : goal.flush-requires-clause-writable
-flush-requires-clause-writable g c = record { signals = c.requires.signals; writable = c.requires.writable (sym c.settles.ensures ∙ c.if-settles.true) }
-
-pub returns-then-settles-clause-signals : goal.returns-then-settles-clause-signals
-returns-then-settles-clause-signals g c = c.flush.ensures.writable.signals ∙ ap (λ (s : Setup). length s.flat.signals) c.flush.ensures.setup
+pub returns-then-settles-clause-amid : goal.returns-then-settles-clause-amid
+returns-then-settles-clause-amid g c =
+    subst (λ (ks : List Key). FitsAmid ks g.M.FlowMaker.functions g.W.Awaits.waiting g.W.Awaits.held c.flush.new.self (g.K.Gpi.content c.flush.new.kernel))
+    (sym (c.requires.alone (sym c.settles.ensures ∙ c.if-settles.true))) c.flush.ensures.amid

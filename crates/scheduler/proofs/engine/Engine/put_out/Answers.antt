@@ -4,7 +4,7 @@ use Rattle.four_value.specs.Vector.{vector}
 use Rattle.four_value.proofs.Numbers.{length_vector}
 use Rattle.scheduler.specs.Engine.{setup_of, parts_of}
 use Rattle.scheduler.specs.Puts.{PutsOn}
-use Rattle.scheduler.proofs.EventLaws.{put_serves, put_open, put_ends, put_but, put_out_key, held_stays, told_same, change_but, change_out}
+use Rattle.scheduler.proofs.EventLaws.{put_serves, put_signals, put_stays, put_but, put_out_one, held_stays, told_same, change_but, change_out}
 use Rattle.scheduler.proofs.FitLaws.{fits_served, room_to_wake}
 use Rattle.scheduler.proofs.engine.Engine.put_out.Goals as goal
 
@@ -18,42 +18,37 @@ change_of-requires g c = sym (ap (λ (ds : List Digit). length ds) c.from_number
 pub returns-clause-serves : goal.returns-clause-serves
 returns-clause-serves g c = λ ahead counts s.
     put_serves (setup_of g.M.FlowMaker.functions c.args.self.now) (parts_of g.W.Awaits.waiting c.args.self.now) _ _ _ c.args.write _ _ _ _ _ _
-    c.deposit-fired.ensures.is.0 c.deposit-fired.ensures.is.1 c.fire.ensures.waiting c.fire.ensures.held c.fire.ensures.ready c.requires.keys c.fire.ensures.keys ahead counts s
+    c.deposit-fired.ensures.is.0 c.deposit-fired.ensures.is.1 c.fire.ensures.waiting c.fire.ensures.held c.fire.ensures.ready c.requires.amid.keys c.fire.ensures.keys ahead counts s
     g.O.Sink.takes g.O.Sink.breaks g.O.Sink.told _ _ _ _
     (c.from_number-bits.ensures ∙ ap (vector c.width.result) c.from.ensures ∙ ap (λ (w : ℕ). vector w c.args.write.number) (c.width.ensures.is ∙ ap (λ (ds : List Digit). length ds) c.read-old.ensures))
     (subst (λ (lines : List (List ℕ)). PutsOn g.O.Sink.takes g.O.Sink.breaks g.O.Sink.told c.args.fault c.args.out.now lines c.tell-fault.result c.tell-fault.new.out)
     (told_same (setup_of g.M.FlowMaker.functions c.args.self.now) (g.K.Gpi.content c.args.kernel.now) c.args.write.sig _ _ _ _ c.now-time.ensures c.read-old.ensures c.change_of.ensures)
     c.tell-fault.ensures)
 
-pub returns-clause-own : goal.returns-clause-own
-returns-clause-own g c =
-    fits_served (setup_of g.M.FlowMaker.functions c.args.self.now) _ (parts_of g.W.Awaits.waiting c.args.self.now) _ _ _ _ c.requires.own c.fire.ensures.room c.fire.ensures.ready c.fire.ensures.waiting
+pub returns-clause-amid : goal.returns-clause-amid
+returns-clause-amid g c = record {
+  own = fits_served (setup_of g.M.FlowMaker.functions c.args.self.now) _ (parts_of g.W.Awaits.waiting c.args.self.now) _ _ _ _ c.requires.amid.own c.fire.ensures.room c.fire.ensures.ready c.fire.ensures.waiting;
+  signals = put_signals (setup_of g.M.FlowMaker.functions c.args.self.now) (parts_of g.W.Awaits.waiting c.args.self.now) _ _ _ c.args.write _ _ _ _ _ _
+      c.deposit-fired.ensures.is.0 c.deposit-fired.ensures.is.1 c.fire.ensures.waiting c.fire.ensures.held c.fire.ensures.ready c.requires.amid.keys c.fire.ensures.keys _ c.deposit-fired.ensures.widths c.requires.amid.signals;
+  keys = put_but (setup_of g.M.FlowMaker.functions c.args.self.now) (parts_of g.W.Awaits.waiting c.args.self.now) _ _ _ c.args.write _ _ _ _ _ _
+      c.deposit-fired.ensures.is.0 c.deposit-fired.ensures.is.1 c.fire.ensures.waiting c.fire.ensures.held c.fire.ensures.ready c.requires.amid.keys c.fire.ensures.keys;
+  out = put_out_one (setup_of g.M.FlowMaker.functions c.args.self.now) (parts_of g.W.Awaits.waiting c.args.self.now) _ _ _ c.args.write _ _ _ _ _ _
+      c.deposit-fired.ensures.is.0 c.deposit-fired.ensures.is.1 c.fire.ensures.waiting c.fire.ensures.held c.fire.ensures.ready c.requires.amid.keys c.fire.ensures.keys c.requires.amid.out;
+}
 
 pub returns-clause-held : goal.returns-clause-held
 returns-clause-held g c = held_stays (setup_of g.M.FlowMaker.functions c.args.self.now) (parts_of g.W.Awaits.waiting c.args.self.now) _ _ _ c.args.write _ _ _ _ _ _
-    c.deposit-fired.ensures.is.0 c.deposit-fired.ensures.is.1 c.fire.ensures.waiting c.fire.ensures.held c.fire.ensures.ready c.requires.keys c.fire.ensures.keys
+    c.deposit-fired.ensures.is.0 c.deposit-fired.ensures.is.1 c.fire.ensures.waiting c.fire.ensures.held c.fire.ensures.ready c.requires.amid.keys c.fire.ensures.keys c.requires.held
 
-pub returns-clause-writable : goal.returns-clause-writable
-returns-clause-writable g c = put_open (setup_of g.M.FlowMaker.functions c.args.self.now) (parts_of g.W.Awaits.waiting c.args.self.now) _ _ _ c.args.write _ _ _ _ _ _
-    c.deposit-fired.ensures.is.0 c.deposit-fired.ensures.is.1 c.fire.ensures.waiting c.fire.ensures.held c.fire.ensures.ready c.requires.keys c.fire.ensures.keys c.deposit-fired.ensures.widths c.requires.writable
-
-pub returns-clause-ends : goal.returns-clause-ends
-returns-clause-ends g c = put_ends (setup_of g.M.FlowMaker.functions c.args.self.now) (parts_of g.W.Awaits.waiting c.args.self.now) _ _ _ c.args.write _ _ _ _ _ _
-    c.deposit-fired.ensures.is.0 c.deposit-fired.ensures.is.1 c.fire.ensures.waiting c.fire.ensures.held c.fire.ensures.ready c.requires.keys c.fire.ensures.keys
+pub returns-clause-stays : goal.returns-clause-stays
+returns-clause-stays g c = put_stays (setup_of g.M.FlowMaker.functions c.args.self.now) (parts_of g.W.Awaits.waiting c.args.self.now) _ _ _ c.args.write _ _ _ _ _ _
+    c.deposit-fired.ensures.is.0 c.deposit-fired.ensures.is.1 c.fire.ensures.waiting c.fire.ensures.held c.fire.ensures.ready c.requires.amid.keys c.fire.ensures.keys
 
 pub fire-requires-clause-room : goal.fire-requires-clause-room
-fire-requires-clause-room g c = room_to_wake (setup_of g.M.FlowMaker.functions c.args.self.now) _ (parts_of g.W.Awaits.waiting c.args.self.now) c.requires.own
+fire-requires-clause-room g c = room_to_wake (setup_of g.M.FlowMaker.functions c.args.self.now) _ (parts_of g.W.Awaits.waiting c.args.self.now) c.requires.amid.own
 
 pub fire-requires-clause-keys : goal.fire-requires-clause-keys
-fire-requires-clause-keys g c = change_but (g.K.Gpi.content c.args.kernel.now) _ c.args.write.sig _ _ c.deposit-fired.ensures.is.0 c.deposit-fired.ensures.is.1 _ _ c.requires.keys
+fire-requires-clause-keys g c = change_but (g.K.Gpi.content c.args.kernel.now) _ c.args.write.sig _ _ c.deposit-fired.ensures.is.0 c.deposit-fired.ensures.is.1 _ _ c.requires.held c.requires.amid.keys
 
 pub fire-requires-clause-out : goal.fire-requires-clause-out
 fire-requires-clause-out g c = change_out (g.K.Gpi.content c.args.kernel.now) _ c.args.write.sig _ _ c.deposit-fired.ensures.is.0 c.deposit-fired.ensures.is.1
-
-pub returns-clause-keys : goal.returns-clause-keys
-returns-clause-keys g c = put_but (setup_of g.M.FlowMaker.functions c.args.self.now) (parts_of g.W.Awaits.waiting c.args.self.now) _ _ _ c.args.write _ _ _ _ _ _
-    c.deposit-fired.ensures.is.0 c.deposit-fired.ensures.is.1 c.fire.ensures.waiting c.fire.ensures.held c.fire.ensures.ready c.requires.keys c.fire.ensures.keys
-
-pub returns-clause-out : goal.returns-clause-out
-returns-clause-out g c = put_out_key (setup_of g.M.FlowMaker.functions c.args.self.now) (parts_of g.W.Awaits.waiting c.args.self.now) _ _ _ c.args.write _ _ _ _ _ _
-    c.deposit-fired.ensures.is.0 c.deposit-fired.ensures.is.1 c.fire.ensures.waiting c.fire.ensures.held c.fire.ensures.ready c.requires.keys c.fire.ensures.keys

@@ -1,9 +1,5 @@
-use Rattle.std.proofs.Common.{refl}
-use Rattle.scheduler.specs.Engine.{rig_of}
-use Rattle.scheduler.proofs.TurnLaws.{turning_resumed}
+use Rattle.scheduler.proofs.FitLaws.{fits_result}
 use Rattle.scheduler.proofs.engine.Engine.turn.Goals as goal
 
-pub returns-in-Some-clause-turning : goal.returns-in-Some-clause-turning
-returns-in-Some-clause-turning g c =
-    turning_resumed g.O.Sink.takes g.O.Sink.breaks g.O.Sink.told _ (rig_of g.W.Awaits.waiting c.args.self.now (g.K.Gpi.content c.args.kernel.now)) (record { task = c.in-Some.task; given = c.in-Some.given }) c.first-first.new.self.entries
-    refl c.in-Some.ensures.first refl _ _ _ _ _ _ c.run_task.ensures.turning
+pub returns-clause-fits : goal.returns-clause-fits
+returns-clause-fits g c = fits_result g.M.FlowMaker.functions g.W.Awaits.waiting g.W.Awaits.held c.take_turn-turn.result c.take_turn-turn.new.self c.has_gone-self.result (g.K.Gpi.content c.take_turn-turn.new.kernel) c.take_turn-turn.ensures.fits
