@@ -1,7 +1,5 @@
 -- Rows and lists of expressions.
-use Rattle.std.proofs.Common.{◌≡◌, ℕ, ◌<◌, ◌+◌, ◌&&◌, Bool, true, false, List, [], ◌∷◌, length, drop, slice_get, slice_index, Option, Some, refl, ap, ◌∙◌}
-use Rattle.std.proofs.lemmas.List.{drop_more}
-use Rattle.v_syntax.specs.declared.expression.Expression as code
+use Rattle.std.proofs.Common.{◌≡◌, refl, ap}
 use Rattle.v_syntax.specs.declared.expression.Expression.{Row_of-Expression, end_of-Expression, more_of-Expression}
 use Rattle.v_syntax.specs.declared.expression.Expression.TheBlock.{items-the_row-Expression}
 use Rattle.v_syntax.specs.ExpressionTrees.{more, view, view_row, views}

@@ -40,7 +40,7 @@ counted_state (Sound n) = refl
 counted_state (Noted b n) = refl
 counted_state (Lost b) = refl
 
-sound_is : (n : ℕ) (x : Found ℕ) → (let r : Found ℕ = Sound n in r) ≡ each counted_width x → n ≤ 128 → x ≡ Sound n
+pub sound_is : (n : ℕ) (x : Found ℕ) → (let r : Found ℕ = Sound n in r) ≡ each counted_width x → n ≤ 128 → x ≡ Sound n
 sound_is n (Sound w) e h = ap (λ (v : ℕ). (let r : Found ℕ = Sound v in r)) (let k : n ≡ counted_width w = ap (λ (z : Found ℕ). width_or z) e in omega (arith, k, h))
 sound_is n (Noted b w) e h = absurd (omega (arith, ap (λ (z : Found ℕ). state_of z) e))
 sound_is n (Lost b) e h = absurd (omega (arith, ap (λ (z : Found ℕ). state_of z) e))
@@ -75,7 +75,7 @@ both_so : (ok : Bool) (p : ℕ) (f : Found Checked) (c : Checked) → needs ok r
 both_so true p f c e = (refl, e)
 both_so false p f c e = absurd (omega (arith, sym (lost_state (at rule.NotConstant p) f) ∙ ap (λ (z : Found Checked). state_of z) e))
 
-ended_sound : (f : Found Checked) (c : Checked) → ended f ≡ Ok c → f ≡ Sound c
+pub ended_sound : (f : Found Checked) (c : Checked) → ended f ≡ Ok c → f ≡ Sound c
 ended_sound (Sound a) c e = let k : a ≡ c = cc in ap (λ (d : Checked). (let r : Found Checked = Sound d in r)) k
 ended_sound (Noted b a) c e = absurd (cc)
 ended_sound (Lost b) c e = absurd (cc)

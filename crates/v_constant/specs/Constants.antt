@@ -1,12 +1,10 @@
--- Laws of constant expressions (IEEE 1364-2005, clause 5), and the counts that they are.
+-- Laws of constant expressions (IEEE 1364-2005, clause 5).
 use Rattle.std.specs.Prelude.{◌≡◌, ℕ, List, true}
-use Rattle.v_syntax.specs.ExpressionTrees.{Tree, first_at}
-use Rattle.v_scope.specs.declared.found.Found.{Found}
-use Rattle.v_scope.specs.Found.{each, and_then}
+use Rattle.v_syntax.specs.ExpressionTrees.{Tree}
 use Rattle.v_scope.specs.Scope.{Scope}
 use Rattle.v_flat.specs.Expressions.{Values, meaning}
-use Rattle.v_flat.specs.Checks.{made, checked, constant, counted}
-use Rattle.v_operator.specs.Checked.{AreNamesOf, counted_width}
+use Rattle.v_flat.specs.Checks.{made}
+use Rattle.v_operator.specs.Checked.{AreNamesOf}
 
 -- what is made of constants names no signal
 abbrev pub Constants_name_no_signal : Type 0
