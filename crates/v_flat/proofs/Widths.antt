@@ -26,7 +26,7 @@ known_found : (p : ℕ) (ds : List Digit) (n : Option ℕ) → Holds (λ (es : L
 known_found p ds None = tt
 known_found p ds (Some n) = refl
 
-constant_found : (s : Scope) (e : Tree) (x : Found ℕ) → Holds (λ (w : ℕ). width s e ≡ w) x → Holds (λ (ds : List Digit). own_value s e no_signals ≡ ds) (constant s e x)
+pub constant_found : (s : Scope) (e : Tree) (x : Found ℕ) → Holds (λ (w : ℕ). width s e ≡ w) x → Holds (λ (ds : List Digit). own_value s e no_signals ≡ ds) (constant s e x)
 constant_found s e x h =
     holds_then (λ (w : ℕ). width s e ≡ w) (λ (ds : List Digit). own_value s e no_signals ≡ ds) (settled (needs (made s e) rule.NotConstant (first_at e) x))
     (λ w. known (first_at e) (meaning s e w no_signals))
@@ -34,7 +34,7 @@ constant_found s e x h =
     (λ w q. subst (λ (v : ℕ). Holds (λ (ds : List Digit). own_value s e no_signals ≡ ds) (known (first_at e) (meaning s e v no_signals))) q
     (known_found (first_at e) (own_value s e no_signals) (number (own_value s e no_signals))))
 
-counted_found : (p : ℕ) (ds : List Digit) → Holds (λ (n : ℕ). number_or (number ds) ≡ n) (counted p ds)
+pub counted_found : (p : ℕ) (ds : List Digit) → Holds (λ (n : ℕ). number_or (number ds) ≡ n) (counted p ds)
 counted_found p ds = holds_needs (λ (n : ℕ). number_or (number ds) ≡ n) (nat_lt 0 (number_or (number ds))) rule.BadRange p (Sound (number_or (number ds))) (λ u. refl)
 
 filled_found : (p n : ℕ) (x : Found ℕ) → Holds (λ (w : ℕ). n ≡ w) x → Holds (λ (w : ℕ). n ≡ w) (filled p x)

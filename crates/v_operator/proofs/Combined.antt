@@ -6,7 +6,7 @@ use Rattle.v_scope.specs.declared.rule.ElabRule.{ElabRule}
 use Rattle.v_scope.specs.declared.rule.ElabRule.TheVariants as rule
 use Rattle.v_scope.specs.declared.found.Found.{Found}
 use Rattle.v_scope.specs.declared.found.Found.TheVariants.{Sound, Noted, Lost}
-use Rattle.v_scope.specs.Found.{noted, each, both, and_then, wants, Holds}
+use Rattle.v_scope.specs.Found.{noted, lost, each, both, and_then, wants, needs, Holds}
 use Rattle.v_flat.specs.Checks.{sized}
 use Rattle.v_flat.proofs.Holds.{holds_noted}
 use Rattle.v_operator.specs.declared.checked.Checked.{Checked}
@@ -23,7 +23,7 @@ each_same {A} {B} f g (Sound a) h = ap (λ (b : B). (let r : Found B = Sound b i
 each_same {A} {B} f g (Noted c a) h = ap (λ (b : B). (let r : Found B = Noted c b in r)) (h a)
 each_same f g (Lost c) h = refl
 
-each_noted : {A B : Type 0} (f : A → B) (c : Broken) (x : Found A) → each f (noted c x) ≡ noted c (each f x)
+pub each_noted : {A B : Type 0} (f : A → B) (c : Broken) (x : Found A) → each f (noted c x) ≡ noted c (each f x)
 each_noted f c (Sound a) = refl
 each_noted f c (Noted b a) = refl
 each_noted f c (Lost b) = refl
@@ -42,6 +42,15 @@ both_each f g (Lost d) (Lost c) = refl
 each_wants : {A B : Type 0} (f : A → B) (ok : Bool) (r : ElabRule) (p : ℕ) (x : Found A) → each f (wants ok r p x) ≡ wants ok r p (each f x)
 each_wants f true r p x = refl
 each_wants f false r p x = each_noted f (record { rule = r; place = p }) x
+
+each_lost : {A B : Type 0} (f : A → B) (c : Broken) (x : Found A) → each f (lost c x) ≡ lost c (each f x)
+each_lost f c (Sound a) = refl
+each_lost f c (Noted b a) = refl
+each_lost f c (Lost b) = refl
+
+pub each_needs : {A B : Type 0} (f : A → B) (ok : Bool) (r : ElabRule) (p : ℕ) (x : Found A) → each f (needs ok r p x) ≡ needs ok r p (each f x)
+each_needs f true r p x = refl
+each_needs f false r p x = each_lost f (record { rule = r; place = p }) x
 
 pub sized_width : (p : ℕ) (f : Found Checked) → each (λ (c : Checked). c.width) (sized_at p f) ≡ sized p (each (λ (c : Checked). c.width) f)
 sized_width p (Sound c) = each_wants (λ (c : Checked). c.width) (nat_le c.width 128) rule.TooWide p (Sound c)
@@ -67,20 +76,19 @@ sized_counted p (Sound w) = wants_counted p w
 sized_counted p (Noted b w) = each_noted counted_width b (wants (nat_le w 128) rule.TooWide p (Sound w)) ∙ ap (λ (y : Found ℕ). noted b y) (wants_counted p w)
 sized_counted p (Lost b) = refl
 
-pub made_width : {A : Type 0} (P : A → Checked → Type 0) (h : A → ℕ) (x : Found A) (f : Found Checked) → EachIs P x f → ((a : A) (c : Checked) → P a c → c.width ≡ h a)
-    → each (λ (c : Checked). c.width) f ≡ each h x
-made_width P h (Sound a) (Sound c) e k = ap (λ (n : ℕ). (let r : Found ℕ = Sound n in r)) (k a c e)
-made_width P h (Noted b a) (Noted d c) e k = ap (λ (n : ℕ). (let r : Found ℕ = Noted d n in r)) (k a c e.1) ∙ ap (λ (t : Broken). (let r : Found ℕ = Noted t (h a) in r)) (sym e.0)
-made_width P h (Lost b) (Lost d) e k = ap (λ (t : Broken). (let r : Found ℕ = Lost t in r)) (sym e)
-made_width P h (Sound a) (Noted d c) e k = absurd e
-made_width P h (Sound a) (Lost d) e k = absurd e
-made_width P h (Noted b a) (Sound c) e k = absurd e
-made_width P h (Noted b a) (Lost d) e k = absurd e
-made_width P h (Lost b) (Sound c) e k = absurd e
-made_width P h (Lost b) (Noted d c) e k = absurd e
+pub made_width : {A B : Type 0} (P : A → B → Type 0) (g : B → ℕ) (h : A → ℕ) (x : Found A) (f : Found B) → EachIs P x f → ((a : A) (c : B) → P a c → g c ≡ h a) → each g f ≡ each h x
+made_width P g h (Sound a) (Sound c) e k = ap (λ (n : ℕ). (let r : Found ℕ = Sound n in r)) (k a c e)
+made_width P g h (Noted b a) (Noted d c) e k = ap (λ (n : ℕ). (let r : Found ℕ = Noted d n in r)) (k a c e.1) ∙ ap (λ (t : Broken). (let r : Found ℕ = Noted t (h a) in r)) (sym e.0)
+made_width P g h (Lost b) (Lost d) e k = ap (λ (t : Broken). (let r : Found ℕ = Lost t in r)) (sym e)
+made_width P g h (Sound a) (Noted d c) e k = absurd e
+made_width P g h (Sound a) (Lost d) e k = absurd e
+made_width P g h (Noted b a) (Sound c) e k = absurd e
+made_width P g h (Noted b a) (Lost d) e k = absurd e
+made_width P g h (Lost b) (Sound c) e k = absurd e
+made_width P g h (Lost b) (Noted d c) e k = absurd e
 
-pub made_holds : {A : Type 0} (P : A → Checked → Type 0) (Q : A → Type 0) (R : Checked → Type 0) (x : Found A) (f : Found Checked) → EachIs P x f → Holds Q x
-    → ((a : A) (c : Checked) → P a c → Q a → R c) → Holds R f
+pub made_holds : {A B : Type 0} (P : A → B → Type 0) (Q : A → Type 0) (R : B → Type 0) (x : Found A) (f : Found B) → EachIs P x f → Holds Q x
+    → ((a : A) (c : B) → P a c → Q a → R c) → Holds R f
 made_holds P Q R (Sound a) (Sound c) e h k = k a c e h
 made_holds P Q R (Noted b a) (Noted d c) e h k = tt
 made_holds P Q R (Lost b) (Lost d) e h k = tt

@@ -24,14 +24,21 @@ use Rattle.v_operator.specs.Made.{MakesUnary, MakesBinary, MakesConditional, Are
 use Rattle.v_operator.specs.Checked.{StandsFor, IsChecked, counted_width}
 use Rattle.v_operator.proofs.Combined.{each_each, each_same, both_each, sized_width, sized_counted, made_width, made_holds, sized_holds, holds_so}
 
--- the width of the whole is counted as those of its parts are
-whole_width : {A B : Type 0} (p : ℕ) (h : A → ℕ) (k : B → ℕ) (g : B → B) (u : A → B) (x : Found A) (y : Found B) (f : Found Checked)
-    → each (λ (c : Checked). c.width) f ≡ each h x → ((a : A) → h a ≡ k (u a)) → each u x ≡ each g y → ((b : B) → k (g b) ≡ counted_width (k b))
+-- the width of the whole is counted as those of its parts are: i is what the code counts, and k what the definition does
+pub counted_whole : {A B C : Type 0} (v : C → ℕ) (i k : B → ℕ) (g : B → B) (u : A → B) (x : Found A) (y : Found B) (f : Found C)
+    → each v f ≡ each (λ (a : A). i (u a)) x → each u x ≡ each g y → ((b : B) → i (g b) ≡ counted_width (k b))
+    → each v f ≡ each counted_width (each k y)
+counted_whole {A} {B} v i k g u x y f made parts j =
+    made ∙ sym (each_each i u x) ∙ ap (λ (z : Found B). each i z) parts ∙ each_each i g y
+    ∙ each_same (λ (b : B). i (g b)) (λ (b : B). counted_width (k b)) y j ∙ sym (each_each counted_width k y)
+
+-- and so it is where the whole has to have at most 128 digits
+pub whole_width : {A B : Type 0} (p : ℕ) (i k : B → ℕ) (g : B → B) (u : A → B) (x : Found A) (y : Found B) (f : Found Checked)
+    → each (λ (c : Checked). c.width) f ≡ each (λ (a : A). i (u a)) x → each u x ≡ each g y → ((b : B) → i (g b) ≡ counted_width (k b))
     → each (λ (c : Checked). c.width) (sized_at p f) ≡ each counted_width (sized p (each k y))
-whole_width {A} {B} p h k g u x y f made i parts j =
+whole_width p i k g u x y f made parts j =
     sized_width p f
-    ∙ ap (λ (z : Found ℕ). sized p z) (made ∙ each_same h (λ (a : A). k (u a)) x i ∙ sym (each_each k u x) ∙ ap (λ (z : Found B). each k z) parts ∙ each_each k g y
-    ∙ each_same (λ (b : B). k (g b)) (λ (b : B). counted_width (k b)) y j ∙ sym (each_each counted_width k y))
+    ∙ ap (λ (z : Found ℕ). sized p z) (counted_whole (λ (c : Checked). c.width) i k g u x y f made parts j)
     ∙ sym (sized_counted p (each k y))
 
 -- ---- numbers
@@ -80,9 +87,9 @@ unary_stands s p op e a c made st h = record {
 pub unary_checked : (s : Scope) (p : ℕ) (op : UnaryOperator) (e : Tree) (x f : Found Checked) → IsChecked s e x → AreUnary (unary_class op) x f
     → IsChecked s (Unary p op e) (sized_at p f)
 unary_checked s p op e x f h made = record {
-  finds = whole_width p (λ (a : Checked). unary_width (unary_class op) a.width) (unary_width (unary_class op)) counted_width (λ (a : Checked). a.width) x (checked s e) f
-      (made_width (λ (a c : Checked). MakesUnary (unary_class op) a c) (λ (a : Checked). unary_width (unary_class op) a.width) x f made (λ a c k. k.width_is))
-      (λ a. refl) h.finds (λ w. unary_counted (unary_class op) w);
+  finds = whole_width p (unary_width (unary_class op)) (unary_width (unary_class op)) counted_width (λ (a : Checked). a.width) x (checked s e) f
+      (made_width (λ (a c : Checked). MakesUnary (unary_class op) a c) (λ (c : Checked). c.width) (λ (a : Checked). unary_width (unary_class op) a.width) x f made (λ a c k. k.width_is))
+      h.finds (λ w. unary_counted (unary_class op) w);
   holds = sized_holds (λ (c : Checked). StandsFor s (Unary p op e) c) p f
       (made_holds (λ (a c : Checked). MakesUnary (unary_class op) a c) (λ (a : Checked). StandsFor s e a) (λ (c : Checked). c.width ≤ 128 → StandsFor s (Unary p op e) c) x f made h.holds
       (λ a c k st n. unary_stands s p op e a c k st n));
@@ -124,11 +131,11 @@ binary_stands s op l r a b c made st su h = record {
 pub binary_checked : (s : Scope) (op : BinaryOperator) (l r : Tree) (x y f : Found Checked) → IsChecked s l x → IsChecked s r y
     → AreBinary (binary_class op) (both x y) f → IsChecked s (Binary op l r) (sized_at (first_at l) f)
 binary_checked s op l r x y f h k made = record {
-  finds = whole_width {A = Checked × Checked} {B = ℕ × ℕ} (first_at l) (λ (p : Checked × Checked). binary_width (binary_class op) p.0.width p.1.width) (λ (p : ℕ × ℕ). binary_width (binary_class op) p.0 p.1)
+  finds = whole_width {A = Checked × Checked} {B = ℕ × ℕ} (first_at l) (λ (p : ℕ × ℕ). binary_width (binary_class op) p.0 p.1) (λ (p : ℕ × ℕ). binary_width (binary_class op) p.0 p.1)
       (λ (p : ℕ × ℕ). (counted_width p.0, counted_width p.1)) (λ (p : Checked × Checked). (p.0.width, p.1.width)) (both x y) (both (checked s l) (checked s r)) f
-      (made_width (λ (p : Checked × Checked) (c : Checked). MakesBinary (binary_class op) p.0 p.1 c) (λ (p : Checked × Checked). binary_width (binary_class op) p.0.width p.1.width)
+      (made_width (λ (p : Checked × Checked) (c : Checked). MakesBinary (binary_class op) p.0 p.1 c) (λ (c : Checked). c.width) (λ (p : Checked × Checked). binary_width (binary_class op) p.0.width p.1.width)
       (both x y) f made (λ p c q. q.width_is))
-      (λ p. refl) (two_parts x y (checked s l) (checked s r) h.finds k.finds) (λ p. binary_counted (binary_class op) p.0 p.1);
+      (two_parts x y (checked s l) (checked s r) h.finds k.finds) (λ p. binary_counted (binary_class op) p.0 p.1);
   holds = sized_holds (λ (c : Checked). StandsFor s (Binary op l r) c) (first_at l) f
       (made_holds (λ (p : Checked × Checked) (c : Checked). MakesBinary (binary_class op) p.0 p.1 c) (λ (p : Checked × Checked). StandsFor s l p.0 × StandsFor s r p.1)
       (λ (c : Checked). c.width ≤ 128 → StandsFor s (Binary op l r) c) (both x y) f made
@@ -165,12 +172,12 @@ conditional_counted a b = omega arith
 pub conditional_checked : (s : Scope) (t l r : Tree) (x y z f : Found Checked) → IsChecked s t x → IsChecked s l y → IsChecked s r z
     → AreConditional (both x (both y z)) f → IsChecked s (Conditional t l r) (sized_at (first_at t) f)
 conditional_checked s t l r x y z f g h k made = record {
-  finds = whole_width {A = Checked × (Checked × Checked)} {B = ℕ × (ℕ × ℕ)} (first_at t) (λ (p : Checked × (Checked × Checked)). max p.1.0.width p.1.1.width) (λ (p : ℕ × (ℕ × ℕ)). max p.1.0 p.1.1)
+  finds = whole_width {A = Checked × (Checked × Checked)} {B = ℕ × (ℕ × ℕ)} (first_at t) (λ (p : ℕ × (ℕ × ℕ)). max p.1.0 p.1.1) (λ (p : ℕ × (ℕ × ℕ)). max p.1.0 p.1.1)
       (λ (p : ℕ × (ℕ × ℕ)). (counted_width p.0, (counted_width p.1.0, counted_width p.1.1))) (λ (p : Checked × (Checked × Checked)). (p.0.width, (p.1.0.width, p.1.1.width)))
       (both x (both y z)) (both (checked s t) (both (checked s l) (checked s r))) f
-      (made_width (λ (p : Checked × (Checked × Checked)) (c : Checked). MakesConditional p.0 p.1.0 p.1.1 c) (λ (p : Checked × (Checked × Checked)). max p.1.0.width p.1.1.width)
+      (made_width (λ (p : Checked × (Checked × Checked)) (c : Checked). MakesConditional p.0 p.1.0 p.1.1 c) (λ (c : Checked). c.width) (λ (p : Checked × (Checked × Checked)). max p.1.0.width p.1.1.width)
       (both x (both y z)) f made (λ p c q. q.width_is))
-      (λ p. refl) (three_parts x y z (checked s t) (checked s l) (checked s r) g.finds h.finds k.finds) (λ p. conditional_counted p.1.0 p.1.1);
+      (three_parts x y z (checked s t) (checked s l) (checked s r) g.finds h.finds k.finds) (λ p. conditional_counted p.1.0 p.1.1);
   holds = sized_holds (λ (c : Checked). StandsFor s (Conditional t l r) c) (first_at t) f
       (made_holds (λ (p : Checked × (Checked × Checked)) (c : Checked). MakesConditional p.0 p.1.0 p.1.1 c)
       (λ (p : Checked × (Checked × Checked)). StandsFor s t p.0 × (StandsFor s l p.1.0 × StandsFor s r p.1.1))

@@ -15,8 +15,8 @@ use v_flat::{BinaryClass, UnaryClass, binary_class, unary_class};
 use v_scope::{ElabRule, Found};
 use v_syntax::{BinaryOperator, UnaryOperator};
 
-/// It has at most 128 digits, or else TooWide is broken at this token.
-fn sized(place: usize, found: Found<Checked>) -> Found<Checked>
+/// What is found has at most 128 digits, or else TooWide is broken at this token (clause 5.4.1).
+pub fn sized(place: usize, found: Found<Checked>) -> Found<Checked>
     ensures { result ≡ sized_at place found }
 {
     match found {

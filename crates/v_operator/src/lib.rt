@@ -11,4 +11,4 @@ mod found;
 mod made;
 
 pub use checked::Checked;
-pub use found::{binary, bracketed, conditional, number, unary};
+pub use found::{binary, bracketed, conditional, number, sized, unary};

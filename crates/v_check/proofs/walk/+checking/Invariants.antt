@@ -1,0 +1,9 @@
+-- The parts behind.
+use Rattle.std.proofs.Common.{drop}
+use Rattle.v_scope.specs.Scope.{means}
+use Rattle.v_syntax.specs.ExpressionTrees.{views}
+use Rattle.v_parts.specs.Parts.{AreChecked}
+use Rattle.v_check.proofs.walk.+checking.Given as goal
+
+abbrev pub invariant-all-loop-at : goal.invariant-all-loop-at
+invariant-all-loop-at l = AreChecked (means l.scope) (views (drop l.at l.expressions)) l.found

@@ -1,0 +1,21 @@
+-- What an expression is in a context of w digits: a term, or the rule that is broken first.
+use Rattle.std.specs.Prelude.{◌≡◌, ℕ, List, Result, Ok, Err}
+use Rattle.gpi.specs.declared.terms.Term.{Term}
+use Rattle.gpi.specs.Made.{Makes}
+use Rattle.v_syntax.specs.ExpressionTrees.{Tree}
+use Rattle.v_scope.specs.declared.rule.Broken.{Broken}
+use Rattle.v_scope.specs.Found.{ended}
+use Rattle.v_scope.specs.Scope.{Scope}
+use Rattle.v_flat.specs.Expressions.{width, meaning}
+use Rattle.v_flat.specs.Checks.{checked}
+use Rattle.v_operator.specs.Checked.{AreNamesOf}
+
+-- no rule is broken; and the term has the value on every map of the signals, and is sound wherever the names are signals of the
+-- design
+pub record HasTerm (s : Scope) (e : Tree) (w : ℕ) (t : Term) : Type 0 where
+  pub finds : ended (checked s e) ≡ Ok (width s e)
+  pub makes : Makes t (meaning s e w) w (λ ws. AreNamesOf s e ws)
+
+abbrev pub IsTerm : Scope → Tree → ℕ → Result Term Broken → Type 0
+IsTerm s e w (Ok t) = HasTerm s e w t
+IsTerm s e w (Err b) = ended (checked s e) ≡ Err b

@@ -1,0 +1,34 @@
+//! What an expression is in one context.
+
+ghost use Rattle.std.specs.Prelude.{IfOk};
+ghost use Rattle.gpi.specs.Terms.{IsWidth};
+ghost use Rattle.v_scope.specs.Scope.{means};
+ghost use Rattle.v_syntax.specs.ExpressionTrees.{view};
+ghost use Rattle.v_names.specs.Proper.{AreProper};
+ghost use Rattle.v_check.specs.Terms.{IsTerm};
+
+use crate::check;
+use gpi::Term;
+use port_io::NoMemory;
+use std::alloc::Global;
+use v_constant::ended;
+use v_scope::{Broken, Scope};
+use v_syntax::Expression;
+
+/// An expression in a context of `width` digits, or the rule that is broken first in it: of all that are broken the one at the least
+/// token, and at one token the one that stands first in the table. Only want of memory is an error.
+pub fn term(
+    alloc: Global,
+    scope: &Scope,
+    expression: &Expression,
+    width: u8,
+) -> Result<Result<Term, Broken>, NoMemory>
+    requires proper { AreProper (means scope.now) }
+    requires width { IsWidth width }
+    ensures { IfOk result (IsTerm (means scope.now) (view expression.now) width) }
+{
+    match ended(check(alloc, scope, expression)?) {
+        Ok(checked) => Ok(Ok(checked.form.lower(alloc, width)?)),
+        Err(fault) => Ok(Err(fault)),
+    }
+}

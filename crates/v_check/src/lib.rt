@@ -1,0 +1,12 @@
+//! What is found in a whole expression.
+//!
+//! [`check`] goes over an expression once, and says what is broken first in it, or its width and what it is in each context.
+//! [`constant`] is the value of an expression that has to be a constant, [`selects`] the selects behind a name, as
+//! targets have them too, and [`term`] what an expression is in one context.
+#![tactic(auto)]
+
+mod context;
+mod walk;
+
+pub use context::term;
+pub use walk::{check, constant, selects};

@@ -1,0 +1,3 @@
+pub mod Unsignalled
+pub mod Values
+pub mod Rows

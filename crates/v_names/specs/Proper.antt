@@ -1,0 +1,21 @@
+-- Scopes in which each vector has 1 to 128 digits, and each memory at most as many words as a design has signals.
+use Rattle.std.specs.Prelude.{◌≡◌, ℕ, ◌≤◌, List, length, Option, None, Some}
+use Rattle.gpi.specs.Terms.{IsWidth}
+use Rattle.v_scope.specs.declared.meaning.Bounds.{Bounds}
+use Rattle.v_scope.specs.declared.meaning.DataObject.{DataObject}
+use Rattle.v_scope.specs.declared.meaning.Meaning.{Meaning}
+use Rattle.v_scope.specs.declared.meaning.Meaning.TheVariants.{Constant, Object, Later}
+use Rattle.v_scope.specs.Scope.{Scope, find, width_of}
+
+abbrev pub HasWords : Option Bounds → Type 0
+HasWords None = Unit {0}
+HasWords (Some w) = width_of w ≤ 65536
+
+abbrev pub IsProper : Option Meaning → Type 0
+IsProper None = Unit {0}
+IsProper (Some Later) = Unit {0}
+IsProper (Some (Constant ds b)) = length ds ≡ width_of b
+IsProper (Some (Object o)) = IsWidth (width_of o.bounds) × HasWords o.words
+
+abbrev pub AreProper : Scope → Type 0
+AreProper s = (n : List ℕ) → IsProper (find n s)

@@ -1,0 +1,46 @@
+-- What it means that the selects behind a name were checked (IEEE 1364-2005, clause 5.2), and what is found in the whole.
+use Rattle.std.specs.Prelude.{◌≡◌, ℕ, List, false}
+use Rattle.four_value.specs.declared.Digit.{Digit}
+use Rattle.gpi.specs.declared.terms.Term.{Term}
+use Rattle.gpi.specs.Terms.{value, IsSound}
+use Rattle.v_syntax.specs.ExpressionTrees.{Tree, Named, SelectsTree, Whole, One, OfWord, SelectTree, Bit, Part, IndexedPart, first_at}
+use Rattle.v_scope.specs.declared.found.Found.{Found}
+use Rattle.v_scope.specs.Found.{each, and_then, Holds}
+use Rattle.v_scope.specs.Scope.{Scope}
+use Rattle.v_flat.specs.Expressions.{own_value}
+use Rattle.v_flat.specs.Checks.{checked, index, constant_of, counted}
+use Rattle.v_operator.specs.declared.checked.Checked.{Checked}
+use Rattle.v_operator.specs.Checked.{AreNamesOf, IsChecked, counted_width}
+use Rattle.v_names.specs.declared.selects.CheckedSelect.{CheckedSelect}
+use Rattle.v_names.specs.declared.selects.CheckedSelect.TheVariants as code
+use Rattle.v_names.specs.declared.selects.CheckedSelects.{CheckedSelects}
+use Rattle.v_names.specs.declared.selects.CheckedSelects.TheVariants as code_selects
+
+-- a term has the value of an expression by itself
+pub record StandsAlone (s : Scope) (e : Tree) (t : Term) : Type 0 where
+  pub means : (m : ℕ → List Digit) → value t m ≡ own_value s e m
+  pub sound : (ws : List ℕ) → AreNamesOf s e ws → IsSound t ws
+
+-- the same rule is broken first as in the definition of an index; and where none is the term stands for it
+pub record IsIndex (s : Scope) (e : Tree) (f : Found Term) : Type 0 where
+  pub finds : each (λ (t : Term). tt) f ≡ index false s e (checked s e)
+  pub holds : Holds (λ (t : Term). StandsAlone s e t) f
+
+abbrev pub ChecksIndex : Found Checked → Found Term → Type 0
+ChecksIndex x f = (s : Scope) (e : Tree) → IsChecked s e x → IsIndex s e f
+
+-- each expression in it was checked, and each that has to be a constant was evaluated
+abbrev pub IsSelect : Scope → SelectTree → CheckedSelect → Type 0
+IsSelect s (Bit p i) (code.Bit q x) = (p ≡ q) × IsIndex s i x
+IsSelect s (Part p l r) (code.Part q x y) = (p ≡ q) × ((x ≡ constant_of s l) × (y ≡ constant_of s r))
+IsSelect s (IndexedPart p b n) (code.IndexedPart q x w) = (p ≡ q) × (IsIndex s b x × (w ≡ each counted_width (and_then (constant_of s n) (counted (first_at n)))))
+IsSelect s _ _ = ⊥
+
+abbrev pub AreSelects : Scope → SelectsTree → CheckedSelects → Type 0
+AreSelects s Whole code_selects.Whole = Unit {0}
+AreSelects s (One sel) (code_selects.One x) = IsSelect s sel x
+AreSelects s (OfWord p i sel) (code_selects.OfWord f x) = IsIndex s i f × IsSelect s sel x
+AreSelects s _ _ = ⊥
+
+abbrev pub ChecksName : Scope → List ℕ → ℕ → CheckedSelects → Found Checked → Type 0
+ChecksName s n p x f = (sel : SelectsTree) → AreSelects s sel x → IsChecked s (Named p n sel) f

@@ -1,0 +1,70 @@
+//! Ranges of vectors and memories.
+
+ghost use Rattle.std.specs.Prelude.{◌≡◌, ◌≤◌};
+ghost use Rattle.gpi.specs.Terms.{IsWidth};
+ghost use Rattle.v_scope.specs.Scope.{is_falling, low_of, width_of};
+ghost use Rattle.v_flat.specs.Objects.{range_of, words_of};
+
+use gpi::{Order, Range, SigId, Words};
+use v_scope::Bounds;
+
+/// How many indices a range has, both bounds counted, where they are few (clause 4.9).
+pub fn index_count(bounds: Bounds) -> u32
+    requires { width_of bounds ≤ 65536 }
+    ensures { result ≡ width_of bounds }
+{
+    if bounds.left <= bounds.right {
+        bounds.right - bounds.left + 1
+    } else {
+        bounds.left - bounds.right + 1
+    }
+}
+
+/// The width of a vector that has this range.
+pub(crate) fn width(bounds: Bounds) -> u8
+    requires { IsWidth (width_of bounds) }
+    ensures { result ≡ width_of bounds }
+{
+    index_count(bounds) as u8
+}
+
+/// The least index.
+fn low(bounds: Bounds) -> u32
+    ensures { result ≡ low_of bounds }
+{
+    bounds.left.min(bounds.right)
+}
+
+/// Whether the indices fall from the highest digit on; equal bounds count as falling (clause 4.3.1).
+pub(crate) fn falls(bounds: Bounds) -> bool
+    ensures { result ≡ is_falling bounds }
+{
+    bounds.right <= bounds.left
+}
+
+/// The range of a vector.
+pub(crate) fn range(bounds: Bounds) -> Range
+    ensures { result ≡ range_of bounds }
+{
+    let order = if falls(bounds) {
+        Order::Falling
+    } else {
+        Order::Rising
+    };
+    Range {
+        low: low(bounds),
+        order,
+    }
+}
+
+/// The words of a memory, from their first signal on.
+pub(crate) fn words(first: u32, bounds: Bounds) -> Words
+    requires { width_of bounds ≤ 65536 }
+    ensures { result ≡ words_of first bounds }
+{
+    Words {
+        first: SigId(first),
+        low: low(bounds),
+        count: index_count(bounds),
+    }
+}

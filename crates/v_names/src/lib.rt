@@ -1,0 +1,14 @@
+//! Names with selects: bits, parts and words of memories.
+//!
+//! [`CheckedSelects`] are the selects behind a name whose expressions were checked, all of them, whatever the name is;
+//! [`by_itself`] makes an index of what was found in its expression. [`named`] says what is found in a name with them.
+#![tactic(auto)]
+
+mod bounds;
+mod choice;
+mod name;
+mod selects;
+
+pub use bounds::index_count;
+pub use name::named;
+pub use selects::{CheckedSelect, CheckedSelects, by_itself};

@@ -1,0 +1,223 @@
+//! What is found in a name with selects.
+
+ghost use Rattle.std.specs.Prelude.{◌≡◌, Some, IfOk};
+ghost use Rattle.gpi.specs.Terms.{IsWidth};
+ghost use Rattle.v_scope.specs.Scope.{means, width_of};
+ghost use Rattle.v_scope.specs.declared.meaning.Meaning.TheVariants.{Object};
+ghost use Rattle.v_names.specs.Proper.{AreProper, IsProper};
+ghost use Rattle.v_names.specs.Made.{AreParts, AreWordParts, AreWordsOf, MakesPart, MakesWord, MakesWordPart, MemoryMade, NamesObject, VectorMade, WordMade, twice_at};
+ghost use Rattle.v_names.specs.Selects.{ChecksName};
+
+use crate::bounds::{range, width, words};
+use crate::choice::{Choice, chosen};
+use crate::{CheckedSelect, CheckedSelects};
+use gpi::{Range, SigId, Term, Words};
+use port_io::NoMemory;
+use std::alloc::Global;
+use v_context::Contextual;
+use v_operator::Checked;
+use v_scope::{Bounds, DataObject, ElabRule, Found, Meaning, Scope};
+
+/// Digits of a vector. Only want of memory is an error.
+fn part(alloc: Global, from: Term, range: Range, choice: Choice) -> Result<Checked, NoMemory>
+    ensures { IfOk result (MakesPart from range choice) }
+{
+    let Choice { index, width } = choice;
+    Ok(Checked {
+        width,
+        form: Contextual::Settled(Term::select(alloc, from, range, index, width)?),
+    })
+}
+
+/// What is chosen from a vector. Only want of memory is an error.
+fn parts(
+    alloc: Global,
+    from: Term,
+    range: Range,
+    found: Found<Choice>,
+) -> Result<Found<Checked>, NoMemory>
+    ensures { IfOk result (AreParts from range found) }
+{
+    match found {
+        Found::Sound(choice) => Ok(Found::Sound(part(alloc, from, range, choice)?)),
+        Found::Noted(fault, choice) => Ok(Found::Noted(fault, part(alloc, from, range, choice)?)),
+        Found::Lost(fault) => Ok(Found::Lost(fault)),
+    }
+}
+
+/// Two selects on what is no memory: BadRange is broken at the second one.
+fn twice<A: Drop>(word: Found<A>, place: usize) -> Found<Checked>
+    ensures { result ≡ twice_at word place }
+{
+    match word {
+        Found::Sound(_) => Found::broken(ElabRule::BadRange, place),
+        Found::Noted(fault, _) => Found::broken(ElabRule::BadRange, place).noted(fault),
+        Found::Lost(fault) => Found::Lost(fault),
+    }
+}
+
+/// A vector with selects, where `place` is the number of its name. Only want of memory is an error.
+fn vector(
+    alloc: Global,
+    place: usize,
+    from: Term,
+    width: u8,
+    bounds: Bounds,
+    selects: CheckedSelects,
+) -> Result<Found<Checked>, NoMemory>
+    ensures { IfOk result (VectorMade place from width bounds selects) }
+{
+    match selects {
+        CheckedSelects::Whole => Ok(Found::Sound(Checked {
+            width,
+            form: Contextual::Settled(from),
+        })),
+        CheckedSelects::One(select) => {
+            Ok(parts(alloc, from, range(bounds), chosen(place, bounds, select))?)
+        }
+        CheckedSelects::OfWord(word, select) => Ok(twice(word, select.place())),
+    }
+}
+
+/// A word of a memory. Only want of memory is an error.
+fn word(alloc: Global, words: Words, width: u8, index: Term) -> Result<Checked, NoMemory>
+    ensures { IfOk result (MakesWord words width index) }
+{
+    Ok(Checked {
+        width,
+        form: Contextual::Settled(Term::word(alloc, words, index, width)?),
+    })
+}
+
+/// What is found in an index to a memory. Only want of memory is an error.
+fn indexed(
+    alloc: Global,
+    words: Words,
+    width: u8,
+    found: Found<Term>,
+) -> Result<Found<Checked>, NoMemory>
+    ensures { IfOk result (AreWordsOf words width found) }
+{
+    match found {
+        Found::Sound(index) => Ok(Found::Sound(word(alloc, words, width, index)?)),
+        Found::Noted(fault, index) => Ok(Found::Noted(fault, word(alloc, words, width, index)?)),
+        Found::Lost(fault) => Ok(Found::Lost(fault)),
+    }
+}
+
+/// One select on a memory: it has to be an index, or else BadRange is broken at it. Only want of memory is an error.
+fn one(
+    alloc: Global,
+    words: Words,
+    width: u8,
+    select: CheckedSelect,
+) -> Result<Found<Checked>, NoMemory>
+    ensures { IfOk result (WordMade words width select) }
+{
+    match select {
+        CheckedSelect::Bit { index, .. } => Ok(indexed(alloc, words, width, index)?),
+        other => Ok(Found::broken(ElabRule::BadRange, other.place())),
+    }
+}
+
+/// Digits of a word of a memory. Only want of memory is an error.
+fn word_part(
+    alloc: Global,
+    words: Words,
+    width: u8,
+    bounds: Bounds,
+    found: (Term, Choice),
+) -> Result<Checked, NoMemory>
+    ensures { IfOk result (MakesWordPart words width bounds found) }
+{
+    let (index, choice) = found;
+    let word = Term::word(alloc, words, index, width)?;
+    part(alloc, word, range(bounds), choice)
+}
+
+/// What is chosen from a word of a memory. Only want of memory is an error.
+fn word_parts(
+    alloc: Global,
+    words: Words,
+    width: u8,
+    bounds: Bounds,
+    found: Found<(Term, Choice)>,
+) -> Result<Found<Checked>, NoMemory>
+    ensures { IfOk result (AreWordParts words width bounds found) }
+{
+    match found {
+        Found::Sound(both) => Ok(Found::Sound(word_part(alloc, words, width, bounds, both)?)),
+        Found::Noted(fault, both) => {
+            Ok(Found::Noted(fault, word_part(alloc, words, width, bounds, both)?))
+        }
+        Found::Lost(fault) => Ok(Found::Lost(fault)),
+    }
+}
+
+/// A memory with selects, where `place` is the number of its name. Only want of memory is an error.
+fn memory(
+    alloc: Global,
+    place: usize,
+    words: Words,
+    width: u8,
+    bounds: Bounds,
+    selects: CheckedSelects,
+) -> Result<Found<Checked>, NoMemory>
+    ensures { IfOk result (MemoryMade place words width bounds selects) }
+{
+    match selects {
+        CheckedSelects::Whole => Ok(Found::broken(ElabRule::BadRange, place)),
+        CheckedSelects::One(select) => Ok(one(alloc, words, width, select)?),
+        CheckedSelects::OfWord(index, select) => {
+            let found = index.both(chosen(place, bounds, select));
+            Ok(word_parts(alloc, words, width, bounds, found)?)
+        }
+    }
+}
+
+/// A net, a register or a memory with selects, where `place` is the number of its name. Only want of memory is an error.
+fn object(
+    alloc: Global,
+    place: usize,
+    object: DataObject,
+    selects: CheckedSelects,
+) -> Result<Found<Checked>, NoMemory>
+    requires { IsProper (Some (Object object)) }
+    ensures { IfOk result (NamesObject place object selects) }
+{
+    let bounds = object.bounds;
+    let width = width(bounds);
+    match object.words {
+        None => {
+            let signal = Term::Signal(SigId(object.first), width);
+            Ok(vector(alloc, place, signal, width, bounds, selects)?)
+        }
+        Some(range) => {
+            let words = words(object.first, range);
+            Ok(memory(alloc, place, words, width, bounds, selects)?)
+        }
+    }
+}
+
+/// A name with selects whose expressions were checked, where `place` is the number of the name (IEEE 1364-2005, clause 5.2). Only
+/// want of memory is an error.
+pub fn named(
+    alloc: Global,
+    scope: &Scope,
+    name: &[u8],
+    place: usize,
+    selects: CheckedSelects,
+) -> Result<Found<Checked>, NoMemory>
+    requires { AreProper (means scope.now) }
+    ensures { IfOk result (ChecksName (means scope.now) name.now place selects) }
+{
+    match scope.find(name) {
+        None => Ok(Found::broken(ElabRule::UnknownName, place)),
+        Some(Meaning::Later) => Ok(Found::broken(ElabRule::NotConstant, place)),
+        Some(Meaning::Constant(value, bounds)) => {
+            let width = value.width();
+            Ok(vector(alloc, place, Term::Const(*value), width, *bounds, selects)?)
+        }
+        Some(Meaning::Object(data)) => Ok(object(alloc, place, *data, selects)?),
+    }
+}

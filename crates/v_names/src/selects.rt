@@ -1,0 +1,78 @@
+//! Selects whose expressions were checked.
+
+ghost use Rattle.std.specs.Prelude.{◌≡◌, IfOk};
+ghost use Rattle.v_names.specs.Made.{AreAlone, place_of};
+ghost use Rattle.v_names.specs.Selects.{ChecksIndex};
+
+use four_value::Bits;
+use gpi::Term;
+use port_io::NoMemory;
+use std::alloc::Global;
+use v_operator::Checked;
+use v_scope::Found;
+
+/// A select whose expressions were checked (IEEE 1364-2005, clause 5.2). Each `at` is the number of its `[`.
+#[derive(Drop)]
+pub enum CheckedSelect {
+    /// `[ index ]`
+    Bit {
+        at: usize,
+        index: Found<Term>,
+    },
+    /// `[ left : right ]`, with the values of both constants.
+    Part {
+        at: usize,
+        left: Found<Bits>,
+        right: Found<Bits>,
+    },
+    /// `[ base +: width ]`, where 129 stands for a width of more than 128.
+    IndexedPart {
+        at: usize,
+        base: Found<Term>,
+        width: Found<u8>,
+    },
+}
+
+/// The selects behind a name, whose expressions were checked.
+#[derive(Drop)]
+pub enum CheckedSelects {
+    /// None: all of the name.
+    Whole,
+    /// A bit or a part of a vector, or a word of a memory.
+    One(CheckedSelect),
+    /// A word of a memory by its index, and a bit or a part of it.
+    OfWord(Found<Term>, CheckedSelect),
+}
+
+impl CheckedSelect {
+    /// The number of its `[`.
+    pub(crate) fn place(&self) -> usize
+        ensures { result ≡ place_of self.now }
+    {
+        match self {
+            CheckedSelect::Bit { at, .. }
+            | CheckedSelect::Part { at, .. }
+            | CheckedSelect::IndexedPart { at, .. } => *at,
+        }
+    }
+}
+
+/// What stands by itself, as an index does (clause 5.4.1), from what was found in it. Only want of memory is an error.
+pub fn by_itself(alloc: Global, found: Found<Checked>) -> Result<Found<Term>, NoMemory>
+    ensures { IfOk result (ChecksIndex found) }
+{
+    Ok(lowered(alloc, found)?)
+}
+
+/// Each in a context of its own width. Only want of memory is an error.
+fn lowered(alloc: Global, found: Found<Checked>) -> Result<Found<Term>, NoMemory>
+    ensures { IfOk result (AreAlone found) }
+{
+    match found {
+        Found::Sound(Checked { width, form }) => Ok(Found::Sound(form.lower(alloc, width)?)),
+        Found::Noted(fault, Checked { width, form }) => {
+            Ok(Found::Noted(fault, form.lower(alloc, width)?))
+        }
+        Found::Lost(fault) => Ok(Found::Lost(fault)),
+    }
+}
