@@ -13,6 +13,7 @@ use Rattle.py_syntax.specs.declared.module.Parameter.{Parameter}
 use Rattle.py_syntax.specs.declared.module.Setting.{Setting}
 use Rattle.test_rules.specs.declared.rule.FileRule.{FileRule}
 use Rattle.test_rules.specs.declared.rule.FileRule.TheVariants as rule
+use Rattle.test_rules.specs.declared.rule.Refusal.{Refusal}
 use Rattle.test_rules.specs.File.{File, Definition, Place, places, file_of, is_known, fixed_of, value_in, function, factory, made_by, choices, is_generated, is_made, is_decorated, is_test, further, names_of, next_function, is_function, is_decorator, starts_with_function, parameters_of}
 use Rattle.test_rules.specs.Names.{Name, is_among, come_twice}
 use Rattle.test_factory.specs.Product.{Choice, case_count}
@@ -279,10 +280,6 @@ breaks rule.NoTests f l = false
 -- in the order in which they count on one line
 abbrev pub rules : List FileRule
 rules = rule.UnknownImport ∷ rule.UnknownName ∷ rule.Misplaced ∷ rule.DuplicateName ∷ rule.BadOption ∷ rule.TooManyCases ∷ rule.NoTests ∷ []
-
-pub record Refusal : Type 0 where
-  pub rule : FileRule
-  pub line : ℕ
 
 abbrev pub refused_at : ℕ → Option FileRule → Option Refusal
 refused_at l None = None

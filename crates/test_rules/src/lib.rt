@@ -1,6 +1,6 @@
 //! Which rule a tests file breaks first.
 //!
-//! [`FileRule`] lists the rules. The definitions stand in `specs/`: what the items of a module define (`File`), what each line uses
+//! [`FileRule`] lists the rules, and a [`Refusal`] is the line that breaks one. The definitions stand in `specs/`: what the items of a module define (`File`), what each line uses
 //! (`Uses`), which lines break which rule, and which line is the first (`Rules`).
 #![tactic(auto)]
 
@@ -14,4 +14,4 @@ pub use laws::{
     import_rows, kept_rows, loop_rows, name_rows, option_rows, order_rows, place_rows,
     refused_rows,
 };
-pub use rule::FileRule;
+pub use rule::{FileRule, Refusal};

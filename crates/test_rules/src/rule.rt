@@ -19,3 +19,11 @@ pub enum FileRule {
     /// No test outside of factories, and no factory's tests that are generated.
     NoTests,
 }
+
+/// A line that breaks a rule, and the rule.
+#[derive(Clone, Copy, Debug, PartialEq, Eq)]
+pub struct Refusal {
+    pub rule: FileRule,
+    /// The number of the line, from 1.
+    pub line: u32,
+}
