@@ -22,7 +22,11 @@ pub(crate) fn argument(values: &[Value], at: usize) -> Result<&Value, FaultKind>
 }
 
 /// The femtoseconds of the unit that the argument at a place names, or why it is refused. A unit that is left out is the step.
-pub(crate) fn unit_argument<V: Look>(view: &V, values: &[Value], at: usize) -> Result<u64, FaultKind>
+pub(crate) fn unit_argument<V: Look>(
+    view: &V,
+    values: &[Value],
+    at: usize,
+) -> Result<u64, FaultKind>
     ensures is { result ≡ meaning.unit_argument (V.view view.now) values.now at }
     ensures some { IfOk result (λ fs. 1 ≤ fs) }
 {

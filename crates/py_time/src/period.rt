@@ -34,11 +34,7 @@ fn exact_steps(
 /// The steps that a time in a unit is, where a step has so many femtoseconds, and the unit has so many or is refused: `Timer`'s
 /// arguments. A time without a number and a unit that is no text are TypeErrors; then a time that is no positive whole number of steps
 /// and a unit that isn't known are ValueErrors; then over 2^62 steps are an OverflowError.
-pub fn steps_of(
-    step_fs: u64,
-    time: &Value,
-    unit: Result<u64, FaultKind>,
-) -> Result<u64, FaultKind>
+pub fn steps_of(step_fs: u64, time: &Value, unit: Result<u64, FaultKind>) -> Result<u64, FaultKind>
     requires { 1 ≤ step_fs }
     ensures { result ≡ meaning.steps_of step_fs time.now unit }
 {

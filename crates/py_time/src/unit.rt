@@ -64,11 +64,7 @@ fn in_unit(fs: u128, unit: u64) -> Result<Value, FaultKind>
 
 /// `get_sim_time(unit)`: the simulated time of `now` steps in a unit, where a step has so many femtoseconds, and the unit has so many or
 /// is refused. A unit that doesn't divide the time is a ValueError, and a time that no value can hold an OverflowError.
-pub fn time_in(
-    step_fs: u64,
-    now: u64,
-    unit: Result<u64, FaultKind>,
-) -> Result<Value, FaultKind>
+pub fn time_in(step_fs: u64, now: u64, unit: Result<u64, FaultKind>) -> Result<Value, FaultKind>
     requires { IfOk unit (λ fs. 1 ≤ fs) }
     ensures { result ≡ meaning.time_in step_fs now unit }
 {

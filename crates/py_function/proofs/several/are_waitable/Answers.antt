@@ -9,4 +9,3 @@ loop-v-preserved c =
 pub returns-then-not-is_waitable : goal.returns-then-not-is_waitable
 returns-then-not-is_waitable c =
     waitable_not c.args.values.now c.loop-v.v-index c.v-item.result c.is_waitable.result c.loop-v-test.true c.v-item.is c.loop-v.invariant c.is_waitable.ensures (search rules)
-
