@@ -2,6 +2,7 @@ pub mod Trigger
 pub mod TriggerCode
 pub mod TriggerView
 pub mod TriggerFalls
+pub mod Extents
 pub mod Answer
 pub mod Places
 pub mod Shown

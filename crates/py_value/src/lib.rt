@@ -8,6 +8,7 @@
 
 mod conditions;
 mod copies;
+mod limits;
 mod paths;
 mod shown;
 mod trigger;

@@ -1,0 +1,113 @@
+-- Triggers one after the other.
+use Rattle.std.proofs.Common.{◌≡◌, ℕ, suc, ◌+◌, ◌<◌, ◌≤◌, Bool, true, false, List, [], ◌∷◌, ◌++◌, length, drop, get_or, Ok, Err, refl, ap, sym, subst, ◌∙◌, arith, add-one}
+use Rattle.std.specs.Prelude.{◌&&◌, Result}
+use Rattle.std.proofs.Math.Seq.{drop-cons}
+use Rattle.std.proofs.lemmas.List.{drop_all}
+use Rattle.py_syntax.specs.declared.fault_kind.FaultKind.{FaultKind}
+use Rattle.py_value.specs.Answer.{Answer}
+use Rattle.py_value.specs.Trigger.{Trig, Trigs, NoTrig, Then, row}
+use Rattle.py_value.specs.declared.trigger.TaskNo.{TaskNo}
+use Rattle.py_value.specs.declared.trigger.Trigs.{Trigs as Made}
+use Rattle.py_value.specs.declared.value.Value.{Value}
+use Rattle.py_attribute.specs.declared.fault.OperationFault.{OperationFault}
+use Rattle.py_attribute.specs.declared.fault.OperationFault.TheVariants as faults
+use Rattle.py_look.specs.Outcome.{Outcome, Ends, gives, refuses, bind, after}
+use Rattle.py_function.specs.Making.{as_trigger, as_triggers, are_waitable, is_waitable}
+use Rattle.py_function.specs.Rows.{EndsRow}
+
+-- triggers in front of others
+pub joined : List Trig → Trigs → Trigs
+joined [] us = us
+joined (t ∷ ts) us = Then t (joined ts us)
+
+joined_more : (ts : List Trig) (t : Trig) (us : Trigs) → joined ts (Then t us) ≡ joined (ts ++ t ∷ []) us
+unfolding joined
+joined_more [] t us = refl
+joined_more (x ∷ ts) t us = ap (Then x) (joined_more ts t us)
+
+joined_none : (ts : List Trig) → joined ts NoTrig ≡ row ts
+unfolding joined
+joined_none [] = refl
+joined_none (x ∷ ts) = ap (Then x) (joined_none ts)
+
+-- an outcome behind triggers that were made before
+pub behind : List Trig → Outcome Trigs → Outcome Trigs
+behind ts o = bind o (λ us k. gives (joined ts us) k)
+
+-- one trigger more
+step_at : (ts : List Trig) (t : Trig) (a : Answer Trigs) (k : ℕ)
+    → after (after a k (λ us i. gives (Then t us) i)).answer (after a k (λ us i. gives (Then t us) i)).next (λ us k. gives (joined ts us) k) ≡ after a k (λ us i. gives (joined (ts ++ t ∷ []) us) i)
+step_at ts t (Ok us) k = ap (λ (q : Trigs). gives q k) (joined_more ts t us)
+step_at ts t (Err kind) k = refl
+
+pub behind_step : (task : TaskNo) (ts : List Trig) (v : Value) (vs : List Value) (k j : ℕ) (t : Trig) → as_trigger task v k ≡ gives t j
+    → behind ts (as_triggers task (v ∷ vs) k) ≡ behind (ts ++ t ∷ []) (as_triggers task vs j)
+unfolding behind
+behind_step task ts v vs k j t e =
+    let o = as_triggers task vs j in
+    ap (λ (p : Outcome Trig). behind ts (bind p (λ t j. bind (as_triggers task vs j) (λ ts i. gives (Then t ts) i)))) e
+    ∙ step_at ts t o.answer o.next
+
+pub behind_fault : (task : TaskNo) (ts : List Trig) (v : Value) (vs : List Value) (k j : ℕ) (kind : FaultKind) → as_trigger task v k ≡ refuses kind j
+    → behind ts (as_triggers task (v ∷ vs) k) ≡ refuses kind j
+unfolding behind
+behind_fault task ts v vs k j kind e =
+    ap (λ (p : Outcome Trig). behind ts (bind p (λ t j. bind (as_triggers task vs j) (λ ts i. gives (Then t ts) i)))) e
+
+pub behind_none : (task : TaskNo) (ts : List Trig) (k : ℕ) → behind ts (as_triggers task [] k) ≡ gives (row ts) k
+unfolding behind
+behind_none task ts k = ap (λ (q : Trigs). gives q k) (joined_none ts)
+
+pub behind_begin : (o : Outcome Trigs) → behind [] o ≡ o
+unfolding behind joined
+behind_begin o = at o.answer o.next
+  where
+    at : (a : Answer Trigs) (k : ℕ) → after a k (λ us k. gives us k) ≡ record { answer = a; next = k }
+    at (Ok us) k = refl
+    at (Err kind) k = refl
+
+-- the triggers from a place on
+from_place : (task : TaskNo) (ts : List Trig) (vs : List Value) (n : ℕ) (v : Value) (k : ℕ) → n < length vs → v ≡ get_or vs n v
+    → behind ts (as_triggers task (drop n vs) k) ≡ behind ts (as_triggers task (v ∷ drop (n + 1) vs) k)
+from_place task ts vs n v k h is =
+    rw add-one (ap (λ (l : List Value). behind ts (as_triggers task l k)) (drop-cons vs n v h ∙ ap (λ (x : Value). x ∷ drop (suc n) vs) (sym is)))
+
+pub triggers_step : (task : TaskNo) (ts : List Trig) (vs : List Value) (n : ℕ) (v : Value) (k j : ℕ) (t : Trig) (whole : Outcome Trigs)
+    → n < length vs → v ≡ get_or vs n v → behind ts (as_triggers task (drop n vs) k) ≡ whole → as_trigger task v k ≡ gives t j
+    → behind (ts ++ t ∷ []) (as_triggers task (drop (n + 1) vs) j) ≡ whole
+triggers_step task ts vs n v k j t whole h is w e =
+    sym (behind_step task ts v (drop (n + 1) vs) k j t e) ∙ (sym (from_place task ts vs n v k h is) ∙ w)
+
+pub triggers_fault : (task : TaskNo) (ts : List Trig) (vs : List Value) (n : ℕ) (v : Value) (k j : ℕ) (fault : OperationFault) (whole : Outcome Trigs)
+    → n < length vs → v ≡ get_or vs n v → behind ts (as_triggers task (drop n vs) k) ≡ whole → Ends {A = Trig} (Err fault) j (as_trigger task v k)
+    → EndsRow (Err fault) j whole
+triggers_fault task ts vs n v k j (faults.Raised kind) whole h is w e =
+    sym w ∙ (from_place task ts vs n v k h is ∙ behind_fault task ts v (drop (n + 1) vs) k j kind e)
+triggers_fault task ts vs n v k j faults.OutOfMemory whole h is w e = tt
+
+pub triggers_end : (task : TaskNo) (ts : List Trig) (vs : List Value) (n k : ℕ) (whole : Outcome Trigs)
+    → length vs ≤ n → behind ts (as_triggers task (drop n vs) k) ≡ whole → whole ≡ gives (row ts) k
+triggers_end task ts vs n k whole h w =
+    sym w ∙ (ap (λ (l : List Value). behind ts (as_triggers task l k)) (drop_all n vs h) ∙ behind_none task ts k)
+
+-- ---- whether all values are triggers or tasks
+
+waitable_at : (vs : List Value) (i : ℕ) (v : Value) → i < length vs → v ≡ get_or vs i v → are_waitable (drop i vs) ≡ is_waitable v && are_waitable (drop (i + 1) vs)
+waitable_at vs i v h e =
+    rw add-one (ap are_waitable (drop-cons vs i v h) ∙ ap (λ (w : Value). is_waitable w && are_waitable (drop (suc i) vs)) (sym e))
+
+waitable_by : (vs : List Value) (i : ℕ) (v : Value) (r t : Bool) → i < length vs → v ≡ get_or vs i v → are_waitable (drop i vs) ≡ are_waitable vs → r ≡ is_waitable v → r ≡ t
+    → (t && are_waitable (drop (i + 1) vs)) ≡ are_waitable vs
+waitable_by vs i v r t h e w p q =
+    ap (λ (b : Bool). b && are_waitable (drop (i + 1) vs)) (sym q ∙ p) ∙ (sym (waitable_at vs i v h e) ∙ w)
+
+pub waitable_step : (vs : List Value) (i : ℕ) (v : Value) (r : Bool) → i < length vs → v ≡ get_or vs i v → are_waitable (drop i vs) ≡ are_waitable vs → r ≡ is_waitable v → r ≡ true
+    → are_waitable (drop (i + 1) vs) ≡ are_waitable vs
+waitable_step vs i v r h e w p q = waitable_by vs i v r true h e w p q
+
+pub waitable_not : (vs : List Value) (i : ℕ) (v : Value) (r : Bool) → i < length vs → v ≡ get_or vs i v → are_waitable (drop i vs) ≡ are_waitable vs → r ≡ is_waitable v → r ≡ false
+    → false ≡ are_waitable vs
+waitable_not vs i v r h e w p q = waitable_by vs i v r false h e w p q
+
+pub waitable_end : (vs : List Value) (i : ℕ) → length vs ≤ i → are_waitable (drop i vs) ≡ are_waitable vs → true ≡ are_waitable vs
+waitable_end vs i h w = sym (ap are_waitable (drop_all i vs h)) ∙ w

@@ -1,0 +1,13 @@
+use Rattle.py_look.proofs.Plain.{ends_known}
+use Rattle.py_function.specs.Functions as meaning
+use Rattle.py_function.proofs.Known.{method_known}
+use Rattle.py_function.proofs.methods.method_value.Goals as goal
+
+pub returns : goal.returns
+returns g c =
+    let view = g.V.Look.view c.args.view.now in
+    let o = meaning.method_value c.args.task view c.args.v.now c.args.method c.args.next.now in
+    record {
+      ends = c.method_call.ensures;
+      known = ends_known view o c.method_call.result c.method_call.new.next (method_known c.args.task view c.args.v.now c.args.method c.args.next.now c.requires) c.method_call.ensures;
+    }

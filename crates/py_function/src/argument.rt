@@ -1,0 +1,49 @@
+//! Arguments of calls.
+ghost use Rattle.std.specs.Prelude.{◌≡◌, ◌≤◌, IfOk, MatchResult, slice_get, Ok, Err};
+ghost use Rattle.py_look.specs.Look.{View};
+ghost use Rattle.py_look.specs.Knows.{Knows, KnowsAll};
+ghost use Rattle.py_function.specs.Functions as meaning;
+
+use py_look::Look;
+use py_syntax::FaultKind;
+use py_time::unit_of;
+use py_value::{Value, truth};
+
+/// The argument at a place. One that isn't there is a TypeError.
+pub(crate) fn argument(values: &[Value], at: usize) -> Result<&Value, FaultKind>
+    ensures is { MatchResult result (λ v. meaning.argument values.now at ≡ Ok v.now) (λ kind. meaning.argument values.now at ≡ Err kind) }
+    ensures known { (view : View) → KnowsAll view values.now → IfOk result (λ v. Knows view v.now) }
+{
+    if at < values.len() {
+        Ok(&values[at])
+    } else {
+        Err(FaultKind::TypeError)
+    }
+}
+
+/// The femtoseconds of the unit that the argument at a place names, or why it is refused. A unit that is left out is the step.
+pub(crate) fn unit_argument<V: Look>(
+    view: &V,
+    values: &[Value],
+    at: usize,
+) -> Result<u64, FaultKind>
+    ensures is { result ≡ meaning.unit_argument (V.view view.now) values.now at }
+    ensures some { IfOk result (λ fs. 1 ≤ fs) }
+{
+    if at < values.len() {
+        unit_of(view.step_fs(), &values[at])
+    } else {
+        Ok(view.step_fs())
+    }
+}
+
+/// The truth of the argument at a place, true where it is left out.
+pub(crate) fn truth_argument(values: &[Value], at: usize) -> bool
+    ensures { result ≡ meaning.truth_or_true (slice_get values.now at) }
+{
+    if at < values.len() {
+        truth(&values[at])
+    } else {
+        true
+    }
+}

@@ -1,0 +1,137 @@
+//! Calls of functions.
+ghost use Rattle.std.specs.Prelude.{◌≡◌, ℕ, Ok};
+ghost use Rattle.py_value.specs.Answer.{answer_map, and_then};
+ghost use Rattle.py_value.specs.Truth.{truth};
+ghost use Rattle.py_value.specs.TriggerView.{view_form};
+ghost use Rattle.py_attribute.specs.Attribute.{str_value};
+ghost use Rattle.py_attribute.specs.Gives.{Gives};
+ghost use Rattle.py_look.specs.Look as look;
+ghost use Rattle.py_look.specs.Knows.{KnowsAll};
+ghost use Rattle.py_look.specs.Outcome.{Ends, Evaluates, lift};
+ghost use Rattle.py_function.specs.Making as making;
+ghost use Rattle.py_function.specs.Functions as meaning;
+
+use crate::argument::{argument, unit_argument};
+use crate::forms::{change, clock, cycles, fall, join, rise, timer};
+use crate::making::new_value;
+use crate::several::{combine, first};
+use py_attribute::OperationFault;
+use py_look::{Look, len, str_text};
+use py_operator::int;
+use py_syntax::{FaultKind, Function};
+use py_time::time_in;
+use py_value::{Form, TaskNo, Value, truth};
+use std::alloc::Global;
+
+/// `int(value)`
+fn int_call(values: &[Value]) -> Result<Value, FaultKind>
+    ensures { result ≡ and_then (meaning.argument values.now 0) meaning.int }
+{
+    int(argument(values, 0)?)
+}
+
+/// `bool(value)`
+fn bool_call(values: &[Value]) -> Result<Value, FaultKind>
+    ensures { result ≡ and_then (meaning.argument values.now 0) (λ v. Ok (Value.Truth (truth v))) }
+{
+    let v = argument(values, 0)?;
+    Ok(Value::Truth(truth(v)))
+}
+
+/// `len(signal)`
+fn len_call<V: Look>(view: &V, values: &[Value]) -> Result<Value, FaultKind>
+    requires { KnowsAll (V.view view.now) values.now }
+    ensures { result ≡ and_then (meaning.argument values.now 0) (look.len (V.view view.now)) }
+{
+    len(view, argument(values, 0)?)
+}
+
+/// `str(value)`
+fn str_call<V: Look>(alloc: Global, view: &V, values: &[Value]) -> Result<Value, OperationFault>
+    requires { KnowsAll (V.view view.now) values.now }
+    ensures { Gives (and_then (meaning.argument values.now 0) (str_value (V.view view.now).places)) result }
+{
+    str_text(alloc, view, argument(values, 0)?)
+}
+
+/// `get_sim_time(units)`: a unit that is no text is a TypeError, and one that isn't known or doesn't divide the time a ValueError.
+fn sim_time<V: Look>(view: &V, values: &[Value]) -> Result<Value, FaultKind>
+    ensures { result ≡ meaning.sim_time (V.view view.now) values.now }
+{
+    time_in(view.step_fs(), view.now(), unit_argument(view, values, 0))
+}
+
+/// What makes no trigger, whatever the next number is.
+pub(crate) fn plain(answer: Result<Value, FaultKind>) -> Result<Value, OperationFault>
+    ensures { (k : ℕ) → Ends result k (lift answer k) }
+{
+    match answer {
+        Ok(v) => Ok(v),
+        Err(kind) => Err(OperationFault::Raised(kind)),
+    }
+}
+
+/// A new trigger of this form, or why there is no such form.
+pub(crate) fn made(
+    task: TaskNo,
+    form: Result<Form, FaultKind>,
+    next: &mut u64,
+) -> Result<Value, OperationFault>
+    ensures { Ends result next.new (making.new_value task (answer_map view_form form) next.old) }
+{
+    match new_value(task, form, next) {
+        Ok(v) => Ok(v),
+        Err(kind) => Err(OperationFault::Raised(kind)),
+    }
+}
+
+/// A call that makes no trigger, or one of others.
+fn call<V: Look>(
+    alloc: Global,
+    view: &V,
+    task: TaskNo,
+    function: Function,
+    values: &[Value],
+    next: &mut u64,
+) -> Result<Value, OperationFault>
+    requires { KnowsAll (V.view view.now) values.now }
+    ensures { Ends result next.new (meaning.called task (V.view view.now) function values.now next.old) }
+{
+    match function {
+        Function::Int => plain(int_call(values)),
+        Function::Str => str_call(alloc, view, values),
+        Function::Bool => plain(bool_call(values)),
+        Function::Len => plain(len_call(view, values)),
+        Function::GetSimTime => plain(sim_time(view, values)),
+        Function::Timer => made(task, timer(view, values), next),
+        Function::Edge => made(task, change(values), next),
+        Function::RisingEdge => made(task, rise(view, values), next),
+        Function::FallingEdge => made(task, fall(view, values), next),
+        Function::ReadWrite => made(task, Ok(Form::ReadWrite), next),
+        Function::ReadOnly => made(task, Ok(Form::ReadOnly), next),
+        Function::NextTimeStep => made(task, Ok(Form::NextStep), next),
+        Function::ClockCycles => made(task, cycles(view, values), next),
+        Function::Join => made(task, join(values), next),
+        Function::First => first(alloc, task, values, next),
+        Function::Combine => combine(alloc, task, values, next),
+        Function::Clock => plain(clock(view, values)),
+    }
+}
+
+/// A call of a function with these arguments, by a task whose next trigger has this number: `int`, `str`, `bool`, `len`, `get_sim_time`,
+/// `Clock`, and the triggers `Timer`, `Edge`, `RisingEdge`, `FallingEdge`, `ReadWrite`, `ReadOnly`, `NextTimeStep`, `ClockCycles`,
+/// `Join`, `First` and `Combine`. A new trigger takes the next number; 2^63 of one task are the most, and one more is a RuntimeError.
+/// Arguments of other kinds are TypeErrors, before every other fault.
+pub fn called<V: Look>(
+    alloc: Global,
+    view: &V,
+    task: TaskNo,
+    function: Function,
+    values: &[Value],
+    next: &mut u64,
+) -> Result<Value, OperationFault>
+    requires { KnowsAll (V.view view.now) values.now }
+    ensures { Evaluates (V.view view.now) result next.new (meaning.called task (V.view view.now) function values.now next.old) }
+{
+    call(alloc, view, task, function, values, next)
+}

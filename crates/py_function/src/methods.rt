@@ -1,0 +1,83 @@
+//! Calls of methods.
+ghost use Rattle.std.specs.Prelude.{◌≡◌};
+ghost use Rattle.py_value.specs.Answer.{answer_map};
+ghost use Rattle.py_value.specs.TriggerView.{view_form};
+ghost use Rattle.py_look.specs.Knows.{Knows};
+ghost use Rattle.py_look.specs.Outcome.{Ends, Evaluates};
+ghost use Rattle.py_function.specs.Functions as meaning;
+
+use crate::calls::{made, plain};
+use py_attribute::OperationFault;
+use py_look::Look;
+use py_syntax::{FaultKind, Method};
+use py_value::{Form, TaskNo, Value};
+
+/// What the trigger of a method waits for. Another method, or a value of another kind, is an AttributeError.
+fn method_form(v: &Value, method: Method) -> Result<Form, FaultKind>
+    ensures { answer_map view_form result ≡ meaning.method_form v.now method }
+{
+    match (v, method) {
+        (Value::Event(event), Method::Wait) => Ok(Form::Event(*event)),
+        (Value::Lock(lock), Method::Acquire) => Ok(Form::Lock(*lock)),
+        (Value::Task(task), Method::Join) => Ok(Form::Join(*task)),
+        _ => Err(FaultKind::AttributeError),
+    }
+}
+
+/// `event.is_set()`. What is no event is an AttributeError.
+fn set_state<V: Look>(view: &V, v: &Value) -> Result<Value, FaultKind>
+    requires { Knows (V.view view.now) v.now }
+    ensures { result ≡ meaning.set_state (V.view view.now) v.now }
+{
+    match v {
+        Value::Event(event) => Ok(Value::Truth(view.is_set(*event))),
+        _ => Err(FaultKind::AttributeError),
+    }
+}
+
+/// `task.done()`. What is no task is an AttributeError.
+fn done_state<V: Look>(view: &V, v: &Value) -> Result<Value, FaultKind>
+    requires { Knows (V.view view.now) v.now }
+    ensures { result ≡ meaning.done_state (V.view view.now) v.now }
+{
+    match v {
+        Value::Task(task) => Ok(Value::Truth(view.is_done(*task))),
+        _ => Err(FaultKind::AttributeError),
+    }
+}
+
+/// A method of a value.
+fn method_call<V: Look>(
+    view: &V,
+    task: TaskNo,
+    v: &Value,
+    method: Method,
+    next: &mut u64,
+) -> Result<Value, OperationFault>
+    requires { Knows (V.view view.now) v.now }
+    ensures { Ends result next.new (meaning.method_value task (V.view view.now) v.now method next.old) }
+{
+    match method {
+        Method::IsSet => plain(set_state(view, v)),
+        Method::Done => plain(done_state(view, v)),
+        Method::Wait => made(task, method_form(v, method), next),
+        Method::Acquire => made(task, method_form(v, method), next),
+        Method::Join => made(task, method_form(v, method), next),
+    }
+}
+
+/// `v.method()`, by a task whose next trigger has this number: `wait` and `is_set` of an event, `acquire` of a lock, `join` and `done` of a
+/// task. A new trigger takes the next number; 2^63 of one task are the most, and one more is a RuntimeError. Another method, or a value of
+/// another kind, is an AttributeError.
+pub fn method_value<V: Look>(
+    view: &V,
+    task: TaskNo,
+    v: &Value,
+    method: Method,
+    next: &mut u64,
+) -> Result<Value, OperationFault>
+    requires { Knows (V.view view.now) v.now }
+    ensures { Evaluates (V.view view.now) result next.new (meaning.method_value task (V.view view.now) v.now method next.old) }
+{
+    method_call(view, task, v, method, next)
+}

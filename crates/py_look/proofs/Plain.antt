@@ -1,0 +1,69 @@
+-- Texts and numbers name nothing of a design, so that each view knows them.
+use Rattle.std.proofs.Common.{◌≡◌, List, ℕ, Bool, true, false, Ok, Err, Some, None, subst, sym, nat_lt, length, if◌then◌else◌}
+use Rattle.std.specs.Prelude.{codes, Result, Option, ℤ, is_some}
+use Rattle.std.specs.Str.{bytes_eq}
+use Rattle.four_value.specs.declared.Digit.{Digit}
+use Rattle.py_syntax.specs.declared.fault_kind.FaultKind.TheVariants.{AttributeError, OverflowError}
+use Rattle.four_value.specs.Vector.{number}
+use Rattle.py_integer.specs.Integer.{held}
+use Rattle.py_value.specs.Answer.{Answer, and_then}
+use Rattle.py_value.specs.Shown.{digits_text}
+use Rattle.py_value.specs.declared.value.Value.{Value}
+use Rattle.py_value.specs.declared.value.Value.TheVariants.{Text, Truth, Vector}
+use Rattle.py_attribute.specs.declared.fault.OperationFault.{OperationFault}
+use Rattle.py_operator.specs.Number.{one_number, whole}
+use Rattle.py_attribute.specs.Attribute.{signed_number, signed_integer, text_limit, text_value, name_of_path, path_attribute, vector_attribute}
+use Rattle.py_attribute.specs.Gives.{Gives}
+use Rattle.py_look.specs.Look.{View}
+use Rattle.py_look.specs.Knows.{Knows}
+use Rattle.py_look.specs.Outcome.{Outcome, Ends, AnswerKnown, IfKnown, gives}
+
+pub either : (view : View) (t : Bool) (a b : Answer Value) → AnswerKnown view a → AnswerKnown view b → AnswerKnown view (if t then a else b)
+either view true a b p q = p
+either view false a b p q = q
+
+pub chained : {A : Type 0} (view : View) (a : Answer A) (f : A → Answer Value) → ((x : A) → AnswerKnown view (f x)) → AnswerKnown view (and_then a f)
+chained view (Ok x) f p = p x
+chained view (Err kind) f p = tt
+
+pub whole_plain : (view : View) (z : Option ℤ) → AnswerKnown view (whole z)
+whole_plain view (Some z) = tt
+whole_plain view None = tt
+
+pub text_plain : (view : View) (bs : List ℕ) → AnswerKnown view (text_value bs)
+text_plain view bs = either view (nat_lt text_limit (length bs)) (Err OverflowError) (Ok (Text bs)) tt tt
+
+pub path_plain : (view : View) (path name : List ℕ) → AnswerKnown view (path_attribute path name)
+path_plain view path name =
+    let last : Answer Value = if bytes_eq name (codes "_name") then text_value (name_of_path path) else Err AttributeError in
+    either view (bytes_eq name (codes "_path")) (text_value path) last (text_plain view path)
+    (either view (bytes_eq name (codes "_name")) (text_value (name_of_path path)) (Err AttributeError) (text_plain view (name_of_path path)) tt)
+
+signed_plain : (view : View) (w : ℕ) (n : Option ℕ) → AnswerKnown view (signed_integer w n)
+signed_plain view w (Some n) = whole_plain view (held (signed_number w n))
+signed_plain view w None = tt
+
+pub vector_plain : (view : View) (ds : List Digit) (name : List ℕ) → AnswerKnown view (vector_attribute ds name)
+vector_plain view ds name =
+    let resolvable : Answer Value = if bytes_eq name (codes "is_resolvable") then Ok (Truth (is_some (number ds))) else Err AttributeError in
+    let text : Answer Value = if bytes_eq name (codes "binstr") then Ok (Text (digits_text ds)) else resolvable in
+    let signed : Answer Value = if bytes_eq name (codes "signed_integer") then signed_integer (length ds) (number ds) else text in
+    either view (bytes_eq name (codes "integer")) (and_then (one_number (Vector ds)) (λ z. whole (held z))) signed
+    (chained view (one_number (Vector ds)) (λ z. whole (held z)) (λ z. whole_plain view (held z)))
+    (either view (bytes_eq name (codes "signed_integer")) (signed_integer (length ds) (number ds)) text (signed_plain view (length ds) (number ds))
+    (either view (bytes_eq name (codes "binstr")) (Ok (Text (digits_text ds))) resolvable tt
+    (either view (bytes_eq name (codes "is_resolvable")) (Ok (Truth (is_some (number ds)))) (Err AttributeError) tt tt)))
+
+-- what the code returned is as known as the answer that it gives
+pub given_known : (view : View) (answer : Answer Value) (result : Result Value OperationFault) → AnswerKnown view answer → Gives answer result → IfKnown view result
+given_known view answer (Ok v) k e = subst (λ (a : Answer Value). AnswerKnown view a) e k
+given_known view answer (Err fault) k e = tt
+
+-- so are answers without memory
+pub answer_known : (view : View) (answer result : Answer Value) → AnswerKnown view answer → result ≡ answer → AnswerKnown view result
+answer_known view answer result k e = subst (λ (a : Answer Value). AnswerKnown view a) (sym e) k
+
+-- so is what an outcome gives
+pub ends_known : (view : View) (o : Outcome Value) (result : Result Value OperationFault) (k : ℕ) → AnswerKnown view o.answer → Ends result k o → IfKnown view result
+ends_known view o (Ok v) k h e = subst (λ (q : Outcome Value). AnswerKnown view q.answer) e h
+ends_known view o (Err fault) k h e = tt

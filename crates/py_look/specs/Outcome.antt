@@ -1,0 +1,59 @@
+-- What an evaluation gives: a value or the kind of a fault, and the number of the task's next trigger.
+use Rattle.std.specs.Prelude.{◌≡◌, ℕ, Result, Ok, Err}
+use Rattle.py_syntax.specs.declared.fault_kind.FaultKind.{FaultKind}
+use Rattle.py_value.specs.Answer.{Answer}
+use Rattle.py_value.specs.declared.trigger.TaskNo.{TaskNo}
+use Rattle.py_value.specs.declared.value.Value.{Value}
+use Rattle.py_attribute.specs.declared.fault.OperationFault.{OperationFault}
+use Rattle.py_attribute.specs.declared.fault.OperationFault.TheVariants as faults
+use Rattle.py_look.specs.Look.{View, Names}
+use Rattle.py_look.specs.Knows.{Knows}
+
+pub record Outcome (A : Type 0) : Type 0 where
+  pub answer : Answer A
+  pub next : ℕ
+
+abbrev pub gives : {A : Type 0} → A → ℕ → Outcome A
+gives a k = record { answer = Ok a; next = k }
+
+abbrev pub refuses : {A : Type 0} → FaultKind → ℕ → Outcome A
+refuses kind k = record { answer = Err kind; next = k }
+
+-- an answer that makes no trigger
+abbrev pub lift : {A : Type 0} → Answer A → ℕ → Outcome A
+lift a k = record { answer = a; next = k }
+
+abbrev pub after : {A B : Type 0} → Answer A → ℕ → (A → ℕ → Outcome B) → Outcome B
+after (Ok a) k f = f a k
+after (Err kind) k f = refuses kind k
+
+-- the second is evaluated where the first gives a value
+abbrev pub bind : {A B : Type 0} → Outcome A → (A → ℕ → Outcome B) → Outcome B
+bind o f = after o.answer o.next f
+
+-- where an expression is evaluated: by which task, with which names, and what it sees
+pub record Scope : Type 0 where
+  pub task : TaskNo
+  pub names : Names
+  pub view : View
+
+-- ---- what a function of the code returned, beside the next number that it left: want of memory leaves the number open
+
+-- the value, or the fault, of the outcome
+abbrev pub Ends : {A : Type 0} → Result A OperationFault → ℕ → Outcome A → Type 0
+Ends (Ok a) k o = o ≡ gives a k
+Ends (Err (faults.Raised kind)) k o = o ≡ refuses kind k
+Ends (Err faults.OutOfMemory) k o = Unit {0}
+
+abbrev pub AnswerKnown : View → Answer Value → Type 0
+AnswerKnown view (Ok v) = Knows view v
+AnswerKnown view (Err kind) = Unit {0}
+
+abbrev pub IfKnown : View → Result Value OperationFault → Type 0
+IfKnown view (Ok v) = Knows view v
+IfKnown view (Err fault) = Unit {0}
+
+-- an outcome, whose value the view knows
+pub record Evaluates (view : View) (result : Result Value OperationFault) (k : ℕ) (o : Outcome Value) : Type 0 where
+  pub ends : Ends result k o
+  pub known : IfKnown view result

@@ -1,0 +1,29 @@
+//! Texts of values.
+ghost use Rattle.std.specs.Prelude.{◌≡◌, IfOk};
+ghost use Rattle.py_value.specs.Shown.{shown};
+ghost use Rattle.py_attribute.specs.Attribute.{str_value};
+ghost use Rattle.py_attribute.specs.Gives.{Gives};
+ghost use Rattle.py_look.specs.Knows.{Knows};
+
+use crate::Look;
+use port_io::{Name, NoMemory};
+use py_attribute::{OperationFault, text_value};
+use py_value::{Value, show};
+use std::alloc::Global;
+
+/// The text as which a value is shown, of any length. Only want of memory is an error.
+pub fn shown_text<V: Look>(alloc: Global, view: &V, v: &Value) -> Result<Name, NoMemory>
+    requires { Knows (V.view view.now) v.now }
+    ensures { IfOk result (λ name. name ≡ shown (V.view view.now).places v.now) }
+{
+    show(alloc, v, view)
+}
+
+/// `str(v)`: the text as which a value is shown. One of over 65,536 bytes is an OverflowError.
+pub fn str_text<V: Look>(alloc: Global, view: &V, v: &Value) -> Result<Value, OperationFault>
+    requires { Knows (V.view view.now) v.now }
+    ensures { Gives (str_value (V.view view.now).places v.now) result }
+{
+    let text = shown_text(alloc, view, v)?;
+    text_value(alloc, text.bytes())
+}

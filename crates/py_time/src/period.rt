@@ -1,0 +1,64 @@
+//! Times and periods of clocks.
+ghost use Rattle.std.specs.Prelude.{◌≡◌, ◌≤◌};
+ghost use Rattle.py_value.specs.Answer.{answer_map};
+ghost use Rattle.py_operator.specs.Means.{means};
+ghost use Rattle.py_operator.specs.Number.{number_of};
+ghost use Rattle.py_time.specs.Times as meaning;
+ghost use Rattle.py_time.specs.Counts.{kept};
+
+use crate::steps::{Steps, whole_steps};
+use py_operator::{Number, number_of};
+use py_syntax::FaultKind;
+use py_value::Value;
+
+/// The steps that a number of units is, where a unit has so many femtoseconds or is refused. What has no number, and a unit that is no
+/// text, are TypeErrors; only then a number that isn't known, is negative, or isn't a whole number of steps, is a ValueError.
+fn exact_steps(
+    step_fs: u64,
+    number: Number,
+    unit: Result<u64, FaultKind>,
+) -> Result<Steps, FaultKind>
+    requires { 1 ≤ step_fs }
+    ensures { result ≡ answer_map kept (meaning.exact_steps step_fs (means number) unit) }
+{
+    match (number, unit) {
+        (Number::Missing, _) | (_, Err(FaultKind::TypeError)) => Err(FaultKind::TypeError),
+        (Number::Unknown, _) => Err(FaultKind::ValueError),
+        (Number::Known(n), unit) => match n.to_natural() {
+            Some(n) => whole_steps(step_fs, n, unit?),
+            None => Err(FaultKind::ValueError),
+        },
+    }
+}
+
+/// The steps that a time in a unit is, where a step has so many femtoseconds, and the unit has so many or is refused: `Timer`'s
+/// arguments. A time without a number and a unit that is no text are TypeErrors; then a time that is no positive whole number of steps
+/// and a unit that isn't known are ValueErrors; then over 2^62 steps are an OverflowError.
+pub fn steps_of(step_fs: u64, time: &Value, unit: Result<u64, FaultKind>) -> Result<u64, FaultKind>
+    requires { 1 ≤ step_fs }
+    ensures { result ≡ meaning.steps_of step_fs time.now unit }
+{
+    match exact_steps(step_fs, number_of(time), unit)?.few {
+        Some(steps) => Ok(steps),
+        None => Err(FaultKind::OverflowError),
+    }
+}
+
+/// Half of a clock's period, in steps. The faults are those of `steps_of`, and an odd number of steps is a ValueError.
+pub fn half_steps(
+    step_fs: u64,
+    period: &Value,
+    unit: Result<u64, FaultKind>,
+) -> Result<u64, FaultKind>
+    requires { 1 ≤ step_fs }
+    ensures { result ≡ meaning.half_steps step_fs period.now unit }
+{
+    let steps = exact_steps(step_fs, number_of(period), unit)?;
+    if steps.odd {
+        return Err(FaultKind::ValueError);
+    }
+    match steps.few {
+        Some(steps) => Ok(steps / 2),
+        None => Err(FaultKind::OverflowError),
+    }
+}
