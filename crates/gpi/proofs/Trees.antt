@@ -1,12 +1,12 @@
 -- The tables of parents and of depths of a design's nodes.
-use Rattle.std.proofs.Common.{◌≡◌, ℕ, zero, suc, ◌+◌, ◌-◌, ◌<◌, ◌≤◌, ◌↔◌, ◌==◌, ◌&&◌, ◌||◌, nat_lt, nat_le, Bool, true, false, IsTrue, List, [], ◌∷◌, length, drop, min, slice_get, Some, None, Option, refl, ap, sym, subst, ◌∙◌, arith, take, replicate, is_some, not, MatchOption, ◌⊎◌, inl, inr, ⊎_elim, get_or, slice_set, add-one, if◌then◌else◌}
+use Rattle.std.proofs.Common.{◌≡◌, ℕ, zero, suc, ◌+◌, ◌-◌, ◌<◌, ◌≤◌, ◌↔◌, ◌==◌, ◌||◌, nat_lt, nat_le, Bool, true, false, IsTrue, List, [], ◌∷◌, length, drop, min, slice_get, Some, None, Option, refl, ap, sym, subst, ◌∙◌, arith, take, replicate, is_some, not, MatchOption, ◌⊎◌, inl, inr, ⊎_elim, get_or, slice_set, if◌then◌else◌}
 use Rattle.std.proofs.lemmas.Option.{slice_get_within, slice_get-get_or}
 use Rattle.std.proofs.lemmas.Bool.Decides.{nat_tests}
 use Rattle.std.proofs.lemmas.List.{drop_all, length-replicate}
 use Rattle.gpi.specs.declared.design.Node.{Node}
 use Rattle.gpi.specs.declared.design.Spot.{Spot}
 use Rattle.gpi.specs.Soundness.{IsTree, IsPlaced, is_child, times_among, times_child, parent_from, at_parent, climbs}
-use Rattle.gpi.specs.Tables.{AreEmpty, held, claimed, IsParent, AreParents, AreInside, parent_by, comes, IsDepth, IsDepthFound, AreDepths}
+use Rattle.gpi.specs.Tables.{AreEmpty, held, claimed, AreParents, AreInside, parent_by, comes, IsDepth, IsDepthFound, AreDepths}
 use Rattle.gpi.proofs.Sound.{drop_back}
 
 -- ---- more than once stays so

@@ -1,5 +1,5 @@
 -- What only carries the proof that a design's tree is found: tables of the parents and of the depths of its nodes.
-use Rattle.std.specs.Prelude.{◌≡◌, ℕ, zero, suc, ◌+◌, ◌<◌, ◌≤◌, ◌==◌, ◌||◌, nat_lt, nat_le, Bool, true, false, IsTrue, List, length, Option, Some, None, slice_get, if◌then◌else◌}
+use Rattle.std.specs.Prelude.{◌≡◌, ℕ, zero, suc, ◌<◌, ◌≤◌, ◌==◌, ◌||◌, nat_lt, nat_le, Bool, false, List, length, Option, Some, None, slice_get, if◌then◌else◌}
 use Rattle.gpi.specs.declared.design.Spot.{Spot}
 use Rattle.gpi.specs.declared.design.Node.{Node}
 use Rattle.gpi.specs.Soundness.{times_among, times_child, parent_from, at_parent}

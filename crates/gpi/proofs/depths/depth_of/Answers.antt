@@ -1,4 +1,4 @@
-use Rattle.std.proofs.Common.{rules, ◌≡◌, ◌<◌, ◌≤◌, slice_get, Some, None, length, arith}
+use Rattle.std.proofs.Common.{◌≡◌, ◌<◌, slice_get, Some, None, length, arith}
 use Rattle.gpi.proofs.Trees.{read, none_is, climb_more, climb_end}
 use Rattle.gpi.proofs.depths.depth_of.Goals as goal
 

@@ -1,4 +1,4 @@
-use Rattle.std.proofs.Common.{rules, ◌≡◌, ◌<◌, ◌≤◌, slice_get, Some, None, length, arith}
+use Rattle.std.proofs.Common.{rules, ◌≡◌, slice_get, Some, None}
 use Rattle.gpi.proofs.Trees.{read, known_more, depth_up}
 use Rattle.gpi.proofs.depths.note_depths.Goals as goal
 
