@@ -1,0 +1,8 @@
+//! Signals that follow one another.
+
+/// So many signals, from the first one on: one for a net or a register, and all words of a memory.
+#[derive(Clone, Copy, Debug, PartialEq, Eq)]
+pub struct Span {
+    pub first: u32,
+    pub count: u32,
+}
