@@ -11,7 +11,7 @@ use std::marker::Model;
 /// Names with a place for each of them, seen as a list of names with their places, the first of which counts.
 #[derive(Drop)]
 pub struct Names {
-    places: IndexMap<Vec<u8>, u32>,
+    places: IndexMap<Vec<u8>, usize>,
 }
 
 impl Model for Names {
@@ -34,14 +34,14 @@ impl Names {
     }
 
     /// The place of a name; none where none was noted.
-    pub fn find(&self, name: &[u8]) -> Option<u32>
+    pub fn find(&self, name: &[u8]) -> Option<usize>
         ensures { result ≡ first_place self.now name.now }
     {
         self.places.get(name).copied()
     }
 
     /// Gives a name a place.
-    fn add(&mut self, alloc: Global, name: &[u8], place: u32) -> Result<(), NoMemory>
+    fn add(&mut self, alloc: Global, name: &[u8], place: usize) -> Result<(), NoMemory>
         requires { first_place self.old name.now ≡ None }
         ensures ok { OnOk result ((n : List ℕ) → first_place self.new n ≡ noted name.now place (first_place self.old) n) }
         ensures err { OnErr result (self.new ≡ self.old) }
@@ -53,7 +53,7 @@ impl Names {
 
     /// Gives a name this place, unless it has one. After `NoMemory` all names have the places that they had.
     #[tactic(auto, using(crate::proofs::Stored::note_known))]
-    pub fn note(&mut self, alloc: Global, name: &[u8], place: u32) -> Result<(), NoMemory>
+    pub fn note(&mut self, alloc: Global, name: &[u8], place: usize) -> Result<(), NoMemory>
         ensures ok { OnOk result ((n : List ℕ) → first_place self.new n ≡ noted name.now place (first_place self.old) n) }
         ensures err { OnErr result (self.new ≡ self.old) }
     {
