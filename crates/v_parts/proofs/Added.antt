@@ -1,17 +1,16 @@
 -- No part, and a part before others.
-use Rattle.std.proofs.Common.{◌≡◌, ℕ, ◌+◌, ◌≤◌, List, [], ◌∷◌, ◌++◌, min, refl, sym, ap, ◌∙◌, subst, arith}
+use Rattle.std.proofs.Common.{◌≡◌, ℕ, ◌+◌, List, [], ◌++◌, sym, ap, ◌∙◌, subst, arith}
 use Rattle.four_value.specs.declared.Digit.{Digit}
 use Rattle.gpi.specs.declared.terms.Term.{Term}
 use Rattle.gpi.specs.Terms.{value}
 use Rattle.v_syntax.specs.ExpressionTrees.{Tree, Trees, none, more}
 use Rattle.v_scope.specs.declared.found.Found.{Found}
 use Rattle.v_scope.specs.declared.found.Found.TheVariants.{Sound}
-use Rattle.v_scope.specs.Found.{each, both, Holds}
+use Rattle.v_scope.specs.Found.{each, both}
 use Rattle.v_scope.specs.Scope.{Scope}
-use Rattle.v_context.specs.Contexts.{value_in}
 use Rattle.v_context.specs.Concatenations.{values, AreSound}
 use Rattle.v_context.specs.Concatenations as term
-use Rattle.v_flat.specs.Expressions.{width, widths, meaning, joined}
+use Rattle.v_flat.specs.Expressions.{meaning, joined}
 use Rattle.v_flat.specs.Checks.{checked, all_checked}
 use Rattle.v_flat.proofs.Holds.{holds_both}
 use Rattle.v_operator.specs.declared.checked.Checked.{Checked}

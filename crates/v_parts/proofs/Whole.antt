@@ -1,23 +1,19 @@
 -- What is found in a concatenation and in a replication.
-use Rattle.std.proofs.Common.{◌≡◌, ℕ, zero, suc, ◌+◌, ◌*◌, ◌≤◌, ◌<◌, List, length, Bool, true, false, nat_le, nat_lt, min, refl, sym, ap, ◌∙◌, subst, arith}
+use Rattle.std.proofs.Common.{◌≡◌, ℕ, zero, suc, ◌*◌, ◌≤◌, List, Bool, true, false, nat_le, nat_lt, refl, sym, ap, ◌∙◌, subst, arith}
 use Rattle.std.proofs.Math.Nat.{le-mul_of_pos_right, mul_comm}
 use Rattle.std.proofs.lemmas.Bool.Decides.{nat_tests}
 use Rattle.four_value.specs.declared.Digit.{Digit}
 use Rattle.four_value.specs.Vector.{number, resize}
-use Rattle.gpi.specs.declared.terms.Term.{Term}
 use Rattle.gpi.specs.Terms.{copies}
 use Rattle.v_syntax.specs.ExpressionTrees.{Tree, Concatenation, Replication, Trees, first_at}
-use Rattle.v_scope.specs.declared.rule.ElabRule.{ElabRule}
 use Rattle.v_scope.specs.declared.rule.ElabRule.TheVariants as rule
-use Rattle.v_scope.specs.declared.rule.Broken.{Broken}
 use Rattle.v_scope.specs.declared.found.Found.{Found}
 use Rattle.v_scope.specs.declared.found.Found.TheVariants.{Sound, Noted, Lost}
-use Rattle.v_scope.specs.Found.{noted, lost, each, both, and_then, needs, Holds}
-use Rattle.v_scope.specs.Rules.{at}
+use Rattle.v_scope.specs.Found.{noted, each, both, and_then, needs, Holds}
 use Rattle.v_scope.specs.Scope.{Scope}
 use Rattle.v_context.specs.Concatenations.{values}
 use Rattle.v_context.specs.Concatenations as term
-use Rattle.v_flat.specs.Expressions.{number_or, own_number, own_value, no_signals, width, widths, joined}
+use Rattle.v_flat.specs.Expressions.{number_or, own_number, own_value, no_signals, widths, joined}
 use Rattle.v_flat.specs.Checks.{checked, all_checked, constant, counted, filled, sized}
 use Rattle.v_flat.proofs.Holds.{holds_noted, holds_both, holds_then, holds_each, holds_needs}
 use Rattle.v_flat.proofs.Widths.{widths_found, constant_found}

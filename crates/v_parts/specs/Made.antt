@@ -1,6 +1,5 @@
 -- A means of proof: what is made of parts, by their terms.
 use Rattle.std.specs.Prelude.{◌≡◌, ℕ, ◌+◌, ◌*◌, ◌≤◌, List, [], ◌∷◌, ◌++◌, length, nat_lt}
-use Rattle.four_value.specs.declared.Digit.{Digit}
 use Rattle.four_value.specs.Vector.{resize}
 use Rattle.gpi.specs.declared.terms.Term.{Term}
 use Rattle.gpi.specs.Terms.{copies}
