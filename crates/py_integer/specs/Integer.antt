@@ -1,4 +1,4 @@
--- Whole numbers, and what Python's operators make of them (the language reference, 6.5 to 6.9).
+-- Whole numbers, and what Python's operators make of them (the language reference, 6.6 to 6.9).
 use Rattle.std.specs.Prelude.{ℕ, suc, ◌-◌, ◌^◌, ◌==◌, nat_lt, Bool, true, false, not, ◌&&◌, if◌then◌else◌, Option, Some, None, ℤ, pos, negsuc, ◌*ℤ◌, neg_ℤ, int_lt, int_le, unsigned_abs}
 use Rattle.std.specs.Int.{int_div_euclid, int_rem_euclid}
 use Rattle.py_integer.specs.declared.integer.Integer.{Integer}

@@ -34,7 +34,7 @@ impl Integer {
         }
     }
 
-    /// True is 1, and False is 0 (the library reference, "Boolean Type").
+    /// True is 1, and False is 0 (the language reference, 3.2, "Booleans").
     pub fn of_truth(b: bool) -> Integer
         ensures { number result ≡ truth_number b }
     {

@@ -31,7 +31,7 @@ fn vector_number(bits: Bits) -> Number
     }
 }
 
-/// The number of a value. True is 1 and False is 0 (the library reference, "Boolean Type"), a vector's is read without a sign, and
+/// The number of a value. True is 1 and False is 0 (the language reference, 3.2, "Booleans"), a vector's is read without a sign, and
 /// other kinds have none. It takes no memory.
 pub fn number_of(v: &Value) -> Number
     ensures { means result ≡ meaning.number_of v.now }

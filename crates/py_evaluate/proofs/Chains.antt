@@ -1,0 +1,46 @@
+-- One evaluation after another.
+use Rattle.std.proofs.Common.{◌≡◌, ℕ, Ok, Err, ap, sym, subst}
+use Rattle.std.specs.Prelude.{Result}
+use Rattle.py_value.specs.Answer.{Answer}
+use Rattle.py_value.specs.declared.value.Value.{Value}
+use Rattle.py_attribute.specs.declared.fault.OperationFault.{OperationFault}
+use Rattle.py_attribute.specs.declared.fault.OperationFault.TheVariants as faults
+use Rattle.py_attribute.specs.Gives.{Gives}
+use Rattle.py_look.specs.Look.{View}
+use Rattle.py_look.specs.Outcome.{Outcome, Ends, Evaluates, IfKnown, gives, refuses, lift, bind}
+use Rattle.py_evaluate.specs.Rows.{EndsAs}
+
+-- a fault of the first is the fault of both
+pub fault_first : {A B : Type 0} (o : Outcome A) (f : A → ℕ → Outcome B) (fault : OperationFault) (j : ℕ) → Ends {A = A} (Err fault) j o → Ends {A = B} (Err fault) j (bind o f)
+fault_first o f (faults.Raised kind) j e = ap (λ p. bind p f) e
+fault_first o f faults.OutOfMemory j e = tt
+
+-- a value of the first is handed on
+pub value_first : {A B : Type 0} (o : Outcome A) (f : A → ℕ → Outcome B) (a : A) (j : ℕ) (result : Result B OperationFault) (k : ℕ)
+    → o ≡ gives a j → Ends result k (f a j) → Ends result k (bind o f)
+value_first o f a j result k e h = subst (λ p. Ends result k (bind p f)) (sym e) h
+
+-- an answer makes no trigger
+pub answer_ends : (answer : Answer Value) (result : Result Value OperationFault) (j : ℕ) → Gives answer result → Ends result j (lift answer j)
+answer_ends answer (Ok v) j e = ap (λ a. lift a j) e
+answer_ends answer (Err (faults.Raised kind)) j e = ap (λ a. lift a j) e
+answer_ends answer (Err faults.OutOfMemory) j e = tt
+
+pub answer_evaluates : (view : View) (answer : Answer Value) (result : Result Value OperationFault) (j : ℕ) → Gives answer result → IfKnown view result → Evaluates view result j (lift answer j)
+answer_evaluates view answer result j e k = record { ends = answer_ends answer result j e; known = k }
+
+pub fault_evaluates : {A : Type 0} (view : View) (o : Outcome A) (f : A → ℕ → Outcome Value) (fault : OperationFault) (j : ℕ) → Ends {A = A} (Err fault) j o → Evaluates view (Err fault) j (bind o f)
+fault_evaluates view o f fault j e = record { ends = fault_first o f fault j e; known = tt }
+
+pub value_evaluates : {A : Type 0} (view : View) (o : Outcome A) (f : A → ℕ → Outcome Value) (a : A) (j : ℕ) (result : Result Value OperationFault) (k : ℕ)
+    → o ≡ gives a j → Evaluates view result k (f a j) → Evaluates view result k (bind o f)
+value_evaluates view o f a j result k e h = record { ends = value_first o f a j result k e h.ends; known = h.known }
+
+-- lists and texts
+pub faults_same : {A B : Type 0} (f : B → A) (fault : OperationFault) (j : ℕ) (o : Outcome A) → EndsAs {A = A} {B = B} (Err fault) f j o → Ends {A = A} (Err fault) j o
+faults_same f (faults.Raised kind) j o e = e
+faults_same f faults.OutOfMemory j o e = tt
+
+pub same_faults : {A B : Type 0} (f : B → A) (fault : OperationFault) (j : ℕ) (o : Outcome A) → Ends {A = A} (Err fault) j o → EndsAs {A = A} {B = B} (Err fault) f j o
+same_faults f (faults.Raised kind) j o e = e
+same_faults f faults.OutOfMemory j o e = tt

@@ -1,0 +1,140 @@
+-- Arguments, and parts of f-strings, one after the other.
+use Rattle.std.proofs.Common.{◌≡◌, ℕ, suc, ◌+◌, ◌<◌, ◌≤◌, List, [], ◌∷◌, ◌++◌, length, take, drop, get_or, Ok, Err, refl, ap, sym, subst, ◌∙◌, arith, add-one, append_assoc}
+use Rattle.std.specs.Prelude.{Result}
+use Rattle.std.proofs.Math.Seq.{drop-cons}
+use Rattle.std.proofs.lemmas.List.{drop_all}
+use Rattle.py_syntax.specs.ExpressionTrees.{Tree, Trees, Then, Parts, NoPart, view, view_part, view_row, view_parts}
+use Rattle.py_syntax.specs.declared.expression.Expression.{Expression, Row_of-Expression, end_of-Expression, more_of-Expression, Row_of-FormatPart, end_of-FormatPart, more_of-FormatPart}
+use Rattle.py_syntax.specs.declared.expression.Expression.TheBlock.{items-the_row-Expression, items-the_row-FormatPart}
+use Rattle.py_syntax.specs.declared.expression.FormatPart.{FormatPart}
+use Rattle.py_syntax.specs.declared.expression.FormatPart.TheVariants as part
+use Rattle.py_syntax.specs.declared.fault_kind.FaultKind.{FaultKind}
+use Rattle.py_value.specs.Answer.{Answer}
+use Rattle.py_value.specs.Shown.{shown}
+use Rattle.py_value.specs.declared.value.Value.{Value}
+use Rattle.py_attribute.specs.declared.fault.OperationFault.{OperationFault}
+use Rattle.py_attribute.specs.declared.fault.OperationFault.TheVariants as faults
+use Rattle.py_look.specs.Look.{View}
+use Rattle.py_look.specs.Knows.{Knows, KnowsAll}
+use Rattle.py_look.specs.Outcome.{Outcome, Scope, Ends, gives, refuses, bind, after}
+use Rattle.py_evaluate.specs.Eval.{eval, eval_row, eval_parts}
+use Rattle.py_evaluate.specs.Rows.{trees_of, parts_of, part_bytes, EndsAs}
+
+-- ---- the code's rows as lists
+
+pub row_trees : (n : _) (k : Row_of-Expression n) → view_row k ≡ trees_of (items-the_row-Expression n k)
+row_trees n end_of-Expression = refl
+row_trees n (more_of-Expression e rest) = ap (λ ts. Then (view e) ts) (row_trees _ rest)
+
+pub row_parts : (n : _) (k : Row_of-FormatPart n) → view_parts k ≡ parts_of (items-the_row-FormatPart n k)
+row_parts n end_of-FormatPart = refl
+row_parts n (more_of-FormatPart p rest) = ap (λ ps. view_part p ps) (row_parts _ rest)
+
+-- ---- a list behind another one
+
+pub behind : {A : Type 0} → List A → Outcome (List A) → Outcome (List A)
+behind xs o = bind o (λ ys k. gives (xs ++ ys) k)
+
+pub behind_none : {A : Type 0} (o : Outcome (List A)) → behind [] o ≡ o
+unfolding behind
+behind_none o = at o.answer o.next
+  where
+    at : {A : Type 0} (a : Answer (List A)) (k : ℕ) → after a k (λ ys k. gives ys k) ≡ record { answer = a; next = k }
+    at (Ok ys) k = refl
+    at (Err kind) k = refl
+
+behind_more : {A : Type 0} (xs ys : List A) (a : Answer (List A)) (k : ℕ)
+    → behind xs (after a k (λ zs i. gives (ys ++ zs) i)) ≡ behind (xs ++ ys) (record { answer = a; next = k })
+unfolding behind
+behind_more xs ys (Ok zs) k = ap (λ (q : List _). gives q k) (sym (append_assoc xs ys zs))
+behind_more xs ys (Err kind) k = refl
+
+-- ---- arguments
+
+-- an outcome of the first, and then the others
+abbrev and_others : Scope → List Expression → Outcome Value → Outcome (List Value)
+and_others s es o = bind o (λ v j. bind (eval_row s (trees_of es) j) (λ vs i. gives (v ∷ vs) i))
+
+-- the arguments from a place on
+from_place : (s : Scope) (es : List Expression) (n : ℕ) (e : Expression) (k : ℕ) → n < length es → e ≡ get_or es n e
+    → eval_row s (trees_of (drop n es)) k ≡ and_others s (drop (n + 1) es) (eval s (view e) k)
+from_place s es n e k h is =
+    rw add-one (ap (λ (l : List Expression). eval_row s (trees_of l) k) (drop-cons es n e h ∙ ap (λ (x : Expression). x ∷ drop (suc n) es) (sym is)))
+
+pub values_step : (s : Scope) (es : List Expression) (n : ℕ) (e : Expression) (vs : List Value) (k j : ℕ) (v : Value) (whole : Outcome (List Value))
+    → n < length es → e ≡ get_or es n e → behind vs (eval_row s (trees_of (drop n es)) k) ≡ whole → eval s (view e) k ≡ gives v j
+    → behind (vs ++ v ∷ []) (eval_row s (trees_of (drop (n + 1) es)) j) ≡ whole
+values_step s es n e vs k j v whole h is w g =
+    let o = eval_row s (trees_of (drop (n + 1) es)) j in
+    sym (behind_more vs (v ∷ []) o.answer o.next)
+    ∙ (sym (ap (λ (p : Outcome Value). behind vs (and_others s (drop (n + 1) es) p)) g)
+    ∙ (sym (ap (behind vs) (from_place s es n e k h is)) ∙ w))
+
+pub values_fault : (s : Scope) (es : List Expression) (n : ℕ) (e : Expression) (vs : List Value) (k j : ℕ) (fault : OperationFault) (whole : Outcome (List Value))
+    → n < length es → e ≡ get_or es n e → behind vs (eval_row s (trees_of (drop n es)) k) ≡ whole → Ends {A = Value} (Err fault) j (eval s (view e) k)
+    → Ends {A = List Value} (Err fault) j whole
+unfolding behind
+values_fault s es n e vs k j (faults.Raised kind) whole h is w g =
+    sym w ∙ (ap (behind vs) (from_place s es n e k h is) ∙ ap (λ (p : Outcome Value). behind vs (and_others s (drop (n + 1) es) p)) g)
+values_fault s es n e vs k j faults.OutOfMemory whole h is w g = tt
+
+pub values_end : (s : Scope) (es : List Expression) (n : ℕ) (vs : List Value) (k : ℕ) (whole : Outcome (List Value))
+    → length es ≤ n → behind vs (eval_row s (trees_of (drop n es)) k) ≡ whole → whole ≡ gives vs k
+unfolding behind
+values_end s es n vs k whole h w =
+    sym w ∙ (ap (λ (l : List Expression). behind vs (eval_row s (trees_of l) k)) (drop_all n es h) ∙ ap (λ (q : List Value). gives q k) (append_nil vs))
+  where
+    append_nil : {A : Type 0} (xs : List A) → xs ++ [] ≡ xs
+    append_nil [] = refl
+    append_nil (x ∷ xs) = ap (λ (q : List _). x ∷ q) (append_nil xs)
+
+pub known_more : (view : View) (vs : List Value) (v : Value) → KnowsAll view vs → Knows view v → KnowsAll view (vs ++ v ∷ [])
+known_more view [] v h k = (k, tt)
+known_more view (x ∷ vs) v h k = (h.0, known_more view vs v h.1 k)
+
+-- ---- parts of f-strings
+
+abbrev and_parts : Scope → List FormatPart → Outcome (List ℕ) → Outcome (List ℕ)
+and_parts s ps o = bind o (λ bs j. bind (eval_parts s (parts_of ps) j) (λ more i. gives (bs ++ more) i))
+
+first_part : (s : Scope) (p : FormatPart) (ps : List FormatPart) (k : ℕ) → eval_parts s (view_part p (parts_of ps)) k ≡ and_parts s ps (part_bytes s p k)
+first_part s (part.Text t) ps k = refl
+first_part s (part.Formatted' q e) ps k = at (eval s (view e) k).answer (eval s (view e) k).next
+  where
+    at : (a : Answer Value) (i : ℕ) → after a i (λ v j. bind (eval_parts s (parts_of ps) j) (λ bytes i. gives (shown s.view.places v ++ bytes) i))
+        ≡ and_parts s ps (after a i (λ v j. gives (shown s.view.places v) j))
+    at (Ok v) i = refl
+    at (Err kind) i = refl
+
+part_at : (s : Scope) (ps : List FormatPart) (n : ℕ) (p : FormatPart) (k : ℕ) → n < length ps → p ≡ get_or ps n p
+    → eval_parts s (parts_of (drop n ps)) k ≡ and_parts s (drop (n + 1) ps) (part_bytes s p k)
+part_at s ps n p k h is =
+    rw add-one (ap (λ (l : List FormatPart). eval_parts s (parts_of l) k) (drop-cons ps n p h ∙ ap (λ (x : FormatPart). x ∷ drop (suc n) ps) (sym is))
+    ∙ first_part s p (drop (suc n) ps) k)
+
+pub text_step : (s : Scope) (ps : List FormatPart) (n : ℕ) (p : FormatPart) (bs : List ℕ) (k j : ℕ) (shown : List ℕ) (whole : Outcome (List ℕ))
+    → n < length ps → p ≡ get_or ps n p → behind bs (eval_parts s (parts_of (drop n ps)) k) ≡ whole → part_bytes s p k ≡ gives shown j
+    → behind (bs ++ shown) (eval_parts s (parts_of (drop (n + 1) ps)) j) ≡ whole
+text_step s ps n p bs k j shown whole h is w g =
+    let o = eval_parts s (parts_of (drop (n + 1) ps)) j in
+    sym (behind_more bs shown o.answer o.next)
+    ∙ (sym (ap (λ (q : Outcome (List ℕ)). behind bs (and_parts s (drop (n + 1) ps) q)) g)
+    ∙ (sym (ap (behind bs) (part_at s ps n p k h is)) ∙ w))
+
+pub text_fault : (s : Scope) (ps : List FormatPart) (n : ℕ) (p : FormatPart) (bs : List ℕ) (k j : ℕ) (fault : OperationFault) (whole : Outcome (List ℕ))
+    → n < length ps → p ≡ get_or ps n p → behind bs (eval_parts s (parts_of (drop n ps)) k) ≡ whole → Ends {A = List ℕ} (Err fault) j (part_bytes s p k)
+    → Ends {A = List ℕ} (Err fault) j whole
+unfolding behind
+text_fault s ps n p bs k j (faults.Raised kind) whole h is w g =
+    sym w ∙ (ap (behind bs) (part_at s ps n p k h is) ∙ ap (λ (q : Outcome (List ℕ)). behind bs (and_parts s (drop (n + 1) ps) q)) g)
+text_fault s ps n p bs k j faults.OutOfMemory whole h is w g = tt
+
+pub text_end : (s : Scope) (ps : List FormatPart) (n : ℕ) (bs : List ℕ) (k : ℕ) (whole : Outcome (List ℕ))
+    → length ps ≤ n → behind bs (eval_parts s (parts_of (drop n ps)) k) ≡ whole → whole ≡ gives bs k
+unfolding behind
+text_end s ps n bs k whole h w =
+    sym w ∙ (ap (λ (l : List FormatPart). behind bs (eval_parts s (parts_of l) k)) (drop_all n ps h) ∙ ap (λ (q : List ℕ). gives q k) (append_nil bs))
+  where
+    append_nil : {A : Type 0} (xs : List A) → xs ++ [] ≡ xs
+    append_nil [] = refl
+    append_nil (x ∷ xs) = ap (λ (q : List _). x ∷ q) (append_nil xs)

@@ -1,0 +1,138 @@
+//! Expressions without parts, and what is done with the values of parts.
+ghost use Rattle.std.specs.Prelude.{◌≡◌, ◌++◌, ◌∷◌, [], Ok, IfOk};
+ghost use Rattle.py_operator.specs.Operation as operator;
+ghost use Rattle.py_attribute.specs.Attribute as attribute;
+ghost use Rattle.py_attribute.specs.Gives.{Gives};
+ghost use Rattle.py_look.specs.Look as look;
+ghost use Rattle.py_look.specs.Knows.{Knows, KnowsNames};
+ghost use Rattle.py_look.specs.Outcome.{IfKnown};
+ghost use Rattle.py_evaluate.specs.Eval as meaning;
+
+use port_io::{Name, NoMemory};
+use py_attribute::{OperationFault, indexed};
+use py_look::{Locals, Look, operated};
+use py_operator::unary;
+use py_syntax::{BinOp, Const, FaultKind, UnOp};
+use py_value::{Value, copy};
+use std::alloc::Global;
+
+/// What an operation without memory answers.
+fn answered(answer: Result<Value, FaultKind>) -> Result<Value, OperationFault>
+    ensures { Gives answer result }
+{
+    match answer {
+        Ok(v) => Ok(v),
+        Err(kind) => Err(OperationFault::Raised(kind)),
+    }
+}
+
+/// A value on the heap. Only want of memory is an error.
+pub(crate) fn boxed(alloc: Global, v: Value) -> Result<Box<Value>, NoMemory>
+    ensures { IfOk result (λ made. made.value ≡ v) }
+{
+    Ok(Box::new(alloc, v)?)
+}
+
+/// No value. It takes no memory.
+pub(crate) fn no_values(alloc: Global) -> Vec<Value>
+    ensures { result.items ≡ [] }
+{
+    Vec::new(alloc)
+}
+
+/// No byte. It takes no memory.
+pub(crate) fn no_bytes(alloc: Global) -> Vec<u8>
+    ensures { result.items ≡ [] }
+{
+    Vec::new(alloc)
+}
+
+/// A value more. Only want of memory is an error.
+pub(crate) fn with_value(mut values: Vec<Value>, v: Value) -> Result<Vec<Value>, NoMemory>
+    ensures { IfOk result (λ more. more.items ≡ values.items ++ v ∷ []) }
+{
+    values.push(v)?;
+    Ok(values)
+}
+
+/// More bytes at the end. Only want of memory is an error.
+pub(crate) fn with_bytes(mut text: Vec<u8>, more: &[u8]) -> Result<Vec<u8>, NoMemory>
+    ensures { IfOk result (λ longer. longer.items ≡ text.items ++ more.now) }
+{
+    text.extend_from_slice(more)?;
+    Ok(text)
+}
+
+/// A constant.
+pub(crate) fn constant_value<V: Look>(
+    alloc: Global,
+    view: &V,
+    constant: &Const,
+) -> Result<Value, OperationFault>
+    ensures gives { Gives (Ok (meaning.constant_value constant.now)) result }
+    ensures known { IfKnown (V.view view.now) result }
+{
+    match constant {
+        Const::Absent => Ok(Value::Absent),
+        Const::Truth(b) => Ok(Value::Truth(*b)),
+        Const::Whole(n) => Ok(Value::Whole(*n)),
+        Const::Text(text) => Ok(Value::Text(Name::of(alloc, text.bytes())?)),
+        Const::Named(_) => Ok(Value::Absent),
+    }
+}
+
+/// The value of a name. One that is unassigned is an UnboundLocalError.
+pub(crate) fn name_value<N: Locals, V: Look>(
+    alloc: Global,
+    names: &N,
+    view: &V,
+    name: &Name,
+) -> Result<Value, OperationFault>
+    requires { KnowsNames (V.view view.now) (N.names names.now) }
+    ensures gives { Gives (look.name_value (look.local (N.names names.now) name.now)) result }
+    ensures known { IfKnown (V.view view.now) result }
+{
+    match names.local(name) {
+        Some(v) => Ok(copy(alloc, v)?),
+        None => Err(OperationFault::Raised(FaultKind::UnboundLocalError)),
+    }
+}
+
+/// `v[index]`
+pub(crate) fn word_value<V: Look>(
+    view: &V,
+    v: &Value,
+    index: &Value,
+) -> Result<Value, OperationFault>
+    requires { Knows (V.view view.now) v.now }
+    ensures gives { Gives (attribute.indexed v.now index.now) result }
+    ensures known { IfKnown (V.view view.now) result }
+{
+    answered(indexed(v, index))
+}
+
+/// The value of an operator with one operand.
+pub(crate) fn unary_value<V: Look>(view: &V, op: UnOp, v: Value) -> Result<Value, OperationFault>
+    ensures gives { Gives (operator.unary_value op v) result }
+    ensures known { IfKnown (V.view view.now) result }
+{
+    match unary(op, v) {
+        Ok(v) => Ok(v),
+        Err(fault) => Err(OperationFault::Raised(fault.kind)),
+    }
+}
+
+/// The value of an operator with two operands.
+pub(crate) fn binary_value<V: Look>(
+    view: &V,
+    op: BinOp,
+    a: &Value,
+    b: &Value,
+) -> Result<Value, OperationFault>
+    requires left { Knows (V.view view.now) a.now }
+    requires right { Knows (V.view view.now) b.now }
+    ensures gives { Gives (look.operated (V.view view.now) op a.now b.now) result }
+    ensures known { IfKnown (V.view view.now) result }
+{
+    answered(operated(view, op, a, b))
+}
