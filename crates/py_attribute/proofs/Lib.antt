@@ -1,2 +1,4 @@
 pub mod Halves
 pub mod Dots
+pub mod Plain
+pub mod Others

@@ -1,2 +1,5 @@
 pub mod Attribute
 pub mod Gives
+pub mod Look
+pub mod Knows
+pub mod Outcome

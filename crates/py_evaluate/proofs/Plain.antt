@@ -14,10 +14,10 @@ use Rattle.py_value.specs.declared.value.Value.TheVariants as value
 use Rattle.py_operator.specs.Number.{one_number, two_numbers, whole}
 use Rattle.py_operator.specs.Operation.{equal, divided, shifted, arithmetic, binary_value, unary_value}
 use Rattle.py_attribute.specs.Attribute.{indexed, word_at}
-use Rattle.py_look.specs.Look.{View, beside, is_handle, compared, operated}
-use Rattle.py_look.specs.Knows.{Knows, KnowsSignal, KnowsWords}
-use Rattle.py_look.specs.Outcome.{AnswerKnown}
-use Rattle.py_look.proofs.Plain.{either, chained, whole_plain}
+use Rattle.py_attribute.specs.Look.{View, beside, is_handle, compared, operated}
+use Rattle.py_attribute.specs.Knows.{Knows, KnowsSignal, KnowsWords}
+use Rattle.py_attribute.specs.Outcome.{AnswerKnown}
+use Rattle.py_attribute.proofs.Plain.{either, chained, whole_plain}
 
 divided_plain : (view : View) (f : ℤ → ℤ → ℤ) (a b : ℤ) → AnswerKnown view (divided f a b)
 divided_plain view f a b = either view (is_zero b) (Err ZeroDivisionError) (whole (held (f a b))) tt (whole_plain view (held (f a b)))

@@ -14,9 +14,9 @@ use Rattle.py_value.specs.Shown.{shown}
 use Rattle.py_value.specs.declared.value.Value.{Value}
 use Rattle.py_attribute.specs.declared.fault.OperationFault.{OperationFault}
 use Rattle.py_attribute.specs.declared.fault.OperationFault.TheVariants as faults
-use Rattle.py_look.specs.Look.{View}
-use Rattle.py_look.specs.Knows.{Knows, KnowsAll}
-use Rattle.py_look.specs.Outcome.{Outcome, Scope, Ends, gives, refuses, bind, after}
+use Rattle.py_attribute.specs.Look.{View}
+use Rattle.py_attribute.specs.Knows.{Knows, KnowsAll}
+use Rattle.py_attribute.specs.Outcome.{Outcome, Scope, Ends, gives, refuses, bind, after}
 use Rattle.py_evaluate.specs.Eval.{eval, eval_row, eval_parts}
 use Rattle.py_evaluate.specs.Rows.{trees_of, parts_of, part_bytes, EndsAs}
 

@@ -12,8 +12,8 @@ use Rattle.py_value.specs.declared.value.Value.{Value}
 use Rattle.py_value.specs.declared.value.Value.TheVariants as value
 use Rattle.py_operator.specs.Operation.{unary_value}
 use Rattle.py_attribute.specs.Attribute.{indexed, text_value}
-use Rattle.py_look.specs.Look.{View, local, name_value, attribute, operated}
-use Rattle.py_look.specs.Outcome.{Outcome, Scope, gives, lift, bind}
+use Rattle.py_attribute.specs.Look.{View, local, name_value, attribute, operated}
+use Rattle.py_attribute.specs.Outcome.{Outcome, Scope, gives, lift, bind}
 use Rattle.py_function.specs.Functions.{called, method_value}
 
 abbrev pub constant_value : Const → Value

@@ -12,9 +12,9 @@ use Rattle.py_attribute.specs.declared.fault.OperationFault.{OperationFault}
 use Rattle.py_attribute.specs.declared.fault.OperationFault.TheVariants as faults
 use Rattle.py_evaluate.specs.declared.evaluation.EvalFault.{EvalFault}
 use Rattle.py_evaluate.specs.declared.evaluation.EvalFault.TheVariants as fault
-use Rattle.py_look.specs.Look.{View, Names}
-use Rattle.py_look.specs.Knows.{Knows}
-use Rattle.py_look.specs.Outcome.{Outcome, Scope, gives, refuses, bind}
+use Rattle.py_attribute.specs.Look.{View, Names}
+use Rattle.py_attribute.specs.Knows.{Knows}
+use Rattle.py_attribute.specs.Outcome.{Outcome, Scope, gives, refuses, bind}
 use Rattle.py_value.specs.declared.trigger.TaskNo.{TaskNo}
 use Rattle.py_evaluate.specs.Eval.{eval}
 

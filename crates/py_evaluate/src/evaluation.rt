@@ -2,8 +2,8 @@
 ghost use Rattle.std.specs.Prelude.{◌≡◌, IfOk};
 ghost use Rattle.py_syntax.specs.ExpressionTrees as tree;
 ghost use Rattle.py_syntax.specs.declared.expression.Operation.TheVariants as operation;
-ghost use Rattle.py_look.specs.Knows.{KnowsNames, KnowsAll};
-ghost use Rattle.py_look.specs.Outcome.{Ends, Evaluates};
+ghost use Rattle.py_attribute.specs.Knows.{KnowsNames, KnowsAll};
+ghost use Rattle.py_attribute.specs.Outcome.{Ends, Evaluates};
 ghost use Rattle.py_evaluate.specs.Eval.{eval, eval_row, eval_parts};
 ghost use Rattle.py_evaluate.specs.Rows as rows;
 
@@ -12,9 +12,8 @@ use crate::operations::{
     with_value, word_value,
 };
 use port_io::Name;
-use py_attribute::{OperationFault, text_value};
 use py_function::{called, method_value};
-use py_look::{Locals, Look, attribute, shown_text};
+use py_attribute::{Locals, Look, OperationFault, attribute, shown_text, text_value};
 use py_syntax::{BinOp, BoolOp, Expression, FormatPart, Function, Method, UnOp};
 use py_value::{Fault, TaskNo, Value, truth};
 use std::alloc::Global;

@@ -1,7 +1,7 @@
 //! The values of expressions.
 //!
 //! [`evaluate`] gives the value of an expression, or the fault that it raises, where a task evaluates it that sees the simulation through
-//! `py_look::Look`, and whose names are a `py_look::Locals`. The triggers that are made on the way are numbered in order.
+//! `py_attribute::Look`, and whose names are a `py_attribute::Locals`. The triggers that are made on the way are numbered in order.
 #![tactic(auto)]
 
 mod evaluation;

@@ -3,14 +3,13 @@ ghost use Rattle.std.specs.Prelude.{◌≡◌, ◌++◌, ◌∷◌, [], Ok, IfOk
 ghost use Rattle.py_operator.specs.Operation as operator;
 ghost use Rattle.py_attribute.specs.Attribute as attribute;
 ghost use Rattle.py_attribute.specs.Gives.{Gives};
-ghost use Rattle.py_look.specs.Look as look;
-ghost use Rattle.py_look.specs.Knows.{Knows, KnowsNames};
-ghost use Rattle.py_look.specs.Outcome.{IfKnown};
+ghost use Rattle.py_attribute.specs.Look as look;
+ghost use Rattle.py_attribute.specs.Knows.{Knows, KnowsNames};
+ghost use Rattle.py_attribute.specs.Outcome.{IfKnown};
 ghost use Rattle.py_evaluate.specs.Eval as meaning;
 
 use port_io::{Name, NoMemory};
-use py_attribute::{OperationFault, indexed};
-use py_look::{Locals, Look, operated};
+use py_attribute::{Locals, Look, OperationFault, indexed, operated};
 use py_operator::unary;
 use py_syntax::{BinOp, Const, FaultKind, UnOp};
 use py_value::{Value, copy};

@@ -19,10 +19,10 @@ use Rattle.py_value.specs.declared.value.Value.TheVariants as value
 use Rattle.py_operator.specs.Number.{one_number, whole}
 use Rattle.py_attribute.specs.Attribute.{signal_of, str_value}
 use Rattle.py_time.specs.Times.{time_in, in_unit, steps_of, half_steps}
-use Rattle.py_look.specs.Look.{View, len, one_bit, width}
-use Rattle.py_look.specs.Knows.{Knows, KnowsAll, KnowsOption, KnowsSignal, KnowsForm, KnowsTrig, KnowsTrigs}
-use Rattle.py_look.specs.Outcome.{Outcome, AnswerKnown, gives, refuses, bind, after}
-use Rattle.py_look.proofs.Plain.{either, chained, whole_plain, text_plain}
+use Rattle.py_attribute.specs.Look.{View, len, one_bit, width}
+use Rattle.py_attribute.specs.Knows.{Knows, KnowsAll, KnowsOption, KnowsSignal, KnowsForm, KnowsTrig, KnowsTrigs}
+use Rattle.py_attribute.specs.Outcome.{Outcome, AnswerKnown, gives, refuses, bind, after}
+use Rattle.py_attribute.proofs.Plain.{either, chained, whole_plain, text_plain}
 use Rattle.py_function.specs.Making.{trigger_limit, new_trigger, new_tree, new_value, trigger_value, as_trigger, as_triggers, are_waitable, parts, several}
 use Rattle.py_function.specs.Functions as meaning
 

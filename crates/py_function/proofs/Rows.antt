@@ -11,7 +11,7 @@ use Rattle.py_value.specs.declared.trigger.Trigs.{Trigs as Made}
 use Rattle.py_value.specs.declared.value.Value.{Value}
 use Rattle.py_attribute.specs.declared.fault.OperationFault.{OperationFault}
 use Rattle.py_attribute.specs.declared.fault.OperationFault.TheVariants as faults
-use Rattle.py_look.specs.Outcome.{Outcome, Ends, gives, refuses, bind, after}
+use Rattle.py_attribute.specs.Outcome.{Outcome, Ends, gives, refuses, bind, after}
 use Rattle.py_function.specs.Making.{as_trigger, as_triggers, are_waitable, is_waitable}
 use Rattle.py_function.specs.Rows.{EndsRow}
 

@@ -17,8 +17,8 @@ use Rattle.py_value.specs.declared.value.Value.TheVariants as value
 use Rattle.py_operator.specs.Number.{one_number, whole}
 use Rattle.py_attribute.specs.Attribute.{signal_of, str_value}
 use Rattle.py_time.specs.Times.{unit_of, steps_of, half_steps, time_in}
-use Rattle.py_look.specs.Look.{View, len, one_bit}
-use Rattle.py_look.specs.Outcome.{Outcome, lift}
+use Rattle.py_attribute.specs.Look.{View, len, one_bit}
+use Rattle.py_attribute.specs.Outcome.{Outcome, lift}
 use Rattle.py_function.specs.Making.{new_value, several}
 
 -- ---- arguments, by their places; a call has as many as the grammar asks for, and others aren't looked at

@@ -6,7 +6,7 @@ use Rattle.py_value.specs.Trigger.{Trig, Made, Form, Trigs, NoTrig, Then, Join, 
 use Rattle.py_value.specs.declared.trigger.TaskNo.{TaskNo}
 use Rattle.py_value.specs.declared.value.Value.{Value}
 use Rattle.py_value.specs.declared.value.Value.TheVariants as value
-use Rattle.py_look.specs.Outcome.{Outcome, gives, refuses, bind, after}
+use Rattle.py_attribute.specs.Outcome.{Outcome, gives, refuses, bind, after}
 
 -- how many triggers a task may make
 abbrev pub trigger_limit : ℕ

@@ -4,7 +4,7 @@ use Rattle.py_value.specs.Trigger.{Trigs, row}
 use Rattle.py_value.specs.declared.trigger.Trigs.{Trigs as Made}
 use Rattle.py_attribute.specs.declared.fault.OperationFault.{OperationFault}
 use Rattle.py_attribute.specs.declared.fault.OperationFault.TheVariants as faults
-use Rattle.py_look.specs.Outcome.{Outcome, gives, refuses}
+use Rattle.py_attribute.specs.Outcome.{Outcome, gives, refuses}
 
 abbrev pub EndsRow : Result Made OperationFault → ℕ → Outcome Trigs → Type 0
 EndsRow (Ok ts) k o = o ≡ gives (row ts.list.items) k

@@ -1,10 +1,10 @@
 //! Arguments of calls.
 ghost use Rattle.std.specs.Prelude.{◌≡◌, ◌≤◌, IfOk, MatchResult, slice_get, Ok, Err};
-ghost use Rattle.py_look.specs.Look.{View};
-ghost use Rattle.py_look.specs.Knows.{Knows, KnowsAll};
+ghost use Rattle.py_attribute.specs.Look.{View};
+ghost use Rattle.py_attribute.specs.Knows.{Knows, KnowsAll};
 ghost use Rattle.py_function.specs.Functions as meaning;
 
-use py_look::Look;
+use py_attribute::Look;
 use py_syntax::FaultKind;
 use py_time::unit_of;
 use py_value::{Value, truth};

@@ -5,13 +5,12 @@ ghost use Rattle.py_integer.specs.Integer.{number};
 ghost use Rattle.py_value.specs.Answer.{answer_map};
 ghost use Rattle.py_value.specs.Trigger as trigger;
 ghost use Rattle.py_value.specs.TriggerView.{view_form};
-ghost use Rattle.py_look.specs.Knows.{KnowsAll};
+ghost use Rattle.py_attribute.specs.Knows.{KnowsAll};
 ghost use Rattle.py_function.specs.Functions as meaning;
 
 use crate::argument::{argument, truth_argument, unit_argument};
-use py_attribute::signal_of;
 use py_integer::Integer;
-use py_look::{Look, one_bit};
+use py_attribute::{Look, one_bit, signal_of};
 use py_operator::one_number;
 use py_syntax::FaultKind;
 use py_time::{half_steps, steps_of};

@@ -2,7 +2,7 @@
 ghost use Rattle.std.specs.Prelude.{◌≡◌};
 ghost use Rattle.py_value.specs.Answer.{answer_map};
 ghost use Rattle.py_value.specs.TriggerView.{view_form};
-ghost use Rattle.py_look.specs.Outcome.{lift};
+ghost use Rattle.py_attribute.specs.Outcome.{lift};
 ghost use Rattle.py_function.specs.Making as meaning;
 
 use py_syntax::FaultKind;

@@ -2,13 +2,12 @@
 ghost use Rattle.std.specs.Prelude.{◌≡◌};
 ghost use Rattle.py_value.specs.Answer.{answer_map};
 ghost use Rattle.py_value.specs.TriggerView.{view_form};
-ghost use Rattle.py_look.specs.Knows.{Knows};
-ghost use Rattle.py_look.specs.Outcome.{Ends, Evaluates};
+ghost use Rattle.py_attribute.specs.Knows.{Knows};
+ghost use Rattle.py_attribute.specs.Outcome.{Ends, Evaluates};
 ghost use Rattle.py_function.specs.Functions as meaning;
 
 use crate::calls::{made, plain};
-use py_attribute::OperationFault;
-use py_look::Look;
+use py_attribute::{Look, OperationFault};
 use py_syntax::{FaultKind, Method};
 use py_value::{Form, TaskNo, Value};
 

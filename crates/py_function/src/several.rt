@@ -1,7 +1,7 @@
 //! Triggers that hold others.
 ghost use Rattle.std.specs.Prelude.{◌≡◌};
 ghost use Rattle.py_value.specs.Trigger as trigger;
-ghost use Rattle.py_look.specs.Outcome.{Ends};
+ghost use Rattle.py_attribute.specs.Outcome.{Ends};
 ghost use Rattle.py_function.specs.Making as meaning;
 ghost use Rattle.py_function.specs.Rows.{EndsRow};
 

@@ -1,5 +1,5 @@
-use Rattle.py_look.specs.Look as look
-use Rattle.py_look.proofs.Plain.{given_known, answer_known}
+use Rattle.py_attribute.specs.Look as look
+use Rattle.py_attribute.proofs.Plain.{given_known, answer_known}
 use Rattle.py_evaluate.proofs.Plain.{operated_plain}
 use Rattle.py_evaluate.proofs.operations.binary_value.Goals as goal
 

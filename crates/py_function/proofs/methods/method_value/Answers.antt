@@ -1,4 +1,4 @@
-use Rattle.py_look.proofs.Plain.{ends_known}
+use Rattle.py_attribute.proofs.Plain.{ends_known}
 use Rattle.py_function.specs.Functions as meaning
 use Rattle.py_function.proofs.Known.{method_known}
 use Rattle.py_function.proofs.methods.method_value.Goals as goal

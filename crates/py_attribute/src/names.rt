@@ -5,7 +5,7 @@ use py_value::Value;
 /// The names of a function with their values. No call takes memory.
 pub trait Locals {
     ghost use Rattle.std.specs.Prelude.{◌≡◌, MatchOption, Some, None};
-    ghost use Rattle.py_look.specs.Look.{Names, local};
+    ghost use Rattle.py_attribute.specs.Look.{Names, local};
 
     /// The names, with the values that they have.
     ghost names: { Self → Names };

@@ -3,11 +3,10 @@ ghost use Rattle.std.specs.Prelude.{◌≡◌, IfOk};
 ghost use Rattle.py_value.specs.Shown.{shown};
 ghost use Rattle.py_attribute.specs.Attribute.{str_value};
 ghost use Rattle.py_attribute.specs.Gives.{Gives};
-ghost use Rattle.py_look.specs.Knows.{Knows};
+ghost use Rattle.py_attribute.specs.Knows.{Knows};
 
-use crate::Look;
+use crate::{Look, OperationFault, text_value};
 use port_io::{Name, NoMemory};
-use py_attribute::{OperationFault, text_value};
 use py_value::{Value, show};
 use std::alloc::Global;
 

@@ -4,7 +4,7 @@ use Rattle.gpi.specs.declared.types.SigId.{SigId}
 use Rattle.py_value.specs.Trigger.{Trig, Made, Form, Trigs, NoTrig, Then, Rise, Fall, Change, Cycles, Event, Lock, Join, First, Combine, Limit}
 use Rattle.py_value.specs.declared.value.Value.{Value}
 use Rattle.py_value.specs.declared.value.Value.TheVariants as value
-use Rattle.py_look.specs.Look.{View, Names, local}
+use Rattle.py_attribute.specs.Look.{View, Names, local}
 
 -- a signal of the design
 abbrev pub KnowsSignal : View → ℕ → Type 0

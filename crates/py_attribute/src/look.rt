@@ -7,8 +7,8 @@ use py_value::{EventNo, LockNo, Paths, TaskNo};
 /// What a task sees of the simulation and of the runner. No call takes memory.
 pub trait Look: Paths {
     ghost use Rattle.std.specs.Prelude.{◌≡◌, ◌<◌, ◌≤◌, length, false, slice_index_or, IfSome};
-    ghost use Rattle.py_look.specs.Look.{View, read, width, child, spot_value};
-    ghost use Rattle.py_look.specs.Knows.{Knows};
+    ghost use Rattle.py_attribute.specs.Look.{View, read, width, child, spot_value};
+    ghost use Rattle.py_attribute.specs.Knows.{Knows};
 
     /// What it sees.
     ghost view: { Self → View };

@@ -1,8 +1,8 @@
 //! Operators beside signals.
 ghost use Rattle.std.specs.Prelude.{◌≡◌};
 ghost use Rattle.py_operator.specs.Operation.{binary_value};
-ghost use Rattle.py_look.specs.Look as meaning;
-ghost use Rattle.py_look.specs.Knows.{Knows, KnowsSignal};
+ghost use Rattle.py_attribute.specs.Look as meaning;
+ghost use Rattle.py_attribute.specs.Knows.{Knows, KnowsSignal};
 
 use crate::Look;
 use gpi::SigId;

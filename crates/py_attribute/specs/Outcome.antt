@@ -6,8 +6,8 @@ use Rattle.py_value.specs.declared.trigger.TaskNo.{TaskNo}
 use Rattle.py_value.specs.declared.value.Value.{Value}
 use Rattle.py_attribute.specs.declared.fault.OperationFault.{OperationFault}
 use Rattle.py_attribute.specs.declared.fault.OperationFault.TheVariants as faults
-use Rattle.py_look.specs.Look.{View, Names}
-use Rattle.py_look.specs.Knows.{Knows}
+use Rattle.py_attribute.specs.Look.{View, Names}
+use Rattle.py_attribute.specs.Knows.{Knows}
 
 pub record Outcome (A : Type 0) : Type 0 where
   pub answer : Answer A

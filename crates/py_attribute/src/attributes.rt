@@ -1,14 +1,13 @@
 //! Attributes of values, and widths of signals.
 ghost use Rattle.std.specs.Prelude.{◌≡◌, ◌<◌, length, IfOk};
 ghost use Rattle.py_attribute.specs.Gives.{Gives};
-ghost use Rattle.py_look.specs.Look as meaning;
-ghost use Rattle.py_look.specs.Knows.{Knows, KnowsNode, KnowsSignal};
-ghost use Rattle.py_look.specs.Outcome.{IfKnown};
+ghost use Rattle.py_attribute.specs.Look as meaning;
+ghost use Rattle.py_attribute.specs.Knows.{Knows, KnowsNode, KnowsSignal};
+ghost use Rattle.py_attribute.specs.Outcome.{IfKnown};
 
-use crate::Look;
+use crate::{Look, OperationFault, path_attribute, signal_of, vector_attribute};
 use gpi::{SigId, Spot};
 use port_io::Name;
-use py_attribute::{OperationFault, path_attribute, signal_of, vector_attribute};
 use py_syntax::FaultKind;
 use py_value::{LockNo, Value};
 use std::alloc::Global;

@@ -14,9 +14,9 @@ use Rattle.py_attribute.specs.declared.fault.OperationFault.{OperationFault}
 use Rattle.py_operator.specs.Number.{one_number, whole}
 use Rattle.py_attribute.specs.Attribute.{signed_number, signed_integer, text_limit, text_value, name_of_path, path_attribute, vector_attribute}
 use Rattle.py_attribute.specs.Gives.{Gives}
-use Rattle.py_look.specs.Look.{View}
-use Rattle.py_look.specs.Knows.{Knows}
-use Rattle.py_look.specs.Outcome.{Outcome, Ends, AnswerKnown, IfKnown, gives}
+use Rattle.py_attribute.specs.Look.{View}
+use Rattle.py_attribute.specs.Knows.{Knows}
+use Rattle.py_attribute.specs.Outcome.{Outcome, Ends, AnswerKnown, IfKnown, gives}
 
 pub either : (view : View) (t : Bool) (a b : Answer Value) → AnswerKnown view a → AnswerKnown view b → AnswerKnown view (if t then a else b)
 either view true a b p q = p

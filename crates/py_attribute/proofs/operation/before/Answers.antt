@@ -1,9 +1,9 @@
 use Rattle.std.proofs.Common.{ap, sym, ◌∙◌}
 use Rattle.py_value.specs.declared.value.Value.{Value}
 use Rattle.py_operator.specs.Operation.{binary_value}
-use Rattle.py_look.specs.Look.{is_handle}
-use Rattle.py_look.proofs.Others.{stays}
-use Rattle.py_look.proofs.operation.before.Goals as goal
+use Rattle.py_attribute.specs.Look.{is_handle}
+use Rattle.py_attribute.proofs.Others.{stays}
+use Rattle.py_attribute.proofs.operation.before.Goals as goal
 
 pub returns-in_default : goal.returns-in_default
 returns-in_default g c =

@@ -1,3 +1,0 @@
-pub mod Look
-pub mod Knows
-pub mod Outcome
