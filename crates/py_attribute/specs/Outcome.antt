@@ -19,7 +19,7 @@ gives a k = record { answer = Ok a; next = k }
 abbrev pub refuses : {A : Type 0} → FaultKind → ℕ → Outcome A
 refuses kind k = record { answer = Err kind; next = k }
 
--- an answer that makes no trigger
+-- an answer, and the next number beside it
 abbrev pub lift : {A : Type 0} → Answer A → ℕ → Outcome A
 lift a k = record { answer = a; next = k }
 

@@ -1,4 +1,4 @@
--- What a function of the code returned that makes triggers in order.
+-- A means of proof: what a function of the code returned that makes triggers in order.
 use Rattle.std.specs.Prelude.{◌≡◌, ℕ, Result, Ok, Err}
 use Rattle.py_value.specs.Trigger.{Trigs, row}
 use Rattle.py_value.specs.declared.trigger.Trigs.{Trigs as Made}

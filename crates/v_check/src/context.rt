@@ -16,7 +16,10 @@ use v_scope::{Broken, Scope};
 use v_syntax::Expression;
 
 /// An expression in a context of `width` digits, or the rule that is broken first in it: of all that are broken the one at the least
-/// token, and at one token the one that stands first in the table. Only want of memory is an error.
+/// token, and at one token the one that stands first in the table of rules. Only want of memory is an error.
+///
+/// `width` is that of the whole context (IEEE 1364-2005, clause 5.4.1). In an assignment it is the greater one of the target's width
+/// and the expression's own, so there, and in a `case`, [`check`] comes first and then `lower` of what it found.
 pub fn term(
     alloc: Global,
     scope: &Scope,

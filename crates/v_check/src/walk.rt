@@ -19,7 +19,8 @@ use v_parts::{Parts, concatenation, replication};
 use v_scope::{Found, Scope};
 use v_syntax::{Expression, Select, Selects};
 
-/// What is found in an expression: the first broken rule, or its width and what it is in each context (IEEE 1364-2005, clause 5.4).
+/// What is found in an expression: what is broken first, its width where that is known, and what it is in each context (IEEE
+/// 1364-2005, clause 5.4).
 /// Only want of memory is an error.
 #[cycle(checking)]
 pub fn check(

@@ -7,8 +7,9 @@ use gpi::Term;
 use port_io::NoMemory;
 use std::alloc::Global;
 
-/// The concatenation of some parts, of which the lowest is the first (clause 5.1.14). It is higher than its highest part by the
-/// logarithm of their number. Only want of memory is an error.
+/// The concatenation of some parts, of which the lowest is the first (clause 5.1.14). Only want of memory is an
+/// error. They are put together by halves, so that the whole is only as much higher than its highest part as the logarithm of
+/// their number; no clause says so.
 pub fn concatenation(alloc: Global, mut parts: Vec<Term>) -> Result<Term, NoMemory>
     requires { 1 ≤ length parts.items }
     ensures { IfOk result (MakesConcatenation parts.items) }

@@ -8,7 +8,7 @@ ghost use Rattle.v_flat.specs.Objects.{range_of, words_of};
 use gpi::{Order, Range, SigId, Words};
 use v_scope::Bounds;
 
-/// How many indices a range has, both bounds counted, where they are few (clause 4.9).
+/// How many indices a range has, both bounds counted, where they are at most 65,536 (clause 4.9).
 pub fn index_count(bounds: Bounds) -> u32
     requires { width_of bounds ≤ 65536 }
     ensures { result ≡ width_of bounds }
@@ -35,7 +35,7 @@ fn low(bounds: Bounds) -> u32
     bounds.left.min(bounds.right)
 }
 
-/// Whether the indices fall from the highest digit on; equal bounds count as falling (clause 4.3.1).
+/// Whether the indices fall from the highest digit on; equal bounds count as falling, which the standard leaves open (clause 4.3.1).
 pub(crate) fn falls(bounds: Bounds) -> bool
     ensures { result ≡ is_falling bounds }
 {

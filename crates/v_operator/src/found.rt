@@ -15,7 +15,8 @@ use v_flat::{BinaryClass, UnaryClass, binary_class, unary_class};
 use v_scope::{ElabRule, Found};
 use v_syntax::{BinaryOperator, UnaryOperator};
 
-/// What is found has at most 128 digits, or else TooWide is broken at this token (clause 5.4.1).
+/// What is found has at most 128 digits, or else TooWide is broken at this token. The limit is ours; clause 5.4.1 gives the widths.
+/// Its definition stands in a means of proof, since it is `sized` of the definition of widths over what was checked.
 pub fn sized(place: usize, found: Found<Checked>) -> Found<Checked>
     ensures { result ≡ sized_at place found }
 {

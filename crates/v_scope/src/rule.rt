@@ -19,7 +19,7 @@ pub enum ElabRule {
     /// A port or a parameter that isn't there or is given twice, or one that can't be what it is declared to be
     /// (clauses 12.2.2 and 12.3).
     BadPort,
-    /// An expression that has to be a constant and isn't (clause 5.3), or has an x or z digit.
+    /// An expression that has to be a constant and isn't (clause 5), or has an x or z digit.
     NotConstant,
     /// A select against the declared range, or of what has no such select (clause 5.2).
     BadRange,
