@@ -1,4 +1,4 @@
-//! The program `cocorun` once more, which is run on a test that fails.
+//! The program `cocorun` once more, which is run on a test that passes.
 #![tactic(auto)]
 
 use command::run_process;
