@@ -1,12 +1,11 @@
 -- What is read of a text is what its pieces have.
-use Rattle.std.proofs.Common.{◌≡◌, ℕ, List, [], ◌∷◌, length, drop, None, Some, Result, Ok, Err, refl, sym, subst, ap, ◌∙◌, arith, append-nil}
+use Rattle.std.proofs.Common.{◌≡◌, ℕ, List, [], ◌∷◌, None, Some, Result, Ok, Err, refl, sym, subst, ap, ◌∙◌, append-nil}
 use Rattle.py_syntax.specs.Line.{Line}
-use Rattle.py_syntax.specs.Pieces.{piece_at}
-use Rattle.py_syntax.specs.Places.{Place, first_place, place_after, context_of}
+use Rattle.py_syntax.specs.Places.{Place, first_place}
 use Rattle.py_syntax.specs.Found.{IsMadeOf}
 use Rattle.py_syntax.specs.Spelled.{IsSpelled}
 use Rattle.py_syntax.proofs.Stands.{spelled}
-use Rattle.py_syntax.proofs.Finds.{found}
+use Rattle.py_syntax.proofs.Once.{spelled_once}
 use Rattle.py_syntax.specs.Logical.{lines_of, first_broken, broken_on}
 use Rattle.py_syntax.specs.declared.piece.Piece.{Piece}
 use Rattle.py_syntax.specs.declared.piece.LineRule.{LineRule}
@@ -16,16 +15,6 @@ use Rattle.py_lex.specs.declared.fault.LineFault.{LineFault}
 use Rattle.py_lex.specs.Scan.{State, lines_in, broken_in, HasRead}
 use Rattle.py_lex.specs.Answer.{Answers, IsAnswered, fault_of, fault_by}
 use Rattle.py_lex.proofs.Laws.{read_lines, read_broken}
-
-made_once : (a : Place) (text : List ℕ) (ps qs : List Piece) → IsMadeOf a text ps → IsMadeOf a text qs → ps ≡ qs
-made_once a text [] [] m n = refl
-made_once a text [] (q ∷ qs) m n = absurd (omega (arith, ap length m, n.0))
-made_once a text (p ∷ ps) [] m n = absurd (omega (arith, ap length n, m.0))
-made_once a text (p ∷ ps) (q ∷ qs) m n =
-    let e : q ≡ p = sym n.1 ∙ m.1 in
-    let k : IsMadeOf (place_after a p) (drop (piece_at (context_of a) text).1 text) qs = subst (λ (x : Piece). IsMadeOf (place_after a x) (drop (piece_at (context_of a) text).1 text) qs) e n.2 in
-    let ih : ps ≡ qs = made_once (place_after a p) (drop (piece_at (context_of a) text).1 text) ps qs m.2 k in
-    cc
 
 made_of_read : (text : List ℕ) (s : State) → (h : HasRead text [] s) → IsMadeOf first_place text h.pieces
 made_of_read text s h = subst (λ (ps : List Piece). IsMadeOf first_place text ps) (append-nil h.pieces) (h.made [] refl)
@@ -41,10 +30,6 @@ fault_answers ps n rule.Tab e = e
 fault_answers ps n rule.Dedent e = e
 fault_answers ps n rule.UnclosedText e = e
 fault_answers ps n rule.BadByte e = e
-
--- No text is spelled by two lists of pieces.
-pub spelled_once : (a : Place) (text : List ℕ) (ps qs : List Piece) → IsSpelled a ps text → IsSpelled a qs text → ps ≡ qs
-spelled_once a text ps qs m n = made_once a text ps qs (found a ps text m) (found a qs text n)
 
 spelled_of_read : (text : List ℕ) (s : State) → (h : HasRead text [] s) → IsSpelled first_place h.pieces text
 spelled_of_read text s h = spelled first_place text h.pieces tt (made_of_read text s h)

@@ -1,7 +1,11 @@
 //! Laws of the definitions.
 
-ghost use Rattle.std.specs.Prelude.{◌≡◌, List};
+ghost use Rattle.std.specs.Prelude.{◌≡◌, ℕ, List};
 ghost use Rattle.py_syntax.specs.Line.{Line};
+ghost use Rattle.py_syntax.specs.Places.{first_place};
+ghost use Rattle.py_syntax.specs.Logical.{lines_of};
+ghost use Rattle.py_syntax.specs.Spelled.{IsSpelled};
+ghost use Rattle.py_syntax.specs.declared.piece.Piece.{Piece};
 ghost use Rattle.py_syntax.specs.BlockTrees.{ModuleItem};
 ghost use Rattle.py_syntax.specs.Modules.{AreItems, module_lines, SpellsModule};
 ghost use Rattle.py_syntax.specs.Outline.{Placed, SpellsOutline, at_start};
@@ -19,4 +23,10 @@ pub fn one_tree()
 /// A text has at most one module, however deep and high.
 pub fn one_module()
     ensures { (m n : List ModuleItem) (text : List Line) → SpellsModule m text → SpellsModule n text → m ≡ n }
+{}
+
+/// Bytes have at most one module, however deep and high.
+pub fn one_module_of_bytes()
+    ensures { (bytes : List ℕ) (pieces others : List Piece) (m n : List ModuleItem) → IsSpelled first_place pieces bytes → IsSpelled first_place others bytes
+        → SpellsModule m (lines_of pieces) → SpellsModule n (lines_of others) → m ≡ n }
 {}

@@ -17,7 +17,7 @@ mod reader;
 mod words;
 
 pub use fault::PyFault;
-pub use laws::{one_module, one_outline, one_tree};
+pub use laws::{one_module, one_module_of_bytes, one_outline, one_tree};
 pub use nest::module_of;
 pub use parser::parse;
 pub use reader::outline;

@@ -10,4 +10,4 @@ mod modules;
 mod parser;
 
 pub use fault::ParseFault;
-pub use parser::{one_source, parse};
+pub use parser::{one_source, one_source_of_bytes, parse};

@@ -4,6 +4,8 @@ ghost use Rattle.std.specs.Prelude.{◌≡◌, ◌-◌, ◌<◌, ◌^◌, ℕ, L
 ghost use Rattle.v_syntax.specs.declared.token.Token.{Token};
 ghost use Rattle.v_syntax.specs.SourceTrees.{ModuleTree, view};
 ghost use Rattle.v_syntax.specs.Refusal.{IsSource, height_limit};
+ghost use Rattle.v_lex.specs.Row.{Reads};
+ghost use Rattle.v_lex.specs.Lexing.{Lexed};
 ghost use Rattle.v_phrase.specs.Stops.{Gives};
 ghost use Rattle.v_parse.specs.Reading.{source_of};
 ghost use Rattle.v_parse.specs.Answers.{IsFault, IsRead, Tells};
@@ -66,4 +68,10 @@ pub fn parse(alloc: Global, tokens: &Tokens) -> Result<Source, ParseFault>
 /// A text has at most one tree, whatever its height.
 pub fn one_source()
     ensures { (n m : ℕ) (text : List Token) (a b : List ModuleTree) → IsSource n text a → IsSource m text b → a ≡ b }
+{}
+
+/// Bytes have at most one tree, whatever its height.
+pub fn one_source_of_bytes()
+    ensures { (n m : ℕ) (bytes : List ℕ) (read again : Lexed) (a b : List ModuleTree) → Reads bytes read → Reads bytes again
+        → IsSource n read.tokens a → IsSource m again.tokens b → a ≡ b }
 {}
