@@ -30,7 +30,7 @@ one_source n m text a b v w = laws.one_source n m text a b v w
 
 one_list : (bytes : List ℕ) (read again : Lexed) → Reads bytes read → Reads bytes again → read.tokens ≡ again.tokens
 one_list bytes read again r s =
-    ap (λ (l : Lexed). l.tokens) r.1.1.1 ∙ ap (λ (parts : List Part). (told parts).tokens) (one_row start 0 r.0 s.0 bytes r.1.0 s.1.0) ∙ sym (ap (λ (l : Lexed). l.tokens) s.1.1.1)
+    ap (λ (l : Lexed). l.tokens) r.3 ∙ ap (λ (parts : List Part). (told parts).tokens) (one_row start 0 r.0 s.0 bytes r.1 s.1) ∙ sym (ap (λ (l : Lexed). l.tokens) s.3)
 
 pub one_source_of_bytes : (n m : ℕ) (bytes : List ℕ) (read again : Lexed) (a b : List ModuleTree) → Reads bytes read → Reads bytes again
     → IsSource n read.tokens a → IsSource m again.tokens b → a ≡ b
