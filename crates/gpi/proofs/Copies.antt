@@ -1,5 +1,5 @@
 -- Copies, one by one.
-use Rattle.std.proofs.Common.{◌≡◌, ℕ, zero, suc, ◌+◌, ◌<◌, ◌≤◌, List, [], ◌∷◌, ◌++◌, length, take, get_or, slice_get, Some, Option, refl, ap, sym, ◌∙◌, arith, subst, add-one, Box, Global}
+use Rattle.std.proofs.Common.{◌≡◌, ℕ, zero, suc, ◌+◌, ◌<◌, ◌≤◌, List, [], ◌∷◌, ◌++◌, length, take, get_or, slice_get, Some, Option, Result, Ok, IfOk, refl, ap, sym, ◌∙◌, arith, subst, add-one, Box, Global}
 use Rattle.std.proofs.lemmas.List.{take_all}
 use Rattle.four_value.specs.declared.Digit.{Digit}
 use Rattle.gpi.specs.declared.acts.Act.{Act}
@@ -14,6 +14,13 @@ use Rattle.gpi.specs.Cases.{AreLabelCopies, IsLabelCopy, first_match, AreLabels,
 use Rattle.gpi.specs.Activation.{Run, activation, run_list, run_at, IsSound, SoundList, IsActCopy, AreActCopies, acts_of, by_item, MakesBlock, MakesCase}
 use Rattle.gpi.proofs.Rows.{by_item_same}
 use Rattle.gpi.proofs.Made.{block_made, block_back, case_runs, case_back}
+
+-- what was made of two results, where what each promises holds
+pub both_made : {A B E : Type 0} (P : A → Type 0) (Q : B → Type 0) (a : Result A E) (b : Result B E) (r : Result (A × B) E) (x : A) (y : B)
+    → IfOk r (λ made. (a ≡ Ok made.0) × (b ≡ Ok made.1)) → r ≡ Ok (x, y) → IfOk a P → IfOk b Q → P x × Q y
+both_made {A} {B} {E} P Q a b r x y h e p q =
+    let k = subst (λ (s : Result (A × B) E). IfOk s (λ made. (a ≡ Ok made.0) × (b ≡ Ok made.1))) e h in
+    (subst (λ (s : Result A E). IfOk s P) k.0 p, subst (λ (s : Result B E). IfOk s Q) k.1 q)
 
 labels_next : (ls ks : List Label) (n : ℕ) (l k : Label) → slice_get ls n ≡ Some l → AreLabelCopies (take n ls) ks → IsLabelCopy l k → AreLabelCopies (take (suc n) ls) (ks ++ k ∷ [])
 labels_next [] ks n l k h j e = absurd (cc)

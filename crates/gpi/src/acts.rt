@@ -162,12 +162,10 @@ fn copy_act(alloc: Global, act: &Act) -> Result<Act, NoMemory>
             Ok(Act::If(test, a, b))
         }
         Act::Case(kind, value, labels, items, other) => {
-            let value = value.copy(alloc)?;
-            let labels = copy_labels(alloc, labels)?;
-            let items = copy_acts(alloc, items)?;
-            let other = copy_boxed(alloc, other)?;
-            let act = case_of(*kind, value, labels, items, other);
-            Ok(act)
+            let choice = both(value.copy(alloc), copy_labels(alloc, labels));
+            let branches = both(copy_acts(alloc, items), copy_boxed(alloc, other));
+            let ((value, labels), (items, other)) = both(choice, branches)?;
+            Ok(case_of(*kind, value, labels, items, other))
         }
         Act::Blocking(target, value) => {
             let (target, value) = copy_assignment(alloc, target, value)?;

@@ -106,45 +106,36 @@ impl Term {
         match self {
             Term::Const(bits) => Some(bits.width()),
             Term::Signal(s, w) => signal_width(signals, *s, *w),
-            Term::Word(words, i, w) => {
-                i.sound_width(signals)?;
-                words.sound_width(signals, *w)
-            }
+            Term::Word(words, i, w) => i.sound_width(signals).and(words.sound_width(signals, *w)),
             Term::Select(a, _, i, w) => {
-                a.sound_width(signals)?;
-                i.sound_width(signals)?;
-                proper(*w)
+                let operands = a.sound_width(signals).and(i.sound_width(signals));
+                operands.and(proper(*w))
             }
             Term::Unary(_, a) => a.sound_width(signals),
-            Term::Arith(_, a, b) => common(a.sound_width(signals)?, b.sound_width(signals)?),
+            Term::Arith(_, a, b) => {
+                let (a, b) = a.sound_width(signals).zip(b.sound_width(signals))?;
+                common(a, b)
+            }
             Term::Compare(_, a, b) => {
-                common(a.sound_width(signals)?, b.sound_width(signals)?)?;
-                Some(1)
+                let (a, b) = a.sound_width(signals).zip(b.sound_width(signals))?;
+                common(a, b).and(Some(1))
             }
             Term::Logic(_, a, b) => {
-                a.sound_width(signals)?;
-                b.sound_width(signals)?;
-                Some(1)
+                let operands = a.sound_width(signals).and(b.sound_width(signals));
+                operands.and(Some(1))
             }
-            Term::Reduce(_, a) => {
-                a.sound_width(signals)?;
-                Some(1)
-            }
-            Term::Shift(_, a, count) => {
-                let w = a.sound_width(signals)?;
-                count.sound_width(signals)?;
-                Some(w)
-            }
+            Term::Reduce(_, a) => a.sound_width(signals).and(Some(1)),
+            Term::Shift(_, a, count) => count.sound_width(signals).and(a.sound_width(signals)),
             Term::Cond(condition, a, b) => {
-                condition.sound_width(signals)?;
-                common(a.sound_width(signals)?, b.sound_width(signals)?)
+                let (a, b) = a.sound_width(signals).zip(b.sound_width(signals))?;
+                condition.sound_width(signals).and(common(a, b))
             }
-            Term::Concat(a, b) => joined(a.sound_width(signals)?, b.sound_width(signals)?),
+            Term::Concat(a, b) => {
+                let (a, b) = a.sound_width(signals).zip(b.sound_width(signals))?;
+                joined(a, b)
+            }
             Term::Repeat(n, a) => multiplied(*n, a.sound_width(signals)?),
-            Term::Resize(a, w) => {
-                a.sound_width(signals)?;
-                proper(*w)
-            }
+            Term::Resize(a, w) => a.sound_width(signals).and(proper(*w)),
         }
     }
 }

@@ -1,20 +1,28 @@
-use Rattle.std.proofs.Common.{List, subst}
+use Rattle.std.proofs.Common.{List, subst, Box, Global}
 use Rattle.gpi.specs.declared.acts.Act.{Act}
+use Rattle.gpi.specs.declared.acts.Acts.{Acts}
+use Rattle.gpi.specs.Made.{IsCopy}
+use Rattle.gpi.specs.Cases.{AreLabelCopies}
 use Rattle.gpi.specs.Activation.{acts_of, IsActCopy, AreActCopies}
-use Rattle.gpi.proofs.Copies.{copied_block, copied_case, acts_more, acts_end}
+use Rattle.gpi.proofs.Copies.{both_made, copied_block, copied_case, acts_more, acts_end}
 use Rattle.gpi.proofs.acts.+copying.Goals as goal
 
 pub copy_act-returns-in_ok-copy_acts-in-Block : goal.copy_act-returns-in_ok-copy_acts-in-Block
 copy_act-returns-in_ok-copy_acts-in-Block t c =
     copied_block c.args.act.now c.in-Block.list c.in_ok-copy_acts-in-Block.field-0 c.block.result c.in-Block.is c.in_ok-copy_acts-in-Block.ensures c.block.ensures
 
-pub copy_act-returns-in_ok-other-in-Case : goal.copy_act-returns-in_ok-other-in-Case
-copy_act-returns-in_ok-other-in-Case t c =
-    let b = c.in_ok-other-in-Case.other in
-    copied_case c.args.act.now c.in-Case.kind c.in-Case.value c.in_ok-value-in-Case.value c.in-Case.labels c.in_ok-labels-in-Case.labels
-    c.in-Case.items c.in_ok-items-in-Case.items c.in-Case.other b.value c.case_of-act.result
-    c.in-Case.is c.in_ok-value-in-Case.ensures c.in_ok-labels-in-Case.ensures c.in_ok-items-in-Case.ensures
-    (subst (λ (a : Act). IsActCopy a b.value) c.deref-in-Case.ensures c.in_ok-other-in-Case.ensures) c.case_of-act.ensures
+pub copy_act-returns-in_ok-value-in-Case : goal.copy_act-returns-in_ok-value-in-Case
+copy_act-returns-in_ok-value-in-Case t c =
+    let made = c.in_ok-value-in-Case in
+    let e = made.ensures in
+    let choice = both_made (IsCopy c.in-Case.value) (AreLabelCopies c.in-Case.labels) c.copy-in-Case.result c.copy_labels.result c.both-choice.result made.value made.labels c.both-choice.ensures e.0 c.copy-in-Case.ensures c.copy_labels.ensures in
+    let branches = both_made (λ (xs : Acts). AreActCopies (acts_of c.in-Case.items) (acts_of xs)) (λ (a : Box Act Global). IsActCopy c.deref-in-Case.result.now a.value)
+    c.copy_acts-in-Case.result c.copy_boxed-in-Case.result c.both-branches-in-Case.result made.items made.other
+    c.both-branches-in-Case.ensures e.1 c.copy_acts-in-Case.ensures c.copy_boxed-in-Case.ensures in
+    copied_case c.args.act.now c.in-Case.kind c.in-Case.value made.value c.in-Case.labels made.labels
+    c.in-Case.items made.items c.in-Case.other made.other.value c.case_of.result
+    c.in-Case.is choice.0 choice.1 branches.0
+    (subst (λ (a : Act). IsActCopy a made.other.value) c.deref-in-Case.ensures branches.1) c.case_of.ensures
 
 pub copy_acts-loop-act-preserved : goal.copy_acts-loop-act-preserved
 copy_acts-loop-act-preserved t c =
