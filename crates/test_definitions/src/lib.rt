@@ -1,4 +1,7 @@
 //! Where the names of a tests file are defined: as constants, as functions, as factories.
+//!
+//! [`defined`] tells the name that one item defines as one kind, and [`table`] the first item of each name. That a name is defined
+//! twice is left to others.
 #![tactic(auto)]
 
 mod item;

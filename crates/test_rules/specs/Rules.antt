@@ -202,6 +202,7 @@ are_right_settings f ss =
     list_all (is_right_setting f) ss && name_differ (setting_names ss)
     && (is_among (codes "timeout_time") (setting_names ss) || not (is_among (codes "timeout_unit") (setting_names ss)))
 
+-- A line of a factory that isn't above it is Misplaced, which counts before.
 abbrev pub is_open_option : File → File → Name → Name → Option Definition → Bool
 is_open_option f above n o None = true
 is_open_option f above n o (Some d) =
@@ -225,6 +226,7 @@ has_right_options f above _ = true
 abbrev pub test_limit : ℕ
 test_limit = 65536
 
+-- a function is a test or it isn't
 abbrev pub one_test : File → Option Definition → ℕ
 one_test f None = 0
 one_test f (Some d) = if is_test f d then 1 else 0
@@ -302,6 +304,6 @@ first_broken f (l ∷ ls) = or_else (broken_at f l) (first_broken f ls)
 abbrev pub no_tests : File → Option Refusal
 no_tests f = if has_tests f then None else Some (record { rule = rule.NoTests; line = last_line 1 (module_lines f.items) })
 
--- the first line that breaks a rule, and the rule; a file without a test is refused behind all others, at its last line
+-- the first line that breaks a rule, and the rule; where no line breaks one, a file without a test is refused at its last line
 abbrev pub refusal : File → Option Refusal
 refusal f = or_else (first_broken f (file_lines f)) (no_tests f)

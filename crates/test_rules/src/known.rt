@@ -16,7 +16,7 @@ pub fn is_module(name: &[u8]) -> bool
     name == b"cocotb".as_slice() || name == b"random".as_slice()
 }
 
-/// Whether `cocotb.triggers` has a name (cocotb 1.8, `cocotb.triggers`).
+/// Whether a tests file may import a name from `cocotb.triggers`: the profile has fewer than cocotb 1.8.
 fn is_of_triggers(name: &[u8]) -> bool
     ensures { result ≡ is_among name.now triggers.names }
 {
@@ -37,7 +37,7 @@ fn is_of_triggers(name: &[u8]) -> bool
         || name == b"with_timeout".as_slice()
 }
 
-/// Whether a name is the only one of its module.
+/// Whether a name is the only one that a tests file may import from its module.
 fn is_only(name: &[u8], only: &[u8]) -> bool
     ensures { result ≡ is_among name.now (only.now ∷ []) }
 {
@@ -132,7 +132,8 @@ pub fn is_kind(value: &Const) -> bool
     }
 }
 
-/// Whether `cocotb.test` has an option of this name that takes such a value (cocotb 1.8, `cocotb.test`).
+/// Whether a tests file may give `cocotb.test` an option of this name with such a value. The profile has five of the options of
+/// cocotb 1.8 (`cocotb.test`), and is strict on their kinds.
 pub fn is_right_value(option: &[u8], value: &Const) -> bool
     ensures { result ≡ is_right_value option.now value.now }
 {

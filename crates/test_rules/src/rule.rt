@@ -7,7 +7,8 @@ pub enum FileRule {
     UnknownImport,
     /// A name that is neither a parameter, nor assigned in the function, nor defined in the module, nor built in.
     UnknownName,
-    /// What is known and stands where it can't: `break` outside of a loop, arguments that don't fit, a decorator without a function.
+    /// What is known and stands where it can't: `break` outside of a loop, arguments that don't fit, a decorator without a function, a
+    /// test or a factory's function without the parameters that it needs.
     Misplaced,
     /// A second definition of a name in the module, or of a parameter in a function.
     DuplicateName,

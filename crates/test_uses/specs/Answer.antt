@@ -13,7 +13,7 @@ answer f a us =
     if list_any (is_unknown f a) us then Some rule.UnknownName
     else (if list_any (astray f a) us then Some rule.Misplaced else None)
 
--- which place a rule has among those that one line breaks
+-- a rule's number, from 0, in the order in which those that one line breaks count
 abbrev pub order : FileRule → ℕ
 order rule.UnknownImport = 0
 order rule.UnknownName = 1

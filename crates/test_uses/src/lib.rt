@@ -1,9 +1,8 @@
 //! Which rule the uses of a line break: an unknown name, or what is out of place.
 //!
 //! [`Scope`] is what is known around a line. [`of_tree`], [`of_statement`], [`of_header`], [`of_line`] and [`of_defaults`] go through the
-//! trees of a line and answer the rule that their uses break. What else a line may break, as a name that is defined twice, is left to
-//! others
-//! [`of_block`] answers the first line of a block that breaks one.
+//! trees of a line and answer the rule that their uses break, and [`of_block`] answers the first line of a block that breaks one.
+//! What else a line may break, as a name that is defined twice, is left to others.
 #![tactic(auto, using(crate::proofs::Answers::nothing, crate::proofs::Answers::joined, crate::proofs::Answers::consed))]
 
 mod block;

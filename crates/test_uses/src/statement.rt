@@ -67,7 +67,7 @@ fn of_raise<S: Scope>(scope: &S, kind: FaultKind, value: &Option<Expression>) ->
     first_of(of_kind(scope, kind), of_optional(scope, value))
 }
 
-/// The rule that what a line is logged for breaks.
+/// The rule that the logger of a log call breaks.
 fn of_logger<S: Scope>(scope: &S, logger: &Logger) -> Option<FileRule>
     ensures { result ≡ answer (S.file scope.now) (S.around scope.now) (logger_uses (view_logger logger.now)) }
 {
@@ -77,7 +77,7 @@ fn of_logger<S: Scope>(scope: &S, logger: &Logger) -> Option<FileRule>
     }
 }
 
-/// The rule that the head of a log call breaks: what is logged for, and what is logged first.
+/// The rule that the head of a log call breaks: its logger, and what is logged first.
 fn of_logged<S: Scope>(scope: &S, logger: &Logger, text: &Expression) -> Option<FileRule>
     ensures { result ≡ answer (S.file scope.now) (S.around scope.now) (logger_uses (view_logger logger.now) ++ tree_uses (view text.now)) }
 {
