@@ -7,22 +7,24 @@ use Rattle.py_syntax.specs.declared.expression.BoolOp.{BoolOp}
 use Rattle.py_syntax.specs.declared.expression.BoolOp.TheVariants.{Or, And}
 use Rattle.py_syntax.specs.declared.expression.Operation.TheVariants as operation
 use Rattle.py_value.specs.Shown.{shown}
+use Rattle.py_value.specs.Answer.{Answer}
 use Rattle.py_value.specs.Truth.{truth}
 use Rattle.py_value.specs.declared.value.Value.{Value}
 use Rattle.py_value.specs.declared.value.Value.TheVariants as value
 use Rattle.py_operator.specs.Operation.{unary_value}
 use Rattle.py_attribute.specs.Attribute.{indexed, text_value}
-use Rattle.py_attribute.specs.Look.{View, local, name_value, attribute, operated}
+use Rattle.py_attribute.specs.Look.{local, name_value, attribute, operated}
 use Rattle.py_attribute.specs.Outcome.{Outcome, Scope, gives, lift, bind}
 use Rattle.py_function.specs.Functions.{called, method_value}
 
-abbrev pub constant_value : Const → Value
-constant_value constant.Absent = value.Absent
-constant_value (constant.Truth b) = value.Truth b
-constant_value (constant.Whole z) = value.Whole z
-constant_value (constant.Text bs) = value.Text bs
+-- a constant; a text of over 65,536 bytes is no value, wherever it comes from
+abbrev pub constant_value : Const → Answer Value
+constant_value constant.Absent = Ok value.Absent
+constant_value (constant.Truth b) = Ok (value.Truth b)
+constant_value (constant.Whole z) = Ok (value.Whole z)
+constant_value (constant.Text bs) = text_value bs
 -- names of constants stand in a module's lines, not in expressions
-constant_value (constant.Named n) = value.Absent
+constant_value (constant.Named n) = Ok value.Absent
 
 -- the first operand of `or` and `and` where it decides, else what the second gives
 abbrev pub decided : BoolOp → Bool → Value → ℕ → (ℕ → Outcome Value) → Outcome Value
@@ -33,7 +35,7 @@ decided And false v k second = gives v k
 
 abbrev mutual
   pub eval : Scope → Tree → ℕ → Outcome Value
-  eval s (Constant c) k = gives (constant_value c) k
+  eval s (Constant c) k = lift (constant_value c) k
   eval s (FormatString ps) k = bind (eval_parts s ps k) (λ bytes j. lift (text_value bytes) j)
   eval s (Name n) k = lift (name_value (local s.names n)) k
   eval s (Bracketed e) k = eval s e k

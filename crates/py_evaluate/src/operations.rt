@@ -9,7 +9,7 @@ ghost use Rattle.py_attribute.specs.Outcome.{IfKnown};
 ghost use Rattle.py_evaluate.specs.Eval as meaning;
 
 use port_io::{Name, NoMemory};
-use py_attribute::{Locals, Look, OperationFault, indexed, operated};
+use py_attribute::{Locals, Look, OperationFault, indexed, operated, text_value};
 use py_operator::unary;
 use py_syntax::{BinOp, Const, FaultKind, UnOp};
 use py_value::{Value, copy};
@@ -62,20 +62,20 @@ pub(crate) fn with_bytes(mut text: Vec<u8>, more: &[u8]) -> Result<Vec<u8>, NoMe
     Ok(text)
 }
 
-/// A constant.
+/// A constant. A text of over 65,536 bytes is an OverflowError.
 pub(crate) fn constant_value<V: Look>(
     alloc: Global,
     view: &V,
     constant: &Const,
 ) -> Result<Value, OperationFault>
-    ensures gives { Gives (Ok (meaning.constant_value constant.now)) result }
+    ensures gives { Gives (meaning.constant_value constant.now) result }
     ensures known { IfKnown (V.view view.now) result }
 {
     match constant {
         Const::Absent => Ok(Value::Absent),
         Const::Truth(b) => Ok(Value::Truth(*b)),
         Const::Whole(n) => Ok(Value::Whole(*n)),
-        Const::Text(text) => Ok(Value::Text(Name::of(alloc, text.bytes())?)),
+        Const::Text(text) => text_value(alloc, text.bytes()),
         Const::Named(_) => Ok(Value::Absent),
     }
 }
