@@ -12,8 +12,8 @@ use crate::operations::{
     with_value, word_value,
 };
 use port_io::Name;
-use py_function::{called, method_value};
 use py_attribute::{Locals, Look, OperationFault, attribute, shown_text, text_value};
+use py_function::{called, method_value};
 use py_syntax::{BinOp, BoolOp, Expression, FormatPart, Function, Method, UnOp};
 use py_value::{Fault, TaskNo, Value, truth};
 use std::alloc::Global;

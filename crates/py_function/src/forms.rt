@@ -9,8 +9,8 @@ ghost use Rattle.py_attribute.specs.Knows.{KnowsAll};
 ghost use Rattle.py_function.specs.Functions as meaning;
 
 use crate::argument::{argument, truth_argument, unit_argument};
-use py_integer::Integer;
 use py_attribute::{Look, one_bit, signal_of};
+use py_integer::Integer;
 use py_operator::one_number;
 use py_syntax::FaultKind;
 use py_time::{half_steps, steps_of};

@@ -13,7 +13,7 @@ use crate::numbers::{base_of, number_of};
 use crate::texts::{docstring_end, is_line_empty, literal_len, said, text_end};
 use crate::words::{line_feeds, line_len, number_len, word_len};
 use port_io::{Name, NoMemory};
-use py_syntax::{Context, Keyword, Piece, Mode, Token};
+use py_syntax::{Context, Keyword, Mode, Piece, Token};
 use std::alloc::Global;
 
 #[tactic(auto, unfolding(py_syntax::specs::Pieces::word_piece))]

@@ -9,7 +9,7 @@ ghost use Rattle.py_syntax.specs.Logical;
 
 use crate::gather::is_token;
 use port_io::NoMemory;
-use py_syntax::{Bracket, Broken, Context, LineNumber, LineRule, OpenBracket, Piece, Mode, Token};
+use py_syntax::{Bracket, Broken, Context, LineNumber, LineRule, Mode, OpenBracket, Piece, Token};
 use std::alloc::Global;
 use std::marker::Model;
 

@@ -23,7 +23,8 @@ fn rank(rule: LineRule) -> u8
 fn comes_before(left: Broken, right: Broken) -> bool
     ensures { result ≡ Logical.comes_before left right }
 {
-    left.line.0 < right.line.0 || (left.line.0 == right.line.0 && rank(left.rule) < rank(right.rule))
+    left.line.0 < right.line.0
+        || (left.line.0 == right.line.0 && rank(left.rule) < rank(right.rule))
 }
 
 /// The earlier of two broken rules, where there are any.

@@ -14,7 +14,9 @@ ghost use Rattle.py_parse.specs.Nesting;
 use crate::list::push;
 use crate::partial_block::PartialBlocks;
 use port_io::NoMemory;
-use py_syntax::{BlockItem, BodyLine, Content, Header, LineNumber, Module, ModuleItem, ModuleLine, PlacedLine};
+use py_syntax::{
+    BlockItem, BodyLine, Content, Header, LineNumber, Module, ModuleItem, ModuleLine, PlacedLine,
+};
 use std::alloc::Global;
 
 /// A header with its block.

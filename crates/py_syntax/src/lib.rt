@@ -36,7 +36,7 @@ pub use line_number::LineNumber;
 pub use module::{ModuleLine, Parameter, Setting};
 pub use operator::{Bracket, Operator};
 pub use outline::{Content, OpenBlock, PlacedLine};
-pub use piece::{Broken, Context, LineRule, OpenBracket, Piece, Mode};
+pub use piece::{Broken, Context, LineRule, Mode, OpenBracket, Piece};
 pub use statement::{Action, BodyLine, Caught, Header, LogLevel, Logger, Span, Statement};
 pub use token::Token;
 pub use tree::{BlockItem, Module, ModuleItem};
