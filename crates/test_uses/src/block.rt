@@ -8,16 +8,16 @@ ghost use Rattle.test_rules.specs.Uses.{block_lines, item_lines};
 use crate::header::is_looped;
 use crate::{Scope, of_header, of_statement};
 use port_io::NoMemory;
-use py_syntax::BlockItem;
+use py_syntax::{BlockItem, LineNumber};
 use std::alloc::Global;
 use test_rules::{FileRule, Refusal};
 
 /// The refusal of a line that breaks this rule, if any.
-pub fn refused_at(line: u32, rule: Option<FileRule>) -> Option<Refusal>
-    ensures { result ≡ refused_at line rule }
+pub fn refused_at(line: LineNumber, rule: Option<FileRule>) -> Option<Refusal>
+    ensures { result ≡ refused_at line.0 rule }
 {
     match rule {
-        Some(rule) => Some(Refusal { rule, line }),
+        Some(rule) => Some(Refusal { rule, line: line.0 }),
         None => None,
     }
 }
