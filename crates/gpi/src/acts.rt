@@ -7,12 +7,12 @@ ghost use Rattle.gpi.specs.Cases.{AreLabelCopies};
 ghost use Rattle.gpi.specs.Made.{IsCopy};
 ghost use Rattle.gpi.specs.Targets.{IsTargetCopy};
 
-use crate::boxed::{both, boxed, boxed_both};
+use crate::both::both;
 use crate::targets::Target;
 use crate::terms::Term;
 pub use activation::{apply, placed};
 use four_value::{Bits, Digit};
-use port_io::{NoMemory, Sequence};
+use port_io::{NoMemory, Sequence, boxed, boxed_both};
 use std::alloc::Global;
 
 mod activation;

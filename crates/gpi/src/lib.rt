@@ -6,7 +6,7 @@
 #![tactic(auto)]
 
 mod acts;
-mod boxed;
+mod both;
 mod depths;
 mod design;
 mod interface;

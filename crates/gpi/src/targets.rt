@@ -3,12 +3,12 @@ ghost use Rattle.std.specs.Prelude.{◌≡◌, ℕ, ◌<◌, ◌≤◌, List, le
 ghost use Rattle.gpi.specs.Terms.{widths_of, read};
 ghost use Rattle.gpi.specs.Targets.{target_width, IsSoundTarget, IsSoundObject, IsObjectCopy, IsTargetCopy, MakesJoin, object_at, object_width};
 
-use crate::boxed::{both, boxed, boxed_both};
+use crate::both::both;
 use crate::selects::{Range, Words};
 use crate::terms::Term;
 use crate::types::SigId;
 use four_value::Bits;
-use port_io::NoMemory;
+use port_io::{NoMemory, boxed, boxed_both};
 use std::alloc::Global;
 
 /// A signal, or a word of a memory that is chosen by an index; and its width.

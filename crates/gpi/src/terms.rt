@@ -3,12 +3,12 @@ ghost use Rattle.std.specs.Prelude.{◌≡◌, ℕ, ◌+◌, ◌*◌, ◌<◌, �
 ghost use Rattle.gpi.specs.Terms.{value, width, IsSound, read, widths_of, copies};
 ghost use Rattle.gpi.specs.Made.{MakesWord, MakesSelect, MakesUnary, MakesArith, MakesCompare, MakesLogic, MakesReduce, MakesShift, MakesCond, MakesConcat, MakesRepeat, MakesResize, IsCopy};
 
-use crate::boxed::{both, boxed, boxed_both};
+use crate::both::both;
 use crate::operators::{Arith, Compare, Logic, Reduce, Shift, Unary, chosen};
 use crate::selects::{Range, Words};
 use crate::types::SigId;
 use four_value::{Bits, Digit};
-use port_io::NoMemory;
+use port_io::{NoMemory, boxed, boxed_both};
 use std::alloc::Global;
 
 /// An expression whose names are signals and whose widths are settled (clause 5.4): where an operand takes the width of

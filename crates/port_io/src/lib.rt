@@ -4,12 +4,13 @@
 //! and [`MemSink`] keep them in memory and fail where they are told to; [`DirStore`] reads any
 //! [`Folder`], the current one of the system among them, through its readers ([`Source`]), and
 //! [`WriteSink`] writes into any writer ([`Outlet`]). [`Name`] is a small text, [`Sequence`] values
-//! in order, [`NoMemory`] the want of memory, and [`line_of`] the line and the column of a place in
+//! in order, [`boxed`] a value on the heap, [`NoMemory`] the want of memory, and [`line_of`] the line and the column of a place in
 //! a text. What a real file holds is outside of what contracts can say.
 #![tactic(auto)]
 
 mod calls;
 mod dir_store;
+mod heap;
 mod mem_sink;
 mod mem_store;
 mod name;
@@ -21,6 +22,7 @@ mod source;
 mod write_sink;
 
 pub use dir_store::DirStore;
+pub use heap::{boxed, boxed_both};
 pub use mem_sink::MemSink;
 pub use mem_store::MemStore;
 pub use name::Name;

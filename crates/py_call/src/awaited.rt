@@ -12,7 +12,7 @@ ghost use Rattle.py_call.specs.Views.{tall, ahead, times_in};
 use crate::call::started;
 use crate::tokens::{after_call, after_member, close_of_line};
 use crate::values::{value, whole_primary};
-use py_expression::boxed;
+use port_io::boxed;
 use py_phrase::{Mark, ReadError, after, after_last, after_name, end_of_line};
 use py_syntax::{Awaited, Expression, Operator, StartedCall, Timed, Token};
 use std::alloc::Global;

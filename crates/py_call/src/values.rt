@@ -9,8 +9,8 @@ ghost use Rattle.py_call.specs.Kept;
 ghost use Rattle.py_call.specs.Reading;
 ghost use Rattle.py_call.specs.Views.{tall, ahead};
 
-use port_io::NoMemory;
-use py_expression::{boxed, expression, primary};
+use port_io::{NoMemory, boxed};
+use py_expression::{expression, primary};
 use py_phrase::{ReadError, end_of_line};
 use py_syntax::{Const, Expression, Token};
 use std::alloc::Global;

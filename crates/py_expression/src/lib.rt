@@ -7,7 +7,6 @@ mod begin;
 mod close;
 mod follow;
 mod frame;
-mod heap;
 mod laws;
 mod measured;
 mod parts;
@@ -15,7 +14,6 @@ mod reader;
 mod tokens;
 
 pub use attribute::split;
-pub use heap::boxed;
 pub use laws::one_expression;
 pub use measured::{KEPT, Measured};
 pub use reader::{expression, primary};

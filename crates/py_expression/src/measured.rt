@@ -7,9 +7,8 @@ ghost use Rattle.py_expression.specs.Kept.{measured, arguments_in, parts_in};
 ghost use Rattle.py_expression.specs.Shown;
 
 use crate::arguments::FunctionArguments;
-use crate::heap::boxed;
 use crate::parts::Parts;
-use port_io::{Name, NoMemory};
+use port_io::{Name, NoMemory, boxed};
 use py_syntax::{Const, Expression, Function, Method, Operation, UnOp};
 use std::alloc::Global;
 

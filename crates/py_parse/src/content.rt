@@ -9,7 +9,7 @@ ghost use Rattle.py_parse.specs.Reading.{says};
 ghost use Rattle.py_parse.specs.Found.{IsSaid};
 
 use crate::fault::ContentFault;
-use py_expression::boxed;
+use port_io::boxed;
 use py_module_line::module_line;
 use py_phrase::ReadError;
 use py_statement::{LineError, statement_line};

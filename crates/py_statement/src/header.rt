@@ -13,9 +13,8 @@ ghost use Rattle.py_statement.specs.Words.{colon_of};
 
 use crate::tree::{kind, range};
 use crate::words::{colon_of_line, kind_at};
-use port_io::{Name, NoMemory};
+use port_io::{Name, NoMemory, boxed};
 use py_call::{after_call, value, value_list};
-use py_expression::boxed;
 use py_phrase::{Mark, ReadError, after, constants, name_at};
 use py_syntax::{Bracket, Caught, Expression, FaultKind, Header, Keyword, Span, Token};
 use std::alloc::Global;

@@ -17,7 +17,7 @@ use crate::header::{
 use crate::plain::plain_statement;
 use crate::statement::{asserting, awaiting, only, raising, returning};
 use crate::words::keyword_at;
-use py_expression::boxed;
+use port_io::boxed;
 use py_phrase::ReadError;
 use py_syntax::{BodyLine, Header, Keyword, Statement, Token};
 use std::alloc::Global;

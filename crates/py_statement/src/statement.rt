@@ -12,8 +12,8 @@ ghost use Rattle.py_statement.specs.Reading;
 
 use crate::tree::one;
 use crate::words::kind_at;
+use port_io::boxed;
 use py_call::{await_operand, right_side, value, value_list, whole_value};
-use py_expression::boxed;
 use py_phrase::{Mark, ReadError, after, end_of_line};
 use py_syntax::{Bracket, Expression, Operator, Statement, Token};
 use std::alloc::Global;

@@ -6,9 +6,8 @@ ghost use Rattle.std.specs.Prelude.{◌≡◌, ◌+◌, ◌≤◌, max, [], ◌�
 ghost use Rattle.v_syntax.specs.ExpressionTrees.{view, views, view_select, view_selects, Number, Named, Bracketed, Unary, Binary, Conditional, Concatenation, Replication, Bit, Part, IndexedPart, Whole, One, OfWord, none, more};
 ghost use Rattle.v_expression.specs.Lists.{and_last};
 
-use crate::heap::boxed;
 use four_value::Bits;
-use port_io::{Name, NoMemory};
+use port_io::{Name, NoMemory, boxed};
 use std::alloc::{AllocError, Global};
 use v_syntax::{BinaryOperator, Expression, Operand, Select, Selects, UnaryOperator};
 

@@ -7,10 +7,9 @@ ghost use Rattle.v_expression.specs.Reading;
 ghost use Rattle.v_expression.specs.Reading.{below, layer, any_target_of, named_target_of, joined_of, target_parts_of};
 ghost use Rattle.v_expression.specs.Lists.{and_last_target};
 
-use crate::heap::boxed;
 use crate::operators::down;
 use crate::selects::selects_at;
-use port_io::Name;
+use port_io::{Name, boxed};
 use std::alloc::Global;
 use v_phrase::{ReadError, after, behind, next, place, syntax_error};
 use v_syntax::{Mark, Operand, Target, Token};

@@ -6,8 +6,9 @@ ghost use Rattle.v_phrase.specs.Stops.{Gives};
 ghost use Rattle.v_item.specs.Reading.{driver_of, drivers_of};
 
 use crate::parts::value;
+use port_io::boxed;
 use std::alloc::Global;
-use v_expression::{boxed, target};
+use v_expression::target;
 use v_phrase::{Element, ReadError, after, after_word, listed};
 use v_syntax::{ContinuousAssignment, ItemKind, Keyword, Mark, Token};
 

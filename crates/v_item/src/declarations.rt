@@ -13,8 +13,8 @@ ghost use Rattle.v_item.specs.Reading.{value_of, ports_of, net_of, nets_of, tail
 
 use crate::kinds::{nets_kind, parameters_kind, ports_kind, registers_kind};
 use crate::parts::{line, maybe_range, plain_value, port_head, range, value};
+use port_io::boxed;
 use std::alloc::Global;
-use v_expression::boxed;
 use v_phrase::{
     Element, IdentifierPhrase, ReadError, after, after_word, identifier, listed, next, starts_mark,
     syntax_error,

@@ -14,8 +14,9 @@ ghost use Rattle.v_item.specs.Reading.{bracketed_value_of, connection_of, connec
 
 use crate::kinds::instance_kind;
 use crate::parts::plain_value;
+use port_io::boxed;
 use std::alloc::Global;
-use v_expression::{ExpressionPhrase, boxed, expression};
+use v_expression::{ExpressionPhrase, expression};
 use v_phrase::{Element, ReadError, after, identifier, listed, next, place, starts_mark};
 use v_statement::{begins_expression, starts_expression};
 use v_syntax::{Connections, Expression, Identifier, ItemKind, Mark, NamedConnection, Token};

@@ -17,8 +17,8 @@ use crate::declarations::{integers, nets, parameters, ports, registers};
 use crate::instances::instance;
 use crate::kinds::item_with;
 use crate::processes::{always, initial};
+use port_io::boxed;
 use std::alloc::Global;
-use v_expression::boxed;
 use v_phrase::{ReadError, next, place, syntax_error};
 use v_syntax::{Item, ItemForm, ItemKind, Keyword, Token};
 

@@ -10,8 +10,9 @@ ghost use Rattle.v_item.specs.Firsts as firsts;
 ghost use Rattle.v_item.specs.Firsts.{starts_kind};
 ghost use Rattle.v_item.specs.Reading.{line_of, bound_of, range_of, maybe_range_of, value_of, port_head_of};
 
+use port_io::boxed;
 use std::alloc::Global;
-use v_expression::{boxed, expression};
+use v_expression::expression;
 use v_phrase::{Element, ReadError, after, listed, next, place, starts_mark, syntax_error};
 use v_syntax::{
     Direction, Expression, Identifier, Keyword, Mark, PortHead, PortKind, Range, Token,

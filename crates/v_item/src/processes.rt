@@ -10,8 +10,8 @@ ghost use Rattle.v_item.specs.Firsts.{starts_edge};
 ghost use Rattle.v_item.specs.Reading.{event_reader, event_list_of, bracketed_events_of, events_of, always_of, initial_of};
 
 use crate::kinds::{always_kind, initial_kind};
+use port_io::boxed;
 use std::alloc::Global;
-use v_expression::boxed;
 use v_phrase::{ReadError, after, after_word, identifier, next, starts_mark, syntax_error};
 use v_statement::statement;
 use v_syntax::{Edge, Event, EventControl, ItemKind, Keyword, Mark, StatementPlace, Token};

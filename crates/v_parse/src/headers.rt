@@ -13,8 +13,8 @@ ghost use Rattle.v_item.specs.Reading.{port_head_of};
 ghost use Rattle.v_parse.specs.Firsts as firsts;
 ghost use Rattle.v_parse.specs.Reading.{parameter_head_of, first_parameter_of, next_parameter_of, parameter_list_of, header_parameters_of, first_port_of, next_port_of, declared_ports_of, ports_of, port_list_of};
 
+use port_io::boxed;
 use std::alloc::Global;
-use v_expression::boxed;
 use v_item::{maybe_range, plain_range, port_head, starts_direction, value};
 use v_phrase::{
     Element, IdentifierPhrase, ReadError, after, after_word, identifier, listed, next, others,

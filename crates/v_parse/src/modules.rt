@@ -7,8 +7,8 @@ ghost use Rattle.v_phrase.specs.Stops.{Gives};
 ghost use Rattle.v_parse.specs.Reading.{items_of, module_name_of, module_body_of, module_of, modules_of};
 
 use crate::headers::{maybe_parameters, maybe_ports};
+use port_io::boxed;
 use std::alloc::{AllocError, Global};
-use v_expression::boxed;
 use v_item::{item, starts_item};
 use v_phrase::{ReadError, after, after_word, identifier, starts_word};
 use v_syntax::{HeaderParameter, HeaderPorts, Identifier, Item, Keyword, Mark, Module, Token};

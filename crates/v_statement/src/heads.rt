@@ -10,9 +10,9 @@ use crate::kinds::case_kind;
 use crate::levels::below;
 use crate::simple::{delay, for_header};
 use crate::trees::{block, with_delay};
-use port_io::Name;
+use port_io::{Name, boxed};
 use std::alloc::Global;
-use v_expression::{ExpressionPhrase, boxed, expression};
+use v_expression::{ExpressionPhrase, expression};
 use v_phrase::{
     ReadError, after, after_word, listed, name, place as number_of, starts_mark, starts_word,
 };

@@ -7,8 +7,9 @@ ghost use Rattle.v_statement.specs.Reading.{delay_of, assignment_of, variable_of
 
 use crate::kinds::assignment_kind;
 use crate::levels::below;
+use port_io::boxed;
 use std::alloc::Global;
-use v_expression::{boxed, expression, target};
+use v_expression::{expression, target};
 use v_phrase::{ReadError, after, identifier, next, place, syntax_error};
 use v_syntax::{ForHeader, Mark, Statement, Token, VariableAssignment};
 

@@ -12,8 +12,8 @@ use crate::levels::below_statement;
 use crate::simple::{assignment, delay, null_statement};
 use crate::tasks::task_enable;
 use crate::trees::{case_item, case_statement, for_statement, if_statement};
+use port_io::boxed;
 use std::alloc::Global;
-use v_expression::boxed;
 use v_phrase::{ReadError, after_word, starts_word, syntax_error};
 use v_syntax::{CaseItem, Keyword, Statement, StatementForm, StatementPlace, Token};
 

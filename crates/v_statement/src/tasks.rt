@@ -7,8 +7,8 @@ ghost use Rattle.v_statement.specs.Firsts;
 ghost use Rattle.v_statement.specs.Reading.{argument_of, arguments_of, task_of_room};
 
 use crate::expressions::{begins_expression, expression_below, starts_expression};
+use port_io::boxed;
 use std::alloc::Global;
-use v_expression::boxed;
 use v_phrase::{Element, ReadError, after, listed, next, starts_mark, system_task, text};
 use v_syntax::{Mark, Statement, TaskArgument, Token};
 
