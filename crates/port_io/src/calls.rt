@@ -15,6 +15,7 @@ pub(crate) struct Calls {
 }
 
 impl Calls {
+    /// No call yet, of which none is to fail.
     pub(crate) fn new(alloc: Global) -> Self
         ensures made { result.made ≡ 0 }
         ensures failing { result.failing.items ≡ [] }

@@ -1,5 +1,5 @@
 //! Values on the heap.
-ghost use Rattle.std.specs.Prelude.{◌≡◌, IfOk};
+ghost use Rattle.std.specs.Prelude.{◌≡◌, IfOk, option_map};
 
 use crate::NoMemory;
 use std::alloc::Global;
@@ -20,4 +20,14 @@ pub fn boxed_both<A: Drop, B: Drop>(alloc: Global, a: A, b: B) -> Result<(Box<A>
 {
     let a = boxed(alloc, a)?;
     Ok((a, boxed(alloc, b)?))
+}
+
+/// A value that waited on the heap, if there is one, where it stands.
+pub fn unboxed<T: Drop>(value: Option<Box<T>>) -> Option<T>
+    ensures { result ≡ option_map (λ b. b.value) value }
+{
+    match value {
+        Some(value) => Some(Box::into_inner(value)),
+        None => None,
+    }
 }

@@ -22,7 +22,7 @@ mod source;
 mod write_sink;
 
 pub use dir_store::DirStore;
-pub use heap::{boxed, boxed_both};
+pub use heap::{boxed, boxed_both, unboxed};
 pub use mem_sink::MemSink;
 pub use mem_store::MemStore;
 pub use name::Name;

@@ -39,6 +39,7 @@ pub struct MeasuredParts {
     pub height: usize,
 }
 
+/// A number, of height 1.
 pub fn number(alloc: Global, at: usize, value: Bits) -> Result<Measured, NoMemory>
     ensures tree { IfOk result (λ x. view x.expression.value ≡ Number at value) }
     ensures height { IfOk result (λ x. x.height ≡ 1) }
@@ -48,6 +49,7 @@ pub fn number(alloc: Global, at: usize, value: Bits) -> Result<Measured, NoMemor
     Ok(Measured { expression, height })
 }
 
+/// A name and the selects behind it, of their height.
 pub fn named(
     alloc: Global,
     at: usize,
@@ -64,6 +66,7 @@ pub fn named(
     Ok(Measured { expression, height })
 }
 
+/// An expression in parentheses, one higher than what stands inside.
 pub fn bracketed(alloc: Global, at: usize, found: Measured) -> Result<Measured, NoMemory>
     requires { found.height ≤ 1000 }
     ensures tree { IfOk result (λ x. view x.expression.value ≡ Bracketed at (view found.expression.value)) }
@@ -75,6 +78,7 @@ pub fn bracketed(alloc: Global, at: usize, found: Measured) -> Result<Measured, 
     Ok(Measured { expression, height })
 }
 
+/// A unary operator, one higher than its operand (IEEE 1364-2005, clause 5.1).
 pub fn unary(
     alloc: Global,
     at: usize,
@@ -95,6 +99,7 @@ pub fn unary(
     Ok(Measured { expression, height })
 }
 
+/// A binary operator, one higher than the higher of its operands (clause 5.1).
 pub fn binary(
     alloc: Global,
     operator: BinaryOperator,
@@ -116,6 +121,7 @@ pub fn binary(
     Ok(Measured { expression, height })
 }
 
+/// `? :`, one higher than the highest of its operands (clause 5.1.13).
 pub fn conditional(
     alloc: Global,
     condition: Measured,
@@ -138,6 +144,7 @@ pub fn conditional(
     Ok(Measured { expression, height })
 }
 
+/// `[ index ]`, as high as the index (clause 5.2.1).
 pub fn bit(alloc: Global, at: usize, found: Measured) -> Result<MeasuredSelect, NoMemory>
     ensures tree { IfOk result (λ x. view_select x.select.value ≡ Bit at (view found.expression.value)) }
     ensures height { IfOk result (λ x. x.height ≡ found.height) }
@@ -148,6 +155,7 @@ pub fn bit(alloc: Global, at: usize, found: Measured) -> Result<MeasuredSelect, 
     Ok(MeasuredSelect { select, height })
 }
 
+/// `[ left : right ]`, as high as the higher bound (clause 5.2.1).
 pub fn part(
     alloc: Global,
     at: usize,
@@ -167,6 +175,7 @@ pub fn part(
     Ok(MeasuredSelect { select, height })
 }
 
+/// `[ base +: width ]`, as high as the higher of both (clause 5.2.1).
 pub fn indexed_part(
     alloc: Global,
     at: usize,
@@ -186,6 +195,7 @@ pub fn indexed_part(
     Ok(MeasuredSelect { select, height })
 }
 
+/// No select behind a name: height 1.
 pub fn whole(alloc: Global) -> Result<MeasuredSelects, NoMemory>
     ensures tree { IfOk result (λ x. view_selects x.selects.value ≡ Whole) }
     ensures height { IfOk result (λ x. x.height ≡ 1) }
@@ -228,6 +238,7 @@ pub fn of_word(
     Ok(MeasuredSelects { selects, height })
 }
 
+/// `{ .. }`, one higher than the highest of its parts (clause 5.1.14).
 pub fn concatenation(alloc: Global, at: usize, found: MeasuredParts) -> Result<Measured, NoMemory>
     requires { found.height ≤ 1000 }
     ensures tree { IfOk result (λ x. view x.expression.value ≡ Concatenation at (views found.parts.items)) }
@@ -239,6 +250,7 @@ pub fn concatenation(alloc: Global, at: usize, found: MeasuredParts) -> Result<M
     Ok(Measured { expression, height })
 }
 
+/// `{ count { .. } }`, one higher than the highest of its count and its parts (clause 5.1.14).
 pub fn replication(
     alloc: Global,
     at: usize,

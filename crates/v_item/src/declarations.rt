@@ -12,8 +12,8 @@ ghost use Rattle.v_item.specs.Firsts as firsts;
 ghost use Rattle.v_item.specs.Reading.{value_of, ports_of, net_of, nets_of, tail_of, register_of, registers_of, integers_of, parameter_of, parameters_of};
 
 use crate::kinds::{nets_kind, parameters_kind, ports_kind, registers_kind};
-use crate::parts::{line, maybe_range, plain_value, port_head, range, value};
-use port_io::boxed;
+use crate::parts::{line, maybe_range, port_head, range, value};
+use port_io::{boxed, unboxed};
 use std::alloc::Global;
 use v_phrase::{
     Element, IdentifierPhrase, ReadError, after, after_word, identifier, listed, next, starts_mark,
@@ -72,7 +72,7 @@ fn net(
 {
     let (name, rest) = identifier(alloc, total, tokens)?;
     let (value, rest) = maybe_value(alloc, total, room, rest)?;
-    let value = plain_value(value);
+    let value = unboxed(value);
     Ok((NetDeclarator { name, value }, rest))
 }
 

@@ -13,8 +13,7 @@ ghost use Rattle.v_item.specs.Firsts as firsts;
 ghost use Rattle.v_item.specs.Reading.{bracketed_value_of, connection_of, connections_of, overrides_of, bracketed_connections_of, instance_tail_of, instance_of};
 
 use crate::kinds::instance_kind;
-use crate::parts::plain_value;
-use port_io::boxed;
+use port_io::{boxed, unboxed};
 use std::alloc::Global;
 use v_expression::{ExpressionPhrase, expression};
 use v_phrase::{Element, ReadError, after, identifier, listed, next, place, starts_mark};
@@ -70,7 +69,7 @@ fn connection(
     let rest = after(Mark::Dot, tokens)?;
     let (port, rest) = identifier(alloc, total, rest)?;
     let (value, rest) = bracketed_value(alloc, total, room, rest)?;
-    let value = plain_value(value);
+    let value = unboxed(value);
     Ok((NamedConnection { at, port, value }, rest))
 }
 

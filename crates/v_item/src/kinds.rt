@@ -6,12 +6,13 @@ ghost use Rattle.std.specs.Prelude.{◌≡◌, map, option_map};
 ghost use Rattle.v_syntax.specs.StatementTrees;
 ghost use Rattle.v_syntax.specs.SourceTrees.{view_range, view_head, view_net, view_register, view_parameter, view_control, view_connections, view_kind, view_item, Ports, Nets, Registers, Parameters, Always, Initial, Instance, ItemAt};
 
-use crate::parts::plain_range;
+use port_io::unboxed;
 use v_syntax::{
     Connections, EventControl, Identifier, Item, ItemKind, NetDeclarator, ParameterAssignment,
     ParameterKind, PortHead, Range, RegisterDeclarator, Statement,
 };
 
+/// `input` or `output` of these names, which the header has (IEEE 1364-2005, clause 12.3.3).
 pub fn ports_kind(head: Box<PortHead>, names: Vec<Identifier>) -> ItemKind
     ensures { view_kind result ≡ Ports (view_head head.value) names.items }
 {
@@ -19,20 +20,23 @@ pub fn ports_kind(head: Box<PortHead>, names: Vec<Identifier>) -> ItemKind
     ItemKind::Ports { head, names }
 }
 
+/// The nets of a `wire` line, all of that range (clause 4.2).
 pub fn nets_kind(range: Option<Box<Range>>, declarators: Vec<NetDeclarator>) -> ItemKind
     ensures { view_kind result ≡ Nets (option_map (λ b. view_range b.value) range) (map view_net declarators.items) }
 {
-    let range = plain_range(range);
+    let range = unboxed(range);
     ItemKind::Nets { range, declarators }
 }
 
+/// The registers and memories of a `reg` line, all of that range (clauses 4.2.2 and 4.9).
 pub fn registers_kind(range: Option<Box<Range>>, declarators: Vec<RegisterDeclarator>) -> ItemKind
     ensures { view_kind result ≡ Registers (option_map (λ b. view_range b.value) range) (map view_register declarators.items) }
 {
-    let range = plain_range(range);
+    let range = unboxed(range);
     ItemKind::Registers { range, declarators }
 }
 
+/// The parameters of a line, all of that range (clause 4.10).
 pub fn parameters_kind(
     kind: ParameterKind,
     range: Option<Box<Range>>,
@@ -40,7 +44,7 @@ pub fn parameters_kind(
 ) -> ItemKind
     ensures { view_kind result ≡ Parameters kind (option_map (λ b. view_range b.value) range) (map view_parameter assignments.items) }
 {
-    let range = plain_range(range);
+    let range = unboxed(range);
     ItemKind::Parameters {
         kind,
         range,
@@ -48,6 +52,7 @@ pub fn parameters_kind(
     }
 }
 
+/// An `always` with its events and its statement (clause 9.9.2).
 pub fn always_kind(events: Box<EventControl>, statement: Box<Statement>) -> ItemKind
     ensures { view_kind result ≡ Always (view_control events.value) (StatementTrees.view statement.value) }
 {
@@ -56,20 +61,11 @@ pub fn always_kind(events: Box<EventControl>, statement: Box<Statement>) -> Item
     ItemKind::Always { events, statement }
 }
 
+/// An `initial` with its statement (clause 9.9.1).
 pub fn initial_kind(statement: Box<Statement>) -> ItemKind
     ensures { view_kind result ≡ Initial (StatementTrees.view statement.value) }
 {
     ItemKind::Initial(Box::into_inner(statement))
-}
-
-/// Connections where they stand in their tree.
-fn plain_connections(all: Option<Box<Connections>>) -> Option<Connections>
-    ensures { option_map view_connections result ≡ option_map (λ b. view_connections b.value) all }
-{
-    match all {
-        Some(all) => Some(Box::into_inner(all)),
-        None => None,
-    }
 }
 
 /// An instance of the module `of`, with its overridden parameters and its ports.
@@ -81,8 +77,8 @@ pub fn instance_kind(
 ) -> ItemKind
     ensures { view_kind result ≡ Instance of (option_map (λ b. view_connections b.value) parameters) name (option_map (λ b. view_connections b.value) ports) }
 {
-    let parameters = plain_connections(parameters);
-    let ports = plain_connections(ports);
+    let parameters = unboxed(parameters);
+    let ports = unboxed(ports);
     ItemKind::Instance {
         module: of,
         parameters,

@@ -13,4 +13,4 @@ mod parts;
 mod processes;
 
 pub use items::{item, starts_item};
-pub use parts::{maybe_range, plain_range, port_head, starts_direction, value};
+pub use parts::{maybe_range, port_head, starts_direction, value};

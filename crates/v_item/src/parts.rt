@@ -10,7 +10,7 @@ ghost use Rattle.v_item.specs.Firsts as firsts;
 ghost use Rattle.v_item.specs.Firsts.{starts_kind};
 ghost use Rattle.v_item.specs.Reading.{line_of, bound_of, range_of, maybe_range_of, value_of, port_head_of};
 
-use port_io::boxed;
+use port_io::{boxed, unboxed};
 use std::alloc::Global;
 use v_expression::expression;
 use v_phrase::{Element, ReadError, after, listed, next, place, starts_mark, syntax_error};
@@ -73,16 +73,6 @@ pub fn maybe_range(
     Ok((Some(range), rest))
 }
 
-/// A range where it stands in its tree.
-pub fn plain_range(range: Option<Box<Range>>) -> Option<Range>
-    ensures { option_map view_range result ≡ option_map (λ b. view_range b.value) range }
-{
-    match range {
-        Some(range) => Some(Box::into_inner(range)),
-        None => None,
-    }
-}
-
 /// `= expression`
 #[tactic(auto, unfolding(crate::specs::Reading::value_of))]
 pub fn value(
@@ -96,16 +86,6 @@ pub fn value(
 {
     let rest = after(Mark::Assign, tokens)?;
     expression(alloc, total, room, rest)
-}
-
-/// An expression where it stands in its tree.
-pub fn plain_value(value: Option<Box<Expression>>) -> Option<Expression>
-    ensures { option_map ExpressionTrees.view result ≡ option_map (λ b. ExpressionTrees.view b.value) value }
-{
-    match value {
-        Some(value) => Some(Box::into_inner(value)),
-        None => None,
-    }
 }
 
 /// A list and the semicolon behind it.
@@ -175,7 +155,7 @@ pub fn port_head(
     let head = PortHead {
         direction,
         kind,
-        range: plain_range(range),
+        range: unboxed(range),
     };
     Ok((boxed(alloc, head)?, rest))
 }

@@ -13,9 +13,9 @@ ghost use Rattle.v_item.specs.Reading.{port_head_of};
 ghost use Rattle.v_parse.specs.Firsts as firsts;
 ghost use Rattle.v_parse.specs.Reading.{parameter_head_of, first_parameter_of, next_parameter_of, parameter_list_of, header_parameters_of, first_port_of, next_port_of, declared_ports_of, ports_of, port_list_of};
 
-use port_io::boxed;
+use port_io::{boxed, unboxed};
 use std::alloc::Global;
-use v_item::{maybe_range, plain_range, port_head, starts_direction, value};
+use v_item::{maybe_range, port_head, starts_direction, value};
 use v_phrase::{
     Element, IdentifierPhrase, ReadError, after, after_word, identifier, listed, next, others,
     starts_mark, starts_word,
@@ -40,7 +40,7 @@ fn parameter_head(
 {
     let rest = after_word(Keyword::Parameter, tokens)?;
     let (range, rest) = maybe_range(alloc, total, room, rest)?;
-    let range = plain_range(range);
+    let range = unboxed(range);
     Ok((boxed(alloc, ParameterHead { range })?, rest))
 }
 
@@ -61,16 +61,6 @@ fn maybe_parameter_head(
     Ok((Some(head), rest))
 }
 
-/// The head of a parameter where it stands in its tree.
-fn plain_parameter_head(head: Option<Box<ParameterHead>>) -> Option<ParameterHead>
-    ensures { option_map view_parameter_head result ≡ option_map (λ b. view_parameter_head b.value) head }
-{
-    match head {
-        Some(head) => Some(Box::into_inner(head)),
-        None => None,
-    }
-}
-
 /// A parameter of its parts.
 fn parameter_with(
     head: Option<Box<ParameterHead>>,
@@ -79,7 +69,7 @@ fn parameter_with(
 ) -> HeaderParameter
     ensures { view_header_parameter result ≡ HeaderParameterOf (option_map (λ b. view_parameter_head b.value) head) name (ExpressionTrees.view value.value) }
 {
-    let head = plain_parameter_head(head);
+    let head = unboxed(head);
     let value = Box::into_inner(value);
     HeaderParameter { head, name, value }
 }
@@ -209,16 +199,6 @@ fn maybe_port_head(
     Ok((Some(head), rest))
 }
 
-/// The head of a port where it stands in its tree.
-fn plain_port_head(head: Option<Box<PortHead>>) -> Option<PortHead>
-    ensures { option_map view_head result ≡ option_map (λ b. view_head b.value) head }
-{
-    match head {
-        Some(head) => Some(Box::into_inner(head)),
-        None => None,
-    }
-}
-
 /// A direction, `[wire | reg]`, `[range]` and a name
 #[tactic(auto, unfolding(crate::specs::Reading::first_port_of))]
 fn first_port(
@@ -249,7 +229,7 @@ fn next_port(
 {
     let (head, rest) = maybe_port_head(alloc, total, room, tokens)?;
     let (name, rest) = identifier(alloc, total, rest)?;
-    let head = plain_port_head(head);
+    let head = unboxed(head);
     Ok((HeaderPort { head, name }, rest))
 }
 
