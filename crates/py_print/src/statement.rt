@@ -3,8 +3,8 @@
 use crate::call::{push_await, push_right, push_start};
 use crate::expression::{infix, push_constant, push_expression, push_expressions, push_named};
 use py_syntax::{
-    Action, BinOp, Caught, Const, Expression, FaultKind, Header, LogLevel, Logger, RightSide, Span,
-    Statement,
+    Action, Awaited, BinOp, Caught, Const, Expression, FaultKind, Header, LogLevel, Logger,
+    RightSide, Span, Statement,
 };
 use std::alloc::{AllocError, Global};
 
@@ -130,6 +130,24 @@ fn push_return(
     }
 }
 
+/// A value that is set at once.
+fn push_immediate(
+    alloc: Global,
+    out: &mut Vec<u8>,
+    base: &Expression,
+    value: &Expression,
+) -> Result<(), AllocError> {
+    push_between(alloc, out, b"(expr (call (. ", base, b" setimmediatevalue)")?;
+    push_between(alloc, out, b" ", value, b"))")
+}
+
+/// A `Timer` or another trigger, a task or a call that is waited for.
+fn push_waiting(alloc: Global, out: &mut Vec<u8>, awaited: &Awaited) -> Result<(), AllocError> {
+    out.extend_from_slice(b"(expr ")?;
+    push_await(alloc, out, awaited)?;
+    Ok(out.extend_from_slice(b")")?)
+}
+
 /// A statement.
 pub fn push_statement(
     alloc: Global,
@@ -158,14 +176,9 @@ pub fn push_statement(
             push_assigned(alloc, out, right)?;
         }
         Statement::SetImmediateValue(base, value) => {
-            push_between(alloc, out, b"(expr (call (. ", base, b" setimmediatevalue)")?;
-            push_between(alloc, out, b" ", value, b"))")?;
+            push_immediate(alloc, out, base, value)?;
         }
-        Statement::Await(awaited) => {
-            out.extend_from_slice(b"(expr ")?;
-            push_await(alloc, out, awaited)?;
-            out.extend_from_slice(b")")?;
-        }
+        Statement::Await(awaited) => push_waiting(alloc, out, awaited)?,
         Statement::Act(base, what) => {
             push_between(alloc, out, b"(expr (call (. ", base, action(*what))?
         }

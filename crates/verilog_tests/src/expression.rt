@@ -91,6 +91,18 @@ fn operand<'a>(pieces: &mut Pieces<'a>, operand: &'a Operand) -> Result<(), Allo
     pieces.mark(")")
 }
 
+/// An operator with two operands, and these.
+fn binary<'a>(
+    pieces: &mut Pieces<'a>,
+    operator: BinaryOperator,
+    left: &'a Expression,
+    right: &'a Expression,
+) -> Result<(), AllocError> {
+    pieces.mark(infix(operator))?;
+    pieces.expression(left)?;
+    pieces.expression(right)
+}
+
 /// An expression's node, and its parts.
 pub fn open_expression<'a>(
     pieces: &mut Pieces<'a>,
@@ -115,11 +127,7 @@ pub fn open_expression<'a>(
             operator,
             left,
             right,
-        } => {
-            pieces.mark(infix(*operator))?;
-            pieces.expression(left)?;
-            pieces.expression(right)?;
-        }
+        } => binary(pieces, *operator, left, right)?,
         Expression::Conditional { condition, yes, no } => {
             pieces.mark("(?")?;
             pieces.expression(condition)?;

@@ -146,9 +146,17 @@ fn connections<'a>(
     pieces.mark(")")
 }
 
-/// A declaration of registers or of parameters.
+/// A declaration with a range: of nets, registers or parameters.
 fn declared<'a>(pieces: &mut Pieces<'a>, kind: &'a ItemKind) -> Result<(), AllocError> {
     match kind {
+        ItemKind::Nets {
+            range: width,
+            declarators,
+        } => {
+            pieces.mark("(wire")?;
+            range(pieces, width)?;
+            nets(pieces, declarators)
+        }
         ItemKind::Registers {
             range: width,
             declarators,
@@ -176,6 +184,21 @@ fn declared<'a>(pieces: &mut Pieces<'a>, kind: &'a ItemKind) -> Result<(), Alloc
     }
 }
 
+/// An instance with its parameters and its ports.
+fn instance<'a>(
+    pieces: &mut Pieces<'a>,
+    module: &'a Identifier,
+    parameters: &'a Option<Connections>,
+    name: &'a Identifier,
+    ports: &'a Option<Connections>,
+) -> Result<(), AllocError> {
+    pieces.mark("(instance")?;
+    pieces.name(module.name.bytes())?;
+    pieces.name(name.name.bytes())?;
+    connections(pieces, parameters)?;
+    connections(pieces, ports)
+}
+
 /// An item's node, and its parts.
 pub fn open_item<'a>(pieces: &mut Pieces<'a>, item: &'a Item) -> Result<(), AllocError> {
     match &item.kind {
@@ -186,14 +209,6 @@ pub fn open_item<'a>(pieces: &mut Pieces<'a>, item: &'a Item) -> Result<(), Allo
             pieces.mark("(ports")?;
             head(pieces, direction)?;
             names(pieces, list)?;
-        }
-        ItemKind::Nets {
-            range: width,
-            declarators,
-        } => {
-            pieces.mark("(wire")?;
-            range(pieces, width)?;
-            nets(pieces, declarators)?;
         }
         ItemKind::Integers(list) => {
             pieces.mark("(integer")?;
@@ -220,13 +235,7 @@ pub fn open_item<'a>(pieces: &mut Pieces<'a>, item: &'a Item) -> Result<(), Allo
             parameters: values,
             name,
             ports,
-        } => {
-            pieces.mark("(instance")?;
-            pieces.name(module.name.bytes())?;
-            pieces.name(name.name.bytes())?;
-            connections(pieces, values)?;
-            connections(pieces, ports)?;
-        }
+        } => instance(pieces, module, values, name, ports)?,
         other => declared(pieces, other)?,
     }
     pieces.mark(")")

@@ -3,8 +3,8 @@
 use crate::piece::{Piece, Pieces};
 use std::alloc::AllocError;
 use v_syntax::{
-    AssignmentKind, CaseItem, CaseKind, ForHeader, Statement, SystemTask, TaskArgument,
-    VariableAssignment,
+    AssignmentKind, CaseItem, CaseKind, Expression, ForHeader, Statement, SystemTask, Target,
+    TaskArgument, VariableAssignment,
 };
 
 /// `name = value`
@@ -19,7 +19,7 @@ fn variable<'a>(
 }
 
 /// The parts of a loop's header.
-fn header<'a>(pieces: &mut Pieces<'a>, header: &'a ForHeader) -> Result<(), AllocError> {
+fn loop_header<'a>(pieces: &mut Pieces<'a>, header: &'a ForHeader) -> Result<(), AllocError> {
     pieces.mark("(for")?;
     variable(pieces, &header.initial)?;
     pieces.expression(&header.condition)?;
@@ -66,6 +66,51 @@ fn block<'a>(
     Ok(())
 }
 
+/// A target and its value.
+fn assignment<'a>(
+    pieces: &mut Pieces<'a>,
+    kind: AssignmentKind,
+    target: &'a Target,
+    value: &'a Expression,
+) -> Result<(), AllocError> {
+    pieces.mark(match kind {
+        AssignmentKind::Blocking => "(=",
+        AssignmentKind::Nonblocking => "(<=",
+    })?;
+    pieces.node(Piece::Target(target))?;
+    pieces.expression(value)
+}
+
+/// A condition and the statement for it.
+fn conditional<'a>(
+    pieces: &mut Pieces<'a>,
+    condition: &'a Expression,
+    statement: &'a Statement,
+) -> Result<(), AllocError> {
+    pieces.mark("(if")?;
+    pieces.expression(condition)?;
+    pieces.node(Piece::Statement(statement))
+}
+
+/// A selector and the items for it.
+fn case<'a>(
+    pieces: &mut Pieces<'a>,
+    kind: CaseKind,
+    selector: &'a Expression,
+    items: &'a [CaseItem],
+) -> Result<(), AllocError> {
+    pieces.mark(match kind {
+        CaseKind::Case => "(case",
+        CaseKind::CaseZ => "(casez",
+        CaseKind::CaseX => "(casex",
+    })?;
+    pieces.expression(selector)?;
+    for item in items {
+        pieces.node(Piece::CaseItem(item))?;
+    }
+    Ok(())
+}
+
 /// A statement's node, and its parts.
 pub fn open_statement<'a>(
     pieces: &mut Pieces<'a>,
@@ -80,50 +125,23 @@ pub fn open_statement<'a>(
             kind,
             target,
             value,
-        } => {
-            pieces.mark(match kind {
-                AssignmentKind::Blocking => "(=",
-                AssignmentKind::Nonblocking => "(<=",
-            })?;
-            pieces.node(Piece::Target(target))?;
-            pieces.expression(value)?;
-        }
-        Statement::If { condition, branch } => {
-            pieces.mark("(if")?;
-            pieces.expression(condition)?;
-            pieces.node(Piece::Statement(branch))?;
-        }
+        } => assignment(pieces, *kind, target, value)?,
+        Statement::If { condition, branch } => conditional(pieces, condition, branch)?,
         Statement::IfElse {
             condition,
             branch,
             otherwise,
         } => {
-            pieces.mark("(if")?;
-            pieces.expression(condition)?;
-            pieces.node(Piece::Statement(branch))?;
+            conditional(pieces, condition, branch)?;
             pieces.node(Piece::Statement(otherwise))?;
         }
         Statement::Case {
             kind,
             selector,
             items,
-        } => {
-            pieces.mark(match kind {
-                CaseKind::Case => "(case",
-                CaseKind::CaseZ => "(casez",
-                CaseKind::CaseX => "(casex",
-            })?;
-            pieces.expression(selector)?;
-            for item in items {
-                pieces.node(Piece::CaseItem(item))?;
-            }
-        }
-        Statement::For {
-            header: parts,
-            body,
-            ..
-        } => {
-            header(pieces, parts)?;
+        } => case(pieces, *kind, selector, items)?,
+        Statement::For { header, body, .. } => {
+            loop_header(pieces, header)?;
             pieces.node(Piece::Statement(body))?;
         }
         Statement::TaskEnable {
