@@ -5,7 +5,6 @@
 ghost use Rattle.std.specs.Prelude.{◌≤◌, ◌+◌};
 
 use crate::parts::Parts;
-use crate::row::{Row, push_bytes};
 use four_value::{Bits, Digit};
 use gpi::{
     Act, Acts, Advance, Flat, Gpi, Kind, Node, Object, Order, Process, Range, SigId, Signal,
@@ -14,6 +13,7 @@ use gpi::{
 use list_kernel::ListKernel;
 use port_io::{Name, NoMemory, Sequence};
 use std::alloc::Global;
+use table_rows::{Row, push_bytes};
 
 /// The numbers of the signals.
 pub const A: SigId = SigId(0);

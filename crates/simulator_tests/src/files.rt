@@ -1,9 +1,9 @@
 //! Reads of stores: in memory, of the current folder, and of a folder that is read piece by piece.
-use crate::row::{Row, push_bytes, quoted};
 use port_io::{DirStore, Folder, MemStore, NoMemory, Store, StoreFault};
 use std::alloc::Global;
 use std::io::{self, ErrorKind, Read};
 use std::rt::Files;
+use table_rows::{Row, push_bytes, quoted};
 
 /// A read as code over any store makes it.
 fn read<S: Store>(
@@ -49,7 +49,12 @@ fn one_read(
     store: &mut MemStore,
 ) -> Result<String, NoMemory> {
     let name = name_of(alloc, row, i)?;
-    let answer = read(alloc, store, &name, row.number(i.saturating_add(1)));
+    let answer = read(
+        alloc,
+        store,
+        &name,
+        row.number(i.saturating_add(1)) as usize,
+    );
     read_text(alloc, answer)
 }
 
@@ -71,7 +76,7 @@ pub fn store_text(alloc: Global, row: &Row<'_>) -> Result<String, NoMemory> {
 pub fn current_text<R: Files>(rt: &R, alloc: Global, row: &Row<'_>) -> Result<String, NoMemory> {
     let name = name_of(alloc, row, 2)?;
     let mut store = DirStore::new(rt);
-    match read(alloc, &mut store, &name, row.number(3)) {
+    match read(alloc, &mut store, &name, row.number(3) as usize) {
         Ok(bytes) => {
             let count = bytes.len();
             let alike = bytes.iter().all(|byte| *byte == b'x');
@@ -138,9 +143,9 @@ pub fn folder_text(alloc: Global, row: &Row<'_>) -> Result<String, NoMemory> {
     let name = name_of(alloc, row, 2)?;
     let mut store = DirStore::over(OneFile {
         text: b"import",
-        step: row.number(3),
-        failing: row.number(4),
+        step: row.number(3) as usize,
+        failing: row.number(4) as usize,
     });
-    let answer = read(alloc, &mut store, &name, row.number(5));
+    let answer = read(alloc, &mut store, &name, row.number(5) as usize);
     read_text(alloc, answer)
 }

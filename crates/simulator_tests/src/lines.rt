@@ -1,8 +1,8 @@
 //! Lines that are put, and the small types of the runner's edge.
-use crate::row::{Row, quoted};
 use port_io::{MemSink, Name, NoMemory, Sequence, Sink, SinkFault, WriteSink, line_of};
 use std::alloc::Global;
 use std::io::{self, ErrorKind, Write};
+use table_rows::{Row, quoted};
 
 /// A put as code over any sink makes it.
 fn put<O: Sink>(alloc: Global, sink: &mut O, line: &[u8]) -> Result<(), SinkFault> {
@@ -73,7 +73,7 @@ pub fn writer_text(alloc: Global, row: &Row<'_>) -> Result<String, NoMemory> {
     let mut taken = Vec::new(alloc);
     let mut sink = WriteSink::new(Narrow {
         taken: &mut taken,
-        room: row.number(3) as u64,
+        room: row.number(3),
         interrupted: row.part(4) == b"yes".as_slice(),
     });
     let answer = put(alloc, &mut sink, &line);
@@ -121,7 +121,7 @@ pub fn sequence_text(alloc: Global, row: &Row<'_>) -> Result<String, NoMemory> {
 
 /// The line and the column of a place in a text.
 pub fn place_text(alloc: Global, row: &Row<'_>) -> Result<String, NoMemory> {
-    let place = row.number(2);
+    let place = row.number(2) as usize;
     let text = row.text(alloc, 3)?;
     if place > text.len() || place > 1_048_576 {
         return Ok(format!(in alloc; "outside")?);

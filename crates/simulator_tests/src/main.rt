@@ -22,7 +22,6 @@ mod files;
 mod kernel;
 mod lines;
 mod parts;
-mod row;
 mod vectors;
 mod word;
 
@@ -33,10 +32,10 @@ use gpi::Kind;
 use kernel::{flip_flop_text, oscillator_text};
 use lines::{name_text, place_text, sequence_text, sink_text, writer_text};
 use port_io::NoMemory;
-use row::{Row, push_bytes};
 use std::alloc::Global;
 use std::io::Read;
 use std::rt::Files;
+use table_rows::{Row, push_bytes};
 use vectors::vector_text;
 
 /// What a row of the simulator or of the vectors comes to.
@@ -67,7 +66,7 @@ fn shown<R: Files>(rt: &R, alloc: Global, row: &Row<'_>) -> Result<String, NoMem
 
 /// The answer for a row: its rule, and what it comes to.
 fn answer<R: Files>(rt: &R, alloc: Global, line: &[u8]) -> Result<String, NoMemory> {
-    let row = Row::of(alloc, line)?;
+    let row = Row::of(line);
     let mut out = String::new(alloc);
     push_bytes(&mut out, row.part(1))?;
     out.push_str(": ")?;

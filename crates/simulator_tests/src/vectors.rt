@@ -2,10 +2,10 @@
 ghost use Rattle.std.specs.Prelude.{◌≡◌, length};
 
 use crate::designs::{digits, push_digits, vector};
-use crate::row::Row;
 use four_value::{Bits, Digit};
 use port_io::NoMemory;
 use std::alloc::Global;
+use table_rows::Row;
 
 /// A digit as a vector of its own.
 fn single(digit: Digit) -> Bits {

@@ -8,7 +8,6 @@ ghost use Rattle.py_value.specs.Shown.{IsOf};
 ghost use Rattle.py_attribute.specs.Gives.{HasNumbers};
 
 use crate::operators::{binary_of, unary_of};
-use crate::row::cut;
 use crate::value::value_of;
 use gpi::{Flat, SigId};
 use port_io::NoMemory;
@@ -19,6 +18,7 @@ use py_operator::{binary, int, unary};
 use py_syntax::FaultKind;
 use py_value::{Paths, Value, copy, show, truth};
 use std::alloc::Global;
+use table_rows::cut;
 
 /// Whether the signal or hierarchy that a value is, is one of the design.
 #[tactic(auto, using(crate::proofs::Lengths::lengths))]

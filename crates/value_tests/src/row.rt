@@ -1,23 +1,4 @@
-//! The parts of a row.
-
-/// What stands before the first such byte, and behind it.
-pub fn cut(line: &[u8], mark: u8) -> (&[u8], &[u8]) {
-    match line.iter().position(|byte| *byte == mark) {
-        Some(at) => {
-            let (front, rest) = line.split_at(at);
-            (front, behind_first(rest))
-        }
-        None => (line, &[]),
-    }
-}
-
-/// All but the first byte.
-pub fn behind_first(bytes: &[u8]) -> &[u8] {
-    match bytes {
-        [] => &[],
-        [_, rest @ ..] => rest,
-    }
-}
+//! The numbers of a row.
 
 /// The whole number that decimal digits say, with a `-` in front or without.
 pub fn whole_of(part: &[u8]) -> i128 {

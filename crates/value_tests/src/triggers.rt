@@ -1,10 +1,11 @@
 //! Triggers of rows.
 
-use crate::row::{cut, short_of};
+use crate::row::short_of;
 use gpi::SigId;
 use port_io::NoMemory;
 use py_value::{EventNo, Form, LockNo, TaskNo, Trig, TrigId, Trigs};
 use std::alloc::Global;
+use table_rows::cut;
 
 /// A trigger of task 0.
 fn made(number: u16, form: Form) -> Trig {

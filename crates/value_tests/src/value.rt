@@ -5,7 +5,7 @@
 //! `hierarchy`, `signal`, `task`, `event`, `lock`, `memory` (first signal, least index, count), `clock` (signal, half), `caught`
 //! (kind, text); all else is a trigger (`src/triggers.rt`), or None.
 
-use crate::row::{cut, short_of, whole_of};
+use crate::row::{short_of, whole_of};
 use crate::triggers::trigger_of;
 use four_value::{Bits, Digit};
 use gpi::SigId;
@@ -13,6 +13,7 @@ use port_io::{Name, NoMemory};
 use py_syntax::FaultKind;
 use py_value::{EventNo, Fault, LockNo, TaskNo, Value};
 use std::alloc::Global;
+use table_rows::cut;
 
 /// The digit of a letter.
 fn digit_of(byte: u8) -> Digit {

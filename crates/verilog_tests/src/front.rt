@@ -1,7 +1,7 @@
 //! Expressions, targets and statements at the front of some tokens, within heights other than the limit.
 
-use crate::row::Row;
 use std::alloc::{AllocError, Global};
+use table_rows::Row;
 use v_expression::{expression, target};
 use v_lex::lex;
 use v_statement::statement;
@@ -47,7 +47,7 @@ fn target_text(alloc: Global, room: usize, tokens: &[Token]) -> Result<String, A
 
 /// What stands at the front of a row's text, where the row gives how many levels may stand below the whole.
 pub fn front_text(alloc: Global, row: &Row<'_>) -> Result<String, AllocError> {
-    let room = row.number(2);
+    let room = row.number(2) as usize;
     let text = row.part(3);
     if text.len() > 1_048_576 {
         return format!(in alloc; "too long");

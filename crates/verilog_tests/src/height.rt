@@ -1,7 +1,7 @@
 //! Texts that are put together of repeated units.
 
-use crate::row::Row;
 use std::alloc::{AllocError, Global};
+use table_rows::Row;
 use v_lex::lex;
 use v_parse::parse;
 
@@ -15,7 +15,7 @@ fn push_times(text: &mut Vec<u8>, unit: &[u8], times: usize) -> Result<(), Alloc
 
 /// A front, a unit so many times, a middle, another unit as many times, and a back.
 fn text_of(alloc: Global, row: &Row<'_>) -> Result<Vec<u8>, AllocError> {
-    let times = row.number(2);
+    let times = row.number(2) as usize;
     let mut text = row.text(alloc, 3)?;
     push_times(&mut text, &row.text(alloc, 4)?, times)?;
     text.extend_from_slice(&row.text(alloc, 5)?)?;

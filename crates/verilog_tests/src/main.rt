@@ -12,7 +12,6 @@ mod height;
 mod item;
 mod module;
 mod piece;
-mod row;
 mod statement;
 mod tokens;
 mod tree;
@@ -20,15 +19,15 @@ mod tree;
 use anyhow::{Result, ensure};
 use front::front_text;
 use height::height_text;
-use row::{Row, push_bytes};
 use std::alloc::{AllocError, Global};
 use std::io::Read;
+use table_rows::{Row, push_bytes};
 use tokens::tokens_text;
 use tree::tree_text;
 
 /// The answer for a row: its rule, and what is read.
 fn answer(alloc: Global, line: &[u8]) -> Result<String, AllocError> {
-    let row = Row::of(alloc, line)?;
+    let row = Row::of(line);
     let mut out = String::new(alloc);
     push_bytes(&mut out, row.part(1))?;
     out.push_str(": ")?;

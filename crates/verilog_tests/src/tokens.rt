@@ -1,8 +1,8 @@
 //! Tokens with their places, and what directives set.
 
-use crate::row::{Row, push_bytes};
 use std::alloc::{AllocError, Global};
 use std::fmt::Write;
+use table_rows::{Row, push_bytes};
 use v_lex::{Tokens, lex};
 use v_syntax::Token;
 

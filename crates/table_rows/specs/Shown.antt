@@ -1,0 +1,16 @@
+-- How bytes are shown.
+use Rattle.std.specs.Prelude.{ℕ, ◌==◌, List, [], ◌∷◌, ◌++◌, if◌then◌else◌}
+use Rattle.std.specs.Str.{encode_utf8_all}
+
+-- bytes as characters of Latin-1, in UTF-8
+abbrev pub latin : List ℕ → List ℕ
+latin bytes = encode_utf8_all bytes
+
+-- bytes as characters, where a line feed is shown as `\0a`
+unfoldable pub shown_bytes : List ℕ → List ℕ
+shown_bytes [] = []
+shown_bytes (byte ∷ rest) = (if byte == 10 then 92 ∷ 48 ∷ 97 ∷ [] else latin (byte ∷ [])) ++ shown_bytes rest
+
+-- bytes between quotes
+abbrev pub in_quotes : List ℕ → List ℕ
+in_quotes bytes = 34 ∷ shown_bytes bytes ++ 34 ∷ []
