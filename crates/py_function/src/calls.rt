@@ -1,5 +1,5 @@
 //! Calls of functions.
-ghost use Rattle.std.specs.Prelude.{◌≡◌, ℕ, Ok};
+ghost use Rattle.std.specs.Prelude.{◌≡◌, ◌≤◌, ℕ, Ok};
 ghost use Rattle.py_value.specs.Answer.{answer_map, and_then};
 ghost use Rattle.py_value.specs.Truth.{truth};
 ghost use Rattle.py_value.specs.TriggerView.{view_form};
@@ -61,7 +61,7 @@ fn sim_time<V: Look>(view: &V, values: &[Value]) -> Result<Value, FaultKind>
 }
 
 /// What makes no trigger, whatever the next number is.
-pub(crate) fn plain(answer: Result<Value, FaultKind>) -> Result<Value, OperationFault>
+fn plain(answer: Result<Value, FaultKind>) -> Result<Value, OperationFault>
     ensures { (k : ℕ) → Ends result k (lift answer k) }
 {
     match answer {
@@ -71,17 +71,15 @@ pub(crate) fn plain(answer: Result<Value, FaultKind>) -> Result<Value, Operation
 }
 
 /// A new trigger of this form, or why there is no such form.
-pub(crate) fn made(
+fn made(
     task: TaskNo,
     form: Result<Form, FaultKind>,
     next: &mut u64,
 ) -> Result<Value, OperationFault>
-    ensures { Ends result next.new (making.new_value task (answer_map view_form form) next.old) }
+    ensures ends { Ends result next.new (making.new_value task (answer_map view_form form) next.old) }
+    ensures rises { next.old ≤ next.new }
 {
-    match new_value(task, form, next) {
-        Ok(v) => Ok(v),
-        Err(kind) => Err(OperationFault::Raised(kind)),
-    }
+    Ok(new_value(task, form, next)?)
 }
 
 /// A call that makes no trigger, or one of others.
@@ -94,7 +92,8 @@ fn call<V: Look>(
     next: &mut u64,
 ) -> Result<Value, OperationFault>
     requires { KnowsAll (V.view view.now) values.now }
-    ensures { Ends result next.new (meaning.called task (V.view view.now) function values.now next.old) }
+    ensures ends { Ends result next.new (meaning.called task (V.view view.now) function values.now next.old) }
+    ensures rises { next.old ≤ next.new }
 {
     match function {
         Function::Int => plain(int_call(values)),
@@ -117,10 +116,21 @@ fn call<V: Look>(
     }
 }
 
-/// A call of a function with these arguments, by a task whose next trigger has this number: `int`, `str`, `bool`, `len`, `get_sim_time`,
-/// `Clock`, and the triggers `Timer`, `Edge`, `RisingEdge`, `FallingEdge`, `ReadWrite`, `ReadOnly`, `NextTimeStep`, `ClockCycles`,
-/// `Join`, `First` and `Combine`. A new trigger takes the next number; 2^63 of one task are the most, and one more is a RuntimeError.
-/// Arguments of other kinds are TypeErrors, before every other fault.
+/// A call of a function with these arguments, by a task whose next trigger has this number: `int`, `str`, `bool` and `len` (the library
+/// reference, "Built-in Functions"); cocotb 1.8's `get_sim_time`, `Clock`, and the triggers `Timer`, `Edge`, `RisingEdge`, `FallingEdge`,
+/// `ReadWrite`, `ReadOnly`, `NextTimeStep`, `ClockCycles`, `Join`, `First` and `Combine`. The faults are, the first that holds:
+///
+/// - TypeError: an argument is missing or of another kind, as a signal of more than one digit is for `Clock`, `ClockCycles`, `RisingEdge` and
+///   `FallingEdge`;
+/// - ValueError: a digit is x or z where a number is needed; a unit isn't known; a time is no whole number of steps from 1 on; a clock's
+///   period is odd; a count of cycles is below 1; `get_sim_time`'s unit doesn't divide the time; a `First` or `Combine` doesn't have 1 to 64
+///   leaves, or has more than 64 triggers inside one another;
+/// - OverflowError: a whole number lies outside -2^127 .. 2^127 - 1, a text has over 65,536 bytes, a time is over 2^62 steps, a count of
+///   cycles is over 2^64 - 1;
+/// - RuntimeError: the task has made 2^63 triggers, the most that it may.
+///
+/// A new trigger takes the next number, and so does the join of a task among the arguments of `First` and `Combine`, before a ValueError or a
+/// RuntimeError of the whole. `str`, `First` and `Combine` take memory; after want of it the next number may have risen, and never falls.
 pub fn called<V: Look>(
     alloc: Global,
     view: &V,
@@ -130,7 +140,7 @@ pub fn called<V: Look>(
     next: &mut u64,
 ) -> Result<Value, OperationFault>
     requires { KnowsAll (V.view view.now) values.now }
-    ensures { Evaluates (V.view view.now) result next.new (meaning.called task (V.view view.now) function values.now next.old) }
+    ensures { Evaluates (V.view view.now) result next.old next.new (meaning.called task (V.view view.now) function values.now next.old) }
 {
     call(alloc, view, task, function, values, next)
 }
