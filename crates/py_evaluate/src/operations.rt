@@ -15,23 +15,6 @@ use py_syntax::{BinOp, Const, FaultKind, UnOp};
 use py_value::{Value, copy};
 use std::alloc::Global;
 
-/// What an operation without memory answers.
-fn answered(answer: Result<Value, FaultKind>) -> Result<Value, OperationFault>
-    ensures { Gives answer result }
-{
-    match answer {
-        Ok(v) => Ok(v),
-        Err(kind) => Err(OperationFault::Raised(kind)),
-    }
-}
-
-/// A value on the heap. Only want of memory is an error.
-pub(crate) fn boxed(alloc: Global, v: Value) -> Result<Box<Value>, NoMemory>
-    ensures { IfOk result (λ made. made.value ≡ v) }
-{
-    Ok(Box::new(alloc, v)?)
-}
-
 /// No value. It takes no memory.
 pub(crate) fn no_values(alloc: Global) -> Vec<Value>
     ensures { result.items ≡ [] }
@@ -97,7 +80,7 @@ pub(crate) fn name_value<N: Locals, V: Look>(
     }
 }
 
-/// `v[index]`
+/// `v[index]`. The faults are those of `indexed`.
 pub(crate) fn word_value<V: Look>(
     view: &V,
     v: &Value,
@@ -107,10 +90,10 @@ pub(crate) fn word_value<V: Look>(
     ensures gives { Gives (attribute.indexed v.now index.now) result }
     ensures known { IfKnown (V.view view.now) result }
 {
-    answered(indexed(v, index))
+    Ok(indexed(v, index)?)
 }
 
-/// The value of an operator with one operand.
+/// The value of an operator with one operand. The faults are those of `unary`.
 pub(crate) fn unary_value<V: Look>(view: &V, op: UnOp, v: Value) -> Result<Value, OperationFault>
     ensures gives { Gives (operator.unary_value op v) result }
     ensures known { IfKnown (V.view view.now) result }
@@ -121,7 +104,7 @@ pub(crate) fn unary_value<V: Look>(view: &V, op: UnOp, v: Value) -> Result<Value
     }
 }
 
-/// The value of an operator with two operands.
+/// The value of an operator with two operands. The faults are those of `operated`.
 pub(crate) fn binary_value<V: Look>(
     view: &V,
     op: BinOp,
@@ -133,5 +116,5 @@ pub(crate) fn binary_value<V: Look>(
     ensures gives { Gives (look.operated (V.view view.now) op a.now b.now) result }
     ensures known { IfKnown (V.view view.now) result }
 {
-    answered(operated(view, op, a, b))
+    Ok(operated(view, op, a, b)?)
 }
