@@ -7,7 +7,7 @@ use Rattle.py_attribute.specs.declared.fault.OperationFault.{OperationFault}
 use Rattle.py_attribute.specs.declared.fault.OperationFault.TheVariants as faults
 use Rattle.py_attribute.specs.Gives.{Gives}
 use Rattle.py_attribute.specs.Look.{View}
-use Rattle.py_attribute.specs.Outcome.{Outcome, Ends, Evaluates, IfKnown, gives, refuses, lift, bind}
+use Rattle.py_attribute.specs.Outcome.{Outcome, Ends, Evaluates, IfKnown, gives, lift, bind}
 use Rattle.py_evaluate.specs.Rows.{EndsAs}
 
 -- a fault of the first is the fault of both

@@ -1,5 +1,5 @@
 -- The next number never falls by an evaluation.
-use Rattle.std.proofs.Common.{ℕ, ◌≤◌, Bool, true, false, List, [], ◌∷◌, ◌++◌, arith}
+use Rattle.std.proofs.Common.{ℕ, ◌≤◌, Bool, true, false, ◌∷◌, ◌++◌, arith}
 use Rattle.py_syntax.specs.ExpressionTrees.{Tree, Constant, FormatString, Name, Bracketed, Attribute, Subscript, Call, MethodCall, Unary, Infix, Trees, NoTree, Then, Parts, NoPart, TextThen, FormattedThen}
 use Rattle.py_syntax.specs.declared.expression.BoolOp.{BoolOp}
 use Rattle.py_syntax.specs.declared.expression.BoolOp.TheVariants.{Or, And}

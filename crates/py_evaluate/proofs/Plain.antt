@@ -1,23 +1,20 @@
 -- What operators on one value give names nothing of a design, and a word of a known memory is known.
-use Rattle.std.proofs.Common.{◌≡◌, ℕ, zero, suc, ◌+◌, ◌-◌, ◌<◌, ◌≤◌, ◌^◌, Bool, true, false, List, Ok, Err, Some, None, nat_lt, nat_le, length, if◌then◌else◌, subst, sym, refl, arith}
-use Rattle.std.specs.Prelude.{ℤ, pos, negsuc, Option, Result, ◌&&◌, ◌||◌, not, ◌+ℤ◌, ◌-ℤ◌, ◌*ℤ◌, neg_ℤ, bit_and, bit_or, bit_xor}
+use Rattle.std.proofs.Common.{◌≡◌, ℕ, ◌+◌, ◌-◌, ◌<◌, Bool, true, false, Ok, Err, nat_lt, nat_le, length, if◌then◌else◌, refl, arith}
+use Rattle.std.specs.Prelude.{ℤ, pos, negsuc, ◌&&◌, ◌-ℤ◌, neg_ℤ}
 use Rattle.gpi.specs.declared.types.SigId.{SigId}
-use Rattle.py_syntax.specs.declared.expression.BinOp.{BinOp}
-use Rattle.py_syntax.specs.declared.expression.BinOp.TheVariants as op
 use Rattle.py_syntax.specs.declared.expression.UnOp.{UnOp}
 use Rattle.py_syntax.specs.declared.expression.UnOp.TheVariants as unop
-use Rattle.py_syntax.specs.declared.fault_kind.FaultKind.TheVariants.{IndexError, ZeroDivisionError}
-use Rattle.py_integer.specs.Integer.{held, held_shift, shifted_right, floor_quotient, floor_rest, by_bits, differ, is_zero}
-use Rattle.py_value.specs.Answer.{Answer, and_then}
+use Rattle.py_syntax.specs.declared.fault_kind.FaultKind.TheVariants.{IndexError}
+use Rattle.py_integer.specs.Integer.{held}
 use Rattle.py_value.specs.declared.value.Value.{Value}
 use Rattle.py_value.specs.declared.value.Value.TheVariants as value
-use Rattle.py_operator.specs.Number.{one_number, two_numbers, whole}
-use Rattle.py_operator.specs.Operation.{equal, divided, shifted, arithmetic, binary_value, unary_value}
+use Rattle.py_operator.specs.Number.{one_number, whole}
+use Rattle.py_operator.specs.Operation.{unary_value}
 use Rattle.py_attribute.specs.Attribute.{indexed, word_at}
-use Rattle.py_attribute.specs.Look.{View, beside, is_handle, compared, operated}
-use Rattle.py_attribute.specs.Knows.{Knows, KnowsSignal, KnowsWords}
+use Rattle.py_attribute.specs.Look.{View}
+use Rattle.py_attribute.specs.Knows.{Knows, KnowsWords}
 use Rattle.py_attribute.specs.Outcome.{AnswerKnown}
-use Rattle.py_attribute.proofs.Plain.{either, chained, whole_plain}
+use Rattle.py_attribute.proofs.Plain.{chained, whole_plain}
 
 pub unary_plain : (view : View) (o : UnOp) (a : Value) → AnswerKnown view (unary_value o a)
 unary_plain view unop.Not a = tt
