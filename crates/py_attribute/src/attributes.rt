@@ -108,7 +108,7 @@ pub fn one_bit<V: Look>(view: &V, v: &Value) -> Result<SigId, FaultKind>
     }
 }
 
-/// `len(v)`: the width of a signal, in digits. A value of another kind, a text and a vector among them, is a TypeError. It takes no memory.
+/// `len(v)` (cocotb 1.8, `SimHandleBase`): the width of a signal, in digits. A value of another kind, a text and a vector among them, is a TypeError. It takes no memory.
 pub fn len<V: Look>(view: &V, v: &Value) -> Result<Value, FaultKind>
     requires { Knows (V.view view.now) v.now }
     ensures is { result ≡ meaning.len (V.view view.now) v.now }

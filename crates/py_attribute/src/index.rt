@@ -25,7 +25,7 @@ fn word_at(first: SigId, low: u32, count: u32, index: Integer) -> Result<Value, 
     }
 }
 
-/// `v[index]` (cocotb 1.8, "Accessing elements of an array"): the word of a memory. TypeError where the value is no memory or the index has
+/// `v[index]` (cocotb 1.8, `NonHierarchyIndexableObject`): the word of a memory. TypeError where the value is no memory or the index has
 /// no number, ValueError for an index with an x or z digit, IndexError for a word that isn't there. The words of a memory have numbers of
 /// signals. It takes no memory.
 pub fn indexed(v: &Value, index: &Value) -> Result<Value, FaultKind>

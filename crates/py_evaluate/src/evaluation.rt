@@ -8,10 +8,7 @@ ghost use Rattle.py_evaluate.specs.Eval.{eval, eval_row, eval_parts};
 ghost use Rattle.py_evaluate.specs.Gives as told;
 ghost use Rattle.py_evaluate.specs.Rows as rows;
 
-use crate::operations::{
-    binary_value, constant_value, name_value, no_bytes, no_values, unary_value, with_bytes,
-    with_value, word_value,
-};
+use crate::operations::{binary_value, constant_value, name_value, unary_value, word_value};
 use port_io::{Name, boxed};
 use py_attribute::{Locals, Look, OperationFault, attribute, shown_text, text_value};
 use py_function::{called, method_value};
@@ -138,10 +135,10 @@ fn values_of<N: Locals, V: Look>(
     ensures known { IfOk result (λ values. KnowsAll (V.view view.now) values.items) }
     ensures rises { next.old ≤ next.new }
 {
-    let mut values = no_values(alloc);
+    let mut values = Vec::new(alloc);
     for e in arguments {
         let v = value_of(alloc, e, names, view, task, next)?;
-        values = with_value(values, v)?;
+        values.push(v)?;
     }
     Ok(values)
 }
@@ -257,10 +254,10 @@ fn text_of<N: Locals, V: Look>(
     ensures ends { rows.EndsAs result (λ text. text.items) next.new (eval_parts (told.scope task (N.names names.now) (V.view view.now)) (rows.parts_of parts.now) next.old) }
     ensures rises { next.old ≤ next.new }
 {
-    let mut text = no_bytes(alloc);
+    let mut text = Vec::new(alloc);
     for part in parts {
         let shown = part_text(alloc, part, names, view, task, next)?;
-        text = with_bytes(text, shown.bytes())?;
+        text.extend_from_slice(shown.bytes())?;
     }
     Ok(text)
 }

@@ -1,5 +1,4 @@
 //! Expressions without parts, and what is done with the values of parts.
-ghost use Rattle.std.specs.Prelude.{◌≡◌, ◌++◌, ◌∷◌, [], Ok, IfOk};
 ghost use Rattle.py_operator.specs.Operation as operator;
 ghost use Rattle.py_attribute.specs.Attribute as attribute;
 ghost use Rattle.py_attribute.specs.Gives.{Gives};
@@ -8,42 +7,12 @@ ghost use Rattle.py_attribute.specs.Knows.{Knows, KnowsNames};
 ghost use Rattle.py_attribute.specs.Outcome.{IfKnown};
 ghost use Rattle.py_evaluate.specs.Eval as meaning;
 
-use port_io::{Name, NoMemory};
+use port_io::Name;
 use py_attribute::{Locals, Look, OperationFault, indexed, operated, text_value};
 use py_operator::unary;
 use py_syntax::{BinOp, Const, FaultKind, UnOp};
 use py_value::{Value, copy};
 use std::alloc::Global;
-
-/// No value. It takes no memory.
-pub(crate) fn no_values(alloc: Global) -> Vec<Value>
-    ensures { result.items ≡ [] }
-{
-    Vec::new(alloc)
-}
-
-/// No byte. It takes no memory.
-pub(crate) fn no_bytes(alloc: Global) -> Vec<u8>
-    ensures { result.items ≡ [] }
-{
-    Vec::new(alloc)
-}
-
-/// A value more. Only want of memory is an error.
-pub(crate) fn with_value(mut values: Vec<Value>, v: Value) -> Result<Vec<Value>, NoMemory>
-    ensures { IfOk result (λ more. more.items ≡ values.items ++ v ∷ []) }
-{
-    values.push(v)?;
-    Ok(values)
-}
-
-/// More bytes at the end. Only want of memory is an error.
-pub(crate) fn with_bytes(mut text: Vec<u8>, more: &[u8]) -> Result<Vec<u8>, NoMemory>
-    ensures { IfOk result (λ longer. longer.items ≡ text.items ++ more.now) }
-{
-    text.extend_from_slice(more)?;
-    Ok(text)
-}
 
 /// A constant. A text of over 65,536 bytes is an OverflowError.
 pub(crate) fn constant_value<V: Look>(

@@ -1,5 +1,5 @@
 //! Calls of functions.
-ghost use Rattle.std.specs.Prelude.{◌≡◌, ◌≤◌, ℕ, Ok};
+ghost use Rattle.std.specs.Prelude.{◌≡◌, ◌≤◌, Ok};
 ghost use Rattle.py_value.specs.Answer.{answer_map, and_then};
 ghost use Rattle.py_value.specs.Truth.{truth};
 ghost use Rattle.py_value.specs.TriggerView.{view_form};
@@ -7,7 +7,7 @@ ghost use Rattle.py_attribute.specs.Attribute.{str_value};
 ghost use Rattle.py_attribute.specs.Gives.{Gives};
 ghost use Rattle.py_attribute.specs.Look as look;
 ghost use Rattle.py_attribute.specs.Knows.{KnowsAll};
-ghost use Rattle.py_attribute.specs.Outcome.{Ends, Evaluates, lift};
+ghost use Rattle.py_attribute.specs.Outcome.{Ends, Evaluates};
 ghost use Rattle.py_function.specs.Making as making;
 ghost use Rattle.py_function.specs.Functions as meaning;
 
@@ -60,16 +60,6 @@ fn sim_time<V: Look>(view: &V, values: &[Value]) -> Result<Value, FaultKind>
     time_in(view.step_fs(), view.now(), unit_argument(view, values, 0))
 }
 
-/// What makes no trigger, whatever the next number is.
-fn plain(answer: Result<Value, FaultKind>) -> Result<Value, OperationFault>
-    ensures { (k : ℕ) → Ends result k (lift answer k) }
-{
-    match answer {
-        Ok(v) => Ok(v),
-        Err(kind) => Err(OperationFault::Raised(kind)),
-    }
-}
-
 /// A new trigger of this form, or why there is no such form.
 fn made(
     task: TaskNo,
@@ -96,11 +86,11 @@ fn call<V: Look>(
     ensures rises { next.old ≤ next.new }
 {
     match function {
-        Function::Int => plain(int_call(values)),
+        Function::Int => Ok(int_call(values)?),
         Function::Str => str_call(alloc, view, values),
-        Function::Bool => plain(bool_call(values)),
-        Function::Len => plain(len_call(view, values)),
-        Function::GetSimTime => plain(sim_time(view, values)),
+        Function::Bool => Ok(bool_call(values)?),
+        Function::Len => Ok(len_call(view, values)?),
+        Function::GetSimTime => Ok(sim_time(view, values)?),
         Function::Timer => made(task, timer(view, values), next),
         Function::Edge => made(task, change(values), next),
         Function::RisingEdge => made(task, rise(view, values), next),
@@ -112,7 +102,7 @@ fn call<V: Look>(
         Function::Join => made(task, join(values), next),
         Function::First => first(alloc, task, values, next),
         Function::Combine => combine(alloc, task, values, next),
-        Function::Clock => plain(clock(view, values)),
+        Function::Clock => Ok(clock(view, values)?),
     }
 }
 

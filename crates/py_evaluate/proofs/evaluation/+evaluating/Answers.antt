@@ -22,7 +22,7 @@ value_of-returns-in-Call g t c =
 pub values_of-loop-e-init : goal.values_of-loop-e-init
 values_of-loop-e-init g t c =
     let s = scope c.args.task (g.N.Locals.names c.args.names.now) (g.V.Look.view c.args.view.now) in
-    rw c.no_values-values.ensures (behind_none (eval_row s (trees_of c.args.arguments.now) c.args.next.now), tt, omega arith)
+    rw c.new-values.ensures.items (behind_none (eval_row s (trees_of c.args.arguments.now) c.args.next.now), tt, omega arith)
 
 pub values_of-returns-in_err-v-clause-ends : goal.values_of-returns-in_err-v-clause-ends
 values_of-returns-in_err-v-clause-ends g t c =
@@ -41,7 +41,7 @@ values_of-loop-e-preserved g t c =
     let before = c.loop-e.invariant.2 in
     let rises = c.in_ok-v.ensures.rises in
     let risen : c.args.next.now ≤ c.value_of.new.next = omega (arith, before, rises) in
-    rw c.in_ok-values.ensures (
+    rw c.in_ok-push.ensures.items (
       values_step s c.args.arguments.now c.loop-e.e-index c.e-item.result c.loop-e.values.items c.loop-e.next c.value_of.new.next c.in_ok-v.v whole
           c.loop-e-test.true c.e-item.is c.loop-e.invariant.0 c.in_ok-v.ensures.ends,
       known_more (g.V.Look.view c.args.view.now) c.loop-e.values.items c.in_ok-v.v c.loop-e.invariant.1 c.in_ok-v.ensures.known,
@@ -57,7 +57,7 @@ values_of-returns-clause-ends g t c =
 pub text_of-loop-part-init : goal.text_of-loop-part-init
 text_of-loop-part-init g t c =
     let s = scope c.args.task (g.N.Locals.names c.args.names.now) (g.V.Look.view c.args.view.now) in
-    rw c.no_bytes-text.ensures (behind_none (eval_parts s (parts_of c.args.parts.now) c.args.next.now), omega arith)
+    rw c.new-text.ensures.items (behind_none (eval_parts s (parts_of c.args.parts.now) c.args.next.now), omega arith)
 
 pub text_of-returns-in_err-shown-clause-ends : goal.text_of-returns-in_err-shown-clause-ends
 text_of-returns-in_err-shown-clause-ends g t c =
@@ -76,7 +76,7 @@ text_of-loop-part-preserved g t c =
     let before = c.loop-part.invariant.1 in
     let rises = c.in_ok-shown.ensures.rises in
     let risen : c.args.next.now ≤ c.part_text.new.next = omega (arith, before, rises) in
-    rw c.in_ok-text.ensures (
+    rw c.in_ok-extend_from_slice.ensures.items (
       rw c.bytes.ensures
           (text_step s c.args.parts.now c.loop-part.part-index c.part-item.result c.loop-part.text.items c.loop-part.next c.part_text.new.next c.in_ok-shown.shown whole
           c.loop-part-test.true c.part-item.is c.loop-part.invariant.0 c.in_ok-shown.ensures.ends),
