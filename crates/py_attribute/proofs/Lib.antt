@@ -2,3 +2,5 @@ pub mod Halves
 pub mod Dots
 pub mod Plain
 pub mod Others
+pub mod Operators
+pub mod Onward

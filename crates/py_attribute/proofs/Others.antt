@@ -6,7 +6,7 @@ use Rattle.py_value.specs.declared.value.Value.{Value}
 use Rattle.py_operator.specs.Operation.{binary_value}
 use Rattle.gpi.specs.declared.types.SigId.{SigId}
 use Rattle.py_value.specs.declared.value.Value.TheVariants as value
-use Rattle.py_attribute.specs.Look.{View, beside, is_handle, operated}
+use Rattle.py_attribute.specs.Look.{View, beside, operated}
 
 pub others : (view : View) (o : BinOp) (a b : Value) → (o ≡ op.Equal → ⊥) → (o ≡ op.NotEqual → ⊥) → binary_value o a b ≡ operated view o a b
 others view op.Equal a b h i = absurd (h refl)

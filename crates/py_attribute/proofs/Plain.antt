@@ -7,16 +7,16 @@ use Rattle.py_syntax.specs.declared.fault_kind.FaultKind.TheVariants.{AttributeE
 use Rattle.four_value.specs.Vector.{number}
 use Rattle.py_integer.specs.Integer.{held}
 use Rattle.py_value.specs.Answer.{Answer, and_then}
+use Rattle.py_value.specs.Limits.{text_limit}
 use Rattle.py_value.specs.Shown.{digits_text}
 use Rattle.py_value.specs.declared.value.Value.{Value}
 use Rattle.py_value.specs.declared.value.Value.TheVariants.{Text, Truth, Vector}
 use Rattle.py_attribute.specs.declared.fault.OperationFault.{OperationFault}
 use Rattle.py_operator.specs.Number.{one_number, whole}
-use Rattle.py_attribute.specs.Attribute.{signed_number, signed_integer, text_limit, text_value, name_of_path, path_attribute, vector_attribute}
+use Rattle.py_attribute.specs.Attribute.{signed_number, signed_integer, text_value, name_of_path, path_attribute, vector_attribute}
 use Rattle.py_attribute.specs.Gives.{Gives}
 use Rattle.py_attribute.specs.Look.{View}
-use Rattle.py_attribute.specs.Knows.{Knows}
-use Rattle.py_attribute.specs.Outcome.{Outcome, Ends, AnswerKnown, IfKnown, gives}
+use Rattle.py_attribute.specs.Outcome.{Outcome, Ends, AnswerKnown, IfKnown, lift}
 
 pub either : (view : View) (t : Bool) (a b : Answer Value) → AnswerKnown view a → AnswerKnown view b → AnswerKnown view (if t then a else b)
 either view true a b p q = p
@@ -67,3 +67,6 @@ answer_known view answer result k e = subst (λ (a : Answer Value). AnswerKnown 
 pub ends_known : (view : View) (o : Outcome Value) (result : Result Value OperationFault) (k : ℕ) → AnswerKnown view o.answer → Ends result k o → IfKnown view result
 ends_known view o (Ok v) k h e = subst (λ (q : Outcome Value). AnswerKnown view q.answer) e h
 ends_known view o (Err fault) k h e = tt
+
+pub lift_known : (view : View) (o : Outcome Value) (result : Answer Value) (k : ℕ) → AnswerKnown view o.answer → lift result k ≡ o → AnswerKnown view result
+lift_known view o result k h e = subst (λ (q : Outcome Value). AnswerKnown view q.answer) (sym e) h

@@ -7,6 +7,7 @@ use Rattle.gpi.specs.declared.types.SigId.{SigId}
 use Rattle.py_syntax.specs.declared.fault_kind.FaultKind.TheVariants.{AttributeError, IndexError, OverflowError, TypeError, ValueError}
 use Rattle.py_integer.specs.Integer.{held}
 use Rattle.py_value.specs.Answer.{Answer, and_then}
+use Rattle.py_value.specs.Limits.{text_limit}
 use Rattle.py_value.specs.Places.{Places}
 use Rattle.py_value.specs.Shown.{shown, digits_text}
 use Rattle.py_value.specs.declared.value.Value.{Value}
@@ -14,10 +15,6 @@ use Rattle.py_value.specs.declared.value.Value.TheVariants.{Truth, Text, Vector,
 use Rattle.py_operator.specs.Number.{one_number, whole}
 
 -- ---- texts
-
--- the limit of a text that a value holds
-abbrev pub text_limit : ℕ
-text_limit = 65536
 
 abbrev pub text_value : List ℕ → Answer Value
 text_value bs = if nat_lt text_limit (length bs) then Err OverflowError else Ok (Text bs)
@@ -33,10 +30,14 @@ abbrev pub first_some : Option (List ℕ) → Option (List ℕ) → Option (List
 first_some (Some bs) other = Some bs
 first_some None other = other
 
+-- the byte `.`
+abbrev pub dot : ℕ
+dot = 46
+
 -- what stands behind the last dot
 abbrev pub behind_dot : List ℕ → Option (List ℕ)
 behind_dot [] = None
-behind_dot (b ∷ bs) = first_some (behind_dot bs) (if b == 46 then Some bs else None)
+behind_dot (b ∷ bs) = first_some (behind_dot bs) (if b == dot then Some bs else None)
 
 -- the part of a path behind its last dot, or the whole path where it has none
 abbrev pub name_of_path : List ℕ → List ℕ

@@ -1,8 +1,9 @@
 -- What a function of the code returned is the answer of an operation, unless memory ran out.
-use Rattle.std.specs.Prelude.{◌≡◌, ◌+◌, ◌≤◌, ◌^◌, Result, Ok, Err}
+use Rattle.std.specs.Prelude.{◌≡◌, ◌+◌, ◌≤◌, Result, Ok, Err}
 use Rattle.py_attribute.specs.declared.fault.OperationFault.{OperationFault}
 use Rattle.py_attribute.specs.declared.fault.OperationFault.TheVariants as faults
 use Rattle.py_value.specs.Answer.{Answer}
+use Rattle.py_value.specs.Limits.{signal_numbers}
 use Rattle.py_value.specs.declared.value.Value.{Value}
 use Rattle.py_value.specs.declared.value.Value.TheVariants.{Words}
 
@@ -16,5 +17,5 @@ Gives answer (Err fault) = Fails fault answer
 
 -- the words of a memory have numbers of signals
 abbrev pub HasNumbers : Value → Type 0
-HasNumbers (Words first low count) = first.0 + count ≤ 2 ^ 32
+HasNumbers (Words first low count) = first.0 + count ≤ signal_numbers
 HasNumbers _ = Unit {0}

@@ -1,7 +1,8 @@
--- Which values a view knows: each signal and node in them is of its design, and each task, event and lock was made in its test.
-use Rattle.std.specs.Prelude.{ℕ, ◌+◌, ◌^◌, ◌<◌, ◌≤◌, length, List, [], ◌∷◌, Option, Some, None}
-use Rattle.gpi.specs.declared.types.SigId.{SigId}
-use Rattle.py_value.specs.Trigger.{Trig, Made, Form, Trigs, NoTrig, Then, Rise, Fall, Change, Cycles, Event, Lock, Join, First, Combine, Limit}
+-- Which values a view knows: each signal and node in them is of its design, each task, event and lock was made in its test, and each
+-- trigger is sound.
+use Rattle.std.specs.Prelude.{ℕ, ◌+◌, ◌<◌, ◌≤◌, length, List, [], ◌∷◌, Option, Some, None}
+use Rattle.py_value.specs.Limits.{signal_numbers}
+use Rattle.py_value.specs.Trigger.{Trig, Made, Form, Trigs, NoTrig, Then, Rise, Fall, Change, Cycles, Event, Lock, Join, First, Combine, Limit, IsSound}
 use Rattle.py_value.specs.declared.value.Value.{Value}
 use Rattle.py_value.specs.declared.value.Value.TheVariants as value
 use Rattle.py_attribute.specs.Look.{View, Names, local}
@@ -18,7 +19,7 @@ KnowsNode view n = (n < length view.nodes) × (n < length view.places.nodes)
 pub record KnowsWords (view : View) (first count : ℕ) : Type 0 where
   pub signals : first + count ≤ length view.signals
   pub places : first + count ≤ length view.places.signals
-  pub numbers : first + count ≤ 2 ^ 32
+  pub numbers : first + count ≤ signal_numbers
 
 -- what the leaves of a trigger wait for
 abbrev mutual
@@ -46,7 +47,7 @@ abbrev pub Knows : View → Value → Type 0
 Knows view (value.Place n) = KnowsNode view n
 Knows view (value.Words first low count) = KnowsWords view first.0 count
 Knows view (value.Signal s) = KnowsSignal view s.0
-Knows view (value.Trigger t) = KnowsTrig view t
+Knows view (value.Trigger t) = KnowsTrig view t × IsSound t
 Knows view (value.Task t) = t.0 < length view.ended
 Knows view (value.Event e) = e.0 < length view.events
 Knows view (value.Lock l) = l.0 < length view.locks

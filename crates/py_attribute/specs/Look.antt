@@ -1,5 +1,7 @@
 -- What a task sees of the simulation and of the runner, its names, and what values are by it.
 use Rattle.std.specs.Prelude.{ℕ, ◌==◌, Bool, true, false, List, [], ◌∷◌, length, Option, None, Some, Ok, Err, codes, pos, slice_index_or, if◌then◌else◌}
+use Rattle.std.specs.List.{find}
+use Rattle.std.specs.Option.{option_map}
 use Rattle.std.specs.Str.{bytes_eq}
 use Rattle.four_value.specs.declared.Digit.{Digit}
 use Rattle.gpi.specs.declared.design.Spot.{Spot}
@@ -38,8 +40,7 @@ width view sig = length (read view sig)
 
 -- what a name means among those that are declared
 abbrev pub spot_of : List (List ℕ × Spot) → List ℕ → Option Spot
-spot_of [] name = None
-spot_of (c ∷ cs) name = if bytes_eq c.0 name then Some c.1 else spot_of cs name
+spot_of declared name = option_map (λ c. c.1) (find (λ c. bytes_eq c.0 name) declared)
 
 abbrev pub child : View → ℕ → List ℕ → Option Spot
 child view node name = spot_of (slice_index_or view.nodes node []) name

@@ -1,5 +1,5 @@
 -- What an evaluation gives: a value or the kind of a fault, and the number of the task's next trigger.
-use Rattle.std.specs.Prelude.{◌≡◌, ℕ, Result, Ok, Err}
+use Rattle.std.specs.Prelude.{◌≡◌, ◌≤◌, ℕ, Result, Ok, Err}
 use Rattle.py_syntax.specs.declared.fault_kind.FaultKind.{FaultKind}
 use Rattle.py_value.specs.Answer.{Answer}
 use Rattle.py_value.specs.declared.trigger.TaskNo.{TaskNo}
@@ -37,9 +37,9 @@ pub record Scope : Type 0 where
   pub names : Names
   pub view : View
 
--- ---- what a function of the code returned, beside the next number that it left: want of memory leaves the number open
+-- ---- what a function of the code returned, beside the next number that it left
 
--- the value, or the fault, of the outcome
+-- the value, or the fault, of the outcome; after want of memory there is none
 abbrev pub Ends : {A : Type 0} → Result A OperationFault → ℕ → Outcome A → Type 0
 Ends (Ok a) k o = o ≡ gives a k
 Ends (Err (faults.Raised kind)) k o = o ≡ refuses kind k
@@ -53,7 +53,8 @@ abbrev pub IfKnown : View → Result Value OperationFault → Type 0
 IfKnown view (Ok v) = Knows view v
 IfKnown view (Err fault) = Unit {0}
 
--- an outcome, whose value the view knows
-pub record Evaluates (view : View) (result : Result Value OperationFault) (k : ℕ) (o : Outcome Value) : Type 0 where
+-- an outcome, whose value the view knows; and the next number never falls, after want of memory either, so that none is given twice
+pub record Evaluates (view : View) (result : Result Value OperationFault) (old k : ℕ) (o : Outcome Value) : Type 0 where
   pub ends : Ends result k o
   pub known : IfKnown view result
+  pub rises : old ≤ k

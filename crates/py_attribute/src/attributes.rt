@@ -3,7 +3,7 @@ ghost use Rattle.std.specs.Prelude.{◌≡◌, ◌<◌, length, IfOk};
 ghost use Rattle.py_attribute.specs.Gives.{Gives};
 ghost use Rattle.py_attribute.specs.Look as meaning;
 ghost use Rattle.py_attribute.specs.Knows.{Knows, KnowsNode, KnowsSignal};
-ghost use Rattle.py_attribute.specs.Outcome.{IfKnown};
+ghost use Rattle.py_attribute.specs.Outcome.{AnswerKnown, IfKnown};
 
 use crate::{Look, OperationFault, path_attribute, signal_of, vector_attribute};
 use gpi::{SigId, Spot};
@@ -70,9 +70,10 @@ fn lock_attribute<V: Look>(view: &V, lock: LockNo, name: &Name) -> Result<Value,
     }
 }
 
-/// `v.name`: of a hierarchy what is declared in it by that name, else `_path` or `_name`; of a signal `value`, `_path` and `_name`; of a
-/// vector `integer`, `signed_integer`, `binstr` and `is_resolvable`; of a lock `locked`. Another name, or a value of another kind, is an
-/// AttributeError; a text of over 65,536 bytes an OverflowError, and those of a vector's numbers are as told there.
+/// `v.name` (the language reference, 6.3.1): of a hierarchy what is declared in it by that name, else `_path` or `_name`; of a signal `value`,
+/// `_path` and `_name`; of a vector `integer`, `signed_integer`, `binstr` and `is_resolvable`; of a lock `locked`. Another name, or a value of
+/// another kind, is an AttributeError. A text of over 65,536 bytes is an OverflowError; `integer` and `signed_integer` are a ValueError where
+/// a digit is x or z, the first an OverflowError over 2^127 - 1. Want of memory is an error of those that give a text.
 pub fn attribute<V: Look>(
     alloc: Global,
     view: &V,
@@ -92,7 +93,7 @@ pub fn attribute<V: Look>(
     }
 }
 
-/// The signal of one digit that a value is, which clocks and edges of one kind need. Another value, and a wider signal, are TypeErrors.
+/// The signal of one digit that a value is, which clocks and edges of one kind need. A value of another kind and a wider signal are TypeErrors.
 /// It takes no memory.
 pub fn one_bit<V: Look>(view: &V, v: &Value) -> Result<SigId, FaultKind>
     requires { Knows (V.view view.now) v.now }
@@ -107,11 +108,12 @@ pub fn one_bit<V: Look>(view: &V, v: &Value) -> Result<SigId, FaultKind>
     }
 }
 
-/// `len(v)`: the width of a signal. Another value is a TypeError. It takes no memory.
+/// `len(v)` (cocotb 1.8, `SimHandleBase`): the width of a signal, in digits. A value of another kind, a text and a vector among them, is a TypeError. It takes no memory.
 pub fn len<V: Look>(view: &V, v: &Value) -> Result<Value, FaultKind>
     requires { Knows (V.view view.now) v.now }
-    ensures { result ≡ meaning.len (V.view view.now) v.now }
+    ensures is { result ≡ meaning.len (V.view view.now) v.now }
+    ensures known { AnswerKnown (V.view view.now) result }
 {
-    let sig = signal_of(v)?;
-    Ok(Value::Whole(view.width(sig) as i128))
+    let signal = signal_of(v)?;
+    Ok(Value::Whole(view.width(signal) as i128))
 }

@@ -4,6 +4,7 @@ ghost use Rattle.py_attribute.specs.declared.fault.OperationFault.TheVariants.{O
 
 use port_io::NoMemory;
 use py_syntax::FaultKind;
+use std::alloc::{AllocError, AllocFailed};
 
 /// Why an operation gives no value.
 #[derive(Clone, Copy, Debug, PartialEq, Eq)]
@@ -18,6 +19,22 @@ impl From<NoMemory> for OperationFault {
     ghost from_gives = { λ _ fault. fault ≡ OutOfMemory };
 
     fn from(_: NoMemory) -> OperationFault {
+        OperationFault::OutOfMemory
+    }
+}
+
+impl From<AllocError> for OperationFault {
+    ghost from_gives = { λ _ fault. fault ≡ OutOfMemory };
+
+    fn from(_: AllocError) -> OperationFault {
+        OperationFault::OutOfMemory
+    }
+}
+
+impl<T: Drop> From<AllocFailed<T>> for OperationFault {
+    ghost from_gives = { λ _ fault. fault ≡ OutOfMemory };
+
+    fn from(_: AllocFailed<T>) -> OperationFault {
         OperationFault::OutOfMemory
     }
 }

@@ -1,6 +1,7 @@
 //! Words of memories, and signals.
-ghost use Rattle.std.specs.Prelude.{◌≡◌, ◌+◌, ◌≤◌, ◌^◌};
+ghost use Rattle.std.specs.Prelude.{◌≡◌, ◌+◌, ◌≤◌};
 ghost use Rattle.py_integer.specs.Integer.{number};
+ghost use Rattle.py_value.specs.Limits.{signal_numbers};
 ghost use Rattle.py_attribute.specs.Attribute as meaning;
 ghost use Rattle.py_attribute.specs.Gives.{HasNumbers};
 
@@ -12,7 +13,7 @@ use py_value::Value;
 
 /// The word of an index, of a memory whose words have the indices from `low` on. One that isn't there is an IndexError.
 fn word_at(first: SigId, low: u32, count: u32, index: Integer) -> Result<Value, FaultKind>
-    requires { first.0 + count ≤ 2 ^ 32 }
+    requires { first.0 + count ≤ signal_numbers }
     ensures { result ≡ meaning.word_at first low count (number index) }
 {
     match index.to_natural() {
@@ -24,8 +25,9 @@ fn word_at(first: SigId, low: u32, count: u32, index: Integer) -> Result<Value, 
     }
 }
 
-/// `v[index]`: the word of a memory. TypeError where the value is no memory or the index has no number, ValueError for an index with
-/// an x or z digit, IndexError for a word that isn't there. The words of a memory have numbers of signals. It takes no memory.
+/// `v[index]` (cocotb 1.8, `NonHierarchyIndexableObject`): the word of a memory. TypeError where the value is no memory or the index has
+/// no number, ValueError for an index with an x or z digit, IndexError for a word that isn't there. The words of a memory have numbers of
+/// signals. It takes no memory.
 pub fn indexed(v: &Value, index: &Value) -> Result<Value, FaultKind>
     requires { HasNumbers v.now }
     ensures { result ≡ meaning.indexed v.now index.now }
@@ -36,7 +38,7 @@ pub fn indexed(v: &Value, index: &Value) -> Result<Value, FaultKind>
     }
 }
 
-/// The signal that a value is, which `len` and the edges need. Another value is a TypeError. It takes no memory.
+/// The signal that a value is, which `len` and the edges need. A value of another kind is a TypeError. It takes no memory.
 pub fn signal_of(v: &Value) -> Result<SigId, FaultKind>
     ensures { result ≡ meaning.signal_of v.now }
 {

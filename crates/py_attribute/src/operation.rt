@@ -3,6 +3,7 @@ ghost use Rattle.std.specs.Prelude.{◌≡◌};
 ghost use Rattle.py_operator.specs.Operation.{binary_value};
 ghost use Rattle.py_attribute.specs.Look as meaning;
 ghost use Rattle.py_attribute.specs.Knows.{Knows, KnowsSignal};
+ghost use Rattle.py_attribute.specs.Outcome.{AnswerKnown};
 
 use crate::Look;
 use gpi::SigId;
@@ -67,12 +68,14 @@ fn compared<V: Look>(view: &V, op: BinOp, a: &Value, b: &Value) -> Result<Value,
     }
 }
 
-/// The value of an operator with two operands, or the kind of the fault that it raises, as `py_operator::binary` does; but before `==`
-/// and `!=` a signal whose other operand is no signal, hierarchy or memory gives way to its value. It takes no memory.
+/// The value of an operator with two operands, or the kind of the fault that it raises, as `py_operator::operated` does: TypeError, ValueError,
+/// ZeroDivisionError or OverflowError, in this order; but before `==` and `!=` a signal whose other operand is no signal, hierarchy or memory
+/// gives way to its value (cocotb 1.8, `NonHierarchyObject`). It takes no memory.
 pub fn operated<V: Look>(view: &V, op: BinOp, a: &Value, b: &Value) -> Result<Value, FaultKind>
     requires left { Knows (V.view view.now) a.now }
     requires right { Knows (V.view view.now) b.now }
-    ensures { result ≡ meaning.operated (V.view view.now) op a.now b.now }
+    ensures is { result ≡ meaning.operated (V.view view.now) op a.now b.now }
+    ensures known { AnswerKnown (V.view view.now) result }
 {
     match op {
         BinOp::Equal | BinOp::NotEqual => compared(view, op, a, b),

@@ -22,8 +22,9 @@ fn name_of_path(path: &[u8]) -> &[u8]
     name
 }
 
-/// `_path` and `_name` of a signal or a hierarchy with this path: the path itself, and the part of it behind its last dot, or all of
-/// it where it has none. A text of over 65,536 bytes is an OverflowError, and another name an AttributeError.
+/// `_path` and `_name` of a signal or a hierarchy (cocotb 1.8, `SimHandleBase`) with this path: the path itself, and the part of it behind
+/// its last dot, or all of it where it has none. A text of over 65,536 bytes is an OverflowError, and another name an AttributeError. Want
+/// of memory for the text is the other error.
 pub fn path_attribute(alloc: Global, path: &[u8], name: &[u8]) -> Result<Value, OperationFault>
     ensures { Gives (meaning.path_attribute path.now name.now) result }
 {

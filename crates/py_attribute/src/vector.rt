@@ -2,6 +2,7 @@
 ghost use Rattle.std.specs.Prelude.{◌≡◌, ◌≤◌, length};
 ghost use Rattle.four_value.specs.Vector.{number};
 ghost use Rattle.py_integer.specs.Integer.{held};
+ghost use Rattle.py_value.specs.Limits.{width_limit};
 ghost use Rattle.py_attribute.specs.Attribute as meaning;
 ghost use Rattle.py_attribute.specs.Gives.{Gives};
 
@@ -17,7 +18,7 @@ use std::alloc::Global;
 #[tactic(auto, using(crate::proofs::Halves::half_down))]
 fn signed_number(width: u8, n: u128) -> Option<i128>
     requires low { 1 ≤ width }
-    requires high { width ≤ 128 }
+    requires high { width ≤ width_limit }
     ensures { result ≡ held (meaning.signed_number width n) }
 {
     let half = 1u128 << (width - 1);
@@ -40,7 +41,8 @@ fn signed_integer(bits: Bits) -> Result<Value, FaultKind>
 
 /// An attribute of a vector (cocotb 1.8, `BinaryValue`): `integer` is its unsigned number and `signed_integer` its number in two's
 /// complement, both a ValueError where a digit is x or z, the first an OverflowError over 2^127 - 1; `binstr` is the text of its
-/// digits, and `is_resolvable` is True exactly where none is x or z. Another name is an AttributeError.
+/// digits, and `is_resolvable` is True exactly where none is x or z. Another name is an AttributeError. Want of memory is an error of
+/// `binstr` alone.
 pub fn vector_attribute(alloc: Global, bits: Bits, name: &[u8]) -> Result<Value, OperationFault>
     ensures { Gives (meaning.vector_attribute bits name.now) result }
 {

@@ -1,5 +1,5 @@
 -- One evaluation after another.
-use Rattle.std.proofs.Common.{◌≡◌, ℕ, Ok, Err, ap, sym, subst}
+use Rattle.std.proofs.Common.{◌≡◌, ℕ, ◌≤◌, Ok, Err, ap, sym, subst, arith}
 use Rattle.std.specs.Prelude.{Result}
 use Rattle.py_value.specs.Answer.{Answer}
 use Rattle.py_value.specs.declared.value.Value.{Value}
@@ -7,7 +7,7 @@ use Rattle.py_attribute.specs.declared.fault.OperationFault.{OperationFault}
 use Rattle.py_attribute.specs.declared.fault.OperationFault.TheVariants as faults
 use Rattle.py_attribute.specs.Gives.{Gives}
 use Rattle.py_attribute.specs.Look.{View}
-use Rattle.py_attribute.specs.Outcome.{Outcome, Ends, Evaluates, IfKnown, gives, refuses, lift, bind}
+use Rattle.py_attribute.specs.Outcome.{Outcome, Ends, Evaluates, IfKnown, gives, lift, bind}
 use Rattle.py_evaluate.specs.Rows.{EndsAs}
 
 -- a fault of the first is the fault of both
@@ -26,15 +26,17 @@ answer_ends answer (Ok v) j e = ap (λ a. lift a j) e
 answer_ends answer (Err (faults.Raised kind)) j e = ap (λ a. lift a j) e
 answer_ends answer (Err faults.OutOfMemory) j e = tt
 
-pub answer_evaluates : (view : View) (answer : Answer Value) (result : Result Value OperationFault) (j : ℕ) → Gives answer result → IfKnown view result → Evaluates view result j (lift answer j)
-answer_evaluates view answer result j e k = record { ends = answer_ends answer result j e; known = k }
+pub answer_evaluates : (view : View) (answer : Answer Value) (result : Result Value OperationFault) (old j : ℕ)
+    → Gives answer result → IfKnown view result → old ≤ j → Evaluates view result old j (lift answer j)
+answer_evaluates view answer result old j e k h = record { ends = answer_ends answer result j e; known = k; rises = h }
 
-pub fault_evaluates : {A : Type 0} (view : View) (o : Outcome A) (f : A → ℕ → Outcome Value) (fault : OperationFault) (j : ℕ) → Ends {A = A} (Err fault) j o → Evaluates view (Err fault) j (bind o f)
-fault_evaluates view o f fault j e = record { ends = fault_first o f fault j e; known = tt }
+pub fault_evaluates : {A : Type 0} (view : View) (o : Outcome A) (f : A → ℕ → Outcome Value) (fault : OperationFault) (old j : ℕ)
+    → Ends {A = A} (Err fault) j o → old ≤ j → Evaluates view (Err fault) old j (bind o f)
+fault_evaluates view o f fault old j e h = record { ends = fault_first o f fault j e; known = tt; rises = h }
 
-pub value_evaluates : {A : Type 0} (view : View) (o : Outcome A) (f : A → ℕ → Outcome Value) (a : A) (j : ℕ) (result : Result Value OperationFault) (k : ℕ)
-    → o ≡ gives a j → Evaluates view result k (f a j) → Evaluates view result k (bind o f)
-value_evaluates view o f a j result k e h = record { ends = value_first o f a j result k e h.ends; known = h.known }
+pub value_evaluates : {A : Type 0} (view : View) (o : Outcome A) (f : A → ℕ → Outcome Value) (a : A) (old j : ℕ) (result : Result Value OperationFault) (k : ℕ)
+    → o ≡ gives a j → old ≤ j → Evaluates view result j k (f a j) → Evaluates view result old k (bind o f)
+value_evaluates view o f a old j result k e h r = record { ends = value_first o f a j result k e r.ends; known = r.known; rises = omega (arith, h, r.rises) }
 
 -- lists and texts
 pub faults_same : {A B : Type 0} (f : B → A) (fault : OperationFault) (j : ℕ) (o : Outcome A) → EndsAs {A = A} {B = B} (Err fault) f j o → Ends {A = A} (Err fault) j o

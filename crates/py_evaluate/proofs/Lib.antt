@@ -1,3 +1,4 @@
 pub mod Plain
 pub mod Chains
 pub mod Steps
+pub mod Onward

@@ -1,55 +1,20 @@
--- What operators give names nothing of a design, and a word of a known memory is known.
-use Rattle.std.proofs.Common.{◌≡◌, ℕ, zero, suc, ◌+◌, ◌-◌, ◌<◌, ◌≤◌, ◌^◌, Bool, true, false, List, Ok, Err, Some, None, nat_lt, nat_le, length, if◌then◌else◌, subst, sym, refl, arith}
-use Rattle.std.specs.Prelude.{ℤ, pos, negsuc, Option, Result, ◌&&◌, ◌||◌, not, ◌+ℤ◌, ◌-ℤ◌, ◌*ℤ◌, neg_ℤ, bit_and, bit_or, bit_xor}
+-- What operators on one value give names nothing of a design, and a word of a known memory is known.
+use Rattle.std.proofs.Common.{◌≡◌, ℕ, ◌+◌, ◌-◌, ◌<◌, Bool, true, false, Ok, Err, nat_lt, nat_le, length, if◌then◌else◌, refl, arith}
+use Rattle.std.specs.Prelude.{ℤ, pos, negsuc, ◌&&◌, ◌-ℤ◌, neg_ℤ}
 use Rattle.gpi.specs.declared.types.SigId.{SigId}
-use Rattle.py_syntax.specs.declared.expression.BinOp.{BinOp}
-use Rattle.py_syntax.specs.declared.expression.BinOp.TheVariants as op
 use Rattle.py_syntax.specs.declared.expression.UnOp.{UnOp}
 use Rattle.py_syntax.specs.declared.expression.UnOp.TheVariants as unop
-use Rattle.py_syntax.specs.declared.fault_kind.FaultKind.TheVariants.{IndexError, ZeroDivisionError}
-use Rattle.py_integer.specs.Integer.{held, held_shift, shifted_right, floor_quotient, floor_rest, by_bits, differ, is_zero}
-use Rattle.py_value.specs.Answer.{Answer, and_then}
+use Rattle.py_syntax.specs.declared.fault_kind.FaultKind.TheVariants.{IndexError}
+use Rattle.py_integer.specs.Integer.{held}
 use Rattle.py_value.specs.declared.value.Value.{Value}
 use Rattle.py_value.specs.declared.value.Value.TheVariants as value
-use Rattle.py_operator.specs.Number.{one_number, two_numbers, whole}
-use Rattle.py_operator.specs.Operation.{equal, divided, shifted, arithmetic, binary_value, unary_value}
+use Rattle.py_operator.specs.Number.{one_number, whole}
+use Rattle.py_operator.specs.Operation.{unary_value}
 use Rattle.py_attribute.specs.Attribute.{indexed, word_at}
-use Rattle.py_attribute.specs.Look.{View, beside, is_handle, compared, operated}
-use Rattle.py_attribute.specs.Knows.{Knows, KnowsSignal, KnowsWords}
+use Rattle.py_attribute.specs.Look.{View}
+use Rattle.py_attribute.specs.Knows.{Knows, KnowsWords}
 use Rattle.py_attribute.specs.Outcome.{AnswerKnown}
-use Rattle.py_attribute.proofs.Plain.{either, chained, whole_plain}
-
-divided_plain : (view : View) (f : ℤ → ℤ → ℤ) (a b : ℤ) → AnswerKnown view (divided f a b)
-divided_plain view f a b = either view (is_zero b) (Err ZeroDivisionError) (whole (held (f a b))) tt (whole_plain view (held (f a b)))
-
-shifted_plain : (view : View) (f : ℤ → ℕ → Option ℤ) (a b : ℤ) → AnswerKnown view (shifted f a b)
-shifted_plain view f a (pos n) = whole_plain view (f a n)
-shifted_plain view f a (negsuc n) = tt
-
-arithmetic_plain : (view : View) (o : BinOp) (a b : ℤ) → AnswerKnown view (arithmetic o a b)
-arithmetic_plain view op.Add a b = whole_plain view (held (a +ℤ b))
-arithmetic_plain view op.Subtract a b = whole_plain view (held (a -ℤ b))
-arithmetic_plain view op.Multiply a b = whole_plain view (held (a *ℤ b))
-arithmetic_plain view op.FloorDivide a b = divided_plain view floor_quotient a b
-arithmetic_plain view op.Modulo a b = divided_plain view floor_rest a b
-arithmetic_plain view op.BitAnd a b = whole_plain view (held (by_bits bit_and ◌&&◌ a b))
-arithmetic_plain view op.BitOr a b = whole_plain view (held (by_bits bit_or ◌||◌ a b))
-arithmetic_plain view op.BitXor a b = whole_plain view (held (by_bits bit_xor differ a b))
-arithmetic_plain view op.ShiftLeft a b = shifted_plain view held_shift a b
-arithmetic_plain view op.ShiftRight a b = shifted_plain view (λ z n. held (shifted_right z n)) a b
-arithmetic_plain view _ a b = tt
-
-binary_plain : (view : View) (o : BinOp) (a b : Value) → AnswerKnown view (binary_value o a b)
-binary_plain view op.Equal a b = chained view (equal a b) (λ same. Ok (value.Truth same)) (λ same. tt)
-binary_plain view op.NotEqual a b = chained view (equal a b) (λ same. Ok (value.Truth (not same))) (λ same. tt)
-binary_plain view op.Is a b = tt
-binary_plain view op.IsNot a b = tt
-binary_plain view o a b = chained view (two_numbers a b) (λ p. arithmetic o p.0 p.1) (λ p. arithmetic_plain view o p.0 p.1)
-
-pub operated_plain : (view : View) (o : BinOp) (a b : Value) → AnswerKnown view (operated view o a b)
-operated_plain view op.Equal a b = binary_plain view op.Equal (beside view (is_handle b) a) (beside view (is_handle a) b)
-operated_plain view op.NotEqual a b = binary_plain view op.NotEqual (beside view (is_handle b) a) (beside view (is_handle a) b)
-operated_plain view o a b = binary_plain view o a b
+use Rattle.py_attribute.proofs.Plain.{chained, whole_plain}
 
 pub unary_plain : (view : View) (o : UnOp) (a : Value) → AnswerKnown view (unary_value o a)
 unary_plain view unop.Not a = tt

@@ -1,14 +1,12 @@
 -- Arguments, and parts of f-strings, one after the other.
-use Rattle.std.proofs.Common.{◌≡◌, ℕ, suc, ◌+◌, ◌<◌, ◌≤◌, List, [], ◌∷◌, ◌++◌, length, take, drop, get_or, Ok, Err, refl, ap, sym, subst, ◌∙◌, arith, add-one, append_assoc}
-use Rattle.std.specs.Prelude.{Result}
+use Rattle.std.proofs.Common.{◌≡◌, ℕ, suc, ◌+◌, ◌<◌, ◌≤◌, List, [], ◌∷◌, ◌++◌, length, drop, get_or, Ok, Err, refl, ap, sym, ◌∙◌, add-one, append_assoc}
 use Rattle.std.proofs.Math.Seq.{drop-cons}
 use Rattle.std.proofs.lemmas.List.{drop_all}
-use Rattle.py_syntax.specs.ExpressionTrees.{Tree, Trees, Then, Parts, NoPart, view, view_part, view_row, view_parts}
+use Rattle.py_syntax.specs.ExpressionTrees.{Then, view, view_part, view_row, view_parts}
 use Rattle.py_syntax.specs.declared.expression.Expression.{Expression, Row_of-Expression, end_of-Expression, more_of-Expression, Row_of-FormatPart, end_of-FormatPart, more_of-FormatPart}
 use Rattle.py_syntax.specs.declared.expression.Expression.TheBlock.{items-the_row-Expression, items-the_row-FormatPart}
 use Rattle.py_syntax.specs.declared.expression.FormatPart.{FormatPart}
 use Rattle.py_syntax.specs.declared.expression.FormatPart.TheVariants as part
-use Rattle.py_syntax.specs.declared.fault_kind.FaultKind.{FaultKind}
 use Rattle.py_value.specs.Answer.{Answer}
 use Rattle.py_value.specs.Shown.{shown}
 use Rattle.py_value.specs.declared.value.Value.{Value}
@@ -16,9 +14,9 @@ use Rattle.py_attribute.specs.declared.fault.OperationFault.{OperationFault}
 use Rattle.py_attribute.specs.declared.fault.OperationFault.TheVariants as faults
 use Rattle.py_attribute.specs.Look.{View}
 use Rattle.py_attribute.specs.Knows.{Knows, KnowsAll}
-use Rattle.py_attribute.specs.Outcome.{Outcome, Scope, Ends, gives, refuses, bind, after}
+use Rattle.py_attribute.specs.Outcome.{Outcome, Scope, Ends, gives, bind, after}
 use Rattle.py_evaluate.specs.Eval.{eval, eval_row, eval_parts}
-use Rattle.py_evaluate.specs.Rows.{trees_of, parts_of, part_bytes, EndsAs}
+use Rattle.py_evaluate.specs.Rows.{trees_of, parts_of, part_bytes}
 
 -- ---- the code's rows as lists
 

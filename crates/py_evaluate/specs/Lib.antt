@@ -1,2 +1,3 @@
 pub mod Eval
+pub mod Gives
 pub mod Rows

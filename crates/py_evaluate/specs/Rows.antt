@@ -1,21 +1,13 @@
--- Lists of the code's trees, and what functions of the code returned that go over them.
+-- A means of proof: lists of the code's trees, and what functions of the code returned that go over them.
 use Rattle.std.specs.Prelude.{◌≡◌, ℕ, List, [], ◌∷◌, Result, Ok, Err}
 use Rattle.py_syntax.specs.ExpressionTrees.{Trees, NoTree, Then, Parts, NoPart, view, view_part}
 use Rattle.py_syntax.specs.declared.expression.Expression.{Expression}
 use Rattle.py_syntax.specs.declared.expression.FormatPart.{FormatPart}
 use Rattle.py_syntax.specs.declared.expression.FormatPart.TheVariants as part
 use Rattle.py_value.specs.Shown.{shown}
-use Rattle.py_value.specs.declared.value.Value.{Value}
-use Rattle.py_value.specs.declared.value.Fault.{Fault}
-use Rattle.py_value.specs.Answer.{raised}
 use Rattle.py_attribute.specs.declared.fault.OperationFault.{OperationFault}
 use Rattle.py_attribute.specs.declared.fault.OperationFault.TheVariants as faults
-use Rattle.py_evaluate.specs.declared.evaluation.EvalFault.{EvalFault}
-use Rattle.py_evaluate.specs.declared.evaluation.EvalFault.TheVariants as fault
-use Rattle.py_attribute.specs.Look.{View, Names}
-use Rattle.py_attribute.specs.Knows.{Knows}
 use Rattle.py_attribute.specs.Outcome.{Outcome, Scope, gives, refuses, bind}
-use Rattle.py_value.specs.declared.trigger.TaskNo.{TaskNo}
 use Rattle.py_evaluate.specs.Eval.{eval}
 
 abbrev pub trees_of : List Expression → Trees
@@ -26,33 +18,13 @@ abbrev pub parts_of : List FormatPart → Parts
 parts_of [] = NoPart
 parts_of (p ∷ ps) = view_part p (parts_of ps)
 
-abbrev pub scope : TaskNo → Names → View → Scope
-scope task names view = record { task = task; names = names; view = view }
-
 -- the text of one part
 abbrev pub part_bytes : Scope → FormatPart → ℕ → Outcome (List ℕ)
 part_bytes s (part.Text t) k = gives t k
 part_bytes s (part.Formatted' p e) k = bind (eval s (view e) k) (λ v j. gives (shown s.view.places v) j)
-
--- ---- an outcome with the fault itself in place of its kind
-
-pub record Ended : Type 0 where
-  pub result : Result Value Fault
-  pub next : ℕ
-
-abbrev pub raised_outcome : Outcome Value → Ended
-raised_outcome o = record { result = raised o.answer; next = o.next }
-
--- ---- what functions of the code returned
 
 -- a list or a text, which f reads off
 abbrev pub EndsAs : {A B : Type 0} → Result B OperationFault → (B → A) → ℕ → Outcome A → Type 0
 EndsAs (Ok b) f k o = o ≡ gives (f b) k
 EndsAs (Err (faults.Raised kind)) f k o = o ≡ refuses kind k
 EndsAs (Err faults.OutOfMemory) f k o = Unit {0}
-
--- what a caller is told: the fault itself in place of its kind
-abbrev pub Gives : View → Result Value EvalFault → ℕ → Outcome Value → Type 0
-Gives view (Ok v) k o = (o ≡ gives v k) × Knows view v
-Gives view (Err (fault.Raised f)) k o = raised_outcome o ≡ record { result = Err f; next = k }
-Gives view (Err fault.OutOfMemory) k o = Unit {0}

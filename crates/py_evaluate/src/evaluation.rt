@@ -1,17 +1,15 @@
 //! The evaluation of expressions.
-ghost use Rattle.std.specs.Prelude.{◌≡◌, IfOk};
+ghost use Rattle.std.specs.Prelude.{◌≡◌, ◌≤◌, IfOk};
 ghost use Rattle.py_syntax.specs.ExpressionTrees as tree;
 ghost use Rattle.py_syntax.specs.declared.expression.Operation.TheVariants as operation;
 ghost use Rattle.py_attribute.specs.Knows.{KnowsNames, KnowsAll};
 ghost use Rattle.py_attribute.specs.Outcome.{Ends, Evaluates};
 ghost use Rattle.py_evaluate.specs.Eval.{eval, eval_row, eval_parts};
+ghost use Rattle.py_evaluate.specs.Gives as told;
 ghost use Rattle.py_evaluate.specs.Rows as rows;
 
-use crate::operations::{
-    binary_value, boxed, constant_value, name_value, no_bytes, no_values, unary_value, with_bytes,
-    with_value, word_value,
-};
-use port_io::Name;
+use crate::operations::{binary_value, constant_value, name_value, unary_value, word_value};
+use port_io::{Name, boxed};
 use py_attribute::{Locals, Look, OperationFault, attribute, shown_text, text_value};
 use py_function::{called, method_value};
 use py_syntax::{BinOp, BoolOp, Expression, FormatPart, Function, Method, UnOp};
@@ -21,9 +19,9 @@ use std::alloc::Global;
 /// Why an expression has no value.
 #[derive(Drop)]
 pub enum EvalFault {
-    /// It raises this fault, which says nothing.
+    /// It raises this fault, whose text is empty.
     Raised(Fault),
-    /// There is no memory for the value.
+    /// There is no memory for the value, or for one on the way to it.
     OutOfMemory,
 }
 
@@ -38,7 +36,7 @@ fn value_of<N: Locals, V: Look>(
     next: &mut u64,
 ) -> Result<Value, OperationFault>
     requires { KnowsNames (V.view view.now) (N.names names.now) }
-    ensures { Evaluates (V.view view.now) result next.new (eval (rows.scope task (N.names names.now) (V.view view.now)) (tree.view e.now) next.old) }
+    ensures { Evaluates (V.view view.now) result next.old next.new (eval (told.scope task (N.names names.now) (V.view view.now)) (tree.view e.now) next.old) }
 {
     match e {
         Expression::Constant(constant) => constant_value(alloc, view, constant),
@@ -79,7 +77,7 @@ fn attribute_of<N: Locals, V: Look>(
     next: &mut u64,
 ) -> Result<Value, OperationFault>
     requires { KnowsNames (V.view view.now) (N.names names.now) }
-    ensures { Evaluates (V.view view.now) result next.new (eval (rows.scope task (N.names names.now) (V.view view.now)) (tree.Attribute (tree.view base.now) name.now) next.old) }
+    ensures { Evaluates (V.view view.now) result next.old next.new (eval (told.scope task (N.names names.now) (V.view view.now)) (tree.Attribute (tree.view base.now) name.now) next.old) }
 {
     let v = value_of(alloc, base, names, view, task, next)?;
     attribute(alloc, view, &v, name)
@@ -97,7 +95,7 @@ fn subscript<N: Locals, V: Look>(
     next: &mut u64,
 ) -> Result<Value, OperationFault>
     requires { KnowsNames (V.view view.now) (N.names names.now) }
-    ensures { Evaluates (V.view view.now) result next.new (eval (rows.scope task (N.names names.now) (V.view view.now)) (tree.Subscript (tree.view base.now) (tree.view index.now)) next.old) }
+    ensures { Evaluates (V.view view.now) result next.old next.new (eval (told.scope task (N.names names.now) (V.view view.now)) (tree.Subscript (tree.view base.now) (tree.view index.now)) next.old) }
 {
     let v = boxed(alloc, value_of(alloc, base, names, view, task, next)?)?;
     let index = value_of(alloc, index, names, view, task, next)?;
@@ -116,7 +114,7 @@ fn call<N: Locals, V: Look>(
     next: &mut u64,
 ) -> Result<Value, OperationFault>
     requires { KnowsNames (V.view view.now) (N.names names.now) }
-    ensures { Evaluates (V.view view.now) result next.new (eval (rows.scope task (N.names names.now) (V.view view.now)) (tree.Call function (rows.trees_of arguments.now)) next.old) }
+    ensures { Evaluates (V.view view.now) result next.old next.new (eval (told.scope task (N.names names.now) (V.view view.now)) (tree.Call function (rows.trees_of arguments.now)) next.old) }
 {
     let values = values_of(alloc, arguments, names, view, task, next)?;
     called(alloc, view, task, function, &values, next)
@@ -133,13 +131,14 @@ fn values_of<N: Locals, V: Look>(
     next: &mut u64,
 ) -> Result<Vec<Value>, OperationFault>
     requires { KnowsNames (V.view view.now) (N.names names.now) }
-    ensures ends { rows.EndsAs result (λ values. values.items) next.new (eval_row (rows.scope task (N.names names.now) (V.view view.now)) (rows.trees_of arguments.now) next.old) }
+    ensures ends { rows.EndsAs result (λ values. values.items) next.new (eval_row (told.scope task (N.names names.now) (V.view view.now)) (rows.trees_of arguments.now) next.old) }
     ensures known { IfOk result (λ values. KnowsAll (V.view view.now) values.items) }
+    ensures rises { next.old ≤ next.new }
 {
-    let mut values = no_values(alloc);
+    let mut values = Vec::new(alloc);
     for e in arguments {
         let v = value_of(alloc, e, names, view, task, next)?;
-        values = with_value(values, v)?;
+        values.push(v)?;
     }
     Ok(values)
 }
@@ -156,10 +155,10 @@ fn method_call<N: Locals, V: Look>(
     next: &mut u64,
 ) -> Result<Value, OperationFault>
     requires { KnowsNames (V.view view.now) (N.names names.now) }
-    ensures { Evaluates (V.view view.now) result next.new (eval (rows.scope task (N.names names.now) (V.view view.now)) (tree.MethodCall (tree.view base.now) method) next.old) }
+    ensures { Evaluates (V.view view.now) result next.old next.new (eval (told.scope task (N.names names.now) (V.view view.now)) (tree.MethodCall (tree.view base.now) method) next.old) }
 {
     let v = value_of(alloc, base, names, view, task, next)?;
-    method_value(view, task, &v, method, next)
+    Ok(method_value(view, task, &v, method, next)?)
 }
 
 /// An operator with one operand.
@@ -174,7 +173,7 @@ fn unary<N: Locals, V: Look>(
     next: &mut u64,
 ) -> Result<Value, OperationFault>
     requires { KnowsNames (V.view view.now) (N.names names.now) }
-    ensures { Evaluates (V.view view.now) result next.new (eval (rows.scope task (N.names names.now) (V.view view.now)) (tree.Unary op (tree.view operand.now)) next.old) }
+    ensures { Evaluates (V.view view.now) result next.old next.new (eval (told.scope task (N.names names.now) (V.view view.now)) (tree.Unary op (tree.view operand.now)) next.old) }
 {
     let v = value_of(alloc, operand, names, view, task, next)?;
     unary_value(view, op, v)
@@ -193,7 +192,7 @@ fn binary<N: Locals, V: Look>(
     next: &mut u64,
 ) -> Result<Value, OperationFault>
     requires { KnowsNames (V.view view.now) (N.names names.now) }
-    ensures { Evaluates (V.view view.now) result next.new (eval (rows.scope task (N.names names.now) (V.view view.now)) (tree.Infix (operation.Binary op) (tree.view left.now) (tree.view right.now)) next.old) }
+    ensures { Evaluates (V.view view.now) result next.old next.new (eval (told.scope task (N.names names.now) (V.view view.now)) (tree.Infix (operation.Binary op) (tree.view left.now) (tree.view right.now)) next.old) }
 {
     let a = boxed(alloc, value_of(alloc, left, names, view, task, next)?)?;
     let b = value_of(alloc, right, names, view, task, next)?;
@@ -213,7 +212,7 @@ fn choice<N: Locals, V: Look>(
     next: &mut u64,
 ) -> Result<Value, OperationFault>
     requires { KnowsNames (V.view view.now) (N.names names.now) }
-    ensures { Evaluates (V.view view.now) result next.new (eval (rows.scope task (N.names names.now) (V.view view.now)) (tree.Infix (operation.Bool op) (tree.view left.now) (tree.view right.now)) next.old) }
+    ensures { Evaluates (V.view view.now) result next.old next.new (eval (told.scope task (N.names names.now) (V.view view.now)) (tree.Infix (operation.Bool op) (tree.view left.now) (tree.view right.now)) next.old) }
 {
     let v = value_of(alloc, left, names, view, task, next)?;
     match (op, truth(&v)) {
@@ -235,7 +234,7 @@ fn format_string<N: Locals, V: Look>(
     next: &mut u64,
 ) -> Result<Value, OperationFault>
     requires { KnowsNames (V.view view.now) (N.names names.now) }
-    ensures { Evaluates (V.view view.now) result next.new (eval (rows.scope task (N.names names.now) (V.view view.now)) (tree.FormatString (rows.parts_of parts.now)) next.old) }
+    ensures { Evaluates (V.view view.now) result next.old next.new (eval (told.scope task (N.names names.now) (V.view view.now)) (tree.FormatString (rows.parts_of parts.now)) next.old) }
 {
     let text = text_of(alloc, parts, names, view, task, next)?;
     text_value(alloc, &text)
@@ -252,12 +251,13 @@ fn text_of<N: Locals, V: Look>(
     next: &mut u64,
 ) -> Result<Vec<u8>, OperationFault>
     requires { KnowsNames (V.view view.now) (N.names names.now) }
-    ensures { rows.EndsAs result (λ text. text.items) next.new (eval_parts (rows.scope task (N.names names.now) (V.view view.now)) (rows.parts_of parts.now) next.old) }
+    ensures ends { rows.EndsAs result (λ text. text.items) next.new (eval_parts (told.scope task (N.names names.now) (V.view view.now)) (rows.parts_of parts.now) next.old) }
+    ensures rises { next.old ≤ next.new }
 {
-    let mut text = no_bytes(alloc);
+    let mut text = Vec::new(alloc);
     for part in parts {
         let shown = part_text(alloc, part, names, view, task, next)?;
-        text = with_bytes(text, shown.bytes())?;
+        text.extend_from_slice(shown.bytes())?;
     }
     Ok(text)
 }
@@ -273,7 +273,8 @@ fn part_text<N: Locals, V: Look>(
     next: &mut u64,
 ) -> Result<Name, OperationFault>
     requires { KnowsNames (V.view view.now) (N.names names.now) }
-    ensures { Ends result next.new (rows.part_bytes (rows.scope task (N.names names.now) (V.view view.now)) part.now next.old) }
+    ensures ends { Ends result next.new (rows.part_bytes (told.scope task (N.names names.now) (V.view view.now)) part.now next.old) }
+    ensures rises { next.old ≤ next.new }
 {
     match part {
         FormatPart::Text(text) => Ok(Name::of(alloc, text.bytes())?),
@@ -286,8 +287,15 @@ fn part_text<N: Locals, V: Look>(
 
 /// The value of an expression (the language reference, 6), or the fault that it raises, whose text is empty, where a task evaluates it
 /// that has these names and whose next trigger has this number. The view knows every value of the names, and then the value that comes
-/// out. Operands are evaluated from left to right, and the second of `or` and `and` only where it is needed; UnboundLocalError is the
-/// fault of a name that is unassigned, and the other faults are those of the operations. After `OutOfMemory` the number may have risen.
+/// out. Operands are evaluated from left to right, and the second of `or` and `and` only where it is needed.
+///
+/// The fault is the first that is met: UnboundLocalError of a name that is unassigned; of an operator TypeError, ValueError,
+/// ZeroDivisionError or OverflowError (`py_attribute::operated`, `py_operator::unary`); of an attribute AttributeError, ValueError or
+/// OverflowError (`py_attribute::attribute`); of an index TypeError, ValueError or IndexError (`py_attribute::indexed`); of a call TypeError,
+/// ValueError, OverflowError or RuntimeError (`py_function::called`); of a method AttributeError or RuntimeError
+/// (`py_function::method_value`); of a text of over 65,536 bytes, an f-string's among them, OverflowError.
+///
+/// Each trigger that is made takes the next number, which never falls, so that none is given twice; after `OutOfMemory` it may have risen.
 pub fn evaluate<N: Locals, V: Look>(
     alloc: Global,
     e: &Expression,
@@ -297,7 +305,8 @@ pub fn evaluate<N: Locals, V: Look>(
     next: &mut u64,
 ) -> Result<Value, EvalFault>
     requires { KnowsNames (V.view view.now) (N.names names.now) }
-    ensures { rows.Gives (V.view view.now) result next.new (eval (rows.scope task (N.names names.now) (V.view view.now)) (tree.view e.now) next.old) }
+    ensures gives { told.Gives (V.view view.now) result next.new (eval (told.scope task (N.names names.now) (V.view view.now)) (tree.view e.now) next.old) }
+    ensures rises { next.old ≤ next.new }
 {
     match value_of(alloc, e, names, view, task, next) {
         Ok(v) => Ok(v),

@@ -1,10 +1,13 @@
 //! The values of expressions.
 //!
 //! [`evaluate`] gives the value of an expression, or the fault that it raises, where a task evaluates it that sees the simulation through
-//! `py_attribute::Look`, and whose names are a `py_attribute::Locals`. The triggers that are made on the way are numbered in order.
+//! `py_attribute::Look`, and whose names are a `py_attribute::Locals`. The triggers that are made on the way are numbered in order, upwards
+//! ([`numbers_never_fall`]).
 #![tactic(auto)]
 
 mod evaluation;
+mod laws;
 mod operations;
 
 pub use evaluation::{EvalFault, evaluate};
+pub use laws::numbers_never_fall;

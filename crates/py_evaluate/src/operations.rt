@@ -1,5 +1,4 @@
 //! Expressions without parts, and what is done with the values of parts.
-ghost use Rattle.std.specs.Prelude.{◌≡◌, ◌++◌, ◌∷◌, [], Ok, IfOk};
 ghost use Rattle.py_operator.specs.Operation as operator;
 ghost use Rattle.py_attribute.specs.Attribute as attribute;
 ghost use Rattle.py_attribute.specs.Gives.{Gives};
@@ -8,59 +7,12 @@ ghost use Rattle.py_attribute.specs.Knows.{Knows, KnowsNames};
 ghost use Rattle.py_attribute.specs.Outcome.{IfKnown};
 ghost use Rattle.py_evaluate.specs.Eval as meaning;
 
-use port_io::{Name, NoMemory};
+use port_io::Name;
 use py_attribute::{Locals, Look, OperationFault, indexed, operated, text_value};
 use py_operator::unary;
 use py_syntax::{BinOp, Const, FaultKind, UnOp};
 use py_value::{Value, copy};
 use std::alloc::Global;
-
-/// What an operation without memory answers.
-fn answered(answer: Result<Value, FaultKind>) -> Result<Value, OperationFault>
-    ensures { Gives answer result }
-{
-    match answer {
-        Ok(v) => Ok(v),
-        Err(kind) => Err(OperationFault::Raised(kind)),
-    }
-}
-
-/// A value on the heap. Only want of memory is an error.
-pub(crate) fn boxed(alloc: Global, v: Value) -> Result<Box<Value>, NoMemory>
-    ensures { IfOk result (λ made. made.value ≡ v) }
-{
-    Ok(Box::new(alloc, v)?)
-}
-
-/// No value. It takes no memory.
-pub(crate) fn no_values(alloc: Global) -> Vec<Value>
-    ensures { result.items ≡ [] }
-{
-    Vec::new(alloc)
-}
-
-/// No byte. It takes no memory.
-pub(crate) fn no_bytes(alloc: Global) -> Vec<u8>
-    ensures { result.items ≡ [] }
-{
-    Vec::new(alloc)
-}
-
-/// A value more. Only want of memory is an error.
-pub(crate) fn with_value(mut values: Vec<Value>, v: Value) -> Result<Vec<Value>, NoMemory>
-    ensures { IfOk result (λ more. more.items ≡ values.items ++ v ∷ []) }
-{
-    values.push(v)?;
-    Ok(values)
-}
-
-/// More bytes at the end. Only want of memory is an error.
-pub(crate) fn with_bytes(mut text: Vec<u8>, more: &[u8]) -> Result<Vec<u8>, NoMemory>
-    ensures { IfOk result (λ longer. longer.items ≡ text.items ++ more.now) }
-{
-    text.extend_from_slice(more)?;
-    Ok(text)
-}
 
 /// A constant. A text of over 65,536 bytes is an OverflowError.
 pub(crate) fn constant_value<V: Look>(
@@ -97,7 +49,7 @@ pub(crate) fn name_value<N: Locals, V: Look>(
     }
 }
 
-/// `v[index]`
+/// `v[index]`. The faults are those of `indexed`.
 pub(crate) fn word_value<V: Look>(
     view: &V,
     v: &Value,
@@ -107,10 +59,10 @@ pub(crate) fn word_value<V: Look>(
     ensures gives { Gives (attribute.indexed v.now index.now) result }
     ensures known { IfKnown (V.view view.now) result }
 {
-    answered(indexed(v, index))
+    Ok(indexed(v, index)?)
 }
 
-/// The value of an operator with one operand.
+/// The value of an operator with one operand. The faults are those of `unary`.
 pub(crate) fn unary_value<V: Look>(view: &V, op: UnOp, v: Value) -> Result<Value, OperationFault>
     ensures gives { Gives (operator.unary_value op v) result }
     ensures known { IfKnown (V.view view.now) result }
@@ -121,7 +73,7 @@ pub(crate) fn unary_value<V: Look>(view: &V, op: UnOp, v: Value) -> Result<Value
     }
 }
 
-/// The value of an operator with two operands.
+/// The value of an operator with two operands. The faults are those of `operated`.
 pub(crate) fn binary_value<V: Look>(
     view: &V,
     op: BinOp,
@@ -133,5 +85,5 @@ pub(crate) fn binary_value<V: Look>(
     ensures gives { Gives (look.operated (V.view view.now) op a.now b.now) result }
     ensures known { IfKnown (V.view view.now) result }
 {
-    answered(operated(view, op, a, b))
+    Ok(operated(view, op, a, b)?)
 }

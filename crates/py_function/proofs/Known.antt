@@ -1,29 +1,31 @@
--- The view knows what calls give, where it knows their arguments.
-use Rattle.std.proofs.Common.{◌≡◌, ℕ, zero, suc, Bool, true, false, List, [], ◌∷◌, Ok, Err, Some, None, nat_lt, if◌then◌else◌, ◌^◌, ◌<◌, ◌≤◌, length, get_or, refl, subst, sym, arith}
-use Rattle.std.specs.Prelude.{Option, Result, slice_get, ◌*◌, ◌%◌, ◌/◌, ◌==◌, pos}
+-- The view knows what calls give, where it knows their arguments, and the triggers in it are sound.
+use Rattle.std.proofs.Common.{◌≡◌, ℕ, zero, suc, Bool, true, false, List, [], ◌∷◌, Ok, Err, Some, None, nat_lt, nat_le, if◌then◌else◌, ◌<◌, ◌≤◌, length, get_or, refl, subst, sym, arith}
+use Rattle.std.specs.Prelude.{Option, IfOk, IsTrue, ℤ, negsuc, slice_get, ◌*◌, ◌%◌, ◌/◌, ◌==◌, pos}
+use Rattle.std.specs.List.{list_all}
 use Rattle.gpi.specs.declared.types.SigId.{SigId}
 use Rattle.py_syntax.specs.declared.expression.Function.{Function}
 use Rattle.py_syntax.specs.declared.expression.Function.TheVariants as function
 use Rattle.py_syntax.specs.declared.expression.Method.{Method}
 use Rattle.py_syntax.specs.declared.expression.Method.TheVariants as method
-use Rattle.py_syntax.specs.declared.fault_kind.FaultKind.TheVariants.{RuntimeError, TypeError, ValueError}
+use Rattle.py_syntax.specs.declared.fault_kind.FaultKind.TheVariants.{OverflowError, RuntimeError, TypeError, ValueError}
 use Rattle.py_integer.specs.Integer.{held}
 use Rattle.py_value.specs.Answer.{Answer, and_then, answer_map}
 use Rattle.py_value.specs.Shown.{shown}
 use Rattle.py_value.specs.Truth.{truth}
 use Rattle.py_value.specs.Trigger as trigger
-use Rattle.py_value.specs.Trigger.{Trig, Form, Trigs, is_small}
+use Rattle.py_value.specs.Trigger.{Trig, Form, Trigs, is_small, AreSteps, IsSound, IsSoundForm, AreSound}
 use Rattle.py_value.specs.declared.trigger.TaskNo.{TaskNo}
 use Rattle.py_value.specs.declared.value.Value.{Value}
 use Rattle.py_value.specs.declared.value.Value.TheVariants as value
 use Rattle.py_operator.specs.Number.{one_number, whole}
 use Rattle.py_attribute.specs.Attribute.{signal_of, str_value}
-use Rattle.py_time.specs.Times.{time_in, in_unit, steps_of, half_steps}
+use Rattle.py_time.specs.Times.{in_unit, steps_of, half_steps}
+use Rattle.py_time.proofs.Sound.{steps_sound}
 use Rattle.py_attribute.specs.Look.{View, len, one_bit, width}
 use Rattle.py_attribute.specs.Knows.{Knows, KnowsAll, KnowsOption, KnowsSignal, KnowsForm, KnowsTrig, KnowsTrigs}
 use Rattle.py_attribute.specs.Outcome.{Outcome, AnswerKnown, gives, refuses, bind, after}
 use Rattle.py_attribute.proofs.Plain.{either, chained, whole_plain, text_plain}
-use Rattle.py_function.specs.Making.{trigger_limit, new_trigger, new_tree, new_value, trigger_value, as_trigger, as_triggers, are_waitable, parts, several}
+use Rattle.py_function.specs.Making.{trigger_limit, new_trigger, new_tree, new_value, trigger_value, as_trigger, as_triggers, is_waitable, parts, several}
 use Rattle.py_function.specs.Functions as meaning
 
 -- ---- what is true of the value of an answer
@@ -55,6 +57,11 @@ anything (Err kind) = tt
 choice : {A : Type 0} (P : A → Type 0) (t : Bool) (a b : Answer A) → Holds P a → Holds P b → Holds P (if t then a else b)
 choice P true a b h k = h
 choice P false a b h k = k
+
+held_by : {A : Type 0} (P : A → Type 0) (a : Answer A) → IfOk a P → Holds P a
+unfolding Holds
+held_by P (Ok x) h = h
+held_by P (Err kind) h = tt
 
 to_known : (view : View) (a : Answer Value) → Holds (Knows view) a → AnswerKnown view a
 unfolding Holds
@@ -103,106 +110,123 @@ bit_known view v h =
 
 -- ---- new triggers
 
-made_known : (view : View) (form : Form) (task : TaskNo) (k : ℕ) → KnowsForm view form → Holds (KnowsTrig view) (new_trigger task form k).answer
+abbrev TrigKnown : View → Trig → Type 0
+TrigKnown view t = KnowsTrig view t × IsSound t
+
+abbrev FormKnown : View → Form → Type 0
+FormKnown view form = KnowsForm view form × IsSoundForm form
+
+abbrev TrigsKnown : View → Trigs → Type 0
+TrigsKnown view ts = KnowsTrigs view ts × AreSound ts
+
+made_known : (view : View) (form : Form) (task : TaskNo) (k : ℕ) → FormKnown view form → Holds (TrigKnown view) (new_trigger task form k).answer
 unfolding Holds
 made_known view form task k h = at (nat_lt k trigger_limit)
   where
-    at : (t : Bool) → Holds (KnowsTrig view) (if t then gives (trigger.Made (record { task = task; number = k }) form) (suc k) else refuses RuntimeError k).answer
+    at : (t : Bool) → Holds (TrigKnown view) (if t then gives (trigger.Made (record { task = task; number = k }) form) (suc k) else refuses RuntimeError k).answer
     at true = h
     at false = tt
 
-tree_known : (view : View) (form : Form) (task : TaskNo) (k : ℕ) → KnowsForm view form → Holds (KnowsTrig view) (new_tree task form k).answer
+tree_known : (view : View) (form : Form) (task : TaskNo) (k : ℕ) → (IsTrue (is_small form) → FormKnown view form) → Holds (TrigKnown view) (new_tree task form k).answer
 unfolding Holds
-tree_known view form task k h = at (is_small form)
+tree_known view form task k h = at (is_small form) h
   where
-    at : (t : Bool) → Holds (KnowsTrig view) (if t then new_trigger task form k else refuses ValueError k).answer
-    at true = made_known view form task k h
-    at false = tt
+    at : (t : Bool) → (IsTrue t → FormKnown view form) → Holds (TrigKnown view) (if t then new_trigger task form k else refuses ValueError k).answer
+    at true h = made_known view form task k (h refl)
+    at false h = tt
 
-value_known : (view : View) (o : Outcome Trig) → Holds (KnowsTrig view) o.answer → Holds (Knows view) (trigger_value o).answer
+value_known : (view : View) (o : Outcome Trig) → Holds (TrigKnown view) o.answer → Holds (Knows view) (trigger_value o).answer
 unfolding Holds
-value_known view o h = after_holds (KnowsTrig view) (Knows view) o.answer o.next (λ t k. gives (value.Trigger t) k) h (λ t k p. shown_known t k p)
+value_known view o h = after_holds (TrigKnown view) (Knows view) o.answer o.next (λ t k. gives (value.Trigger t) k) h (λ t k p. shown_known t k p)
   where
-    shown_known : (t : Trig) (k : ℕ) → KnowsTrig view t → Holds (Knows view) (gives {A = Value} (value.Trigger t) k).answer
+    shown_known : (t : Trig) (k : ℕ) → TrigKnown view t → Holds (Knows view) (gives {A = Value} (value.Trigger t) k).answer
     shown_known t k p = p
 
-new_known : (view : View) (task : TaskNo) (form : Answer Form) (k : ℕ) → Holds (KnowsForm view) form → Holds (Knows view) (new_value task form k).answer
+new_known : (view : View) (task : TaskNo) (form : Answer Form) (k : ℕ) → Holds (FormKnown view) form → Holds (Knows view) (new_value task form k).answer
 unfolding Holds
 new_known view task (Ok form) k h = value_known view (new_trigger task form k) (made_known view form task k h)
 new_known view task (Err kind) k h = tt
 
-one_known : (view : View) (task : TaskNo) (v : Value) (k : ℕ) → Knows view v → Holds (KnowsTrig view) (as_trigger task v k).answer
+one_known : (view : View) (task : TaskNo) (v : Value) (k : ℕ) → Knows view v → Holds (TrigKnown view) (as_trigger task v k).answer
 unfolding Holds
 one_known view task (value.Trigger t) k h = h
-one_known view task (value.Task t) k h = made_known view (trigger.Join t) task k h
+one_known view task (value.Task t) k h = made_known view (trigger.Join t) task k (h, tt)
 one_known view task _ k h = tt
 
-all_known : (view : View) (task : TaskNo) (vs : List Value) (k : ℕ) → KnowsAll view vs → Holds (KnowsTrigs view) (as_triggers task vs k).answer
+all_known : (view : View) (task : TaskNo) (vs : List Value) (k : ℕ) → KnowsAll view vs → Holds (TrigsKnown view) (as_triggers task vs k).answer
 unfolding Holds
-all_known view task [] k h = tt
+all_known view task [] k h = (tt, tt)
 all_known view task (v ∷ vs) k h =
-    after_holds (KnowsTrig view) (KnowsTrigs view) (as_trigger task v k).answer (as_trigger task v k).next
+    after_holds (TrigKnown view) (TrigsKnown view) (as_trigger task v k).answer (as_trigger task v k).next
     (λ t j. bind (as_triggers task vs j) (λ ts i. gives (trigger.Then t ts) i)) (one_known view task v k h.0)
-    (λ t j p. after_holds (KnowsTrigs view) (KnowsTrigs view) (as_triggers task vs j).answer (as_triggers task vs j).next (λ ts i. gives (trigger.Then t ts) i)
-    (all_known view task vs j h.1) (λ ts i q. (p, q)))
+    (λ t j p. after_holds (TrigsKnown view) (TrigsKnown view) (as_triggers task vs j).answer (as_triggers task vs j).next (λ ts i. gives (trigger.Then t ts) i)
+    (all_known view task vs j h.1) (λ ts i q. ((p.0, q.0), (p.1, q.1))))
 
-parts_known : (view : View) (task : TaskNo) (vs : List Value) (k : ℕ) → KnowsAll view vs → Holds (KnowsTrigs view) (parts task vs k).answer
+parts_known : (view : View) (task : TaskNo) (vs : List Value) (k : ℕ) → KnowsAll view vs → Holds (TrigsKnown view) (parts task vs k).answer
 unfolding Holds
-parts_known view task vs k h = at (are_waitable vs)
+parts_known view task vs k h = at (list_all is_waitable vs)
   where
-    at : (t : Bool) → Holds (KnowsTrigs view) (if t then as_triggers task vs k else refuses TypeError k).answer
+    at : (t : Bool) → Holds (TrigsKnown view) (if t then as_triggers task vs k else refuses TypeError k).answer
     at true = all_known view task vs k h
     at false = tt
 
-several_known : (view : View) (task : TaskNo) (form : Trigs → Form) (vs : List Value) (k : ℕ) → KnowsAll view vs → ((ts : Trigs) → KnowsTrigs view ts → KnowsForm view (form ts))
+several_known : (view : View) (task : TaskNo) (form : Trigs → Form) (vs : List Value) (k : ℕ) → KnowsAll view vs → ((ts : Trigs) → TrigsKnown view ts → IsTrue (is_small (form ts)) → FormKnown view (form ts))
     → AnswerKnown view (several task form vs k).answer
 several_known view task form vs k h f =
     to_known view (several task form vs k).answer
     (value_known view (bind (parts task vs k) (λ ts j. new_tree task (form ts) j))
-    (after_holds (KnowsTrigs view) (KnowsTrig view) (parts task vs k).answer (parts task vs k).next (λ ts j. new_tree task (form ts) j) (parts_known view task vs k h)
+    (after_holds (TrigsKnown view) (TrigKnown view) (parts task vs k).answer (parts task vs k).next (λ ts j. new_tree task (form ts) j) (parts_known view task vs k h)
     (λ ts j p. tree_known view (form ts) task j (f ts p))))
 
 -- ---- calls
 
-form_known : (view : View) (task : TaskNo) (form : Answer Form) (k : ℕ) → Holds (KnowsForm view) form → AnswerKnown view (new_value task form k).answer
+form_known : (view : View) (task : TaskNo) (form : Answer Form) (k : ℕ) → Holds (FormKnown view) form → AnswerKnown view (new_value task form k).answer
 form_known view task form k h = to_known view (new_value task form k).answer (new_known view task form k h)
 
-edge_known : (view : View) (vs : List Value) (form : SigId → Form) → KnowsAll view vs → ((s : SigId) → SignalKnown view s → KnowsForm view (form s))
-    → Holds (KnowsForm view) (meaning.one_bit_edge form view vs)
+edge_known : (view : View) (vs : List Value) (form : SigId → Form) → KnowsAll view vs → ((s : SigId) → SignalKnown view s → FormKnown view (form s))
+    → Holds (FormKnown view) (meaning.one_bit_edge form view vs)
 edge_known view vs form h f =
-    chain (Knows view) (KnowsForm view) (meaning.argument vs 0) (λ v. answer_map form (one_bit view v)) (argument_known view vs 0 h)
-    (λ v p. mapped (SignalKnown view) (KnowsForm view) (one_bit view v) form (bit_known view v p) f)
+    chain (Knows view) (FormKnown view) (meaning.argument vs 0) (λ v. answer_map form (one_bit view v)) (argument_known view vs 0 h)
+    (λ v p. mapped (SignalKnown view) (FormKnown view) (one_bit view v) form (bit_known view v p) f)
 
-change_known : (view : View) (vs : List Value) → KnowsAll view vs → Holds (KnowsForm view) (meaning.change vs)
+change_known : (view : View) (vs : List Value) → KnowsAll view vs → Holds (FormKnown view) (meaning.change vs)
 unfolding SignalKnown
 change_known view vs h =
-    chain (Knows view) (KnowsForm view) (meaning.argument vs 0) (λ v. answer_map trigger.Change (signal_of v)) (argument_known view vs 0 h)
-    (λ v p. mapped (SignalKnown view) (KnowsForm view) (signal_of v) trigger.Change (signal_known view v p) (λ s q. q))
+    chain (Knows view) (FormKnown view) (meaning.argument vs 0) (λ v. answer_map trigger.Change (signal_of v)) (argument_known view vs 0 h)
+    (λ v p. mapped (SignalKnown view) (FormKnown view) (signal_of v) trigger.Change (signal_known view v p) (λ s q. (q, tt)))
 
-timer_known : (view : View) (vs : List Value) → Holds (KnowsForm view) (meaning.timer view vs)
+timer_known : (view : View) (vs : List Value) → Holds (FormKnown view) (meaning.timer view vs)
 timer_known view vs =
-    chain (λ v. Unit {0}) (KnowsForm view) (meaning.argument vs 0) (λ time. answer_map trigger.Time (steps_of view.step_fs time (meaning.unit_argument view vs 1))) (anything (meaning.argument vs 0))
-    (λ time p. mapped (λ n. Unit {0}) (KnowsForm view) (steps_of view.step_fs time (meaning.unit_argument view vs 1)) trigger.Time (anything (steps_of view.step_fs time (meaning.unit_argument view vs 1))) (λ n q. tt))
+    chain (λ v. Unit {0}) (FormKnown view) (meaning.argument vs 0) (λ time. answer_map trigger.Time (steps_of view.step_fs time (meaning.unit_argument view vs 1))) (anything (meaning.argument vs 0))
+    (λ time p. mapped AreSteps (FormKnown view) (steps_of view.step_fs time (meaning.unit_argument view vs 1)) trigger.Time
+    (held_by AreSteps (steps_of view.step_fs time (meaning.unit_argument view vs 1)) (steps_sound view.step_fs time (meaning.unit_argument view vs 1))) (λ n q. (tt, q)))
 
-cycles_known : (view : View) (vs : List Value) → KnowsAll view vs → Holds (KnowsForm view) (meaning.cycles view vs)
+-- a count that isn't refused is at least 1
+some_cycles : (z : ℤ) → Holds (λ n. 1 ≤ n) (meaning.cycle_count z)
+unfolding Holds
+some_cycles (pos zero) = tt
+some_cycles (pos (suc n)) = choice (λ n. 1 ≤ n) (nat_le (suc n) meaning.cycle_limit) (Ok (suc n)) (Err OverflowError) (omega arith) tt
+some_cycles (negsuc n) = tt
+
+cycles_known : (view : View) (vs : List Value) → KnowsAll view vs → Holds (FormKnown view) (meaning.cycles view vs)
 unfolding SignalKnown
 cycles_known view vs h =
     let rising = meaning.truth_or_true (slice_get vs 2) in
-    chain (Knows view) (KnowsForm view) (meaning.argument vs 0) (λ sig. and_then (meaning.argument vs 1) (λ count.
+    chain (Knows view) (FormKnown view) (meaning.argument vs 0) (λ sig. and_then (meaning.argument vs 1) (λ count.
     and_then (one_bit view sig) (λ s. and_then (one_number count) (λ z. answer_map (λ n. trigger.Cycles s n rising) (meaning.cycle_count z))))) (argument_known view vs 0 h)
-    (λ sig p. chain (λ v. Unit {0}) (KnowsForm view) (meaning.argument vs 1) (λ count.
+    (λ sig p. chain (λ v. Unit {0}) (FormKnown view) (meaning.argument vs 1) (λ count.
     and_then (one_bit view sig) (λ s. and_then (one_number count) (λ z. answer_map (λ n. trigger.Cycles s n rising) (meaning.cycle_count z)))) (anything (meaning.argument vs 1))
-    (λ count u. chain (SignalKnown view) (KnowsForm view) (one_bit view sig) (λ s. and_then (one_number count) (λ z. answer_map (λ n. trigger.Cycles s n rising) (meaning.cycle_count z)))
+    (λ count u. chain (SignalKnown view) (FormKnown view) (one_bit view sig) (λ s. and_then (one_number count) (λ z. answer_map (λ n. trigger.Cycles s n rising) (meaning.cycle_count z)))
     (bit_known view sig p)
-    (λ s q. chain (λ z. Unit {0}) (KnowsForm view) (one_number count) (λ z. answer_map (λ n. trigger.Cycles s n rising) (meaning.cycle_count z)) (anything (one_number count))
-    (λ z w. mapped (λ n. Unit {0}) (KnowsForm view) (meaning.cycle_count z) (λ n. trigger.Cycles s n rising) (anything (meaning.cycle_count z)) (λ n x. q)))))
+    (λ s q. chain (λ z. Unit {0}) (FormKnown view) (one_number count) (λ z. answer_map (λ n. trigger.Cycles s n rising) (meaning.cycle_count z)) (anything (one_number count))
+    (λ z w. mapped (λ n. 1 ≤ n) (FormKnown view) (meaning.cycle_count z) (λ n. trigger.Cycles s n rising) (some_cycles z) (λ n x. (q, x))))))
 
-join_known : (view : View) (vs : List Value) → KnowsAll view vs → Holds (KnowsForm view) (meaning.join vs)
+join_known : (view : View) (vs : List Value) → KnowsAll view vs → Holds (FormKnown view) (meaning.join vs)
 unfolding Holds
-join_known view vs h = chain (Knows view) (KnowsForm view) (meaning.argument vs 0) meaning.join_of (argument_known view vs 0 h) task
+join_known view vs h = chain (Knows view) (FormKnown view) (meaning.argument vs 0) meaning.join_of (argument_known view vs 0 h) task
   where
-    task : (v : Value) → Knows view v → Holds (KnowsForm view) (meaning.join_of v)
-    task (value.Task t) p = p
+    task : (v : Value) → Knows view v → Holds (FormKnown view) (meaning.join_of v)
+    task (value.Task t) p = (p, tt)
     task _ p = tt
 
 clock_known : (view : View) (vs : List Value) → KnowsAll view vs → Holds (Knows view) (meaning.clock view vs)
@@ -231,24 +255,24 @@ called_known task view function.Len vs k h = chained view (meaning.argument vs 0
 called_known task view function.GetSimTime vs k h = time_known view vs
 called_known task view function.Timer vs k h = form_known view task (meaning.timer view vs) k (timer_known view vs)
 called_known task view function.Edge vs k h = form_known view task (meaning.change vs) k (change_known view vs h)
-called_known task view function.RisingEdge vs k h = form_known view task (meaning.one_bit_edge trigger.Rise view vs) k (edge_known view vs trigger.Rise h (λ s q. q))
-called_known task view function.FallingEdge vs k h = form_known view task (meaning.one_bit_edge trigger.Fall view vs) k (edge_known view vs trigger.Fall h (λ s q. q))
-called_known task view function.ReadWrite vs k h = form_known view task (Ok trigger.ReadWrite) k tt
-called_known task view function.ReadOnly vs k h = form_known view task (Ok trigger.ReadOnly) k tt
-called_known task view function.NextTimeStep vs k h = form_known view task (Ok trigger.NextStep) k tt
+called_known task view function.RisingEdge vs k h = form_known view task (meaning.one_bit_edge trigger.Rise view vs) k (edge_known view vs trigger.Rise h (λ s q. (q, tt)))
+called_known task view function.FallingEdge vs k h = form_known view task (meaning.one_bit_edge trigger.Fall view vs) k (edge_known view vs trigger.Fall h (λ s q. (q, tt)))
+called_known task view function.ReadWrite vs k h = form_known view task (Ok trigger.ReadWrite) k (tt, tt)
+called_known task view function.ReadOnly vs k h = form_known view task (Ok trigger.ReadOnly) k (tt, tt)
+called_known task view function.NextTimeStep vs k h = form_known view task (Ok trigger.NextStep) k (tt, tt)
 called_known task view function.ClockCycles vs k h = form_known view task (meaning.cycles view vs) k (cycles_known view vs h)
 called_known task view function.Join vs k h = form_known view task (meaning.join vs) k (join_known view vs h)
-called_known task view function.First vs k h = several_known view task trigger.First vs k h (λ ts p. p)
-called_known task view function.Combine vs k h = several_known view task trigger.Combine vs k h (λ ts p. p)
+called_known task view function.First vs k h = several_known view task trigger.First vs k h (λ ts p s. (p.0, (s, p.1)))
+called_known task view function.Combine vs k h = several_known view task trigger.Combine vs k h (λ ts p s. (p.0, (s, p.1)))
 called_known task view function.Clock vs k h = to_known view (meaning.clock view vs) (clock_known view vs h)
 
 -- ---- methods
 
-waits : (view : View) (v : Value) (m : Method) → Knows view v → Holds (KnowsForm view) (meaning.method_form v m)
+waits : (view : View) (v : Value) (m : Method) → Knows view v → Holds (FormKnown view) (meaning.method_form v m)
 unfolding Holds
-waits view (value.Event e) method.Wait h = h
-waits view (value.Lock l) method.Acquire h = h
-waits view (value.Task t) method.Join h = h
+waits view (value.Event e) method.Wait h = (h, tt)
+waits view (value.Lock l) method.Acquire h = (h, tt)
+waits view (value.Task t) method.Join h = (h, tt)
 waits view _ _ h = tt
 
 set_known : (view : View) (v : Value) → AnswerKnown view (meaning.set_state view v)

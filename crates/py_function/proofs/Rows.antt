@@ -1,18 +1,16 @@
 -- Triggers one after the other.
-use Rattle.std.proofs.Common.{◌≡◌, ℕ, suc, ◌+◌, ◌<◌, ◌≤◌, Bool, true, false, List, [], ◌∷◌, ◌++◌, length, drop, get_or, Ok, Err, refl, ap, sym, subst, ◌∙◌, arith, add-one}
-use Rattle.std.specs.Prelude.{◌&&◌, Result}
+use Rattle.std.proofs.Common.{◌≡◌, ℕ, suc, ◌+◌, ◌<◌, ◌≤◌, List, [], ◌∷◌, ◌++◌, length, drop, get_or, Ok, Err, refl, ap, sym, ◌∙◌, add-one}
 use Rattle.std.proofs.Math.Seq.{drop-cons}
 use Rattle.std.proofs.lemmas.List.{drop_all}
 use Rattle.py_syntax.specs.declared.fault_kind.FaultKind.{FaultKind}
 use Rattle.py_value.specs.Answer.{Answer}
 use Rattle.py_value.specs.Trigger.{Trig, Trigs, NoTrig, Then, row}
 use Rattle.py_value.specs.declared.trigger.TaskNo.{TaskNo}
-use Rattle.py_value.specs.declared.trigger.Trigs.{Trigs as Made}
 use Rattle.py_value.specs.declared.value.Value.{Value}
 use Rattle.py_attribute.specs.declared.fault.OperationFault.{OperationFault}
 use Rattle.py_attribute.specs.declared.fault.OperationFault.TheVariants as faults
 use Rattle.py_attribute.specs.Outcome.{Outcome, Ends, gives, refuses, bind, after}
-use Rattle.py_function.specs.Making.{as_trigger, as_triggers, are_waitable, is_waitable}
+use Rattle.py_function.specs.Making.{as_trigger, as_triggers}
 use Rattle.py_function.specs.Rows.{EndsRow}
 
 -- triggers in front of others
@@ -89,25 +87,3 @@ pub triggers_end : (task : TaskNo) (ts : List Trig) (vs : List Value) (n k : ℕ
     → length vs ≤ n → behind ts (as_triggers task (drop n vs) k) ≡ whole → whole ≡ gives (row ts) k
 triggers_end task ts vs n k whole h w =
     sym w ∙ (ap (λ (l : List Value). behind ts (as_triggers task l k)) (drop_all n vs h) ∙ behind_none task ts k)
-
--- ---- whether all values are triggers or tasks
-
-waitable_at : (vs : List Value) (i : ℕ) (v : Value) → i < length vs → v ≡ get_or vs i v → are_waitable (drop i vs) ≡ is_waitable v && are_waitable (drop (i + 1) vs)
-waitable_at vs i v h e =
-    rw add-one (ap are_waitable (drop-cons vs i v h) ∙ ap (λ (w : Value). is_waitable w && are_waitable (drop (suc i) vs)) (sym e))
-
-waitable_by : (vs : List Value) (i : ℕ) (v : Value) (r t : Bool) → i < length vs → v ≡ get_or vs i v → are_waitable (drop i vs) ≡ are_waitable vs → r ≡ is_waitable v → r ≡ t
-    → (t && are_waitable (drop (i + 1) vs)) ≡ are_waitable vs
-waitable_by vs i v r t h e w p q =
-    ap (λ (b : Bool). b && are_waitable (drop (i + 1) vs)) (sym q ∙ p) ∙ (sym (waitable_at vs i v h e) ∙ w)
-
-pub waitable_step : (vs : List Value) (i : ℕ) (v : Value) (r : Bool) → i < length vs → v ≡ get_or vs i v → are_waitable (drop i vs) ≡ are_waitable vs → r ≡ is_waitable v → r ≡ true
-    → are_waitable (drop (i + 1) vs) ≡ are_waitable vs
-waitable_step vs i v r h e w p q = waitable_by vs i v r true h e w p q
-
-pub waitable_not : (vs : List Value) (i : ℕ) (v : Value) (r : Bool) → i < length vs → v ≡ get_or vs i v → are_waitable (drop i vs) ≡ are_waitable vs → r ≡ is_waitable v → r ≡ false
-    → false ≡ are_waitable vs
-waitable_not vs i v r h e w p q = waitable_by vs i v r false h e w p q
-
-pub waitable_end : (vs : List Value) (i : ℕ) → length vs ≤ i → are_waitable (drop i vs) ≡ are_waitable vs → true ≡ are_waitable vs
-waitable_end vs i h w = sym (ap are_waitable (drop_all i vs h)) ∙ w

@@ -1,5 +1,5 @@
 -- What functions and methods give (the library reference, "Built-in Functions"; cocotb 1.8, "Triggers", `Clock` and `get_sim_time`).
-use Rattle.std.specs.Prelude.{ℕ, zero, suc, ◌-◌, ◌^◌, nat_lt, Bool, true, false, List, Option, Some, None, Ok, Err, if◌then◌else◌, slice_get, slice_index_or, ℤ, pos, negsuc}
+use Rattle.std.specs.Prelude.{ℕ, zero, suc, ◌-◌, ◌^◌, nat_le, Bool, true, false, List, Option, Some, None, Ok, Err, if◌then◌else◌, slice_get, slice_index_or, ℤ, pos, negsuc}
 use Rattle.gpi.specs.declared.types.SigId.{SigId}
 use Rattle.py_syntax.specs.declared.expression.Function.{Function}
 use Rattle.py_syntax.specs.declared.expression.Function.TheVariants as function
@@ -64,10 +64,14 @@ change vs = and_then (argument vs 0) (λ v. answer_map trigger.Change (signal_of
 abbrev pub one_bit_edge : (SigId → Form) → View → List Value → Answer Form
 one_bit_edge form view vs = and_then (argument vs 0) (λ v. answer_map form (one_bit view v))
 
--- 1 to 2^64 - 1
+-- the most cycles that are counted
+abbrev pub cycle_limit : ℕ
+cycle_limit = 2 ^ 64 - 1
+
+-- from 1 to the limit
 abbrev pub cycle_count : ℤ → Answer ℕ
 cycle_count (pos zero) = Err ValueError
-cycle_count (pos (suc n)) = if nat_lt n (2 ^ 64 - 1) then Ok (suc n) else Err OverflowError
+cycle_count (pos (suc n)) = if nat_le (suc n) cycle_limit then Ok (suc n) else Err OverflowError
 cycle_count (negsuc n) = Err ValueError
 
 -- the kinds of both come before the number's faults

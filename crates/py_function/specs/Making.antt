@@ -1,12 +1,13 @@
 -- Triggers that an evaluation makes, with their numbers (cocotb 1.8, "Triggers").
-use Rattle.std.specs.Prelude.{ℕ, suc, ◌^◌, ◌&&◌, nat_lt, Bool, true, false, List, [], ◌∷◌, Ok, Err, if◌then◌else◌}
+use Rattle.std.specs.Prelude.{ℕ, suc, ◌^◌, nat_lt, Bool, true, false, List, [], ◌∷◌, Ok, Err, if◌then◌else◌}
+use Rattle.std.specs.List.{list_all}
 use Rattle.py_syntax.specs.declared.fault_kind.FaultKind.TheVariants.{RuntimeError, TypeError, ValueError}
 use Rattle.py_value.specs.Answer.{Answer}
 use Rattle.py_value.specs.Trigger.{Trig, Made, Form, Trigs, NoTrig, Then, Join, is_small}
 use Rattle.py_value.specs.declared.trigger.TaskNo.{TaskNo}
 use Rattle.py_value.specs.declared.value.Value.{Value}
 use Rattle.py_value.specs.declared.value.Value.TheVariants as value
-use Rattle.py_attribute.specs.Outcome.{Outcome, gives, refuses, bind, after}
+use Rattle.py_attribute.specs.Outcome.{Outcome, gives, refuses, bind}
 
 -- how many triggers a task may make
 abbrev pub trigger_limit : ℕ
@@ -34,10 +35,6 @@ is_waitable (value.Trigger t) = true
 is_waitable (value.Task t) = true
 is_waitable _ = false
 
-abbrev pub are_waitable : List Value → Bool
-are_waitable [] = true
-are_waitable (v ∷ vs) = is_waitable v && are_waitable vs
-
 -- the trigger that a value is; a task is its join
 abbrev pub as_trigger : TaskNo → Value → ℕ → Outcome Trig
 as_trigger task (value.Trigger t) k = gives t k
@@ -51,7 +48,7 @@ as_triggers task (v ∷ vs) k = bind (as_trigger task v k) (λ t j. bind (as_tri
 
 -- their kinds are looked at first
 abbrev pub parts : TaskNo → List Value → ℕ → Outcome Trigs
-parts task vs k = if are_waitable vs then as_triggers task vs k else refuses TypeError k
+parts task vs k = if list_all is_waitable vs then as_triggers task vs k else refuses TypeError k
 
 -- a trigger that holds those that values are
 abbrev pub several : TaskNo → (Trigs → Form) → List Value → ℕ → Outcome Value

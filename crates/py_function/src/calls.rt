@@ -1,5 +1,5 @@
 //! Calls of functions.
-ghost use Rattle.std.specs.Prelude.{◌≡◌, ℕ, Ok};
+ghost use Rattle.std.specs.Prelude.{◌≡◌, ◌≤◌, Ok};
 ghost use Rattle.py_value.specs.Answer.{answer_map, and_then};
 ghost use Rattle.py_value.specs.Truth.{truth};
 ghost use Rattle.py_value.specs.TriggerView.{view_form};
@@ -7,7 +7,7 @@ ghost use Rattle.py_attribute.specs.Attribute.{str_value};
 ghost use Rattle.py_attribute.specs.Gives.{Gives};
 ghost use Rattle.py_attribute.specs.Look as look;
 ghost use Rattle.py_attribute.specs.Knows.{KnowsAll};
-ghost use Rattle.py_attribute.specs.Outcome.{Ends, Evaluates, lift};
+ghost use Rattle.py_attribute.specs.Outcome.{Ends, Evaluates};
 ghost use Rattle.py_function.specs.Making as making;
 ghost use Rattle.py_function.specs.Functions as meaning;
 
@@ -60,28 +60,16 @@ fn sim_time<V: Look>(view: &V, values: &[Value]) -> Result<Value, FaultKind>
     time_in(view.step_fs(), view.now(), unit_argument(view, values, 0))
 }
 
-/// What makes no trigger, whatever the next number is.
-pub(crate) fn plain(answer: Result<Value, FaultKind>) -> Result<Value, OperationFault>
-    ensures { (k : ℕ) → Ends result k (lift answer k) }
-{
-    match answer {
-        Ok(v) => Ok(v),
-        Err(kind) => Err(OperationFault::Raised(kind)),
-    }
-}
-
 /// A new trigger of this form, or why there is no such form.
-pub(crate) fn made(
+fn made(
     task: TaskNo,
     form: Result<Form, FaultKind>,
     next: &mut u64,
 ) -> Result<Value, OperationFault>
-    ensures { Ends result next.new (making.new_value task (answer_map view_form form) next.old) }
+    ensures ends { Ends result next.new (making.new_value task (answer_map view_form form) next.old) }
+    ensures rises { next.old ≤ next.new }
 {
-    match new_value(task, form, next) {
-        Ok(v) => Ok(v),
-        Err(kind) => Err(OperationFault::Raised(kind)),
-    }
+    Ok(new_value(task, form, next)?)
 }
 
 /// A call that makes no trigger, or one of others.
@@ -94,14 +82,15 @@ fn call<V: Look>(
     next: &mut u64,
 ) -> Result<Value, OperationFault>
     requires { KnowsAll (V.view view.now) values.now }
-    ensures { Ends result next.new (meaning.called task (V.view view.now) function values.now next.old) }
+    ensures ends { Ends result next.new (meaning.called task (V.view view.now) function values.now next.old) }
+    ensures rises { next.old ≤ next.new }
 {
     match function {
-        Function::Int => plain(int_call(values)),
+        Function::Int => Ok(int_call(values)?),
         Function::Str => str_call(alloc, view, values),
-        Function::Bool => plain(bool_call(values)),
-        Function::Len => plain(len_call(view, values)),
-        Function::GetSimTime => plain(sim_time(view, values)),
+        Function::Bool => Ok(bool_call(values)?),
+        Function::Len => Ok(len_call(view, values)?),
+        Function::GetSimTime => Ok(sim_time(view, values)?),
         Function::Timer => made(task, timer(view, values), next),
         Function::Edge => made(task, change(values), next),
         Function::RisingEdge => made(task, rise(view, values), next),
@@ -113,14 +102,25 @@ fn call<V: Look>(
         Function::Join => made(task, join(values), next),
         Function::First => first(alloc, task, values, next),
         Function::Combine => combine(alloc, task, values, next),
-        Function::Clock => plain(clock(view, values)),
+        Function::Clock => Ok(clock(view, values)?),
     }
 }
 
-/// A call of a function with these arguments, by a task whose next trigger has this number: `int`, `str`, `bool`, `len`, `get_sim_time`,
-/// `Clock`, and the triggers `Timer`, `Edge`, `RisingEdge`, `FallingEdge`, `ReadWrite`, `ReadOnly`, `NextTimeStep`, `ClockCycles`,
-/// `Join`, `First` and `Combine`. A new trigger takes the next number; 2^63 of one task are the most, and one more is a RuntimeError.
-/// Arguments of other kinds are TypeErrors, before every other fault.
+/// A call of a function with these arguments, by a task whose next trigger has this number: `int`, `str`, `bool` and `len` (the library
+/// reference, "Built-in Functions"); cocotb 1.8's `get_sim_time`, `Clock`, and the triggers `Timer`, `Edge`, `RisingEdge`, `FallingEdge`,
+/// `ReadWrite`, `ReadOnly`, `NextTimeStep`, `ClockCycles`, `Join`, `First` and `Combine`. The faults are, the first that holds:
+///
+/// - TypeError: an argument is missing or of another kind, as a signal of more than one digit is for `Clock`, `ClockCycles`, `RisingEdge` and
+///   `FallingEdge`;
+/// - ValueError: a digit is x or z where a number is needed; a unit isn't known; a time is no whole number of steps from 1 on; a clock's
+///   period is odd; a count of cycles is below 1; `get_sim_time`'s unit doesn't divide the time; a `First` or `Combine` doesn't have 1 to 64
+///   leaves, or has more than 64 triggers inside one another;
+/// - OverflowError: a whole number lies outside -2^127 .. 2^127 - 1, a text has over 65,536 bytes, a time is over 2^62 steps, a count of
+///   cycles is over 2^64 - 1;
+/// - RuntimeError: the task has made 2^63 triggers, the most that it may.
+///
+/// A new trigger takes the next number, and so does the join of a task among the arguments of `First` and `Combine`, before a ValueError or a
+/// RuntimeError of the whole. `str`, `First` and `Combine` take memory; after want of it the next number may have risen, and never falls.
 pub fn called<V: Look>(
     alloc: Global,
     view: &V,
@@ -130,7 +130,7 @@ pub fn called<V: Look>(
     next: &mut u64,
 ) -> Result<Value, OperationFault>
     requires { KnowsAll (V.view view.now) values.now }
-    ensures { Evaluates (V.view view.now) result next.new (meaning.called task (V.view view.now) function values.now next.old) }
+    ensures { Evaluates (V.view view.now) result next.old next.new (meaning.called task (V.view view.now) function values.now next.old) }
 {
     call(alloc, view, task, function, values, next)
 }

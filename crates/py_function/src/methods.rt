@@ -1,13 +1,13 @@
 //! Calls of methods.
-ghost use Rattle.std.specs.Prelude.{◌≡◌};
+ghost use Rattle.std.specs.Prelude.{◌≡◌, ◌≤◌};
 ghost use Rattle.py_value.specs.Answer.{answer_map};
 ghost use Rattle.py_value.specs.TriggerView.{view_form};
 ghost use Rattle.py_attribute.specs.Knows.{Knows};
-ghost use Rattle.py_attribute.specs.Outcome.{Ends, Evaluates};
+ghost use Rattle.py_attribute.specs.Outcome.{AnswerKnown, lift};
 ghost use Rattle.py_function.specs.Functions as meaning;
 
-use crate::calls::{made, plain};
-use py_attribute::{Look, OperationFault};
+use crate::making::new_value;
+use py_attribute::Look;
 use py_syntax::{FaultKind, Method};
 use py_value::{Form, TaskNo, Value};
 
@@ -52,31 +52,34 @@ fn method_call<V: Look>(
     v: &Value,
     method: Method,
     next: &mut u64,
-) -> Result<Value, OperationFault>
+) -> Result<Value, FaultKind>
     requires { Knows (V.view view.now) v.now }
-    ensures { Ends result next.new (meaning.method_value task (V.view view.now) v.now method next.old) }
+    ensures is { lift result next.new ≡ meaning.method_value task (V.view view.now) v.now method next.old }
+    ensures rises { next.old ≤ next.new }
 {
     match method {
-        Method::IsSet => plain(set_state(view, v)),
-        Method::Done => plain(done_state(view, v)),
-        Method::Wait => made(task, method_form(v, method), next),
-        Method::Acquire => made(task, method_form(v, method), next),
-        Method::Join => made(task, method_form(v, method), next),
+        Method::IsSet => set_state(view, v),
+        Method::Done => done_state(view, v),
+        Method::Wait => new_value(task, method_form(v, method), next),
+        Method::Acquire => new_value(task, method_form(v, method), next),
+        Method::Join => new_value(task, method_form(v, method), next),
     }
 }
 
-/// `v.method()`, by a task whose next trigger has this number: `wait` and `is_set` of an event, `acquire` of a lock, `join` and `done` of a
-/// task. A new trigger takes the next number; 2^63 of one task are the most, and one more is a RuntimeError. Another method, or a value of
-/// another kind, is an AttributeError.
+/// `v.method()` (cocotb 1.8, "Triggers" and "Coroutines and Tasks"), by a task whose next trigger has this number: `wait` and `is_set` of an
+/// event, `acquire` of a lock, `join` and `done` of a task. A new trigger takes the next number. Another method, or a value of another kind, is
+/// an AttributeError; a trigger of a task that has made 2^63, the most that it may, is a RuntimeError. It takes no memory.
 pub fn method_value<V: Look>(
     view: &V,
     task: TaskNo,
     v: &Value,
     method: Method,
     next: &mut u64,
-) -> Result<Value, OperationFault>
+) -> Result<Value, FaultKind>
     requires { Knows (V.view view.now) v.now }
-    ensures { Evaluates (V.view view.now) result next.new (meaning.method_value task (V.view view.now) v.now method next.old) }
+    ensures is { lift result next.new ≡ meaning.method_value task (V.view view.now) v.now method next.old }
+    ensures known { AnswerKnown (V.view view.now) result }
+    ensures rises { next.old ≤ next.new }
 {
     method_call(view, task, v, method, next)
 }

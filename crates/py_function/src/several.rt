@@ -1,5 +1,6 @@
 //! Triggers that hold others.
-ghost use Rattle.std.specs.Prelude.{◌≡◌};
+ghost use Rattle.std.specs.Prelude.{◌≡◌, ◌≤◌};
+ghost use Rattle.std.specs.List.{list_all};
 ghost use Rattle.py_value.specs.Trigger as trigger;
 ghost use Rattle.py_attribute.specs.Outcome.{Ends};
 ghost use Rattle.py_function.specs.Making as meaning;
@@ -24,14 +25,9 @@ fn is_waitable(v: &Value) -> bool
 
 /// Whether all values are triggers or tasks.
 fn are_waitable(values: &[Value]) -> bool
-    ensures { result ≡ meaning.are_waitable values.now }
+    ensures { result ≡ list_all meaning.is_waitable values.now }
 {
-    for v in values {
-        if !is_waitable(v) {
-            return false;
-        }
-    }
-    true
+    values.iter().all(|v| is_waitable(v))
 }
 
 /// The trigger that a value is; a task is its join, a new trigger. Another value is a TypeError.
@@ -41,7 +37,8 @@ fn as_trigger(
     v: &Value,
     next: &mut u64,
 ) -> Result<Trig, OperationFault>
-    ensures { Ends result next.new (meaning.as_trigger task v.now next.old) }
+    ensures ends { Ends result next.new (meaning.as_trigger task v.now next.old) }
+    ensures rises { next.old ≤ next.new }
 {
     match v {
         Value::Trigger(trig) => Ok(trig.copy(alloc)?),
@@ -57,7 +54,8 @@ fn as_triggers(
     values: &[Value],
     next: &mut u64,
 ) -> Result<Trigs, OperationFault>
-    ensures { EndsRow result next.new (meaning.as_triggers task values.now next.old) }
+    ensures ends { EndsRow result next.new (meaning.as_triggers task values.now next.old) }
+    ensures rises { next.old ≤ next.new }
 {
     let mut trigs = Trigs::new(alloc);
     for v in values {
@@ -73,7 +71,8 @@ fn parts(
     values: &[Value],
     next: &mut u64,
 ) -> Result<Trigs, OperationFault>
-    ensures { EndsRow result next.new (meaning.parts task values.now next.old) }
+    ensures ends { EndsRow result next.new (meaning.parts task values.now next.old) }
+    ensures rises { next.old ≤ next.new }
 {
     if are_waitable(values) {
         as_triggers(alloc, task, values, next)
@@ -89,7 +88,8 @@ pub(crate) fn first(
     values: &[Value],
     next: &mut u64,
 ) -> Result<Value, OperationFault>
-    ensures { Ends result next.new (meaning.several task trigger.First values.now next.old) }
+    ensures ends { Ends result next.new (meaning.several task trigger.First values.now next.old) }
+    ensures rises { next.old ≤ next.new }
 {
     let parts = parts(alloc, task, values, next)?;
     Ok(trigger_value(new_tree(task, Form::First(parts), next))?)
@@ -102,7 +102,8 @@ pub(crate) fn combine(
     values: &[Value],
     next: &mut u64,
 ) -> Result<Value, OperationFault>
-    ensures { Ends result next.new (meaning.several task trigger.Combine values.now next.old) }
+    ensures ends { Ends result next.new (meaning.several task trigger.Combine values.now next.old) }
+    ensures rises { next.old ≤ next.new }
 {
     let parts = parts(alloc, task, values, next)?;
     Ok(trigger_value(new_tree(task, Form::Combine(parts), next))?)

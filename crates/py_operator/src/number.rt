@@ -44,7 +44,7 @@ pub fn number_of(v: &Value) -> Number
     }
 }
 
-/// The number of an operand. Another kind is a TypeError, an x or z digit a ValueError.
+/// The number of an operand. A kind that has none is a TypeError, an x or z digit a ValueError. It takes no memory.
 pub fn one_number(v: &Value) -> Result<Integer, FaultKind>
     ensures { answer_map number result ≡ meaning.one_number v.now }
 {
@@ -66,7 +66,7 @@ pub(crate) fn two_numbers(a: &Value, b: &Value) -> Result<(Integer, Integer), Fa
     }
 }
 
-/// A result as a value. One that no value can hold is an OverflowError.
+/// A result as a value. None, which stands for one outside -2^127 .. 2^127 - 1, is an OverflowError. It takes no memory.
 pub fn whole(number: Option<i128>) -> Result<Value, FaultKind>
     ensures { result ≡ meaning.whole number }
 {
@@ -76,7 +76,7 @@ pub fn whole(number: Option<i128>) -> Result<Value, FaultKind>
     }
 }
 
-/// `int(..)`: the whole number that a whole number, a truth value or a vector is. Another kind is a TypeError, an x or z digit a
+/// `int(..)` (the library reference, "Built-in Functions"): the whole number that a whole number, a truth value or a vector is. Another kind is a TypeError, an x or z digit a
 /// ValueError, a vector's number over 2^127 - 1 an OverflowError. It takes no memory.
 pub fn int(v: &Value) -> Result<Value, FaultKind>
     ensures { result ≡ and_then (meaning.one_number v.now) (λ z. meaning.whole (held z)) }

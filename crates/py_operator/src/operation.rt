@@ -19,7 +19,8 @@ fn on_numbers(op: BinOp, a: &Value, b: &Value) -> Result<Value, FaultKind>
     arithmetic(op, a, b)
 }
 
-/// The value of an operator with two operands, or the kind of the fault that it raises.
+/// The value of an operator with two operands (the language reference, 6.7 to 6.10), or the kind of the fault that it raises: TypeError,
+/// ValueError, ZeroDivisionError and OverflowError as for `binary`, in this order. It takes no memory.
 pub fn operated(op: BinOp, a: &Value, b: &Value) -> Result<Value, FaultKind>
     ensures { result ≡ binary_value op a.now b.now }
 {
@@ -45,9 +46,9 @@ fn operated_alone(op: UnOp, a: &Value) -> Result<Value, FaultKind>
 }
 
 /// The value of an operator with two operands (the language reference, 6.7 to 6.10), or the fault that it raises, whose text is
-/// empty: TypeError for an operand of a kind that the operator has no rule for; ValueError for an x or z digit where a number is
-/// needed, and for a negative count of a shift; ZeroDivisionError; OverflowError for a result outside -2^127 .. 2^127 - 1. A
-/// signal is a value like any other here. It takes no memory.
+/// empty: the first of these that holds. TypeError for an operand of a kind that the operator has no rule for; ValueError for an x or z digit where a number is
+/// needed, and for a negative count of a shift; ZeroDivisionError for `//` and `%` by 0; OverflowError for a result outside
+/// -2^127 .. 2^127 - 1. A signal is a value like any other here. It takes no memory.
 pub fn binary(op: BinOp, a: Value, b: Value) -> Result<Value, Fault>
     ensures { result ≡ raised (binary_value op a b) }
 {
@@ -58,7 +59,8 @@ pub fn binary(op: BinOp, a: Value, b: Value) -> Result<Value, Fault>
 }
 
 /// The value of an operator with one operand (the language reference, 6.6 and 6.11), or the fault that it raises, whose text is
-/// empty: TypeError, ValueError and OverflowError as for `binary`. It takes no memory.
+/// empty: TypeError for an operand that `-`, `+` or `~` has no rule for, then ValueError for an x or z digit in one, then OverflowError for
+/// a result outside -2^127 .. 2^127 - 1. `not` raises nothing. It takes no memory.
 pub fn unary(op: UnOp, a: Value) -> Result<Value, Fault>
     ensures { result ≡ raised (unary_value op a) }
 {

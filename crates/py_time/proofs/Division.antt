@@ -1,11 +1,12 @@
 -- Products, divided and halved, and the answers for them.
-use Rattle.std.proofs.Common.{◌≡◌, ℕ, zero, suc, ◌+◌, ◌*◌, ◌^◌, ◌<◌, ◌≤◌, nat_lt, nat_eq, Bool, true, false, Ok, Err, Some, None, if◌then◌else◌, refl, sym, subst, ap, ◌∙◌, arith}
+use Rattle.std.proofs.Common.{◌≡◌, ℕ, zero, suc, ◌+◌, ◌*◌, ◌^◌, ◌<◌, ◌≤◌, nat_eq, Bool, true, false, Ok, Err, Some, None, if◌then◌else◌, refl, sym, ap, ◌∙◌, arith}
 use Rattle.std.specs.Prelude.{◌/◌, ◌%◌, Option}
-use Rattle.std.proofs.lemmas.Bool.{lt-ltb, ltb-false}
+use Rattle.std.proofs.lemmas.Bool.{lt-ltb}
 use Rattle.py_syntax.specs.declared.fault_kind.FaultKind.TheVariants.{ValueError}
 use Rattle.py_value.specs.Answer.{Answer, answer_map}
 use Rattle.py_time.specs.declared.steps.Steps.{Steps}
-use Rattle.py_time.specs.Times.{step_limit, whole_steps}
+use Rattle.py_value.specs.Limits.{step_limit}
+use Rattle.py_time.specs.Times.{whole_steps}
 use Rattle.py_time.specs.Counts.{few, kept, some_steps}
 use Rattle.std.proofs.Math.Nat.{div-add-mod, mul-add-div}
 use Rattle.std.proofs.lemmas.Nat.{mul-mod_first, mul-mod}

@@ -4,6 +4,7 @@ use Rattle.std.specs.Str.{bytes_eq}
 use Rattle.py_syntax.specs.declared.fault_kind.FaultKind.TheVariants.{TypeError, ValueError, OverflowError}
 use Rattle.py_integer.specs.Integer.{held}
 use Rattle.py_value.specs.Answer.{Answer, and_then}
+use Rattle.py_value.specs.Limits.{step_limit}
 use Rattle.py_value.specs.declared.value.Value.{Value}
 use Rattle.py_value.specs.declared.value.Value.TheVariants.{Text}
 use Rattle.py_operator.specs.Number.{Number, known, unknown, none, number_of, whole}
@@ -33,10 +34,7 @@ unit_of step_fs _ = Err TypeError
 abbrev pub whole_steps : ℕ → ℕ → Answer ℕ
 whole_steps step_fs fs = if (fs % step_fs) == 0 then (if nat_lt 0 (fs / step_fs) then Ok (fs / step_fs) else Err ValueError) else Err ValueError
 
--- the latest time, in steps
-abbrev pub step_limit : ℕ
-step_limit = 2 ^ 62
-
+-- no later than the latest time
 abbrev pub not_late : ℕ → Answer ℕ
 not_late steps = if nat_lt step_limit steps then Err OverflowError else Ok steps
 

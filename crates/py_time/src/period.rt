@@ -31,9 +31,10 @@ fn exact_steps(
     }
 }
 
-/// The steps that a time in a unit is, where a step has so many femtoseconds, and the unit has so many or is refused: `Timer`'s
-/// arguments. A time without a number and a unit that is no text are TypeErrors; then a time that is no positive whole number of steps
-/// and a unit that isn't known are ValueErrors; then over 2^62 steps are an OverflowError.
+/// The steps that a time in a unit is (cocotb 1.8, `Timer`), where a step has `step_fs` femtoseconds, and the unit has so many
+/// femtoseconds or is refused, as `unit_of` says: 1 to 2^62 steps. A time without a number and a unit that is no text are TypeErrors; then
+/// a time with an x or z digit, one that is no positive whole number of steps, and a unit that isn't known, are ValueErrors; then over 2^62
+/// steps are an OverflowError. It takes no memory.
 pub fn steps_of(step_fs: u64, time: &Value, unit: Result<u64, FaultKind>) -> Result<u64, FaultKind>
     requires { 1 ≤ step_fs }
     ensures { result ≡ meaning.steps_of step_fs time.now unit }
@@ -44,7 +45,8 @@ pub fn steps_of(step_fs: u64, time: &Value, unit: Result<u64, FaultKind>) -> Res
     }
 }
 
-/// Half of a clock's period, in steps. The faults are those of `steps_of`, and an odd number of steps is a ValueError.
+/// Half of a clock's period (cocotb 1.8, `Clock`), in steps. The faults are those of `steps_of`, and an odd number of steps is a
+/// ValueError, also where it is over 2^62. It takes no memory.
 pub fn half_steps(
     step_fs: u64,
     period: &Value,

@@ -1,12 +1,12 @@
 //! Counts of steps.
-ghost use Rattle.std.specs.Prelude.{◌≡◌, ◌≤◌, ◌^◌, ◌*◌, ◌+◌, ◌%◌, nat_eq, nat_lt, if◌then◌else◌, Some, None};
+ghost use Rattle.std.specs.Prelude.{◌≡◌, ◌≤◌, ◌*◌, ◌+◌, ◌%◌, nat_eq, nat_lt, if◌then◌else◌, Some, None};
 ghost use Rattle.py_value.specs.Answer.{answer_map};
 ghost use Rattle.py_time.specs.Times as meaning;
 ghost use Rattle.py_time.specs.Counts as counts;
 
 use py_syntax::FaultKind;
 
-/// The latest time, in steps.
+/// The latest time, in steps: `step_limit` of `py_value`.
 const STEP_LIMIT: u128 = 1 << 62;
 
 /// A count of steps, as far as it is asked for.
@@ -29,9 +29,9 @@ fn few(count: u128) -> Option<u64>
     }
 }
 
-/// `turns * unit + more`, where it is below 2^128.
+/// `turns * unit + more`, where the code can hold it.
 fn total(turns: u128, unit: u128, more: u128) -> Option<u128>
-    ensures { result ≡ (if nat_lt (turns * unit + more) (2 ^ 128) then Some (turns * unit + more) else None) }
+    ensures { result ≡ (if nat_lt (turns * unit + more) counts.count_limit then Some (turns * unit + more) else None) }
 {
     turns.checked_mul(unit)?.checked_add(more)
 }

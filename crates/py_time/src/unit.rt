@@ -32,8 +32,8 @@ fn unit_fs(step_fs: u64, name: &[u8]) -> Option<u64>
     }
 }
 
-/// The femtoseconds of the unit that a value names, where a step has so many. What is no text is a TypeError, and another text a
-/// ValueError.
+/// The femtoseconds of the unit that a value names (cocotb 1.8, `Timer`), where a step has `step_fs` femtoseconds: `step`, `fs`, `ps`,
+/// `ns`, `us`, `ms` or `sec`. What is no text is a TypeError, and another text a ValueError. It takes no memory.
 pub fn unit_of(step_fs: u64, unit: &Value) -> Result<u64, FaultKind>
     requires { 1 ≤ step_fs }
     ensures is { result ≡ meaning.unit_of step_fs unit.now }
@@ -62,8 +62,9 @@ fn in_unit(fs: u128, unit: u64) -> Result<Value, FaultKind>
     }
 }
 
-/// `get_sim_time(unit)`: the simulated time of `now` steps in a unit, where a step has so many femtoseconds, and the unit has so many or
-/// is refused. A unit that doesn't divide the time is a ValueError, and a time that no value can hold an OverflowError.
+/// `get_sim_time(unit)` (cocotb 1.8, `get_sim_time`): the simulated time of `now` steps in a unit, where a step has `step_fs` femtoseconds,
+/// and the unit has so many femtoseconds or is refused, by TypeError or ValueError as `unit_of` says. A unit that doesn't divide the time is
+/// a ValueError, and a time over 2^127 - 1 units an OverflowError. It takes no memory.
 pub fn time_in(step_fs: u64, now: u64, unit: Result<u64, FaultKind>) -> Result<Value, FaultKind>
     requires { IfOk unit (λ fs. 1 ≤ fs) }
     ensures { result ≡ meaning.time_in step_fs now unit }

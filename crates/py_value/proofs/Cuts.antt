@@ -1,11 +1,11 @@
 -- Counts that are cut at 65, and one trigger more in a row.
-use Rattle.std.proofs.Common.{◌≡◌, ℕ, ◌+◌, ◌≤◌, Bool, List, [], ◌∷◌, ◌++◌, length, take, drop, get_or, add-one, refl, ap, sym, ◌∙◌, arith, suc, ◌<◌}
+use Rattle.std.proofs.Common.{◌≡◌, ℕ, ◌+◌, List, [], ◌∷◌, ◌++◌, length, take, get_or, add-one, refl, ap, sym, ◌∙◌, arith, ◌<◌}
 use Rattle.std.proofs.Math.Seq.{take-suc}
 use Rattle.std.specs.Prelude.{min, max, nat_le, ◌&&◌}
 use Rattle.py_value.specs.declared.limits.Extent.{Extent}
 use Rattle.py_value.specs.Trigger as trigger
 use Rattle.py_value.specs.Trigger.{Trig, row, leaves, depth, row_leaves, row_depth, is_small, form_leaves, form_depth, Form}
-use Rattle.py_value.specs.Extents.{cut, row_extent, trig_extent, beside, extent}
+use Rattle.py_value.specs.Extents.{cut, row_extent, trig_extent, beside}
 
 leaves_more : (xs : List Trig) (t : Trig) → row_leaves (row (xs ++ t ∷ [])) ≡ row_leaves (row xs) + leaves t
 leaves_more [] t = omega arith

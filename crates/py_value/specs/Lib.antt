@@ -1,3 +1,4 @@
+pub mod Limits
 pub mod Trigger
 pub mod TriggerCode
 pub mod TriggerView

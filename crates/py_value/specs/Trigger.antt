@@ -1,6 +1,7 @@
 -- Triggers, without where their parts lie in memory (cocotb 1.8, "Triggers").
-use Rattle.std.specs.Prelude.{ℕ, ◌+◌, ◌&&◌, max, nat_le, Bool, List, [], ◌∷◌}
+use Rattle.std.specs.Prelude.{ℕ, ◌+◌, ◌≤◌, ◌&&◌, max, nat_le, Bool, IsTrue, List, [], ◌∷◌}
 use Rattle.gpi.specs.declared.types.SigId.{SigId}
+use Rattle.py_value.specs.Limits.{step_limit, leaf_limit, depth_limit}
 use Rattle.py_value.specs.declared.trigger.TaskNo.{TaskNo}
 use Rattle.py_value.specs.declared.trigger.EventNo.{EventNo}
 use Rattle.py_value.specs.declared.trigger.LockNo.{LockNo}
@@ -73,6 +74,35 @@ abbrev mutual
   row_depth NoTrig = 0
   row_depth (Then t ts) = max (depth t) (row_depth ts)
 
--- the limits of a trigger that is made: 1 to 64 leaves, and at most 64 triggers inside one another
+-- ---- limits
+
+-- a trigger that is made keeps within the limits of leaves and depth, and has a leaf
 abbrev pub is_small : Form → Bool
-is_small form = nat_le 1 (form_leaves form) && (nat_le (form_leaves form) 64 && nat_le (form_depth form) 64)
+is_small form = nat_le 1 (form_leaves form) && (nat_le (form_leaves form) leaf_limit && nat_le (form_depth form) depth_limit)
+
+-- ---- sound triggers
+
+-- a time that a trigger waits for
+abbrev pub AreSteps : ℕ → Type 0
+AreSteps n = (1 ≤ n) × (n ≤ step_limit)
+
+abbrev pub IsOne : Trigs → Type 0
+IsOne (Then t NoTrig) = Unit {0}
+IsOne _ = ⊥
+
+-- each time in it can be waited for, each count is at least 1, each tree keeps within the limits, and a limit holds one trigger
+abbrev mutual
+  pub IsSound : Trig → Type 0
+  IsSound (Made id form) = IsSoundForm form
+
+  pub IsSoundForm : Form → Type 0
+  IsSoundForm (Time n) = AreSteps n
+  IsSoundForm (Cycles s n rising) = 1 ≤ n
+  IsSoundForm (First ts) = IsTrue (is_small (First ts)) × AreSound ts
+  IsSoundForm (Combine ts) = IsTrue (is_small (Combine ts)) × AreSound ts
+  IsSoundForm (Limit ts n) = IsTrue (is_small (Limit ts n)) × AreSound ts × IsOne ts × AreSteps n
+  IsSoundForm _ = Unit {0}
+
+  pub AreSound : Trigs → Type 0
+  AreSound NoTrig = Unit {0}
+  AreSound (Then t ts) = IsSound t × AreSound ts

@@ -6,7 +6,7 @@ use crate::{Fault, Form, Trig, Trigs, Value};
 use port_io::{Name, NoMemory};
 use std::alloc::Global;
 
-/// An equal value. Only want of memory is an error.
+/// An equal value; of a trigger one of the same number, however deep it is. Only want of memory is an error.
 pub fn copy(alloc: Global, v: &Value) -> Result<Value, NoMemory>
     ensures { IfOk result (λ copied. copied ≡ v.now) }
 {

@@ -6,14 +6,20 @@ ghost use Rattle.py_value.specs.Extents as meaning;
 
 use crate::{Form, Trig, Trigs};
 
-/// How many leaves something has, and how many triggers stand inside one another there. Counts over 64 are 65.
+/// How many leaves a trigger may have, `leaf_limit` in `specs/Limits.antt`.
+const LEAF_LIMIT: u8 = 64;
+
+/// How many triggers may stand inside one another, `depth_limit` there.
+const DEPTH_LIMIT: u8 = 64;
+
+/// How many leaves something has, and how many triggers stand inside one another there. Counts over the limits are `CUT`.
 #[derive(Clone, Copy, Debug)]
 pub(crate) struct Extent {
     leaves: u8,
     depth: u8,
 }
 
-/// Where all counts over the limit are alike.
+/// Where all counts over the limits are alike.
 const CUT: u8 = 65;
 
 /// That of a trigger around something, with so many leaves besides.
@@ -83,6 +89,6 @@ impl Form {
         ensures { result ≡ is_small (view_form self.now) }
     {
         let extent = form_extent(self);
-        1 <= extent.leaves && extent.leaves <= 64 && extent.depth <= 64
+        1 <= extent.leaves && extent.leaves <= LEAF_LIMIT && extent.depth <= DEPTH_LIMIT
     }
 }

@@ -16,7 +16,8 @@ fn number_text(alloc: Global, n: i128) -> Result<Name, NoMemory>
     Name::of(alloc, text.as_bytes())
 }
 
-/// The digits of a vector, the highest first.
+/// The digits of a vector as `0`, `1`, `x` and `z`, the highest first, as cocotb 1.8's `BinaryValue.binstr` has them. Only want of memory
+/// is an error.
 pub fn digits_name(alloc: Global, bits: Bits) -> Result<Name, NoMemory>
     ensures { IfOk result (λ name. name ≡ digits_text bits) }
 {
@@ -37,7 +38,7 @@ fn numbered_text(alloc: Global, kind: &[u8], n: u32) -> Result<Name, NoMemory>
     Name::of(alloc, &text)
 }
 
-/// The text as which a value is shown, by `str` and in an f-string: `None`, `True`, `False`, a decimal number, the text itself, a
+/// The text as which a value is shown, by `str` (the library reference, "Built-in Functions") and in an f-string: `None`, `True`, `False`, a decimal number, the text itself, a
 /// vector's digits with the highest first, a signal's or hierarchy's path, a caught fault's text, `<task 0>`, `<event 0>` and
 /// `<lock 0>` with its number, `<clock>`, `<trigger>`, `<memory>`. Only want of memory is an error.
 pub fn show<P: Paths>(alloc: Global, v: &Value, paths: &P) -> Result<Name, NoMemory>

@@ -29,7 +29,7 @@ pub struct TrigId {
 }
 
 /// A trigger (cocotb 1.8, "Triggers"), which contracts see as a `Trig` of `specs/Trigger.antt`, without where its parts lie in
-/// memory.
+/// memory. `IsSound` there says which can be waited for.
 #[cycle(trigger)]
 #[derive(Drop)]
 pub struct Trig {
@@ -116,7 +116,7 @@ impl Trigs {
         }
     }
 
-    /// Adds a trigger at the end. After `NoMemory` the triggers are as before.
+    /// Adds a trigger at the end. Only want of memory is an error, and then the triggers are as before.
     pub fn push(&mut self, trig: Trig) -> Result<(), NoMemory>
         ensures ok { OnOk result (self.new.list.items ≡ self.old.list.items ++ trig ∷ []) }
         ensures err { OnErr result (self.new.list.items ≡ self.old.list.items) }
@@ -125,14 +125,14 @@ impl Trigs {
         Ok(())
     }
 
-    /// How many triggers there are.
+    /// How many triggers there are. It takes no memory.
     pub fn len(&self) -> usize
         ensures { result ≡ length self.now.list.items }
     {
         self.list.len()
     }
 
-    /// The trigger at that place, counted from 0.
+    /// The trigger at that place, counted from 0. It takes no memory.
     pub fn get(&self, at: usize) -> &Trig
         requires { at < length self.now.list.items }
         ensures { slice_get self.now.list.items at ≡ Some result.now }

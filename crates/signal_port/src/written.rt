@@ -1,5 +1,6 @@
 //! The digits of a value that is written.
 ghost use Rattle.std.specs.Prelude.{◌≡◌, ◌≤◌, ◌-◌, ◌^◌, pos, neg_ℤ};
+ghost use Rattle.py_value.specs.Limits.{width_limit};
 ghost use Rattle.signal_port.specs.Written as meaning;
 
 use four_value::Bits;
@@ -10,7 +11,7 @@ use py_value::Value;
 #[tactic(auto, using(crate::proofs::Numbers::half_high))]
 fn half_of(width: u8) -> u128
     requires low { 1 ≤ width }
-    requires high { width ≤ 128 }
+    requires high { width ≤ width_limit }
     ensures is { result ≡ 2 ^ (width - 1) }
     ensures fits { result ≤ 2 ^ 127 }
 {
@@ -21,7 +22,7 @@ fn half_of(width: u8) -> u128
 #[tactic(auto, using(crate::proofs::Numbers::naturals))]
 fn natural_bits(n: u128, width: u8) -> Result<Bits, FaultKind>
     requires low { 1 ≤ width }
-    requires high { width ≤ 128 }
+    requires high { width ≤ width_limit }
     ensures { result ≡ meaning.number_bits width (pos n) }
 {
     let half = half_of(width);
@@ -37,7 +38,7 @@ fn natural_bits(n: u128, width: u8) -> Result<Bits, FaultKind>
 fn negative_bits(size: u128, width: u8) -> Result<Bits, FaultKind>
     requires some { 1 ≤ size }
     requires low { 1 ≤ width }
-    requires high { width ≤ 128 }
+    requires high { width ≤ width_limit }
     ensures { result ≡ meaning.number_bits width (neg_ℤ (pos size)) }
 {
     let half = half_of(width);
@@ -51,7 +52,7 @@ fn negative_bits(size: u128, width: u8) -> Result<Bits, FaultKind>
 /// The digits of a whole number.
 fn number_bits(z: i128, width: u8) -> Result<Bits, FaultKind>
     requires low { 1 ≤ width }
-    requires high { width ≤ 128 }
+    requires high { width ≤ width_limit }
     ensures { result ≡ meaning.number_bits width z }
 {
     if z < 0 {
@@ -61,12 +62,12 @@ fn number_bits(z: i128, width: u8) -> Result<Bits, FaultKind>
     }
 }
 
-/// The digits that a signal of this width gets from a value (cocotb 1.8, "Writing values"): a whole number or a truth value modulo
-/// 2^width, which is an OverflowError outside -2^(width-1) .. 2^width - 1; a vector as it is, which is a ValueError where it has another
+/// The digits that a signal of `width` digits, 1 to 128, gets from a value (cocotb 1.8, "Writing values"): a whole number or a truth value
+/// modulo 2^width, which is an OverflowError outside -2^(width-1) .. 2^width - 1; a vector as it is, which is a ValueError where it has another
 /// width. A value of another kind is a TypeError. It takes no memory.
 pub fn to_bits(v: &Value, width: u8) -> Result<Bits, FaultKind>
     requires low { 1 ≤ width }
-    requires high { width ≤ 128 }
+    requires high { width ≤ width_limit }
     ensures { result ≡ meaning.written_bits width v.now }
 {
     match v {

@@ -1,9 +1,10 @@
-use Rattle.std.proofs.Common.{rules, ◌≡◌}
+use Rattle.std.proofs.Common.{rules, ◌≡◌, ◌≤◌, arith}
 use Rattle.std.proofs.lemmas.Result.{err_from_is_err_and}
 use Rattle.py_syntax.specs.ExpressionTrees as tree
 use Rattle.py_syntax.specs.declared.expression.Expression.TheViews.{the_lemmas}
 use Rattle.py_evaluate.specs.Eval.{eval_row, eval_parts}
-use Rattle.py_evaluate.specs.Rows.{scope, trees_of, parts_of}
+use Rattle.py_evaluate.specs.Gives.{scope}
+use Rattle.py_evaluate.specs.Rows.{trees_of, parts_of}
 use Rattle.py_evaluate.proofs.Steps.{row_trees, row_parts, behind_none, values_step, values_fault, values_end, known_more, text_step, text_fault, text_end}
 use Rattle.py_evaluate.proofs.Chains.{same_faults}
 use Rattle.py_evaluate.proofs.evaluation.+evaluating.Goals as goal
@@ -21,7 +22,7 @@ value_of-returns-in-Call g t c =
 pub values_of-loop-e-init : goal.values_of-loop-e-init
 values_of-loop-e-init g t c =
     let s = scope c.args.task (g.N.Locals.names c.args.names.now) (g.V.Look.view c.args.view.now) in
-    rw c.no_values-values.ensures (behind_none (eval_row s (trees_of c.args.arguments.now) c.args.next.now), tt)
+    rw c.new-values.ensures.items (behind_none (eval_row s (trees_of c.args.arguments.now) c.args.next.now), tt, omega arith)
 
 pub values_of-returns-in_err-v-clause-ends : goal.values_of-returns-in_err-v-clause-ends
 values_of-returns-in_err-v-clause-ends g t c =
@@ -37,10 +38,14 @@ pub values_of-loop-e-preserved : goal.values_of-loop-e-preserved
 values_of-loop-e-preserved g t c =
     let s = scope c.args.task (g.N.Locals.names c.args.names.now) (g.V.Look.view c.args.view.now) in
     let whole = eval_row s (trees_of c.args.arguments.now) c.args.next.now in
-    rw c.in_ok-values.ensures (
+    let before = c.loop-e.invariant.2 in
+    let rises = c.in_ok-v.ensures.rises in
+    let risen : c.args.next.now ≤ c.value_of.new.next = omega (arith, before, rises) in
+    rw c.in_ok-push.ensures.items (
       values_step s c.args.arguments.now c.loop-e.e-index c.e-item.result c.loop-e.values.items c.loop-e.next c.value_of.new.next c.in_ok-v.v whole
           c.loop-e-test.true c.e-item.is c.loop-e.invariant.0 c.in_ok-v.ensures.ends,
       known_more (g.V.Look.view c.args.view.now) c.loop-e.values.items c.in_ok-v.v c.loop-e.invariant.1 c.in_ok-v.ensures.known,
+      risen,
     )
 
 pub values_of-returns-clause-ends : goal.values_of-returns-clause-ends
@@ -52,29 +57,34 @@ values_of-returns-clause-ends g t c =
 pub text_of-loop-part-init : goal.text_of-loop-part-init
 text_of-loop-part-init g t c =
     let s = scope c.args.task (g.N.Locals.names c.args.names.now) (g.V.Look.view c.args.view.now) in
-    rw c.no_bytes-text.ensures (behind_none (eval_parts s (parts_of c.args.parts.now) c.args.next.now))
+    rw c.new-text.ensures.items (behind_none (eval_parts s (parts_of c.args.parts.now) c.args.next.now), omega arith)
 
-pub text_of-returns-in_err-shown : goal.text_of-returns-in_err-shown
-text_of-returns-in_err-shown g t c =
+pub text_of-returns-in_err-shown-clause-ends : goal.text_of-returns-in_err-shown-clause-ends
+text_of-returns-in_err-shown-clause-ends g t c =
     let s = scope c.args.task (g.N.Locals.names c.args.names.now) (g.V.Look.view c.args.view.now) in
     let whole = eval_parts s (parts_of c.args.parts.now) c.args.next.now in
     let p = err_from_is_err_and c.from_residual.result c.from_residual.ensures.1 in
     rw (p.1, p.2)
     (same_faults _ c.in_err-shown.field-0.0 c.part_text.new.next whole
     (text_fault s c.args.parts.now c.loop-part.part-index c.part-item.result c.loop-part.text.items c.loop-part.next c.part_text.new.next c.in_err-shown.field-0.0 whole
-    c.loop-part-test.true c.part-item.is c.loop-part.invariant c.in_err-shown.ensures))
+    c.loop-part-test.true c.part-item.is c.loop-part.invariant.0 c.in_err-shown.ensures.ends))
 
 pub text_of-loop-part-preserved : goal.text_of-loop-part-preserved
 text_of-loop-part-preserved g t c =
     let s = scope c.args.task (g.N.Locals.names c.args.names.now) (g.V.Look.view c.args.view.now) in
     let whole = eval_parts s (parts_of c.args.parts.now) c.args.next.now in
-    rw c.in_ok-text.ensures
-    (rw c.bytes.ensures
-    (text_step s c.args.parts.now c.loop-part.part-index c.part-item.result c.loop-part.text.items c.loop-part.next c.part_text.new.next c.in_ok-shown.shown whole
-    c.loop-part-test.true c.part-item.is c.loop-part.invariant c.in_ok-shown.ensures))
+    let before = c.loop-part.invariant.1 in
+    let rises = c.in_ok-shown.ensures.rises in
+    let risen : c.args.next.now ≤ c.part_text.new.next = omega (arith, before, rises) in
+    rw c.in_ok-extend_from_slice.ensures.items (
+      rw c.bytes.ensures
+          (text_step s c.args.parts.now c.loop-part.part-index c.part-item.result c.loop-part.text.items c.loop-part.next c.part_text.new.next c.in_ok-shown.shown whole
+          c.loop-part-test.true c.part-item.is c.loop-part.invariant.0 c.in_ok-shown.ensures.ends),
+      risen,
+    )
 
-pub text_of-returns : goal.text_of-returns
-text_of-returns g t c =
+pub text_of-returns-clause-ends : goal.text_of-returns-clause-ends
+text_of-returns-clause-ends g t c =
     let s = scope c.args.task (g.N.Locals.names c.args.names.now) (g.V.Look.view c.args.view.now) in
     text_end s c.args.parts.now c.loop-part.part-index c.loop-part.text.items c.loop-part.next (eval_parts s (parts_of c.args.parts.now) c.args.next.now)
-    c.loop-part-test.false c.loop-part.invariant
+    c.loop-part-test.false c.loop-part.invariant.0

@@ -9,6 +9,7 @@ returns g c =
     let values = c.args.values.now in
     let o = meaning.called c.args.task view c.args.function values c.args.next.now in
     record {
-      ends = c.call.ensures;
-      known = ends_known view o c.call.result c.call.new.next (called_known c.args.task view c.args.function values c.args.next.now c.requires) c.call.ensures;
+      ends = c.call.ensures.ends;
+      known = ends_known view o c.call.result c.call.new.next (called_known c.args.task view c.args.function values c.args.next.now c.requires) c.call.ensures.ends;
+      rises = c.call.ensures.rises;
     }

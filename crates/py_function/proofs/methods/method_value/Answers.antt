@@ -1,13 +1,10 @@
-use Rattle.py_attribute.proofs.Plain.{ends_known}
+use Rattle.py_attribute.proofs.Plain.{lift_known}
 use Rattle.py_function.specs.Functions as meaning
 use Rattle.py_function.proofs.Known.{method_known}
 use Rattle.py_function.proofs.methods.method_value.Goals as goal
 
-pub returns : goal.returns
-returns g c =
+pub returns-clause-known : goal.returns-clause-known
+returns-clause-known g c =
     let view = g.V.Look.view c.args.view.now in
     let o = meaning.method_value c.args.task view c.args.v.now c.args.method c.args.next.now in
-    record {
-      ends = c.method_call.ensures;
-      known = ends_known view o c.method_call.result c.method_call.new.next (method_known c.args.task view c.args.v.now c.args.method c.args.next.now c.requires) c.method_call.ensures;
-    }
+    lift_known view o c.method_call.result c.method_call.new.next (method_known c.args.task view c.args.v.now c.args.method c.args.next.now c.requires) c.method_call.ensures.is

@@ -1,4 +1,3 @@
-use Rattle.std.proofs.Common.{◌≡◌, Ok, ap, ◌∙◌}
 use Rattle.py_time.proofs.Division.{few_known, none_known}
 use Rattle.py_time.proofs.steps.some_steps.Goals as goal
 
