@@ -1,5 +1,5 @@
 -- The walk from the top: the design that a text stands for, or the first rule that it breaks.
-use Rattle.std.specs.Prelude.{◌≡◌, ℕ, zero, suc, ◌+◌, List, [], ◌∷◌, ◌++◌, map, length, Option, None, Some, Result, Ok, Err, Bool, true, false, ◌&&◌, not, is_some, is_none, nat_le, nat_lt, bytes_eq, slice_set, slice_index_or, if◌then◌else◌}
+use Rattle.std.specs.Prelude.{◌≡◌, ℕ, zero, suc, ◌+◌, List, [], ◌∷◌, ◌++◌, map, length, Option, None, Some, Result, Ok, Err, Bool, ◌&&◌, not, is_some, is_none, nat_le, nat_lt, bytes_eq, slice_set, slice_index_or, if◌then◌else◌}
 use Rattle.std.specs.List.{filter, flat_map, list_any, range_with_len}
 use Rattle.four_value.specs.declared.Digit.{Digit}
 use Rattle.four_value.specs.declared.Digit.TheVariants.{X, Z}
