@@ -1,5 +1,5 @@
 -- Targets of assignments: what is broken first, what they drive, and the updates that they get.
-use Rattle.std.specs.Prelude.{ℕ, ◌+◌, ◌==◌, ◌&&◌, List, [], ◌∷◌, ◌++◌, min, max, Option, None, Some, Bool, true, false, nat_lt, if◌then◌else◌}
+use Rattle.std.specs.Prelude.{ℕ, ◌+◌, ◌==◌, ◌&&◌, List, [], ◌∷◌, ◌++◌, min, max, Option, None, Some, Bool, true, false, nat_lt}
 use Rattle.std.specs.List.{list_any}
 use Rattle.four_value.specs.declared.Digit.{Digit}
 use Rattle.four_value.specs.Vector.{number, slice}

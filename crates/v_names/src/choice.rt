@@ -18,7 +18,9 @@ use v_scope::{Bounds, ElabRule, Found, MOST_DIGITS};
 /// So many digits, from an index upwards.
 #[derive(Drop)]
 pub struct Choice {
+    /// The least index.
     pub index: Term,
+    /// How many digits, 1 to 128.
     pub width: u8,
 }
 
