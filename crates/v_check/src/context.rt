@@ -11,7 +11,6 @@ use crate::check;
 use gpi::Term;
 use port_io::NoMemory;
 use std::alloc::Global;
-use v_constant::ended;
 use v_scope::{Broken, Scope};
 use v_syntax::Expression;
 
@@ -30,7 +29,7 @@ pub fn term(
     requires width { IsWidth width }
     ensures { IfOk result (IsTerm (means scope.now) (view expression.now) width) }
 {
-    match ended(check(alloc, scope, expression)?) {
+    match check(alloc, scope, expression)?.ended() {
         Ok(checked) => Ok(Ok(checked.form.lower(alloc, width)?)),
         Err(fault) => Ok(Err(fault)),
     }

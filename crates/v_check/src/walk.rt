@@ -1,11 +1,11 @@
 //! The walk over an expression.
 
-ghost use Rattle.std.specs.Prelude.{◌≡◌, IfOk};
+ghost use Rattle.std.specs.Prelude.{◌≡◌, false, IfOk};
 ghost use Rattle.v_scope.specs.Scope.{means};
 ghost use Rattle.v_syntax.specs.ExpressionTrees.{view, view_select, view_selects, views};
 ghost use Rattle.v_flat.specs.Checks.{constant_of};
-ghost use Rattle.v_operator.specs.Checked.{IsChecked};
-ghost use Rattle.v_parts.specs.Parts.{AreChecked, IsCount};
+ghost use Rattle.v_operator.specs.Checked.{IsChecked, IsCount};
+ghost use Rattle.v_parts.specs.Parts.{AreChecked};
 ghost use Rattle.v_names.specs.Proper.{AreProper};
 ghost use Rattle.v_names.specs.Selects.{AreSelects, IsSelect};
 
@@ -85,7 +85,7 @@ fn all(alloc: Global, scope: &Scope, expressions: &[Expression]) -> Result<Found
 }
 
 /// A count, from what was found in its expression. Only want of memory is an error.
-fn counted_by(
+pub(crate) fn counted_by(
     alloc: Global,
     scope: &Scope,
     expression: &Expression,
@@ -102,7 +102,7 @@ fn counted_by(
 #[cycle(checking)]
 fn select(alloc: Global, scope: &Scope, select: &Select) -> Result<CheckedSelect, NoMemory>
     requires { AreProper (means scope.now) }
-    ensures { IfOk result (IsSelect (means scope.now) (view_select select.now)) }
+    ensures { IfOk result (IsSelect false (means scope.now) (view_select select.now)) }
 {
     match select {
         Select::Bit { at, index } => {
@@ -111,13 +111,13 @@ fn select(alloc: Global, scope: &Scope, select: &Select) -> Result<CheckedSelect
         }
         Select::Part { at, left, right } => {
             let found = check(alloc, scope, left)?;
-            let low = v_constant::constant(alloc, scope, left, found)?;
+            let first = v_constant::constant(alloc, scope, left, found)?;
             let found = check(alloc, scope, right)?;
-            let high = v_constant::constant(alloc, scope, right, found)?;
+            let last = v_constant::constant(alloc, scope, right, found)?;
             Ok(CheckedSelect::Part {
                 at: *at,
-                left: low,
-                right: high,
+                left: first,
+                right: last,
             })
         }
         Select::IndexedPart { at, base, width } => {
@@ -138,7 +138,7 @@ fn select(alloc: Global, scope: &Scope, select: &Select) -> Result<CheckedSelect
 #[cycle(checking)]
 pub fn selects(alloc: Global, scope: &Scope, selects: &Selects) -> Result<CheckedSelects, NoMemory>
     requires { AreProper (means scope.now) }
-    ensures { IfOk result (AreSelects (means scope.now) (view_selects selects.now)) }
+    ensures { IfOk result (AreSelects false (means scope.now) (view_selects selects.now)) }
 {
     match selects {
         Selects::Whole => Ok(CheckedSelects::Whole),

@@ -11,12 +11,13 @@ use Rattle.v_scope.specs.declared.found.Found.TheVariants.{Sound, Noted, Lost}
 use Rattle.v_scope.specs.Found.{lost, each, and_then, settled, needs, ended, Holds}
 use Rattle.v_scope.specs.Rules.{at}
 use Rattle.v_scope.specs.Scope.{Scope}
+use Rattle.v_scope.proofs.Gathered.{each_needs}
+use Rattle.v_scope.specs.Limits.{counted_width}
 use Rattle.v_context.specs.Contexts.{value_in, IsSound}
 use Rattle.v_flat.specs.Expressions.{no_signals, meaning}
 use Rattle.v_flat.specs.Checks.{made, checked, known, constant_in}
 use Rattle.v_operator.specs.declared.checked.Checked.{Checked}
-use Rattle.v_operator.specs.Checked.{StandsFor, IsChecked, counted_width}
-use Rattle.v_operator.proofs.Combined.{each_needs}
+use Rattle.v_operator.specs.Checked.{StandsFor, IsChecked}
 use Rattle.v_constant.proofs.Unsignalled.{names_none, one_meaning}
 
 abbrev width_or : Found ℕ → ℕ

@@ -11,4 +11,4 @@ mod value;
 
 pub use laws::{constants_have_one_value, constants_name_no_signal};
 pub use made::is_made;
-pub use value::{constant, counted, ended, given_to};
+pub use value::{constant, counted, given_to, number_or_zero};

@@ -4,31 +4,21 @@ ghost use Rattle.std.specs.Prelude.{◌≡◌, ◌≤◌, [], max, IfOk};
 ghost use Rattle.four_value.specs.Vector.{number};
 ghost use Rattle.v_flat.specs.Expressions.{number_or};
 ghost use Rattle.gpi.specs.Terms.{IsWidth, read};
-ghost use Rattle.v_scope.specs.Found.{and_then, each, ended};
+ghost use Rattle.v_scope.specs.Found.{and_then, each};
 ghost use Rattle.v_scope.specs.Scope.{means};
+ghost use Rattle.v_scope.specs.Limits.{counted_width, most_digits};
 ghost use Rattle.v_syntax.specs.ExpressionTrees.{view};
 ghost use Rattle.v_context.specs.Contexts.{IsSound, value_in};
 ghost use Rattle.v_flat.specs.Checks.{checked, constant_in, constant_of, counted, given_to, known};
-ghost use Rattle.v_operator.specs.Checked.{IsChecked, counted_width};
+ghost use Rattle.v_operator.specs.Checked.{IsChecked};
 
 use crate::is_made;
 use four_value::Bits;
 use port_io::NoMemory;
 use std::alloc::Global;
 use v_operator::Checked;
-use v_scope::{Broken, ElabRule, Found, Scope};
+use v_scope::{ElabRule, Found, Scope, TOO_WIDE};
 use v_syntax::Expression;
-
-/// What is found, or what is broken first: the end of an item.
-pub fn ended<A: Drop>(found: Found<A>) -> Result<A, Broken>
-    ensures { result ≡ ended found }
-{
-    match found {
-        Found::Sound(a) => Ok(a),
-        Found::Noted(fault, _) => Err(fault),
-        Found::Lost(fault) => Err(fault),
-    }
-}
 
 /// The value of an expression without a signal, in a context of `least` digits or its own width, whichever is greater. Only want
 /// of memory is an error.
@@ -61,13 +51,13 @@ fn valued(
     least: u8,
     found: Found<Checked>,
 ) -> Result<Found<Bits>, NoMemory>
-    requires least { least ≤ 128 }
+    requires least { least ≤ most_digits }
     requires found { IsChecked (means scope.now) (view expression.now) found }
     ensures { IfOk result (λ value. value ≡ constant_in (max least) (means scope.now) (view expression.now) (checked (means scope.now) (view expression.now))) }
 {
     let place = expression.first();
     let made = is_made(scope, expression);
-    match ended(found.needs(made, ElabRule::NotConstant, place)) {
+    match found.needs(made, ElabRule::NotConstant, place).ended() {
         Ok(checked) => Ok(known(place, evaluated(alloc, least, checked)?)),
         Err(fault) => Ok(Found::Lost(fault)),
     }
@@ -95,24 +85,31 @@ pub fn given_to(
     width: u8,
     found: Found<Checked>,
 ) -> Result<Found<Bits>, NoMemory>
-    requires width { width ≤ 128 }
+    requires width { width ≤ most_digits }
     requires found { IsChecked (means scope.now) (view expression.now) found }
     ensures { IfOk result (λ value. value ≡ given_to width (means scope.now) (view expression.now)) }
 {
     Ok(valued(alloc, scope, expression, width, found)?)
 }
 
-/// The number of a vector, where 129 stands for more than 128.
-fn cut(value: Bits) -> u8
-    ensures { result ≡ counted_width (number_or (number value)) }
+/// The number of a vector, and 0 where it has none.
+pub fn number_or_zero(value: Bits) -> u128
+    ensures { result ≡ number_or (number value) }
 {
     match value.to_number() {
-        Some(number) => number.min(129) as u8,
+        Some(number) => number,
         None => 0,
     }
 }
 
-/// A count is at least 1, or else BadRange is broken at this token; 129 stands for more than 128.
+/// The number of a vector, where [`TOO_WIDE`] stands for all beyond 128.
+fn cut(value: Bits) -> u8
+    ensures { result ≡ counted_width (number_or (number value)) }
+{
+    number_or_zero(value).min(u128::from(TOO_WIDE)) as u8
+}
+
+/// A count is at least 1, or else BadRange is broken at this token; [`TOO_WIDE`] stands for more than 128.
 fn at_least_one(place: usize, value: Bits) -> Found<u8>
     ensures { result ≡ each counted_width (counted place value) }
 {
@@ -121,7 +118,7 @@ fn at_least_one(place: usize, value: Bits) -> Found<u8>
 }
 
 /// A count, where `place` is the number of its first token: that of a replication (clause 5.1.14) or the width of an indexed
-/// part-select (clause 5.2.1). It is at least 1, or else BadRange is broken there; 129 stands for more than 128.
+/// part-select (clause 5.2.1). It is at least 1, or else BadRange is broken there; [`TOO_WIDE`] stands for more than 128.
 pub fn counted(place: usize, value: Found<Bits>) -> Found<u8>
     ensures { result ≡ each counted_width (and_then value (counted place)) }
 {

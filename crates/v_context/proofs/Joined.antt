@@ -8,11 +8,11 @@ use Rattle.gpi.specs.Terms.{value}
 use Rattle.gpi.specs.Made.{MakesConcat}
 use Rattle.v_context.specs.Concatenations.{values, widths, AreSound, MakesConcatenation}
 
-values_append : (xs ys : List Term) (m : ℕ → List Digit) → values (xs ++ ys) m ≡ values xs m ++ values ys m
+pub values_append : (xs ys : List Term) (m : ℕ → List Digit) → values (xs ++ ys) m ≡ values xs m ++ values ys m
 values_append [] ys m = refl
 values_append (t ∷ xs) ys m = ap (λ (ds : List Digit). value t m ++ ds) (values_append xs ys m) ∙ sym (append_assoc (value t m) (values xs m) (values ys m))
 
-widths_append : (xs ys : List Term) → widths (xs ++ ys) ≡ widths xs + widths ys
+pub widths_append : (xs ys : List Term) → widths (xs ++ ys) ≡ widths xs + widths ys
 widths_append [] ys = omega arith
 widths_append (t ∷ xs) ys = let e : widths (xs ++ ys) ≡ widths xs + widths ys = widths_append xs ys in omega (arith, e)
 

@@ -1,10 +1,10 @@
 //! Expressions that wait for the width of their context.
 
-ghost use Rattle.std.specs.Prelude.{◌≡◌, IfOk};
+ghost use Rattle.std.specs.Prelude.{IfOk};
 ghost use Rattle.v_context.specs.Contexts.{IsLowered, MakesUnary, MakesArith, MakesShift, MakesConditional};
 
 use gpi::{Arith, Shift, Term, Unary};
-use port_io::NoMemory;
+use port_io::{NoMemory, boxed, boxed_both};
 use std::alloc::Global;
 
 /// An expression whose names are signals, and whose width is that of its context (clause 5.4.1).
@@ -22,24 +22,12 @@ pub enum Contextual {
     Conditional(Term, Box<Contextual>, Box<Contextual>),
 }
 
-/// Both, on the heap. Only want of memory is an error.
-fn boxed_both(
-    alloc: Global,
-    a: Contextual,
-    b: Contextual,
-) -> Result<(Box<Contextual>, Box<Contextual>), NoMemory>
-    ensures { IfOk result (λ made. (made.0.value ≡ a) × (made.1.value ≡ b)) }
-{
-    let a = Box::new(alloc, a)?;
-    Ok((a, Box::new(alloc, b)?))
-}
-
 impl Contextual {
     /// An operator whose operand takes the width of the context. Only want of memory is an error.
     pub fn unary(alloc: Global, op: Unary, a: Contextual) -> Result<Contextual, NoMemory>
         ensures { IfOk result (MakesUnary op a) }
     {
-        Ok(Contextual::Unary(op, Box::new(alloc, a)?))
+        Ok(Contextual::Unary(op, boxed(alloc, a)?))
     }
 
     /// An operator whose operands take the width of the context. Only want of memory is an error.
@@ -64,7 +52,7 @@ impl Contextual {
     ) -> Result<Contextual, NoMemory>
         ensures { IfOk result (MakesShift op a count) }
     {
-        Ok(Contextual::Shift(op, Box::new(alloc, a)?, count))
+        Ok(Contextual::Shift(op, boxed(alloc, a)?, count))
     }
 
     /// `condition ? a : b`, where the condition has its own width. Only want of memory is an error.

@@ -13,6 +13,7 @@ use Rattle.v_scope.specs.declared.found.Found.{Found}
 use Rattle.v_scope.specs.Rules.{at}
 use Rattle.v_scope.specs.Found.{each, both, wants, ended, next}
 use Rattle.v_scope.specs.Scope.{Scope}
+use Rattle.v_scope.specs.Limits.{most_parts}
 use Rattle.v_flat.specs.Checks.{checked}
 use Rattle.v_flat.specs.Targets.{Drive, driving, as_target}
 use Rattle.v_flat.specs.Statements.{statement_checked, statement_reads}
@@ -57,8 +58,8 @@ initial_apart : (b : StatementTree) (s : State) → Apart s.driven → Holds IsA
 initial_apart b s a =
     holds_each (λ (u : Unit {0}). Unit {0}) IsApart (λ u. adding (record { kind = process_kind.Initial; wakes = []; run = running s.scope b }) s.driven s) (statement_checked s.scope b) (holds_any (statement_checked s.scope b)) (λ x u. a)
 
-room_apart : (p n : ℕ) (s : State) (x : Found State) → Holds IsApart x → Holds IsApart (wants (nat_le (length s.design.processes + n) 65536) rule.TooMany p x)
-room_apart p n s x h = holds_wants IsApart (nat_le (length s.design.processes + n) 65536) rule.TooMany p x (λ u. h)
+room_apart : (p n : ℕ) (s : State) (x : Found State) → Holds IsApart x → Holds IsApart (wants (nat_le (length s.design.processes + n) most_parts) rule.TooMany p x)
+room_apart p n s x h = holds_wants IsApart (nat_le (length s.design.processes + n) most_parts) rule.TooMany p x (λ u. h)
 
 plain_apart : (p : ℕ) (k : KindTree) (s : State) → Apart s.driven → Holds IsApart (plain_item p k s)
 plain_apart p (Nets r ns) s a = room_apart p (net_count ns) s (in_turn net ns s) (in_turn_apart net ns s net_apart a)
@@ -114,7 +115,7 @@ joints_apart s (Some (NamedConnections cs)) ps ds a = all_named_apart s ps [] cs
 checked_apart : (p : ℕ) (v : Option ConnectionsTree) (i : Identifier) (c : Option ConnectionsTree) (s : State) (m : ModuleTree) → Apart s.driven
     → Holds (λ (x : List Given × Joints). Unit {0} × Apart x.1.driven) (instance_checked p v i c s m)
 checked_apart p v i c s m a =
-    holds_wants (λ (x : List Given × Joints). Unit {0} × Apart x.1.driven) (nat_le (length s.design.processes + joint_count c (ports_of m)) 65536) rule.TooMany p
+    holds_wants (λ (x : List Given × Joints). Unit {0} × Apart x.1.driven) (nat_le (length s.design.processes + joint_count c (ports_of m)) most_parts) rule.TooMany p
     (wants (is_fresh i.name s) rule.DuplicateName i.at (both (given_of s.scope v (open_parameters (parameters_of m))) (joints_of s.scope c (ports_of m) s.driven)))
     (λ u. holds_wants (λ (x : List Given × Joints). Unit {0} × Apart x.1.driven) (is_fresh i.name s) rule.DuplicateName i.at
     (both (given_of s.scope v (open_parameters (parameters_of m))) (joints_of s.scope c (ports_of m) s.driven))

@@ -1,5 +1,6 @@
 -- The width that is found is the width.
-use Rattle.std.proofs.Common.{◌≡◌, ℕ, ◌+◌, ◌*◌, max, Bool, false, List, Option, Some, None, refl, ap, ◌∙◌, subst, nat_le, nat_lt}
+use Rattle.std.proofs.Common.{◌≡◌, ℕ, ◌+◌, ◌*◌, ◌≤◌, max, Bool, false, List, Option, Some, None, refl, ap, ◌∙◌, subst, nat_le, nat_lt, arith}
+use Rattle.std.proofs.lemmas.Bool.Decides.{nat_tests}
 use Rattle.four_value.specs.declared.Digit.{Digit}
 use Rattle.four_value.specs.Vector.{number}
 use Rattle.v_syntax.specs.ExpressionTrees.{Tree, Number, Named, Bracketed, Unary, Binary, Conditional, Concatenation, Replication, SelectsTree, Whole, One, OfWord, SelectTree, Bit, Part, IndexedPart, Trees, none, more, first_at}
@@ -11,16 +12,17 @@ use Rattle.v_scope.specs.declared.meaning.Bounds.{Bounds}
 use Rattle.v_scope.specs.declared.meaning.DataObject.{DataObject}
 use Rattle.v_scope.specs.declared.meaning.Meaning.{Meaning}
 use Rattle.v_scope.specs.declared.meaning.Meaning.TheVariants.{Constant, Object, Later}
+use Rattle.v_scope.specs.Limits.{most_digits}
 use Rattle.v_scope.specs.Scope.{span, width_of, Scope, find}
 use Rattle.v_flat.specs.Objects.{nature_of, nature_of_object}
-use Rattle.v_flat.specs.Expressions.{width, widths, named_width, object_width, select_width, own_value, no_signals, number_or, meaning, unary_class, binary_class, unary_width, binary_width}
+use Rattle.v_flat.specs.Expressions.{width, widths, named_width, object_width, select_width, own_value, own_number, no_signals, number_or, meaning, unary_class, binary_class, unary_width, binary_width}
 use Rattle.v_flat.specs.Checks.{checked, all_checked, made, known, known_by, constant, index, sized, filled, narrow, counted, part_width, go_with, by_nature, of_vector, of_memory, part, select_at}
 use Rattle.v_scope.specs.Found.{Holds}
 use Rattle.v_flat.proofs.Holds.{holds_then, holds_each, holds_both, holds_settled, holds_wants, holds_needs, holds_any}
 
 sized_found : (p n : ℕ) (x : Found ℕ) → Holds (λ (w : ℕ). n ≡ w) x → Holds (λ (w : ℕ). n ≡ w) (sized p x)
-sized_found p n x h = holds_then (λ (w : ℕ). n ≡ w) (λ (w : ℕ). n ≡ w) x (λ w. wants (nat_le w 128) rule.TooWide p (Sound w)) h
-    (λ w e. holds_wants (λ (v : ℕ). n ≡ v) (nat_le w 128) rule.TooWide p (Sound w) (λ u. e))
+sized_found p n x h = holds_then (λ (w : ℕ). n ≡ w) (λ (w : ℕ). n ≡ w) x (λ w. wants (nat_le w most_digits) rule.TooWide p (Sound w)) h
+    (λ w e. holds_wants (λ (v : ℕ). n ≡ v) (nat_le w most_digits) rule.TooWide p (Sound w) (λ u. e))
 
 known_found : (p : ℕ) (ds : List Digit) (n : Option ℕ) → Holds (λ (es : List Digit). ds ≡ es) (known_by p ds n)
 known_found p ds None = tt
@@ -42,7 +44,7 @@ filled_found p n x h = holds_then (λ (w : ℕ). n ≡ w) (λ (w : ℕ). n ≡ w
     (λ w e. holds_needs (λ (v : ℕ). n ≡ v) (nat_lt 0 w) rule.BadRange p (Sound w) (λ u. e))
 
 narrow_found : (p w : ℕ) → Holds (λ (n : ℕ). w ≡ n) (narrow p w)
-narrow_found p w = holds_needs (λ (n : ℕ). w ≡ n) (nat_le w 128) rule.TooWide p (Sound w) (λ u. refl)
+narrow_found p w = holds_needs (λ (n : ℕ). w ≡ n) (nat_le w most_digits) rule.TooWide p (Sound w) (λ u. refl)
 
 part_width_found : (q p : ℕ) (b : Bounds) (i j : ℕ) → Holds (λ (n : ℕ). span i j ≡ n) (part_width q p b i j)
 part_width_found q p b i j = holds_needs (λ (n : ℕ). span i j ≡ n) (go_with b i j) rule.BadRange q (narrow p (span i j)) (λ u. narrow_found p (span i j))
@@ -138,3 +140,15 @@ mutual
       (holds_then (λ (w : ℕ). select_width s (IndexedPart q c n) ≡ w) (λ (w : ℕ). select_width s (IndexedPart q c n) ≡ w) (counted (first_at n) (own_value s n no_signals)) (narrow p)
       (counted_found (first_at n) (own_value s n no_signals))
       (λ w e. subst (λ (v : ℕ). Holds (λ (u : ℕ). select_width s (IndexedPart q c n) ≡ u) (narrow p v)) e (narrow_found p (select_width s (IndexedPart q c n)))))))
+
+-- ---- counts
+
+counted_low : (p : ℕ) (ds : List Digit) → Holds (λ (n : ℕ). (number_or (number ds) ≡ n) × (1 ≤ n)) (counted p ds)
+counted_low p ds = holds_needs (λ (n : ℕ). (number_or (number ds) ≡ n) × (1 ≤ n)) (nat_lt 0 (number_or (number ds))) rule.BadRange p (Sound (number_or (number ds)))
+    (λ u. (refl, grind (arith, nat_tests)))
+
+-- a count is the number of its expression, and at least 1
+pub count_found : (s : Scope) (e : Tree) → Holds (λ (n : ℕ). (own_number s e ≡ n) × (1 ≤ n)) (and_then (constant s e (checked s e)) (counted (first_at e)))
+count_found s e = holds_then (λ (ds : List Digit). own_value s e no_signals ≡ ds) (λ (n : ℕ). (own_number s e ≡ n) × (1 ≤ n)) (constant s e (checked s e)) (counted (first_at e))
+    (constant_found s e (checked s e) (widths_found s e))
+    (λ ds q. subst (λ (es : List Digit). Holds (λ (n : ℕ). (own_number s e ≡ n) × (1 ≤ n)) (counted (first_at e) es)) q (counted_low (first_at e) (own_value s e no_signals)))

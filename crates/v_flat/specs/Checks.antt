@@ -10,6 +10,7 @@ use Rattle.v_scope.specs.Found.{each, both, and_then, settled, broken, wants, ne
 use Rattle.v_scope.specs.declared.meaning.Bounds.{Bounds}
 use Rattle.v_scope.specs.declared.meaning.Meaning.{Meaning}
 use Rattle.v_scope.specs.declared.meaning.Meaning.TheVariants.{Constant}
+use Rattle.v_scope.specs.Limits.{most_digits}
 use Rattle.v_scope.specs.Scope.{span, width_of, is_falling, Scope, find}
 use Rattle.v_flat.specs.Objects.{Nature, Unknown, NoConstant, Vector, Memory, nature_of}
 use Rattle.v_flat.specs.Expressions.{unary_class, binary_class, unary_width, binary_width, number_or, meaning, no_signals}
@@ -73,7 +74,7 @@ index false s e x = each (λ w. tt) x
 -- ---- widths
 
 abbrev pub sized : ℕ → Found ℕ → Found ℕ
-sized p x = and_then x (λ w. wants (nat_le w 128) rule.TooWide p (Sound w))
+sized p x = and_then x (λ w. wants (nat_le w most_digits) rule.TooWide p (Sound w))
 
 -- something stands in the braces, as it does in each text
 abbrev pub filled : ℕ → Found ℕ → Found ℕ
@@ -84,7 +85,7 @@ abbrev pub go_with : Bounds → ℕ → ℕ → Bool
 go_with b i j = if is_falling b then nat_le j i else nat_le i j
 
 abbrev pub narrow : ℕ → ℕ → Found ℕ
-narrow p w = needs (nat_le w 128) rule.TooWide p (Sound w)
+narrow p w = needs (nat_le w most_digits) rule.TooWide p (Sound w)
 
 -- a count that is at least 1
 abbrev pub counted : ℕ → List Digit → Found ℕ

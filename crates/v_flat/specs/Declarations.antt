@@ -18,6 +18,7 @@ use Rattle.v_scope.specs.declared.meaning.DataKind.{DataKind}
 use Rattle.v_scope.specs.declared.meaning.DataKind.TheVariants.{Input, Net, Register}
 use Rattle.v_scope.specs.declared.meaning.Meaning.TheVariants.{Constant}
 use Rattle.v_scope.specs.declared.meaning.Meaning.{Meaning}
+use Rattle.v_scope.specs.Limits.{most_digits, most_parts}
 use Rattle.v_scope.specs.Scope.{width_of, plain, Scope, means, before, first_of}
 use Rattle.v_flat.specs.Objects.{count_of, is_among}
 use Rattle.v_flat.specs.Expressions.{number_or}
@@ -39,7 +40,7 @@ range_at (BoundsTree p l r) = p
 -- the range of a vector
 abbrev pub vector_bounds : Option RangeTree → Scope → Found Bounds
 vector_bounds None s = Sound (record { left = 0; right = 0 })
-vector_bounds (Some r) s = and_then (bounds_in r s) (λ b. needs (nat_le (width_of b) 128) rule.TooWide (range_at r) (Sound b))
+vector_bounds (Some r) s = and_then (bounds_in r s) (λ b. needs (nat_le (width_of b) most_digits) rule.TooWide (range_at r) (Sound b))
 
 -- ---- parameters
 
@@ -142,7 +143,7 @@ abbrev pub whole_of : Declared → Declared → Declared
 whole_of old d = record old { direction = first_of old.direction d.direction; sort = first_of old.sort d.sort }
 
 abbrev pub declared_too : Place → ℕ → Declared → List Declared → Found (List Declared)
-declared_too w p d ds = wants (nat_le (w.first + (signals_in ds + count_of d.words)) 65536) rule.TooMany p (Sound (ds ++ (d ∷ [])))
+declared_too w p d ds = wants (nat_le (w.first + (signals_in ds + count_of d.words)) most_parts) rule.TooMany p (Sound (ds ++ (d ∷ [])))
 
 abbrev pub declare_again : Place → ℕ → Declared → List Declared → Option Declared → Found (List Declared)
 declare_again w p d ds None = port_checked w p d (declared_too w p d ds)

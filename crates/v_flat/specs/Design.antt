@@ -1,5 +1,6 @@
 -- The walk from the top: the design that a text stands for, or the first rule that it breaks.
-use Rattle.std.specs.Prelude.{◌≡◌, ℕ, zero, suc, ◌+◌, List, [], ◌∷◌, ◌++◌, map, length, Option, None, Some, Result, Ok, Err, Bool, true, false, ◌&&◌, not, is_some, is_none, nat_le, nat_lt, bytes_eq, slice_set, slice_index_or, if◌then◌else◌}
+use Rattle.std.specs.Prelude.{◌≡◌, ℕ, zero, suc, ◌+◌, List, [], ◌∷◌, ◌++◌, map, length, Option, None, Some, Result, Ok, Err, Bool, ◌&&◌, not, is_some, is_none, nat_le, nat_lt, bytes_eq, slice_set, slice_index_or, if◌then◌else◌}
+use Rattle.std.specs.List.{filter, flat_map, list_any, range_with_len}
 use Rattle.four_value.specs.declared.Digit.{Digit}
 use Rattle.four_value.specs.declared.Digit.TheVariants.{X, Z}
 use Rattle.gpi.specs.declared.types.SigId.{SigId}
@@ -35,6 +36,7 @@ use Rattle.v_scope.specs.declared.meaning.DataKind.TheVariants.{Input, Net, Regi
 use Rattle.v_scope.specs.declared.meaning.DataObject.{DataObject}
 use Rattle.v_scope.specs.declared.meaning.Meaning.{Meaning}
 use Rattle.v_scope.specs.declared.meaning.Meaning.TheVariants.{Constant, Object, Later}
+use Rattle.v_scope.specs.Limits.{most_parts}
 use Rattle.v_scope.specs.Scope.{width_of, low_of, Scope, find, means, named, nothing}
 use Rattle.v_flat.specs.Objects.{count_of, is_among}
 use Rattle.v_flat.specs.Checks.{checked, constant_of}
@@ -98,18 +100,14 @@ children first (d ∷ ds) = (d.name, spot_of (object_of first d) d.words) ∷ ch
 -- ---- wakes
 
 abbrev pub is_read : ℕ → List Span → Bool
-is_read n [] = false
-is_read n (x ∷ xs) = if nat_le x.first n && nat_lt n (x.first + x.count) then true else is_read n xs
+is_read n xs = list_any (λ x. nat_le x.first n && nat_lt n (x.first + x.count)) xs
 
--- the signals from n on, so many, that are read
-abbrev pub wakes_from : ℕ → ℕ → List Span → List Wake
-wakes_from n zero xs = []
-wakes_from n (suc more) xs =
-    if is_read n xs then record { sig = sig n; edge = wake_edge.Any } ∷ wakes_from (n + 1) more xs else wakes_from (n + 1) more xs
+abbrev pub any_change : ℕ → Wake
+any_change n = record { sig = sig n; edge = wake_edge.Any }
 
 -- any change of a signal that is read, by rising number
 abbrev pub wakes_of : List Span → Design → List Wake
-wakes_of xs d = wakes_from 0 (length d.signals) xs
+wakes_of xs d = map any_change (filter (λ n. is_read n xs) (range_with_len 0 (length d.signals)))
 
 abbrev pub wake_edge_of : Option Edge → WakeEdge
 wake_edge_of None = wake_edge.Any
@@ -206,7 +204,7 @@ register_count (RegisterOf i t ∷ rs) = register_count rs
 
 -- there is room for so many more processes; p is the place of the item
 abbrev pub with_room : {A : Type 0} → ℕ → ℕ → Design → Found A → Found A
-with_room p n d x = wants (nat_le (length d.processes + n) 65536) rule.TooMany p x
+with_room p n d x = wants (nat_le (length d.processes + n) most_parts) rule.TooMany p x
 
 -- an item that is no instance
 abbrev pub plain_item : ℕ → KindTree → State → Found State
@@ -364,7 +362,7 @@ abbrev pub module_there : Identifier → ℕ → List (List ℕ) → Design → 
 module_there i room above d None = broken rule.UnknownModule i.at
 module_there i room above d (Some m) =
     needs (not (is_among i.name above)) rule.RecursiveInstance i.at
-    (needs (nat_lt 0 room && nat_lt (length d.nodes) 65536) rule.TooMany i.at (Sound m))
+    (needs (nat_lt 0 room && nat_lt (length d.nodes) most_parts) rule.TooMany i.at (Sound m))
 
 abbrev pub child_name : List ℕ × Spot → List ℕ
 child_name c = c.0
@@ -439,12 +437,10 @@ instance_names (ItemAt p (Instance m values i ports) ∷ is) = m.name ∷ instan
 instance_names (ItemAt p k ∷ is) = instance_names is
 
 abbrev pub used_modules : List ModuleTree → List (List ℕ)
-used_modules [] = []
-used_modules (m ∷ ms) = instance_names (items_in m) ++ used_modules ms
+used_modules ms = flat_map (λ m. instance_names (items_in m)) ms
 
 abbrev pub unused : List (List ℕ) → List ModuleTree → List ModuleTree
-unused ns [] = []
-unused ns (m ∷ ms) = if is_among (module_name m).name ns then unused ns ms else m ∷ unused ns ms
+unused ns ms = filter (λ m. not (is_among (module_name m).name ns)) ms
 
 abbrev pub only : List ModuleTree → Option ModuleTree
 only (m ∷ []) = Some m

@@ -1,5 +1,6 @@
 -- Targets of assignments: what is broken first, what they drive, and the updates that they get.
-use Rattle.std.specs.Prelude.{ℕ, ◌+◌, ◌==◌, ◌&&◌, List, [], ◌∷◌, ◌++◌, min, max, Option, None, Some, Bool, true, false, nat_lt, if◌then◌else◌}
+use Rattle.std.specs.Prelude.{ℕ, ◌+◌, ◌==◌, ◌&&◌, List, [], ◌∷◌, ◌++◌, min, max, Option, None, Some, Bool, true, false, nat_lt}
+use Rattle.std.specs.List.{list_any}
 use Rattle.four_value.specs.declared.Digit.{Digit}
 use Rattle.four_value.specs.Vector.{number, slice}
 use Rattle.gpi.specs.declared.types.Update.{Update}
@@ -74,8 +75,7 @@ abbrev pub meets : Drive → Drive → Bool
 meets a b = (a.signal == b.signal) && nat_lt (max a.low b.low) (min (a.low + a.count) (b.low + b.count))
 
 abbrev pub is_driven : Drive → List Drive → Bool
-is_driven d [] = false
-is_driven d (x ∷ xs) = if meets d x then true else is_driven d xs
+is_driven d ds = list_any (λ x. meets d x) ds
 
 abbrev pub inside_drive : ℕ → Option Overlap → Drive
 inside_drive signal None = record { signal = signal; low = 0; count = 0 }

@@ -13,25 +13,28 @@ use Rattle.v_scope.specs.declared.found.Found.TheVariants.{Sound, Noted, Lost}
 use Rattle.v_scope.specs.Found.{each, both, and_then, needs, Holds}
 use Rattle.v_scope.specs.declared.meaning.Bounds.{Bounds}
 use Rattle.v_scope.specs.Scope.{Scope, span}
+use Rattle.v_scope.proofs.Gathered.{same_each, each_each, each_needs, each_then, then_same}
+use Rattle.v_scope.specs.Limits.{counted_width}
+use Rattle.v_scope.proofs.CutWidths.{fits_cut}
 use Rattle.v_flat.specs.Expressions.{number_or, own_number, own_value, no_signals, meaning, width, lesser, select_width, select_base}
 use Rattle.v_flat.specs.Checks.{checked, index, constant_of, counted, narrow, part, part_width, go_with}
+use Rattle.v_operator.specs.Checked.{IsCount}
 use Rattle.v_flat.proofs.Holds.{holds_both, holds_each, holds_then, holds_needs}
-use Rattle.v_operator.specs.Checked.{counted_width}
-use Rattle.v_operator.proofs.Combined.{each_each, each_same, both_each, each_needs}
+use Rattle.v_flat.proofs.Widths.{count_found}
 use Rattle.v_constant.proofs.Unsignalled.{one_meaning}
 use Rattle.v_names.specs.declared.choice.Choice.{Choice}
 use Rattle.v_names.specs.declared.selects.CheckedSelect.{CheckedSelect}
 use Rattle.v_names.specs.declared.selects.CheckedSelect.TheVariants as code
 use Rattle.v_names.specs.Selects.{StandsAlone, IsIndex, IsSelect}
 use Rattle.v_names.specs.Made.{Chooses, IsChosen, bit_choice, pair_choice, lesser_by, lesser_of, range_of_numbers, range_choice, choice_from}
-use Rattle.v_names.proofs.Founds.{same_each, second_of, each_then, then_same, IsValue, constant_is, constant_then, fits_cut, narrow_counted, count_is}
+use Rattle.v_names.proofs.Founds.{second_of, IsValue, constant_is, constant_then, narrow_counted}
 
 -- ---- bits
 
-bit_chosen : (s : Scope) (p : ℕ) (b : Bounds) (q : ℕ) (i : Tree) (x : Found Term) → IsIndex s i x → IsChosen s p b (Bit q i) (each bit_choice x)
-bit_chosen s p b q i x h = record {
+bit_chosen : (fixed : Bool) (s : Scope) (p : ℕ) (b : Bounds) (q : ℕ) (i : Tree) (x : Found Term) → IsIndex fixed s i x → IsChosen fixed s p b (Bit q i) (each bit_choice x)
+bit_chosen fixed s p b q i x h = record {
   finds = each_each (λ (c : Choice). c.width) bit_choice x ∙ sym (each_each (λ (u : Unit {0}). 1) (λ (t : Term). tt) x) ∙ ap (λ (y : Found (Unit {0})). each (λ (u : Unit {0}). 1) y) h.finds
-      ∙ sym (each_each counted_width (λ (u : Unit {0}). 1) (index false s i (checked s i)));
+      ∙ sym (each_each counted_width (λ (u : Unit {0}). 1) (index fixed s i (checked s i)));
   holds = holds_each (λ (t : Term). StandsAlone s i t) (λ (c : Choice). Chooses s (Bit q i) c) bit_choice x h.holds
       (λ t st. record { proper = (omega arith, omega arith); own = refl; base = λ m. ap (λ (ds : List Digit). number ds) (st.means m); sound = st.sound });
 }
@@ -42,7 +45,7 @@ narrow_low : (p n w : ℕ) → (n ≡ w) × (1 ≤ w) → Holds (λ (v : ℕ). (
 narrow_low p n w h = holds_needs (λ (v : ℕ). (n ≡ v) × IsWidth v) (nat_le w 128) rule.TooWide p (Sound w) (λ u. (h.0, (h.1, grind (arith, nat_tests))))
 
 narrow_count : (s : Scope) (p : ℕ) (n : Tree) → Holds (λ (v : ℕ). (own_number s n ≡ v) × IsWidth v) (and_then (and_then (constant_of s n) (counted (first_at n))) (narrow p))
-narrow_count s p n = holds_then (λ (w : ℕ). (own_number s n ≡ w) × (1 ≤ w)) (λ (v : ℕ). (own_number s n ≡ v) × IsWidth v) (and_then (constant_of s n) (counted (first_at n))) (narrow p) (count_is s n)
+narrow_count s p n = holds_then (λ (w : ℕ). (own_number s n ≡ w) × (1 ≤ w)) (λ (v : ℕ). (own_number s n ≡ v) × IsWidth v) (and_then (constant_of s n) (counted (first_at n))) (narrow p) (count_found s n)
     (λ w h. narrow_low p (own_number s n) w h)
 
 cut_width : (n v : ℕ) → (n ≡ v) × IsWidth v → (n ≡ counted_width v) × IsWidth (counted_width v)
@@ -52,14 +55,14 @@ width_of_indexed : (s : Scope) (p : ℕ) (n : Tree) (w : Found ℕ) → w ≡ ea
     → and_then w (narrow p) ≡ each counted_width (and_then (and_then (constant_of s n) (counted (first_at n))) (narrow p))
 width_of_indexed s p n w e = ap (λ (x : Found ℕ). and_then x (narrow p)) e ∙ narrow_counted p (and_then (constant_of s n) (counted (first_at n)))
 
-indexed_chosen : (s : Scope) (p : ℕ) (b : Bounds) (q : ℕ) (c n : Tree) (x : Found Term) (w : Found ℕ) → IsIndex s c x
-    → w ≡ each counted_width (and_then (constant_of s n) (counted (first_at n))) → IsChosen s p b (IndexedPart q c n) (each pair_choice (both x (and_then w (narrow p))))
-indexed_chosen s p b q c n x w h e =
+indexed_chosen : (fixed : Bool) (s : Scope) (p : ℕ) (b : Bounds) (q : ℕ) (c n : Tree) (x : Found Term) (w : Found ℕ) → IsIndex fixed s c x
+    → IsCount s n w → IsChosen fixed s p b (IndexedPart q c n) (each pair_choice (both x (and_then w (narrow p))))
+indexed_chosen fixed s p b q c n x w h e =
     let y = and_then (and_then (constant_of s n) (counted (first_at n))) (narrow p) in
     let f : and_then w (narrow p) ≡ each counted_width y = width_of_indexed s p n w e in record {
       finds = each_each {A = Term × ℕ} {B = Choice} {C = ℕ} (λ (z : Choice). z.width) pair_choice (both x (and_then w (narrow p)))
-          ∙ second_of x (index false s c (checked s c)) (and_then w (narrow p)) (λ (v : ℕ). v) y h.finds (same_each (and_then w (narrow p)) ∙ f)
-          ∙ ap (λ (v : Found ℕ). each counted_width (each {A = Unit {0} × ℕ} (λ (z : Unit {0} × ℕ). z.1) (both (index false s c (checked s c)) v)))
+          ∙ second_of x (index fixed s c (checked s c)) (and_then w (narrow p)) (λ (v : ℕ). v) y h.finds (same_each (and_then w (narrow p)) ∙ f)
+          ∙ ap (λ (v : Found ℕ). each counted_width (each {A = Unit {0} × ℕ} (λ (z : Unit {0} × ℕ). z.1) (both (index fixed s c (checked s c)) v)))
           (constant_then s n (counted (first_at n)) (narrow p));
       holds = holds_each (λ (z : Term × ℕ). StandsAlone s c z.0 × ((own_number s n ≡ z.1) × IsWidth z.1)) (λ (z : Choice). Chooses s (IndexedPart q c n) z) pair_choice (both x (and_then w (narrow p)))
           (holds_both (λ (t : Term). StandsAlone s c t) (λ (v : ℕ). (own_number s n ≡ v) × IsWidth v) x (and_then w (narrow p)) h.holds
@@ -114,8 +117,8 @@ base_of_part s q l r ds es h k m = lesser_number ds es
     ∙ ap (λ (xs : List Digit). lesser (number xs) (number es)) (sym h.value ∙ one_meaning s l (width s l) no_signals m h.made_of)
     ∙ ap (λ (xs : List Digit). lesser (number (own_value s l m)) (number xs)) (sym k.value ∙ one_meaning s r (width s r) no_signals m k.made_of)
 
-range_chosen : (s : Scope) (p : ℕ) (b : Bounds) (q : ℕ) (l r : Tree) → IsChosen s p b (Part q l r) (and_then (both (constant_of s l) (constant_of s r)) (λ z. range_choice q p b z.0 z.1))
-range_chosen s p b q l r = record {
+range_chosen : (fixed : Bool) (s : Scope) (p : ℕ) (b : Bounds) (q : ℕ) (l r : Tree) → IsChosen fixed s p b (Part q l r) (and_then (both (constant_of s l) (constant_of s r)) (λ z. range_choice q p b z.0 z.1))
+range_chosen fixed s p b q l r = record {
   finds = each_then {A = List Digit × List Digit} (λ (c : Choice). c.width) (λ z. range_choice q p b z.0 z.1) (both (constant_of s l) (constant_of s r))
       ∙ then_same {A = List Digit × List Digit} (λ z. each (λ (c : Choice). c.width) (range_choice q p b z.0 z.1)) (λ z. each counted_width (part_width q p b (number_or (number z.0)) (number_or (number z.1))))
       (both (constant_of s l) (constant_of s r)) (λ z. numbers_width q p b (number_or (number z.0)) (number_or (number z.1)) (lesser_of z.0 z.1))
@@ -129,17 +132,17 @@ range_chosen s p b q l r = record {
 
 -- ---- all of them
 
-pub chosen : (s : Scope) (p : ℕ) (b : Bounds) (sel : SelectTree) (x : CheckedSelect) → IsSelect s sel x → IsChosen s p b sel (choice_from p b x)
-chosen s p b (Bit q i) (code.Bit o x) h = bit_chosen s p b q i x h.1
-chosen s p b (IndexedPart q c n) (code.IndexedPart o x w) h = indexed_chosen s p b q c n x w h.1.0 h.1.1
-chosen s p b (Part q l r) (code.Part o x y) h =
-    subst (λ (n : ℕ). IsChosen s p b (Part q l r) (and_then (both x y) (λ z. range_choice n p b z.0 z.1))) h.0
-    (subst (λ (v : Found (List Digit)). IsChosen s p b (Part q l r) (and_then (both x v) (λ z. range_choice q p b z.0 z.1))) (sym h.1.1)
-    (subst (λ (v : Found (List Digit)). IsChosen s p b (Part q l r) (and_then (both v (constant_of s r)) (λ z. range_choice q p b z.0 z.1))) (sym h.1.0)
-    (range_chosen s p b q l r)))
-chosen s p b (Bit q i) (code.Part o x y) h = absurd h
-chosen s p b (Bit q i) (code.IndexedPart o x w) h = absurd h
-chosen s p b (Part q l r) (code.Bit o x) h = absurd h
-chosen s p b (Part q l r) (code.IndexedPart o x w) h = absurd h
-chosen s p b (IndexedPart q c n) (code.Bit o x) h = absurd h
-chosen s p b (IndexedPart q c n) (code.Part o x y) h = absurd h
+pub chosen : (fixed : Bool) (s : Scope) (p : ℕ) (b : Bounds) (sel : SelectTree) (x : CheckedSelect) → IsSelect fixed s sel x → IsChosen fixed s p b sel (choice_from p b x)
+chosen fixed s p b (Bit q i) (code.Bit o x) h = bit_chosen fixed s p b q i x h.1
+chosen fixed s p b (IndexedPart q c n) (code.IndexedPart o x w) h = indexed_chosen fixed s p b q c n x w h.1.0 h.1.1
+chosen fixed s p b (Part q l r) (code.Part o x y) h =
+    subst (λ (n : ℕ). IsChosen fixed s p b (Part q l r) (and_then (both x y) (λ z. range_choice n p b z.0 z.1))) h.0
+    (subst (λ (v : Found (List Digit)). IsChosen fixed s p b (Part q l r) (and_then (both x v) (λ z. range_choice q p b z.0 z.1))) (sym h.1.1)
+    (subst (λ (v : Found (List Digit)). IsChosen fixed s p b (Part q l r) (and_then (both v (constant_of s r)) (λ z. range_choice q p b z.0 z.1))) (sym h.1.0)
+    (range_chosen fixed s p b q l r)))
+chosen fixed s p b (Bit q i) (code.Part o x y) h = absurd h
+chosen fixed s p b (Bit q i) (code.IndexedPart o x w) h = absurd h
+chosen fixed s p b (Part q l r) (code.Bit o x) h = absurd h
+chosen fixed s p b (Part q l r) (code.IndexedPart o x w) h = absurd h
+chosen fixed s p b (IndexedPart q c n) (code.Bit o x) h = absurd h
+chosen fixed s p b (IndexedPart q c n) (code.Part o x y) h = absurd h

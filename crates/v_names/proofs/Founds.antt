@@ -10,27 +10,13 @@ use Rattle.v_scope.specs.declared.found.Found.{Found}
 use Rattle.v_scope.specs.declared.found.Found.TheVariants.{Sound, Noted, Lost}
 use Rattle.v_scope.specs.Found.{noted, each, both, and_then, settled, needs, Holds}
 use Rattle.v_scope.specs.Scope.{Scope}
+use Rattle.v_scope.proofs.Gathered.{same_each, each_each, each_noted, each_needs, both_each, holds_so}
+use Rattle.v_scope.specs.Limits.{counted_width}
+use Rattle.v_scope.proofs.CutWidths.{fits_cut}
 use Rattle.v_flat.specs.Expressions.{number_or, own_number, own_value, no_signals, meaning}
 use Rattle.v_flat.specs.Checks.{made, checked, known, known_by, constant, constant_of, counted, narrow}
 use Rattle.v_flat.proofs.Holds.{holds_then, holds_settled, holds_needs, holds_noted}
 use Rattle.v_flat.proofs.Widths.{widths_found, constant_found}
-use Rattle.v_operator.specs.Checked.{counted_width}
-use Rattle.v_operator.proofs.Combined.{each_each, both_each, each_noted, each_needs, holds_so}
-
-pub same_each : {A : Type 0} (x : Found A) → each (λ (a : A). a) x ≡ x
-same_each (Sound a) = refl
-same_each (Noted b a) = refl
-same_each (Lost b) = refl
-
-pub each_then : {A B C : Type 0} (g : B → C) (f : A → Found B) (x : Found A) → each g (and_then x f) ≡ and_then x (λ a. each g (f a))
-each_then g f (Sound a) = refl
-each_then g f (Noted b a) = each_noted g b (f a)
-each_then g f (Lost b) = refl
-
-pub then_same : {A B : Type 0} (f g : A → Found B) (x : Found A) → ((a : A) → f a ≡ g a) → and_then x f ≡ and_then x g
-then_same f g (Sound a) h = h a
-then_same {A} {B} f g (Noted b a) h = ap (λ (y : Found B). noted b y) (h a)
-then_same f g (Lost b) h = refl
 
 -- the second of two, where the first has no value that counts
 pub second_of : {A B : Type 0} (x : Found A) (u : Found (Unit {0})) (y : Found B) (g : B → ℕ) (z : Found ℕ) → each (λ (a : A). tt) x ≡ u → each g y ≡ each counted_width z
@@ -93,15 +79,6 @@ constant_then s e f g = settled_then (first_at e) (λ w. meaning s e w no_signal
 
 -- ---- widths that are cut
 
-fits_by : (w : ℕ) (a b : Bool) → nat_le (min w 129) 128 ≡ a → nat_le w 128 ≡ b → a ≡ b
-fits_by w true true p q = refl
-fits_by w true false p q = absurd (grind (arith, nat_tests))
-fits_by w false true p q = absurd (grind (arith, nat_tests))
-fits_by w false false p q = refl
-
-pub fits_cut : (w : ℕ) → nat_le (counted_width w) 128 ≡ nat_le w 128
-fits_cut w = fits_by w (nat_le (min w 129) 128) (nat_le w 128) refl refl
-
 narrow_one : (p w : ℕ) → narrow p (counted_width w) ≡ each counted_width (narrow p w)
 narrow_one p w = ap (λ (ok : Bool). needs ok rule.TooWide p (let r : Found ℕ = Sound (counted_width w) in r)) (fits_cut w)
     ∙ sym (each_needs counted_width (nat_le w 128) rule.TooWide p (Sound w))
@@ -110,13 +87,3 @@ pub narrow_counted : (p : ℕ) (x : Found ℕ) → and_then (each counted_width 
 narrow_counted p (Sound w) = narrow_one p w
 narrow_counted p (Noted b w) = ap (λ (y : Found ℕ). noted b y) (narrow_one p w) ∙ sym (each_noted counted_width b (narrow p w))
 narrow_counted p (Lost b) = refl
-
--- ---- counts
-
-counted_low : (p : ℕ) (ds : List Digit) → Holds (λ (n : ℕ). (number_or (number ds) ≡ n) × (1 ≤ n)) (counted p ds)
-counted_low p ds = holds_needs (λ (n : ℕ). (number_or (number ds) ≡ n) × (1 ≤ n)) (nat_lt 0 (number_or (number ds))) rule.BadRange p (Sound (number_or (number ds)))
-    (λ u. (refl, grind (arith, nat_tests)))
-
-pub count_is : (s : Scope) (e : Tree) → Holds (λ (n : ℕ). (own_number s e ≡ n) × (1 ≤ n)) (and_then (constant_of s e) (counted (first_at e)))
-count_is s e = holds_then (λ (ds : List Digit). IsValue s e ds) (λ (n : ℕ). (own_number s e ≡ n) × (1 ≤ n)) (constant_of s e) (counted (first_at e)) (constant_is s e)
-    (λ ds h. subst (λ (es : List Digit). Holds (λ (n : ℕ). (own_number s e ≡ n) × (1 ≤ n)) (counted (first_at e) es)) h.value (counted_low (first_at e) (own_value s e no_signals)))

@@ -1,3 +1,4 @@
 pub mod Founds
 pub mod Choices
 pub mod Names
+pub mod Fixed

@@ -17,14 +17,16 @@ use Rattle.v_scope.specs.declared.meaning.DataObject.{DataObject}
 use Rattle.v_scope.specs.declared.meaning.Meaning.{Meaning}
 use Rattle.v_scope.specs.declared.meaning.Meaning.TheVariants.{Constant, Object, Later}
 use Rattle.v_scope.specs.Scope.{Scope, find, width_of}
+use Rattle.v_scope.proofs.Gathered.{each_each, each_same, each_then, holds_so}
+use Rattle.v_scope.specs.Limits.{counted_width}
 use Rattle.v_context.specs.declared.contextual.Contextual.TheVariants.{Settled}
 use Rattle.v_flat.specs.Objects.{Nature, Vector, Memory, nature_of, nature_of_object, range_of, words_of}
 use Rattle.v_flat.specs.Expressions.{own_value, select_base, select_width, object_width, object_part}
 use Rattle.v_flat.specs.Checks.{checked, index, part, by_nature, of_vector, of_memory, select_at}
 use Rattle.v_flat.proofs.Holds.{holds_then, holds_any, holds_both}
 use Rattle.v_operator.specs.declared.checked.Checked.{Checked}
-use Rattle.v_operator.specs.Checked.{StandsFor, IsChecked, IsNameOf, IsObjectOf, counted_width}
-use Rattle.v_operator.proofs.Combined.{each_each, each_same, made_width, made_holds, holds_so}
+use Rattle.v_operator.specs.Checked.{StandsFor, IsChecked, IsNameOf, IsObjectOf}
+use Rattle.v_operator.proofs.Combined.{made_width, made_holds}
 use Rattle.v_names.specs.declared.choice.Choice.{Choice}
 use Rattle.v_names.specs.declared.selects.CheckedSelect.{CheckedSelect}
 use Rattle.v_names.specs.declared.selects.CheckedSelect.TheVariants as code
@@ -33,14 +35,14 @@ use Rattle.v_names.specs.declared.selects.CheckedSelects.TheVariants as code_sel
 use Rattle.v_names.specs.Proper.{IsProper}
 use Rattle.v_names.specs.Selects.{StandsAlone, IsIndex, IsSelect, AreSelects}
 use Rattle.v_names.specs.Made.{Chooses, IsVector, IsMemory, StandsForName, IsName, MakesPart, MakesWord, MakesWordPart, AreParts, AreWordsOf, AreWordParts, VectorMade, WordMade, MemoryMade, choice_from, place_of}
-use Rattle.v_names.proofs.Founds.{each_then, second_of}
+use Rattle.v_names.proofs.Founds.{second_of}
 use Rattle.v_names.proofs.Choices.{chosen}
 
 -- a name with selects, by what it is
 abbrev asked : Scope → ℕ → SelectsTree → Nature → Found ℕ
 asked s p sel n = by_nature p n (λ b. of_vector false s p b sel) (λ b. of_memory false s p b sel)
 
-place_is : (s : Scope) (sel : SelectTree) (x : CheckedSelect) → IsSelect s sel x → select_at sel ≡ place_of x
+place_is : (s : Scope) (sel : SelectTree) (x : CheckedSelect) → IsSelect false s sel x → select_at sel ≡ place_of x
 place_is s (Bit q i) (code.Bit o x) h = h.0
 place_is s (Part q l r) (code.Part o x y) h = h.0
 place_is s (IndexedPart q c n) (code.IndexedPart o x w) h = h.0
@@ -76,9 +78,9 @@ part_stands s sel x t b y c v made k = record {
   sound = λ ws h q. made.sound ws (v.sound ws h, k.sound ws q, k.proper);
 }
 
-part_named : (s : Scope) (p : ℕ) (sel : SelectTree) (x : Option Meaning) (t : Term) (b : Bounds) (y : CheckedSelect) (f : Found Checked) → IsVector x t b → IsSelect s sel y
+part_named : (s : Scope) (p : ℕ) (sel : SelectTree) (x : Option Meaning) (t : Term) (b : Bounds) (y : CheckedSelect) (f : Found Checked) → IsVector x t b → IsSelect false s sel y
     → AreParts t (range_of b) (choice_from p b y) f → IsName s p (One sel) x f
-part_named s p sel x t b y f v h made = let k = chosen s p b sel y h in record {
+part_named s p sel x t b y f v h made = let k = chosen false s p b sel y h in record {
   finds = made_width (λ (z : Choice) (c : Checked). MakesPart t (range_of b) z c) (λ (c : Checked). c.width) (λ (z : Choice). z.width) (choice_from p b y) f made (λ z c q. q.width_is)
       ∙ k.finds ∙ ap (λ (n : Nature). each counted_width (asked s p (One sel) n)) (sym v.nature);
   holds = made_holds (λ (z : Choice) (c : Checked). MakesPart t (range_of b) z c) (λ (z : Choice). Chooses s sel z) (λ (c : Checked). StandsForName s (One sel) x c)
@@ -88,7 +90,7 @@ part_named s p sel x t b y f v h made = let k = chosen s p b sel y h in record {
 never : {A : Type 0} (R : Checked → Type 0) (p : ℕ) (x : Found A) → Holds R (and_then x (λ a. broken rule.BadRange p))
 never {A} R p x = holds_then (λ (a : A). Unit {0}) R x (λ a. broken rule.BadRange p) (holds_any x) (λ a k. tt)
 
-twice_named : (s : Scope) (p q : ℕ) (i : Tree) (sel : SelectTree) (x : Option Meaning) (t : Term) (b : Bounds) (y : Found Term) (z : CheckedSelect) → IsVector x t b → IsIndex s i y → IsSelect s sel z
+twice_named : (s : Scope) (p q : ℕ) (i : Tree) (sel : SelectTree) (x : Option Meaning) (t : Term) (b : Bounds) (y : Found Term) (z : CheckedSelect) → IsVector x t b → IsIndex false s i y → IsSelect false s sel z
     → IsName s p (OfWord q i sel) x (and_then (each (λ (t : Term). tt) y) (λ (u : Unit {0}). broken rule.BadRange (place_of z)))
 twice_named s p q i sel x t b y z v h k = record {
   finds = each_then (λ (c : Checked). c.width) (λ (u : Unit {0}). broken rule.BadRange (place_of z)) (each (λ (t : Term). tt) y)
@@ -100,7 +102,7 @@ twice_named s p q i sel x t b y z v h k = record {
 }
 
 pub vector_named : (s : Scope) (p : ℕ) (sel : SelectsTree) (x : Option Meaning) (t : Term) (n : ℕ) (b : Bounds) (y : CheckedSelects) (f : Found Checked) → n ≡ width_of b → IsVector x t b
-    → AreSelects s sel y → VectorMade p t n b y f → IsName s p sel x f
+    → AreSelects false s sel y → VectorMade p t n b y f → IsName s p sel x f
 vector_named s p Whole x t n b code_selects.Whole f e v h made =
     subst (λ (g : Found Checked). IsName s p Whole x g) (sym (made ∙ ap (λ (k : ℕ). (let r : Found Checked = Sound (record { width = k; form = Settled t }) in r)) e)) (whole_named s p x t b v)
 vector_named s p (One sel) x t n b (code_selects.One y) f e v h made = part_named s p sel x t b y f v h made
@@ -126,7 +128,7 @@ word_stands s q i x words b t c v made k = record {
   sound = λ ws h names. made.sound ws (k.sound ws names, v.sound ws h);
 }
 
-word_named : (s : Scope) (p q : ℕ) (i : Tree) (x : Option Meaning) (words : Words) (b : Bounds) (y : Found Term) (f : Found Checked) → IsMemory x words b → IsIndex s i y
+word_named : (s : Scope) (p q : ℕ) (i : Tree) (x : Option Meaning) (words : Words) (b : Bounds) (y : Found Term) (f : Found Checked) → IsMemory x words b → IsIndex false s i y
     → AreWordsOf words (width_of b) y f → IsName s p (One (Bit q i)) x f
 word_named s p q i x words b y f v h made = record {
   finds = made_width (λ (t : Term) (c : Checked). MakesWord words (width_of b) t c) (λ (c : Checked). c.width) (λ (t : Term). width_of b) y f made (λ t c k. k.width_is)
@@ -148,7 +150,7 @@ broken_named s p q o sel x words b f v e h made = subst (λ (g : Found Checked).
   holds = tt;
 })
 
-one_named : (s : Scope) (p : ℕ) (sel : SelectTree) (x : Option Meaning) (words : Words) (b : Bounds) (y : CheckedSelect) (f : Found Checked) → IsMemory x words b → IsSelect s sel y
+one_named : (s : Scope) (p : ℕ) (sel : SelectTree) (x : Option Meaning) (words : Words) (b : Bounds) (y : CheckedSelect) (f : Found Checked) → IsMemory x words b → IsSelect false s sel y
     → WordMade words (width_of b) y f → IsName s p (One sel) x f
 one_named s p (Bit q i) x words b (code.Bit o y) f v h made = word_named s p q i x words b y f v h.1 made
 one_named s p (Part q l r) x words b (code.Part o y z) f v h made = broken_named s p q o (One (Part q l r)) x words b f v refl h.0 made
@@ -174,8 +176,8 @@ word_part_stands s q i sel x words b y c v made st k = record {
 }
 
 word_part_named : (s : Scope) (p q : ℕ) (i : Tree) (sel : SelectTree) (x : Option Meaning) (words : Words) (b : Bounds) (y : Found Term) (z : CheckedSelect) (f : Found Checked) → IsMemory x words b
-    → IsIndex s i y → IsSelect s sel z → AreWordParts words (width_of b) b (both y (choice_from p b z)) f → IsName s p (OfWord q i sel) x f
-word_part_named s p q i sel x words b y z f v h g made = let k = chosen s p b sel z g in record {
+    → IsIndex false s i y → IsSelect false s sel z → AreWordParts words (width_of b) b (both y (choice_from p b z)) f → IsName s p (OfWord q i sel) x f
+word_part_named s p q i sel x words b y z f v h g made = let k = chosen false s p b sel z g in record {
   finds = made_width (λ (w : Term × Choice) (c : Checked). MakesWordPart words (width_of b) b w c) (λ (c : Checked). c.width) (λ (w : Term × Choice). w.1.width) (both y (choice_from p b z)) f made
       (λ w c q. q.width_is)
       ∙ second_of y (index false s i (checked s i)) (choice_from p b z) (λ (c : Choice). c.width) (part false s p b sel) h.finds k.finds
@@ -187,7 +189,7 @@ word_part_named s p q i sel x words b y z f v h g made = let k = chosen s p b se
 }
 
 memory_exact : (s : Scope) (p : ℕ) (sel : SelectsTree) (x : Option Meaning) (words : Words) (b : Bounds) (y : CheckedSelects) (f : Found Checked) → IsMemory x words b
-    → AreSelects s sel y → MemoryMade p words (width_of b) b y f → IsName s p sel x f
+    → AreSelects false s sel y → MemoryMade p words (width_of b) b y f → IsName s p sel x f
 memory_exact s p Whole x words b code_selects.Whole f v h made = broken_named s p p p Whole x words b f v refl refl made
 memory_exact s p (One sel) x words b (code_selects.One y) f v h made = one_named s p sel x words b y f v h made
 memory_exact s p (OfWord q i sel) x words b (code_selects.OfWord y z) f v h made = word_part_named s p q i sel x words b y z f v h.0 h.1 made
@@ -199,7 +201,7 @@ memory_exact s p (OfWord q i sel) x words b code_selects.Whole f v h made = absu
 memory_exact s p (OfWord q i sel) x words b (code_selects.One y) f v h made = absurd h
 
 pub memory_named : (s : Scope) (p : ℕ) (sel : SelectsTree) (x : Option Meaning) (words : Words) (n : ℕ) (b : Bounds) (y : CheckedSelects) (f : Found Checked) → n ≡ width_of b → IsMemory x words b
-    → AreSelects s sel y → MemoryMade p words n b y f → IsName s p sel x f
+    → AreSelects false s sel y → MemoryMade p words n b y f → IsName s p sel x f
 memory_named s p sel x words n b y f e v h made = memory_exact s p sel x words b y f v h (subst (λ (k : ℕ). MemoryMade p words k b y f) e made)
 
 -- ---- what names are

@@ -1,5 +1,5 @@
 -- A means of proof: what is chosen by a select, and what a name is.
-use Rattle.std.specs.Prelude.{◌≡◌, ℕ, List, Option, None, Some, false, nat_le, if◌then◌else◌}
+use Rattle.std.specs.Prelude.{◌≡◌, ℕ, List, Option, None, Some, Bool, false, nat_le, if◌then◌else◌}
 use Rattle.four_value.specs.declared.Digit.{Digit}
 use Rattle.four_value.specs.Vector.{number, resize}
 use Rattle.gpi.specs.declared.selects.Range.{Range}
@@ -19,13 +19,14 @@ use Rattle.v_scope.specs.declared.meaning.DataObject.{DataObject}
 use Rattle.v_scope.specs.declared.meaning.Meaning.{Meaning}
 use Rattle.v_scope.specs.declared.meaning.Meaning.TheVariants.{Object}
 use Rattle.v_scope.specs.Scope.{Scope, span, width_of}
+use Rattle.v_scope.specs.Limits.{counted_width, most_digits}
 use Rattle.v_context.specs.declared.contextual.Contextual.TheVariants.{Settled}
 use Rattle.v_context.specs.Contexts.{value_in, IsSound, IsLowered}
 use Rattle.v_flat.specs.Objects.{Nature, Vector, Memory, nature_of, range_of}
 use Rattle.v_flat.specs.Expressions.{Values, whole_width, whole_value, one_width, one_value, part_of_word, select_base, select_width, named_width, named_value, number_or}
 use Rattle.v_flat.specs.Checks.{by_nature, of_vector, of_memory, part, narrow, go_with}
 use Rattle.v_operator.specs.declared.checked.Checked.{Checked}
-use Rattle.v_operator.specs.Checked.{IsNameOf, SelectsNamesOf, SelectNamesOf, counted_width}
+use Rattle.v_operator.specs.Checked.{IsNameOf, SelectsNamesOf, SelectNamesOf}
 use Rattle.v_operator.specs.Made.{Makes, EachIs}
 use Rattle.v_names.specs.declared.selects.CheckedSelect.{CheckedSelect}
 use Rattle.v_names.specs.declared.selects.CheckedSelect.TheVariants as code
@@ -43,9 +44,9 @@ pub record Chooses (s : Scope) (sel : SelectTree) (x : Choice) : Type 0 where
   pub base : (m : ℕ → List Digit) → number (value x.index m) ≡ select_base s sel m
   pub sound : (ws : List ℕ) → SelectNamesOf s sel ws → term.IsSound x.index ws
 
--- p is the place of the name, and b the range that is selected from
-pub record IsChosen (s : Scope) (p : ℕ) (b : Bounds) (sel : SelectTree) (f : Found Choice) : Type 0 where
-  pub finds : each (λ (x : Choice). x.width) f ≡ each counted_width (part false s p b sel)
+-- p is the place of the name, and b the range that is selected from; indices are constants where the select is fixed
+pub record IsChosen (fixed : Bool) (s : Scope) (p : ℕ) (b : Bounds) (sel : SelectTree) (f : Found Choice) : Type 0 where
+  pub finds : each (λ (x : Choice). x.width) f ≡ each counted_width (part fixed s p b sel)
   pub holds : Holds (λ (x : Choice). Chooses s sel x) f
 
 -- ---- how it is found
@@ -66,7 +67,7 @@ abbrev pub lesser_of : List Digit → List Digit → List Digit
 lesser_of ds es = lesser_by (number ds) (number es) ds es
 
 abbrev pub range_of_numbers : ℕ → ℕ → Bounds → ℕ → ℕ → List Digit → Found Choice
-range_of_numbers q p b i j ds = needs (go_with b i j) rule.BadRange q (needs (nat_le (counted_width (span i j)) 128) rule.TooWide p
+range_of_numbers q p b i j ds = needs (go_with b i j) rule.BadRange q (needs (nat_le (counted_width (span i j)) most_digits) rule.TooWide p
     (Sound (record { index = Const ds; width = counted_width (span i j) })))
 
 abbrev pub range_choice : ℕ → ℕ → Bounds → List Digit → List Digit → Found Choice
@@ -160,7 +161,7 @@ MemoryMade p words n b (code_selects.One x) f = WordMade words n x f
 MemoryMade p words n b (code_selects.OfWord i x) f = AreWordParts words n b (both i (choice_from p b x)) f
 
 abbrev pub NamesObject : ℕ → DataObject → CheckedSelects → Found Checked → Type 0
-NamesObject p o y f = (s : Scope) (sel : SelectsTree) → AreSelects s sel y → IsName s p sel (Some (Object o)) f
+NamesObject p o y f = (s : Scope) (sel : SelectsTree) → AreSelects false s sel y → IsName s p sel (Some (Object o)) f
 
 -- each term has the value that it was made of, in its own width
 abbrev pub AreAlone : Found Checked → Found Term → Type 0

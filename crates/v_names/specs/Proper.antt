@@ -5,17 +5,19 @@ use Rattle.v_scope.specs.declared.meaning.Bounds.{Bounds}
 use Rattle.v_scope.specs.declared.meaning.DataObject.{DataObject}
 use Rattle.v_scope.specs.declared.meaning.Meaning.{Meaning}
 use Rattle.v_scope.specs.declared.meaning.Meaning.TheVariants.{Constant, Object, Later}
+use Rattle.v_scope.specs.Limits.{most_words}
 use Rattle.v_scope.specs.Scope.{Scope, find, width_of}
 
-abbrev pub HasWords : Option Bounds → Type 0
-HasWords None = Unit {0}
-HasWords (Some w) = width_of w ≤ 65536
+-- a memory has at most so many words
+abbrev pub HasFewWords : Option Bounds → Type 0
+HasFewWords None = Unit {0}
+HasFewWords (Some w) = width_of w ≤ most_words
 
 abbrev pub IsProper : Option Meaning → Type 0
 IsProper None = Unit {0}
 IsProper (Some Later) = Unit {0}
 IsProper (Some (Constant ds b)) = length ds ≡ width_of b
-IsProper (Some (Object o)) = IsWidth (width_of o.bounds) × HasWords o.words
+IsProper (Some (Object o)) = IsWidth (width_of o.bounds) × HasFewWords o.words
 
 abbrev pub AreProper : Scope → Type 0
 AreProper s = (n : List ℕ) → IsProper (find n s)

@@ -1,16 +1,16 @@
 -- What it means that the selects behind a name were checked (IEEE 1364-2005, clause 5.2), and what is found in the whole.
-use Rattle.std.specs.Prelude.{◌≡◌, ℕ, List, false}
+use Rattle.std.specs.Prelude.{◌≡◌, ℕ, List, Bool, true, false}
 use Rattle.four_value.specs.declared.Digit.{Digit}
 use Rattle.gpi.specs.declared.terms.Term.{Term}
 use Rattle.gpi.specs.Terms.{value, IsSound}
-use Rattle.v_syntax.specs.ExpressionTrees.{Tree, Named, SelectsTree, Whole, One, OfWord, SelectTree, Bit, Part, IndexedPart, first_at}
+use Rattle.v_syntax.specs.ExpressionTrees.{Tree, Named, SelectsTree, Whole, One, OfWord, SelectTree, Bit, Part, IndexedPart}
 use Rattle.v_scope.specs.declared.found.Found.{Found}
-use Rattle.v_scope.specs.Found.{each, and_then, Holds}
+use Rattle.v_scope.specs.Found.{each, Holds}
 use Rattle.v_scope.specs.Scope.{Scope}
 use Rattle.v_flat.specs.Expressions.{own_value}
-use Rattle.v_flat.specs.Checks.{checked, index, constant_of, counted}
+use Rattle.v_flat.specs.Checks.{checked, index, constant_of}
 use Rattle.v_operator.specs.declared.checked.Checked.{Checked}
-use Rattle.v_operator.specs.Checked.{AreNamesOf, IsChecked, counted_width}
+use Rattle.v_operator.specs.Checked.{AreNamesOf, IsChecked, IsCount}
 use Rattle.v_names.specs.declared.selects.CheckedSelect.{CheckedSelect}
 use Rattle.v_names.specs.declared.selects.CheckedSelect.TheVariants as code
 use Rattle.v_names.specs.declared.selects.CheckedSelects.{CheckedSelects}
@@ -21,26 +21,30 @@ pub record StandsAlone (s : Scope) (e : Tree) (t : Term) : Type 0 where
   pub means : (m : ℕ → List Digit) → value t m ≡ own_value s e m
   pub sound : (ws : List ℕ) → AreNamesOf s e ws → IsSound t ws
 
--- the same rule is broken first as in the definition of an index; and where none is the term stands for it
-pub record IsIndex (s : Scope) (e : Tree) (f : Found Term) : Type 0 where
-  pub finds : each (λ (t : Term). tt) f ≡ index false s e (checked s e)
+-- an index, which has to be a constant where it is fixed: the same rule is broken first as in the definition; and where none is,
+-- the term has its value by itself
+pub record IsIndex (fixed : Bool) (s : Scope) (e : Tree) (f : Found Term) : Type 0 where
+  pub finds : each (λ (t : Term). tt) f ≡ index fixed s e (checked s e)
   pub holds : Holds (λ (t : Term). StandsAlone s e t) f
 
 abbrev pub ChecksIndex : Found Checked → Found Term → Type 0
-ChecksIndex x f = (s : Scope) (e : Tree) → IsChecked s e x → IsIndex s e f
+ChecksIndex x f = (s : Scope) (e : Tree) → IsChecked s e x → IsIndex false s e f
 
--- each expression in it was checked, and each that has to be a constant was evaluated
-abbrev pub IsSelect : Scope → SelectTree → CheckedSelect → Type 0
-IsSelect s (Bit p i) (code.Bit q x) = (p ≡ q) × IsIndex s i x
-IsSelect s (Part p l r) (code.Part q x y) = (p ≡ q) × ((x ≡ constant_of s l) × (y ≡ constant_of s r))
-IsSelect s (IndexedPart p b n) (code.IndexedPart q x w) = (p ≡ q) × (IsIndex s b x × (w ≡ each counted_width (and_then (constant_of s n) (counted (first_at n)))))
-IsSelect s _ _ = ⊥
+abbrev pub ChecksFixedIndex : Found (List Digit) → Found Term → Type 0
+ChecksFixedIndex x f = (s : Scope) (e : Tree) → x ≡ constant_of s e → IsIndex true s e f
 
-abbrev pub AreSelects : Scope → SelectsTree → CheckedSelects → Type 0
-AreSelects s Whole code_selects.Whole = Unit {0}
-AreSelects s (One sel) (code_selects.One x) = IsSelect s sel x
-AreSelects s (OfWord p i sel) (code_selects.OfWord f x) = IsIndex s i f × IsSelect s sel x
-AreSelects s _ _ = ⊥
+-- each expression in it was checked, and each that has to be a constant was evaluated; indices are where the select is fixed
+abbrev pub IsSelect : Bool → Scope → SelectTree → CheckedSelect → Type 0
+IsSelect fixed s (Bit p i) (code.Bit q x) = (p ≡ q) × IsIndex fixed s i x
+IsSelect fixed s (Part p l r) (code.Part q x y) = (p ≡ q) × ((x ≡ constant_of s l) × (y ≡ constant_of s r))
+IsSelect fixed s (IndexedPart p b n) (code.IndexedPart q x w) = (p ≡ q) × (IsIndex fixed s b x × IsCount s n w)
+IsSelect fixed s _ _ = ⊥
+
+abbrev pub AreSelects : Bool → Scope → SelectsTree → CheckedSelects → Type 0
+AreSelects fixed s Whole code_selects.Whole = Unit {0}
+AreSelects fixed s (One sel) (code_selects.One x) = IsSelect fixed s sel x
+AreSelects fixed s (OfWord p i sel) (code_selects.OfWord f x) = IsIndex fixed s i f × IsSelect fixed s sel x
+AreSelects fixed s _ _ = ⊥
 
 abbrev pub ChecksName : Scope → List ℕ → ℕ → CheckedSelects → Found Checked → Type 0
-ChecksName s n p x f = (sel : SelectsTree) → AreSelects s sel x → IsChecked s (Named p n sel) f
+ChecksName s n p x f = (sel : SelectsTree) → AreSelects false s sel x → IsChecked s (Named p n sel) f

@@ -2,6 +2,7 @@
 
 ghost use Rattle.std.specs.Prelude.{◌≡◌, ◌≤◌};
 ghost use Rattle.gpi.specs.Terms.{IsWidth};
+ghost use Rattle.v_scope.specs.Limits.{most_words};
 ghost use Rattle.v_scope.specs.Scope.{is_falling, low_of, width_of};
 ghost use Rattle.v_flat.specs.Objects.{range_of, words_of};
 
@@ -10,7 +11,7 @@ use v_scope::Bounds;
 
 /// How many indices a range has, both bounds counted, where they are at most 65,536 (clause 4.9).
 pub fn index_count(bounds: Bounds) -> u32
-    requires { width_of bounds ≤ 65536 }
+    requires { width_of bounds ≤ most_words }
     ensures { result ≡ width_of bounds }
 {
     if bounds.left <= bounds.right {
@@ -59,7 +60,7 @@ pub(crate) fn range(bounds: Bounds) -> Range
 
 /// The words of a memory, from their first signal on.
 pub(crate) fn words(first: u32, bounds: Bounds) -> Words
-    requires { width_of bounds ≤ 65536 }
+    requires { width_of bounds ≤ most_words }
     ensures { result ≡ words_of first bounds }
 {
     Words {

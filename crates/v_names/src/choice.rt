@@ -4,21 +4,23 @@ ghost use Rattle.std.specs.Prelude.{◌≡◌, max};
 ghost use Rattle.four_value.specs.Vector.{number};
 ghost use Rattle.v_scope.specs.Found.{and_then, both, each};
 ghost use Rattle.v_scope.specs.Scope.{span};
-ghost use Rattle.v_flat.specs.Expressions.{number_or};
+ghost use Rattle.v_scope.specs.Limits.{counted_width};
 ghost use Rattle.v_flat.specs.Checks.{go_with, narrow};
-ghost use Rattle.v_operator.specs.Checked.{counted_width};
 ghost use Rattle.v_names.specs.Made.{bit_choice, choice_from, lesser_of, pair_choice, range_choice};
 
 use crate::CheckedSelect;
 use crate::bounds::falls;
 use four_value::Bits;
 use gpi::Term;
-use v_scope::{Bounds, ElabRule, Found};
+use v_constant::number_or_zero;
+use v_scope::{Bounds, ElabRule, Found, MOST_DIGITS};
 
 /// So many digits, from an index upwards.
 #[derive(Drop)]
 pub struct Choice {
+    /// The least index.
     pub index: Term,
+    /// How many digits, 1 to 128.
     pub width: u8,
 }
 
@@ -38,9 +40,9 @@ fn narrowed(place: usize, width: Found<u8>) -> Found<u8>
     ensures { result ≡ and_then width (narrow place) }
 {
     match width {
-        Found::Sound(w) => Found::Sound(w).needs(w <= 128, ElabRule::TooWide, place),
+        Found::Sound(w) => Found::Sound(w).needs(w <= MOST_DIGITS, ElabRule::TooWide, place),
         Found::Noted(fault, w) => {
-            let narrow = Found::Sound(w).needs(w <= 128, ElabRule::TooWide, place);
+            let narrow = Found::Sound(w).needs(w <= MOST_DIGITS, ElabRule::TooWide, place);
             narrow.noted(fault)
         }
         Found::Lost(fault) => Found::Lost(fault),
@@ -58,16 +60,6 @@ fn paired(found: Found<(Term, u8)>) -> Found<Choice>
     }
 }
 
-/// The number of a vector, and 0 where it has none.
-fn number_or_zero(value: Bits) -> u128
-    ensures { result ≡ number_or (number value) }
-{
-    match value.to_number() {
-        Some(number) => number,
-        None => 0,
-    }
-}
-
 /// The vector with the lesser number; one without a number, where there is one.
 fn lesser(left: Bits, right: Bits) -> Bits
     ensures { result ≡ lesser_of left right }
@@ -79,7 +71,7 @@ fn lesser(left: Bits, right: Bits) -> Bits
     }
 }
 
-/// How many indices lie between two, both counted, where 129 stands for more than 128.
+/// How many indices lie between two, both counted, where `TOO_WIDE` stands for more than 128.
 fn indices(left: u128, right: u128) -> u8
     ensures { result ≡ counted_width (span left right) }
 {
@@ -88,7 +80,7 @@ fn indices(left: u128, right: u128) -> u8
     } else {
         left - right
     };
-    between.min(128) as u8 + 1
+    between.min(u128::from(MOST_DIGITS)) as u8 + 1
 }
 
 /// Whether two indices go with the direction of a range (clause 5.2.1).
@@ -103,7 +95,7 @@ fn goes_with(bounds: Bounds, left: u128, right: u128) -> bool
 }
 
 /// The digits of a part-select with constant bounds.
-fn part(at: usize, place: usize, bounds: Bounds, left: Bits, right: Bits) -> Found<Choice>
+fn part_select(at: usize, place: usize, bounds: Bounds, left: Bits, right: Bits) -> Found<Choice>
     ensures { result ≡ range_choice at place bounds left right }
 {
     let i = number_or_zero(left);
@@ -111,7 +103,7 @@ fn part(at: usize, place: usize, bounds: Bounds, left: Bits, right: Bits) -> Fou
     let width = indices(i, j);
     let index = Term::Const(lesser(left, right));
     let narrow = Found::Sound(Choice { index, width }).needs(
-        width <= 128,
+        width <= MOST_DIGITS,
         ElabRule::TooWide,
         place,
     );
@@ -119,12 +111,14 @@ fn part(at: usize, place: usize, bounds: Bounds, left: Bits, right: Bits) -> Fou
 }
 
 /// The digits of a part-select, where both constants are known.
-fn parts(at: usize, place: usize, bounds: Bounds, found: Found<(Bits, Bits)>) -> Found<Choice>
+fn found_part(at: usize, place: usize, bounds: Bounds, found: Found<(Bits, Bits)>) -> Found<Choice>
     ensures { result ≡ and_then found (λ x. range_choice at place bounds x.0 x.1) }
 {
     match found {
-        Found::Sound((left, right)) => part(at, place, bounds, left, right),
-        Found::Noted(fault, (left, right)) => part(at, place, bounds, left, right).noted(fault),
+        Found::Sound((left, right)) => part_select(at, place, bounds, left, right),
+        Found::Noted(fault, (left, right)) => part_select(at, place, bounds, left, right).noted(
+            fault,
+        ),
         Found::Lost(fault) => Found::Lost(fault),
     }
 }
@@ -135,7 +129,7 @@ pub(crate) fn chosen(place: usize, bounds: Bounds, select: CheckedSelect) -> Fou
 {
     match select {
         CheckedSelect::Bit { index, .. } => bit(index),
-        CheckedSelect::Part { at, left, right } => parts(at, place, bounds, left.both(right)),
+        CheckedSelect::Part { at, left, right } => found_part(at, place, bounds, left.both(right)),
         CheckedSelect::IndexedPart { base, width, .. } => {
             paired(base.both(narrowed(place, width)))
         }

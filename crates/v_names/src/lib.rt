@@ -1,7 +1,7 @@
 //! Names with selects: bits, parts and words of memories.
 //!
 //! [`CheckedSelects`] are the selects behind a name whose expressions were checked, all of them, whatever the name is;
-//! [`by_itself`] makes an index of what was found in its expression. [`named`] says what is found in a name with them.
+//! [`by_itself`] makes an index of what was found in its expression, and [`fixed_index`] one of the value of a constant. [`named`] says what is found in a name with them.
 #![tactic(auto)]
 
 mod bounds;
@@ -11,4 +11,4 @@ mod selects;
 
 pub use bounds::index_count;
 pub use name::named;
-pub use selects::{CheckedSelect, CheckedSelects, by_itself};
+pub use selects::{CheckedSelect, CheckedSelects, by_itself, fixed_index};

@@ -19,7 +19,12 @@ use v_operator::Checked;
 use v_scope::{Bounds, DataObject, ElabRule, Found, Meaning, Scope};
 
 /// Digits of a vector. Only want of memory is an error.
-fn part(alloc: Global, from: Term, range: Range, choice: Choice) -> Result<Checked, NoMemory>
+fn chosen_digits(
+    alloc: Global,
+    from: Term,
+    range: Range,
+    choice: Choice,
+) -> Result<Checked, NoMemory>
     ensures { IfOk result (MakesPart from range choice) }
 {
     let Choice { index, width } = choice;
@@ -30,7 +35,7 @@ fn part(alloc: Global, from: Term, range: Range, choice: Choice) -> Result<Check
 }
 
 /// What is chosen from a vector. Only want of memory is an error.
-fn parts(
+fn chosen_from_vector(
     alloc: Global,
     from: Term,
     range: Range,
@@ -39,14 +44,17 @@ fn parts(
     ensures { IfOk result (AreParts from range found) }
 {
     match found {
-        Found::Sound(choice) => Ok(Found::Sound(part(alloc, from, range, choice)?)),
-        Found::Noted(fault, choice) => Ok(Found::Noted(fault, part(alloc, from, range, choice)?)),
+        Found::Sound(choice) => Ok(Found::Sound(chosen_digits(alloc, from, range, choice)?)),
+        Found::Noted(fault, choice) => Ok(Found::Noted(
+            fault,
+            chosen_digits(alloc, from, range, choice)?,
+        )),
         Found::Lost(fault) => Ok(Found::Lost(fault)),
     }
 }
 
 /// Two selects on what is no memory: BadRange is broken at the second one.
-fn twice<A: Drop>(word: Found<A>, place: usize) -> Found<Checked>
+fn second_select<A: Drop>(word: Found<A>, place: usize) -> Found<Checked>
     ensures { result ≡ twice_at word place }
 {
     match word {
@@ -73,14 +81,14 @@ fn vector(
             form: Contextual::Settled(from),
         })),
         CheckedSelects::One(select) => {
-            Ok(parts(alloc, from, range(bounds), chosen(place, bounds, select))?)
+            Ok(chosen_from_vector(alloc, from, range(bounds), chosen(place, bounds, select))?)
         }
-        CheckedSelects::OfWord(word, select) => Ok(twice(word, select.place())),
+        CheckedSelects::OfWord(word, select) => Ok(second_select(word, select.place())),
     }
 }
 
 /// A word of a memory. Only want of memory is an error.
-fn word(alloc: Global, words: Words, width: u8, index: Term) -> Result<Checked, NoMemory>
+fn indexed_word(alloc: Global, words: Words, width: u8, index: Term) -> Result<Checked, NoMemory>
     ensures { IfOk result (MakesWord words width index) }
 {
     Ok(Checked {
@@ -90,7 +98,7 @@ fn word(alloc: Global, words: Words, width: u8, index: Term) -> Result<Checked, 
 }
 
 /// What is found in an index to a memory. Only want of memory is an error.
-fn indexed(
+fn found_word(
     alloc: Global,
     words: Words,
     width: u8,
@@ -99,14 +107,17 @@ fn indexed(
     ensures { IfOk result (AreWordsOf words width found) }
 {
     match found {
-        Found::Sound(index) => Ok(Found::Sound(word(alloc, words, width, index)?)),
-        Found::Noted(fault, index) => Ok(Found::Noted(fault, word(alloc, words, width, index)?)),
+        Found::Sound(index) => Ok(Found::Sound(indexed_word(alloc, words, width, index)?)),
+        Found::Noted(fault, index) => Ok(Found::Noted(
+            fault,
+            indexed_word(alloc, words, width, index)?,
+        )),
         Found::Lost(fault) => Ok(Found::Lost(fault)),
     }
 }
 
 /// One select on a memory: it has to be an index, or else BadRange is broken at it. Only want of memory is an error.
-fn one(
+fn word_select(
     alloc: Global,
     words: Words,
     width: u8,
@@ -115,13 +126,13 @@ fn one(
     ensures { IfOk result (WordMade words width select) }
 {
     match select {
-        CheckedSelect::Bit { index, .. } => Ok(indexed(alloc, words, width, index)?),
+        CheckedSelect::Bit { index, .. } => Ok(found_word(alloc, words, width, index)?),
         other => Ok(Found::broken(ElabRule::BadRange, other.place())),
     }
 }
 
 /// Digits of a word of a memory. Only want of memory is an error.
-fn word_part(
+fn digits_of_word(
     alloc: Global,
     words: Words,
     width: u8,
@@ -132,11 +143,11 @@ fn word_part(
 {
     let (index, choice) = found;
     let word = Term::word(alloc, words, index, width)?;
-    part(alloc, word, range(bounds), choice)
+    chosen_digits(alloc, word, range(bounds), choice)
 }
 
 /// What is chosen from a word of a memory. Only want of memory is an error.
-fn word_parts(
+fn chosen_from_word(
     alloc: Global,
     words: Words,
     width: u8,
@@ -146,9 +157,9 @@ fn word_parts(
     ensures { IfOk result (AreWordParts words width bounds found) }
 {
     match found {
-        Found::Sound(both) => Ok(Found::Sound(word_part(alloc, words, width, bounds, both)?)),
+        Found::Sound(both) => Ok(Found::Sound(digits_of_word(alloc, words, width, bounds, both)?)),
         Found::Noted(fault, both) => {
-            Ok(Found::Noted(fault, word_part(alloc, words, width, bounds, both)?))
+            Ok(Found::Noted(fault, digits_of_word(alloc, words, width, bounds, both)?))
         }
         Found::Lost(fault) => Ok(Found::Lost(fault)),
     }
@@ -167,10 +178,10 @@ fn memory(
 {
     match selects {
         CheckedSelects::Whole => Ok(Found::broken(ElabRule::BadRange, place)),
-        CheckedSelects::One(select) => Ok(one(alloc, words, width, select)?),
+        CheckedSelects::One(select) => Ok(word_select(alloc, words, width, select)?),
         CheckedSelects::OfWord(index, select) => {
             let found = index.both(chosen(place, bounds, select));
-            Ok(word_parts(alloc, words, width, bounds, found)?)
+            Ok(chosen_from_word(alloc, words, width, bounds, found)?)
         }
     }
 }

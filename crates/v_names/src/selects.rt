@@ -1,8 +1,10 @@
 //! Selects whose expressions were checked.
 
 ghost use Rattle.std.specs.Prelude.{◌≡◌, IfOk};
+ghost use Rattle.gpi.specs.declared.terms.Term.TheVariants.{Const};
+ghost use Rattle.v_scope.specs.Found.{each};
 ghost use Rattle.v_names.specs.Made.{AreAlone, place_of};
-ghost use Rattle.v_names.specs.Selects.{ChecksIndex};
+ghost use Rattle.v_names.specs.Selects.{ChecksFixedIndex, ChecksIndex};
 
 use four_value::Bits;
 use gpi::Term;
@@ -25,7 +27,7 @@ pub enum CheckedSelect {
         left: Found<Bits>,
         right: Found<Bits>,
     },
-    /// `[ base +: width ]`, where 129 stands for a width of more than 128.
+    /// `[ base +: width ]`, where `TOO_WIDE` of `v_scope` stands for a width of more than 128.
     IndexedPart {
         at: usize,
         base: Found<Term>,
@@ -62,6 +64,25 @@ pub fn by_itself(alloc: Global, found: Found<Checked>) -> Result<Found<Term>, No
     ensures { IfOk result (ChecksIndex found) }
 {
     Ok(lowered(alloc, found)?)
+}
+
+/// An index that has to be a constant, from its value, as those in the target of a continuous assignment (IEEE 1364-2005, clause
+/// 6.1).
+pub fn fixed_index(value: Found<Bits>) -> Found<Term>
+    ensures { ChecksFixedIndex value result }
+{
+    constant_term(value)
+}
+
+/// The value of a constant as an expression.
+fn constant_term(value: Found<Bits>) -> Found<Term>
+    ensures { result ≡ each Const value }
+{
+    match value {
+        Found::Sound(value) => Found::Sound(Term::Const(value)),
+        Found::Noted(fault, value) => Found::Noted(fault, Term::Const(value)),
+        Found::Lost(fault) => Found::Lost(fault),
+    }
 }
 
 /// Each in a context of its own width. Only want of memory is an error.

@@ -10,6 +10,8 @@ use Rattle.v_scope.specs.Scope.{Scope}
 use Rattle.four_value.specs.declared.Digit.{Digit}
 use Rattle.gpi.specs.Operators.{truth, choose}
 use Rattle.gpi.specs.declared.terms.Term.TheVariants.{Const}
+use Rattle.v_scope.proofs.Gathered.{each_each, each_same, both_each, holds_so}
+use Rattle.v_scope.specs.Limits.{counted_width}
 use Rattle.v_context.specs.declared.contextual.Contextual.TheVariants.{Settled}
 use Rattle.v_context.specs.Contexts.{value_in}
 use Rattle.v_flat.specs.declared.operators.UnaryClass.{UnaryClass}
@@ -20,9 +22,9 @@ use Rattle.v_flat.specs.Expressions.{unary_class, binary_class, unary_width, bin
 use Rattle.v_flat.specs.Checks.{checked, sized}
 use Rattle.v_flat.proofs.Holds.{holds_both}
 use Rattle.v_operator.specs.declared.checked.Checked.{Checked}
-use Rattle.v_operator.specs.Made.{MakesUnary, MakesBinary, MakesConditional, AreUnary, AreBinary, AreConditional, sized_at}
-use Rattle.v_operator.specs.Checked.{StandsFor, IsChecked, counted_width}
-use Rattle.v_operator.proofs.Combined.{each_each, each_same, both_each, sized_width, sized_counted, made_width, made_holds, sized_holds, holds_so}
+use Rattle.v_operator.specs.Made.{MakesUnary, MakesBinary, MakesConditional, AreUnary, AreBinary, AreConditional}
+use Rattle.v_operator.specs.Checked.{StandsFor, IsChecked, sized_at}
+use Rattle.v_operator.proofs.Combined.{sized_width, sized_counted, made_width, made_holds, sized_holds}
 
 -- the width of the whole is counted as those of its parts are: i is what the code counts, and k what the definition does
 pub counted_whole : {A B C : Type 0} (v : C → ℕ) (i k : B → ℕ) (g : B → B) (u : A → B) (x : Found A) (y : Found B) (f : Found C)

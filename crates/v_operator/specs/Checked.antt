@@ -1,12 +1,15 @@
 -- What it means that an expression was checked: the first broken rule, its width, and what it is in each context.
-use Rattle.std.specs.Prelude.{◌≡◌, ℕ, ◌<◌, ◌≤◌, List, min, length, Option, None, Some, slice_index}
+use Rattle.std.specs.Prelude.{◌≡◌, ℕ, ◌<◌, List, length, Option, None, Some, nat_le, slice_index}
 use Rattle.four_value.specs.declared.Digit.{Digit}
 use Rattle.gpi.specs.Terms.{AreWords, IsWidth}
 use Rattle.v_syntax.specs.declared.expression.UnaryOperator.{UnaryOperator}
 use Rattle.v_syntax.specs.declared.expression.BinaryOperator.{BinaryOperator}
 use Rattle.v_syntax.specs.ExpressionTrees.{Tree, Number, Named, Bracketed, Unary, Binary, Conditional, Concatenation, Replication, SelectsTree, Whole, One, OfWord, SelectTree, Bit, Part, IndexedPart, Trees, none, more, first_at}
+use Rattle.v_scope.specs.declared.rule.ElabRule.TheVariants as rule
 use Rattle.v_scope.specs.declared.found.Found.{Found}
-use Rattle.v_scope.specs.Found.{each, Holds}
+use Rattle.v_scope.specs.declared.found.Found.TheVariants.{Sound}
+use Rattle.v_scope.specs.Found.{each, and_then, wants, Holds}
+use Rattle.v_scope.specs.Limits.{counted_width, most_digits}
 use Rattle.v_scope.specs.declared.meaning.Bounds.{Bounds}
 use Rattle.v_scope.specs.declared.meaning.DataObject.{DataObject}
 use Rattle.v_scope.specs.declared.meaning.Meaning.{Meaning}
@@ -15,7 +18,7 @@ use Rattle.v_scope.specs.Scope.{Scope, find, width_of}
 use Rattle.v_context.specs.Contexts.{value_in, IsSound}
 use Rattle.v_flat.specs.Objects.{words_of}
 use Rattle.v_flat.specs.Expressions.{width, meaning}
-use Rattle.v_flat.specs.Checks.{checked}
+use Rattle.v_flat.specs.Checks.{checked, constant_of, counted}
 use Rattle.v_operator.specs.declared.checked.Checked.{Checked}
 
 -- ---- the signals that an expression names; ws are the widths of the signals of a design
@@ -65,16 +68,20 @@ pub record StandsFor (s : Scope) (e : Tree) (c : Checked) : Type 0 where
   pub means : (w : ℕ) (m : ℕ → List Digit) → value_in c.form w m ≡ meaning s e w m
   pub sound : (ws : List ℕ) → AreNamesOf s e ws → IsSound c.form ws
 
--- a width, where 129 stands for all beyond 128
-abbrev pub counted_width : ℕ → ℕ
-counted_width w = min w 129
-
 -- the same rule is broken first as in the definition, with the same width; and where none is it stands for the expression
 pub record IsChecked (s : Scope) (e : Tree) (f : Found Checked) : Type 0 where
   pub finds : each (λ (c : Checked). c.width) f ≡ each counted_width (checked s e)
   pub holds : Holds (λ (c : Checked). StandsFor s e c) f
 
+-- n is what a count is found to be: that of a replication, or the width of an indexed part-select
+abbrev pub IsCount : Scope → Tree → Found ℕ → Type 0
+IsCount s e n = n ≡ each counted_width (and_then (constant_of s e) (counted (first_at e)))
+
 -- ---- what is found in the whole, from what was found in the parts
+
+-- TooWide is broken too, where there are more digits than a vector may have
+abbrev pub sized_at : ℕ → Found Checked → Found Checked
+sized_at p f = and_then f (λ c. wants (nat_le c.width most_digits) rule.TooWide p (Sound c))
 
 abbrev pub ChecksNumber : List Digit → Found Checked → Type 0
 ChecksNumber ds f = (s : Scope) (p : ℕ) → IsChecked s (Number p ds) f

@@ -1,13 +1,11 @@
 -- A means of proof: what is made of operands, by their widths and their values in a context.
-use Rattle.std.specs.Prelude.{◌≡◌, ℕ, max, List, nat_le}
+use Rattle.std.specs.Prelude.{◌≡◌, ℕ, max, List}
 use Rattle.four_value.specs.declared.Digit.{Digit}
 use Rattle.gpi.specs.declared.terms.Term.{Term}
 use Rattle.gpi.specs.Operators.{truth, choose}
 use Rattle.gpi.specs.Terms.{IsWidth}
-use Rattle.v_scope.specs.declared.rule.ElabRule.TheVariants as rule
 use Rattle.v_scope.specs.declared.found.Found.{Found}
 use Rattle.v_scope.specs.declared.found.Found.TheVariants.{Sound, Noted, Lost}
-use Rattle.v_scope.specs.Found.{and_then, wants}
 use Rattle.v_context.specs.declared.contextual.Contextual.{Contextual}
 use Rattle.v_context.specs.Contexts.{value_in, IsSound, IsLowered}
 use Rattle.v_flat.specs.declared.operators.UnaryClass.{UnaryClass}
@@ -61,7 +59,3 @@ AreBinary o x f = EachIs (λ (p : Checked × Checked) (c : Checked). MakesBinary
 
 abbrev pub AreConditional : Found (Checked × (Checked × Checked)) → Found Checked → Type 0
 AreConditional x f = EachIs (λ (p : Checked × (Checked × Checked)) (c : Checked). MakesConditional p.0 p.1.0 p.1.1 c) x f
-
--- TooWide is broken too, where there are more than 128 digits
-abbrev pub sized_at : ℕ → Found Checked → Found Checked
-sized_at p f = and_then f (λ c. wants (nat_le c.width 128) rule.TooWide p (Sound c))

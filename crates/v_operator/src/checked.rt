@@ -6,7 +6,8 @@ use v_context::Contextual;
 /// width counts.
 #[derive(Drop)]
 pub struct Checked {
-    /// The number of digits that it has by itself (IEEE 1364-2005, clause 5.4.1), where 129 stands for more than 128.
+    /// The number of digits that it has by itself (IEEE 1364-2005, clause 5.4.1), where `TOO_WIDE` of `v_scope` stands for more than 128.
     pub width: u8,
+    /// What it is in each context.
     pub form: Contextual,
 }

@@ -1,8 +1,8 @@
 //! What is found in an expression, from what was found in its operands.
 
 ghost use Rattle.std.specs.Prelude.{◌≡◌, IfOk, OnOk};
-ghost use Rattle.v_operator.specs.Made.{AreUnary, AreBinary, AreConditional, sized_at};
-ghost use Rattle.v_operator.specs.Checked.{ChecksNumber, ChecksBracketed, ChecksUnary, ChecksBinary, ChecksConditional};
+ghost use Rattle.v_operator.specs.Made.{AreUnary, AreBinary, AreConditional};
+ghost use Rattle.v_operator.specs.Checked.{ChecksNumber, ChecksBracketed, ChecksUnary, ChecksBinary, ChecksConditional, sized_at};
 
 use crate::Checked;
 use crate::made::{made_of_one, made_of_three, made_of_two};
@@ -12,21 +12,21 @@ use port_io::NoMemory;
 use std::alloc::Global;
 use v_context::Contextual;
 use v_flat::{BinaryClass, UnaryClass, binary_class, unary_class};
-use v_scope::{ElabRule, Found};
+use v_scope::{ElabRule, Found, MOST_DIGITS};
 use v_syntax::{BinaryOperator, UnaryOperator};
 
-/// What is found has at most 128 digits, or else TooWide is broken at this token. The limit is ours; clause 5.4.1 gives the widths.
-/// Its definition stands in a means of proof, since it is `sized` of the definition of widths over what was checked.
+/// What is found has at most [`MOST_DIGITS`] digits, or else TooWide is broken too, at this token. IEEE 1364-2005, clause 5.4.1,
+/// gives the widths, and the limit is narrower than that of clause 4.3.1.
 pub fn sized(place: usize, found: Found<Checked>) -> Found<Checked>
     ensures { result ≡ sized_at place found }
 {
     match found {
         Found::Sound(c) => {
-            let fits = c.width <= 128;
+            let fits = c.width <= MOST_DIGITS;
             Found::Sound(c).wants(fits, ElabRule::TooWide, place)
         }
         Found::Noted(fault, c) => {
-            let fits = c.width <= 128;
+            let fits = c.width <= MOST_DIGITS;
             let whole = Found::Sound(c).wants(fits, ElabRule::TooWide, place);
             whole.noted(fault)
         }

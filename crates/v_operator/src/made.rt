@@ -1,6 +1,6 @@
 //! Expressions of one, two and three operands.
 
-ghost use Rattle.std.specs.Prelude.{◌≡◌, max, IfOk};
+ghost use Rattle.std.specs.Prelude.{IfOk};
 ghost use Rattle.v_operator.specs.Made.{MakesUnary, MakesBinary, MakesConditional, AreLowered};
 
 use crate::Checked;
@@ -9,13 +9,6 @@ use port_io::NoMemory;
 use std::alloc::Global;
 use v_context::Contextual;
 use v_flat::{BinaryClass, UnaryClass};
-
-/// The greater of both.
-fn greater(a: u8, b: u8) -> u8
-    ensures { result ≡ max a b }
-{
-    if a < b { b } else { a }
-}
 
 /// Both, each in a context of its own. Only want of memory is an error.
 fn lower_both(
@@ -64,7 +57,7 @@ pub(crate) fn made_of_two(
 ) -> Result<Checked, NoMemory>
     ensures { IfOk result (MakesBinary class left right) }
 {
-    let wide = greater(left.width, right.width);
+    let wide = left.width.max(right.width);
     match class {
         BinaryClass::Combines(op) => Ok(Checked {
             width: wide,
@@ -105,7 +98,7 @@ pub(crate) fn made_of_three(
 {
     let condition = condition.form.lower(alloc, condition.width)?;
     Ok(Checked {
-        width: greater(yes.width, no.width),
+        width: yes.width.max(no.width),
         form: Contextual::conditional(alloc, condition, yes.form, no.form)?,
     })
 }

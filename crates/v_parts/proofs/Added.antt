@@ -8,14 +8,16 @@ use Rattle.v_scope.specs.declared.found.Found.{Found}
 use Rattle.v_scope.specs.declared.found.Found.TheVariants.{Sound}
 use Rattle.v_scope.specs.Found.{each, both}
 use Rattle.v_scope.specs.Scope.{Scope}
+use Rattle.v_scope.proofs.Gathered.{both_each}
+use Rattle.v_scope.specs.Limits.{counted_width}
 use Rattle.v_context.specs.Concatenations.{values, AreSound}
 use Rattle.v_context.specs.Concatenations as term
 use Rattle.v_flat.specs.Expressions.{meaning, joined}
 use Rattle.v_flat.specs.Checks.{checked, all_checked}
 use Rattle.v_flat.proofs.Holds.{holds_both}
 use Rattle.v_operator.specs.declared.checked.Checked.{Checked}
-use Rattle.v_operator.specs.Checked.{StandsFor, IsChecked, counted_width}
-use Rattle.v_operator.proofs.Combined.{both_each, made_width, made_holds}
+use Rattle.v_operator.specs.Checked.{StandsFor, IsChecked}
+use Rattle.v_operator.proofs.Combined.{made_width, made_holds}
 use Rattle.v_operator.proofs.Operators.{counted_whole}
 use Rattle.v_parts.specs.declared.parts.Parts.{Parts}
 use Rattle.v_parts.specs.Made.{MakesMore, AreMore}

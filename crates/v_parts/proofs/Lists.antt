@@ -1,21 +1,17 @@
 -- One more part above others.
-use Rattle.std.proofs.Common.{◌≡◌, ℕ, ◌+◌, ◌≤◌, List, [], ◌∷◌, ◌++◌, length, refl, sym, ap, ◌∙◌, arith, append_assoc}
+use Rattle.std.proofs.Common.{◌≡◌, ℕ, ◌+◌, ◌≤◌, List, [], ◌∷◌, ◌++◌, length, ap, ◌∙◌, arith}
+use Rattle.std.proofs.lemmas.List.{append-nil}
 use Rattle.four_value.specs.declared.Digit.{Digit}
 use Rattle.gpi.specs.declared.terms.Term.{Term}
 use Rattle.gpi.specs.Terms.{value, width, IsSound}
 use Rattle.v_context.specs.Concatenations.{values, widths, AreSound}
-
-nothing_behind : (ds : List Digit) → ds ++ [] ≡ ds
-nothing_behind [] = refl
-nothing_behind (d ∷ ds) = ap (λ (es : List Digit). d ∷ es) (nothing_behind ds)
+use Rattle.v_context.proofs.Joined.{values_append, widths_append}
 
 pub values_end : (ts : List Term) (t : Term) (m : ℕ → List Digit) → values (ts ++ (t ∷ [])) m ≡ values ts m ++ value t m
-values_end [] t m = nothing_behind (value t m)
-values_end (x ∷ ts) t m = ap (λ (ds : List Digit). value x m ++ ds) (values_end ts t m) ∙ sym (append_assoc (value x m) (values ts m) (value t m))
+values_end ts t m = values_append ts (t ∷ []) m ∙ ap (λ (ds : List Digit). values ts m ++ ds) (append-nil (value t m))
 
 pub widths_end : (ts : List Term) (t : Term) → widths (ts ++ (t ∷ [])) ≡ widths ts + width t
-widths_end [] t = omega arith
-widths_end (x ∷ ts) t = let e : widths (ts ++ (t ∷ [])) ≡ widths ts + width t = widths_end ts t in omega (arith, e)
+widths_end ts t = let e : widths (ts ++ (t ∷ [])) ≡ widths ts + widths (t ∷ []) = widths_append ts (t ∷ []) in omega (arith, e)
 
 pub sound_end : (ts : List Term) (t : Term) (ws : List ℕ) → AreSound ts ws → IsSound t ws → AreSound (ts ++ (t ∷ [])) ws
 sound_end [] t ws h k = (k, tt)

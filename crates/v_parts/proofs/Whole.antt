@@ -3,7 +3,7 @@ use Rattle.std.proofs.Common.{◌≡◌, ℕ, zero, suc, ◌*◌, ◌≤◌, Lis
 use Rattle.std.proofs.Math.Nat.{le-mul_of_pos_right, mul_comm}
 use Rattle.std.proofs.lemmas.Bool.Decides.{nat_tests}
 use Rattle.four_value.specs.declared.Digit.{Digit}
-use Rattle.four_value.specs.Vector.{number, resize}
+use Rattle.four_value.specs.Vector.{resize}
 use Rattle.gpi.specs.Terms.{copies}
 use Rattle.v_syntax.specs.ExpressionTrees.{Tree, Concatenation, Replication, Trees, first_at}
 use Rattle.v_scope.specs.declared.rule.ElabRule.TheVariants as rule
@@ -11,49 +11,37 @@ use Rattle.v_scope.specs.declared.found.Found.{Found}
 use Rattle.v_scope.specs.declared.found.Found.TheVariants.{Sound, Noted, Lost}
 use Rattle.v_scope.specs.Found.{noted, each, both, and_then, needs, Holds}
 use Rattle.v_scope.specs.Scope.{Scope}
+use Rattle.v_scope.proofs.Gathered.{same_each, each_noted, each_needs, both_each}
+use Rattle.v_scope.specs.Limits.{counted_width}
 use Rattle.v_context.specs.Concatenations.{values}
 use Rattle.v_context.specs.Concatenations as term
-use Rattle.v_flat.specs.Expressions.{number_or, own_number, own_value, no_signals, widths, joined}
-use Rattle.v_flat.specs.Checks.{checked, all_checked, constant, counted, filled, sized}
-use Rattle.v_flat.proofs.Holds.{holds_noted, holds_both, holds_then, holds_each, holds_needs}
-use Rattle.v_flat.proofs.Widths.{widths_found, constant_found}
+use Rattle.v_flat.specs.Expressions.{own_number, widths, joined}
+use Rattle.v_flat.specs.Checks.{all_checked, constant_of, counted, filled, sized}
+use Rattle.v_flat.proofs.Holds.{holds_noted, holds_both, holds_each}
+use Rattle.v_flat.proofs.Widths.{count_found}
 use Rattle.v_operator.specs.declared.checked.Checked.{Checked}
-use Rattle.v_operator.specs.Made.{sized_at}
-use Rattle.v_operator.specs.Checked.{StandsFor, IsChecked, counted_width}
-use Rattle.v_operator.proofs.Combined.{each_noted, both_each, sized_width, sized_counted, made_width, made_holds, sized_holds}
+use Rattle.v_operator.specs.Checked.{StandsFor, IsChecked, IsCount, sized_at}
+use Rattle.v_operator.proofs.Combined.{sized_width, sized_counted, made_width, made_holds, sized_holds}
 use Rattle.v_operator.proofs.Operators.{whole_width}
 use Rattle.v_parts.specs.declared.parts.Parts.{Parts}
 use Rattle.v_parts.specs.Made.{MakesOnce, AreOnce, MakesCopies, AreCopies, filled_at}
-use Rattle.v_parts.specs.Parts.{StandFor, AreChecked, IsCount}
+use Rattle.v_parts.specs.Parts.{StandFor, AreChecked}
 use Rattle.v_parts.proofs.Lists.{some_parts}
 
 -- ---- something stands in the braces
 
-same_each : (x : Found ℕ) → each (λ (n : ℕ). n) x ≡ x
-same_each (Sound n) = refl
-same_each (Noted b n) = refl
-same_each (Lost b) = refl
-
-needs_width : (p : ℕ) (ok : Bool) (x : Parts) → each (λ (x : Parts). x.width) (needs ok rule.BadRange p (Sound x)) ≡ needs ok rule.BadRange p (Sound x.width)
-needs_width p true x = refl
-needs_width p false x = refl
-
 filled_width : (p : ℕ) (f : Found Parts) → each (λ (x : Parts). x.width) (filled_at p f) ≡ filled p (each (λ (x : Parts). x.width) f)
-filled_width p (Sound x) = needs_width p (nat_lt 0 x.width) x
+filled_width p (Sound x) = each_needs (λ (x : Parts). x.width) (nat_lt 0 x.width) rule.BadRange p (Sound x)
 filled_width p (Noted b x) = each_noted (λ (x : Parts). x.width) b (needs (nat_lt 0 x.width) rule.BadRange p (Sound x))
-    ∙ ap (λ (y : Found ℕ). noted b y) (needs_width p (nat_lt 0 x.width) x)
+    ∙ ap (λ (y : Found ℕ). noted b y) (each_needs (λ (x : Parts). x.width) (nat_lt 0 x.width) rule.BadRange p (Sound x))
 filled_width p (Lost b) = refl
 
 some_counted : (w : ℕ) → nat_lt 0 w ≡ nat_lt 0 (counted_width w)
 some_counted zero = refl
 some_counted (suc w) = grind (arith, nat_tests)
 
-needs_counted : (p w : ℕ) (ok : Bool) → each counted_width (needs ok rule.BadRange p (Sound w)) ≡ needs ok rule.BadRange p (Sound (counted_width w))
-needs_counted p w true = refl
-needs_counted p w false = refl
-
 some_filled : (p w : ℕ) → each counted_width (needs (nat_lt 0 w) rule.BadRange p (Sound w)) ≡ needs (nat_lt 0 (counted_width w)) rule.BadRange p (Sound (counted_width w))
-some_filled p w = needs_counted p w (nat_lt 0 w) ∙ ap (λ (ok : Bool). needs ok rule.BadRange p (let r : Found ℕ = Sound (counted_width w) in r)) (some_counted w)
+some_filled p w = each_needs counted_width (nat_lt 0 w) rule.BadRange p (Sound w) ∙ ap (λ (ok : Bool). needs ok rule.BadRange p (let r : Found ℕ = Sound (counted_width w) in r)) (some_counted w)
 
 filled_counted : (p : ℕ) (x : Found ℕ) → each counted_width (filled p x) ≡ filled p (each counted_width x)
 filled_counted p (Sound w) = some_filled p w
@@ -103,10 +91,6 @@ concatenation_checked s p es y f h made = record {
 
 -- ---- replications
 
-counted_low : (p : ℕ) (ds : List Digit) → Holds (λ (n : ℕ). (number_or (number ds) ≡ n) × (1 ≤ n)) (counted p ds)
-counted_low p ds = holds_needs (λ (n : ℕ). (number_or (number ds) ≡ n) × (1 ≤ n)) (nat_lt 0 (number_or (number ds))) rule.BadRange p (Sound (number_or (number ds)))
-    (λ u. (refl, grind (arith, nat_tests)))
-
 -- the count is the number of its expression, and at least 1
 abbrev Counts : Scope → Tree → ℕ → Type 0
 Counts s c n = (n ≡ counted_width (own_number s c)) × (1 ≤ n)
@@ -116,10 +100,7 @@ counts_it m n h = (ap (λ (k : ℕ). counted_width k) (sym h.0), let k = h.1 in 
 
 count_holds : (s : Scope) (c : Tree) (n : Found ℕ) → IsCount s c n → Holds (λ (n : ℕ). Counts s c n) n
 count_holds s c n h = subst (λ (f : Found ℕ). Holds (λ (n : ℕ). Counts s c n) f) (sym h)
-    (holds_each (λ (n : ℕ). (own_number s c ≡ n) × (1 ≤ n)) (λ (n : ℕ). Counts s c n) counted_width (and_then (constant s c (checked s c)) (counted (first_at c)))
-    (holds_then (λ (ds : List Digit). own_value s c no_signals ≡ ds) (λ (n : ℕ). (own_number s c ≡ n) × (1 ≤ n)) (constant s c (checked s c)) (counted (first_at c))
-    (constant_found s c (checked s c) (widths_found s c))
-    (λ ds q. subst (λ (es : List Digit). Holds (λ (n : ℕ). (own_number s c ≡ n) × (1 ≤ n)) (counted (first_at c) es)) q (counted_low (first_at c) (own_value s c no_signals))))
+    (holds_each (λ (n : ℕ). (own_number s c ≡ n) × (1 ≤ n)) (λ (n : ℕ). Counts s c n) counted_width (and_then (constant_of s c) (counted (first_at c))) (count_found s c)
     (λ n q. counts_it (own_number s c) n q))
 
 -- where both are counted exactly, and where one isn't
@@ -182,13 +163,13 @@ pub replication_checked : (s : Scope) (p : ℕ) (c : Tree) (es : Trees) (n : Fou
 replication_checked s p c es n y f g h made = record {
   finds = whole_width {A = ℕ × Parts} {B = ℕ × ℕ} p (λ (q : ℕ × ℕ). counted_width (q.0 * q.1)) (λ (q : ℕ × ℕ). q.0 * q.1)
       (λ (q : ℕ × ℕ). (counted_width q.0, counted_width q.1)) (λ (q : ℕ × Parts). (q.0, q.1.width)) (both n (filled_at p y))
-      (both (and_then (constant s c (checked s c)) (counted (first_at c))) (filled p (all_checked s es))) f
+      (both (and_then (constant_of s c) (counted (first_at c))) (filled p (all_checked s es))) f
       (made_width (λ (q : ℕ × Parts) (c : Checked). MakesCopies q.0 q.1 c) (λ (c : Checked). c.width) (λ (q : ℕ × Parts). counted_width (q.0 * q.1.width)) (both n (filled_at p y)) f made
       (λ q c k. k.width_is))
       (sym (both_each (λ (m : ℕ). m) (λ (x : Parts). x.width) n (filled_at p y))
       ∙ ap (λ (z : Found ℕ). both z (each (λ (x : Parts). x.width) (filled_at p y))) (same_each n ∙ g)
-      ∙ ap (λ (z : Found ℕ). both (each counted_width (and_then (constant s c (checked s c)) (counted (first_at c)))) z) (filled_finds s p es y h)
-      ∙ both_each counted_width counted_width (and_then (constant s c (checked s c)) (counted (first_at c))) (filled p (all_checked s es)))
+      ∙ ap (λ (z : Found ℕ). both (each counted_width (and_then (constant_of s c) (counted (first_at c)))) z) (filled_finds s p es y h)
+      ∙ both_each counted_width counted_width (and_then (constant_of s c) (counted (first_at c))) (filled p (all_checked s es)))
       (λ q. product_counted q.0 q.1);
   holds = sized_holds (λ (x : Checked). StandsFor s (Replication p c es) x) p f
       (made_holds (λ (q : ℕ × Parts) (x : Checked). MakesCopies q.0 q.1 x) (λ (q : ℕ × Parts). Counts s c q.0 × Filled s es q.1)

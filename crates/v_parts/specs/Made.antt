@@ -7,10 +7,10 @@ use Rattle.v_scope.specs.declared.rule.ElabRule.TheVariants as rule
 use Rattle.v_scope.specs.declared.found.Found.{Found}
 use Rattle.v_scope.specs.declared.found.Found.TheVariants.{Sound}
 use Rattle.v_scope.specs.Found.{and_then, needs}
+use Rattle.v_scope.specs.Limits.{counted_width, most_digits}
 use Rattle.v_context.specs.Contexts.{IsLowered}
 use Rattle.v_context.specs.Concatenations.{values, widths, AreSound, MakesConcatenation}
 use Rattle.v_operator.specs.declared.checked.Checked.{Checked}
-use Rattle.v_operator.specs.Checked.{counted_width}
 use Rattle.v_operator.specs.Made.{Makes, EachIs}
 use Rattle.v_parts.specs.declared.parts.Parts.{Parts}
 
@@ -32,7 +32,7 @@ filled_at p f = and_then f (λ (x : Parts). needs (nat_lt 0 x.width) rule.BadRan
 pub record MakesCopies (n : ℕ) (x : Parts) (c : Checked) : Type 0 where
   pub width_is : c.width ≡ counted_width (n * x.width)
   pub made : 1 ≤ length x.terms.items → Makes c c.width (λ w m. resize (copies n (values x.terms.items m)) w)
-      (λ ws. AreSound x.terms.items ws × (widths x.terms.items ≤ 128) × (1 ≤ n) × (n * widths x.terms.items ≤ 128))
+      (λ ws. AreSound x.terms.items ws × (widths x.terms.items ≤ most_digits) × (1 ≤ n) × (n * widths x.terms.items ≤ most_digits))
 
 abbrev pub AreCopies : Found (ℕ × Parts) → Found Checked → Type 0
 AreCopies x f = EachIs (λ (p : ℕ × Parts) (c : Checked). MakesCopies p.0 p.1 c) x f
@@ -41,7 +41,7 @@ AreCopies x f = EachIs (λ (p : ℕ × Parts) (c : Checked). MakesCopies p.0 p.1
 pub record MakesOnce (x : Parts) (c : Checked) : Type 0 where
   pub width_is : c.width ≡ x.width
   pub made : 1 ≤ length x.terms.items → Makes c x.width (λ w m. resize (values x.terms.items m) w)
-      (λ ws. AreSound x.terms.items ws × (widths x.terms.items ≤ 128))
+      (λ ws. AreSound x.terms.items ws × (widths x.terms.items ≤ most_digits))
 
 abbrev pub AreOnce : Found Parts → Found Checked → Type 0
 AreOnce x f = EachIs MakesOnce x f

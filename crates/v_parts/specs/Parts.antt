@@ -1,16 +1,17 @@
 -- What it means that the parts of braces were checked (IEEE 1364-2005, clause 5.1.14), and what is found in the whole.
 use Rattle.std.specs.Prelude.{◌≡◌, ℕ, List}
 use Rattle.four_value.specs.declared.Digit.{Digit}
-use Rattle.v_syntax.specs.ExpressionTrees.{Tree, Concatenation, Replication, Trees, none, more, first_at}
+use Rattle.v_syntax.specs.ExpressionTrees.{Tree, Concatenation, Replication, Trees, none, more}
 use Rattle.v_scope.specs.declared.found.Found.{Found}
-use Rattle.v_scope.specs.Found.{each, and_then, Holds}
+use Rattle.v_scope.specs.Found.{each, Holds}
 use Rattle.v_scope.specs.Scope.{Scope}
+use Rattle.v_scope.specs.Limits.{counted_width}
 use Rattle.v_context.specs.Concatenations.{AreSound}
 use Rattle.v_context.specs.Concatenations as term
 use Rattle.v_flat.specs.Expressions.{widths, joined}
-use Rattle.v_flat.specs.Checks.{checked, all_checked, constant, counted}
+use Rattle.v_flat.specs.Checks.{all_checked}
 use Rattle.v_operator.specs.declared.checked.Checked.{Checked}
-use Rattle.v_operator.specs.Checked.{AllNamesOf, IsChecked, counted_width}
+use Rattle.v_operator.specs.Checked.{AllNamesOf, IsChecked, IsCount}
 use Rattle.v_parts.specs.declared.parts.Parts.{Parts}
 
 -- together they have the digits of these expressions, on every map of the signals; and they are sound wherever the names are
@@ -25,10 +26,6 @@ pub record StandFor (s : Scope) (es : Trees) (x : Parts) : Type 0 where
 pub record AreChecked (s : Scope) (es : Trees) (f : Found Parts) : Type 0 where
   pub finds : each (λ (x : Parts). x.width) f ≡ each counted_width (all_checked s es)
   pub holds : Holds (λ (x : Parts). StandFor s es x) f
-
--- n is what the count of a replication is
-abbrev pub IsCount : Scope → Tree → Found ℕ → Type 0
-IsCount s c n = n ≡ each counted_width (and_then (constant s c (checked s c)) (counted (first_at c)))
 
 -- ---- what is found in the whole, from what was found in the parts
 

@@ -1,7 +1,7 @@
 //! Concatenations and replications.
 
 ghost use Rattle.std.specs.Prelude.{◌≡◌, ◌*◌, IfOk};
-ghost use Rattle.v_operator.specs.Checked.{counted_width};
+ghost use Rattle.v_scope.specs.Limits.{counted_width};
 ghost use Rattle.v_parts.specs.Made.{AreCopies, AreOnce, MakesAll, MakesCopies, MakesOnce, filled_at};
 ghost use Rattle.v_parts.specs.Parts.{ChecksConcatenation, ChecksReplication};
 
@@ -12,7 +12,7 @@ use port_io::NoMemory;
 use std::alloc::Global;
 use v_context::Contextual;
 use v_operator::{Checked, sized};
-use v_scope::{ElabRule, Found};
+use v_scope::{ElabRule, Found, TOO_WIDE};
 
 /// Something stands in the braces, or else BadRange is broken at this token.
 fn filled(place: usize, parts: Found<Parts>) -> Found<Parts>
@@ -65,11 +65,11 @@ fn of_parts(alloc: Global, parts: Found<Parts>) -> Result<Found<Checked>, NoMemo
     }
 }
 
-/// The product of two widths, where 129 stands for more than 128.
-fn product(a: u8, b: u8) -> u8
-    ensures { result ≡ counted_width (a * b) }
+/// The product of a count and a width, where [`TOO_WIDE`] stands for all beyond 128 digits.
+fn product(count: u8, width: u8) -> u8
+    ensures { result ≡ counted_width (count * width) }
 {
-    a.saturating_mul(b).min(129)
+    count.saturating_mul(width).min(TOO_WIDE)
 }
 
 /// So many copies of all parts. Only want of memory is an error.
@@ -106,8 +106,8 @@ pub fn concatenation(
     Ok(sized(place, of_parts(alloc, filled(place, parts))?))
 }
 
-/// `{ count { part , .. } }`, where `place` is the number of its first token (clause 5.1.14), and 129 stands for a count of more
-/// than 128. Only want of memory is an error.
+/// `{ count { part , .. } }`, where `place` is the number of its first token (clause 5.1.14), and [`TOO_WIDE`] stands for a count
+/// of more than 128. Only want of memory is an error.
 pub fn replication(
     alloc: Global,
     place: usize,

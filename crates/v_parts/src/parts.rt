@@ -1,7 +1,7 @@
 //! Parts of braces that were checked.
 
 ghost use Rattle.std.specs.Prelude.{◌≡◌, ◌+◌, IfOk};
-ghost use Rattle.v_operator.specs.Checked.{counted_width};
+ghost use Rattle.v_scope.specs.Limits.{counted_width};
 ghost use Rattle.v_parts.specs.Made.{AreMore, MakesMore};
 ghost use Rattle.v_parts.specs.Parts.{ChecksMore, ChecksNone};
 
@@ -9,23 +9,23 @@ use gpi::Term;
 use port_io::NoMemory;
 use std::alloc::Global;
 use v_operator::Checked;
-use v_scope::Found;
+use v_scope::{Found, TOO_WIDE};
 
 /// Parts of braces that were checked (IEEE 1364-2005, clause 5.1.14). Where no rule is broken in them, they have the digits of
 /// the expressions; where one is, only the width counts.
 #[derive(Drop)]
 pub struct Parts {
-    /// The number of digits of all together, where 129 stands for more than 128.
+    /// The number of digits of all together, where [`TOO_WIDE`] stands for all beyond 128.
     pub width: u8,
     /// Each part by itself, the last one first.
     pub terms: Vec<Term>,
 }
 
-/// The sum of two widths, where 129 stands for more than 128.
+/// The sum of two widths, where [`TOO_WIDE`] stands for all beyond 128.
 fn sum(a: u8, b: u8) -> u8
     ensures { result ≡ counted_width (a + b) }
 {
-    a.saturating_add(b).min(129)
+    a.saturating_add(b).min(TOO_WIDE)
 }
 
 /// A part before others. Only want of memory is an error.

@@ -1,7 +1,7 @@
 //! What a part of a text gives: its value, or the first rule that is broken in it.
 
 ghost use Rattle.std.specs.Prelude.{◌≡◌};
-ghost use Rattle.v_scope.specs.Found.{both, broken, lost, needs, noted, settled, wants};
+ghost use Rattle.v_scope.specs.Found.{both, broken, ended, lost, needs, noted, settled, wants};
 
 use crate::{Broken, ElabRule, earlier};
 
@@ -75,6 +75,17 @@ impl<A: Drop> Found<A> {
         match self {
             Found::Noted(fault, _) => Found::Lost(fault),
             other => other,
+        }
+    }
+
+    /// The end of an item: the value where no rule is broken, or else the rule that is broken first.
+    pub fn ended(self) -> Result<A, Broken>
+        ensures { result ≡ ended self }
+    {
+        match self {
+            Found::Sound(a) => Ok(a),
+            Found::Noted(fault, _) => Err(fault),
+            Found::Lost(fault) => Err(fault),
         }
     }
 

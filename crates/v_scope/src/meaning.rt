@@ -2,11 +2,12 @@
 
 use four_value::Bits;
 
-/// A declared range, `[left:right]` (IEEE 1364-2005, clauses 4.3.1 and 4.9). The left bound names the highest digit of a
-/// vector.
+/// A declared range, `[left:right]` (IEEE 1364-2005, clauses 4.3.1 and 4.9).
 #[derive(Clone, Copy)]
 pub struct Bounds {
+    /// The index of the highest digit of a vector, or one end of a memory's words.
     pub left: u32,
+    /// The index of the lowest digit of a vector, or the other end of a memory's words.
     pub right: u32,
 }
 
@@ -24,12 +25,13 @@ pub enum DataKind {
 /// A net, a register or a memory as it is declared (clause 4).
 #[derive(Clone, Copy)]
 pub struct DataObject {
+    /// What gives it its value.
     pub kind: DataKind,
     /// The number of its signal in the design, or of a memory's first word.
     pub first: u32,
     /// The range of its digits, or of those of each word.
     pub bounds: Bounds,
-    /// The range of a memory's words.
+    /// The range of a memory's words; none of what is no memory.
     pub words: Option<Bounds>,
 }
 

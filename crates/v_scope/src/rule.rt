@@ -35,10 +35,11 @@ pub enum ElabRule {
     TooMany,
 }
 
-/// A broken rule, and the number of the token at which it is broken.
+/// A broken rule, and where.
 #[derive(Clone, Copy, Debug, PartialEq, Eq)]
 pub struct Broken {
     pub rule: ElabRule,
+    /// The number of the token at which it is broken, from 0.
     pub place: usize,
 }
 

@@ -5,8 +5,8 @@ use Rattle.v_syntax.specs.ExpressionTrees.{Binary}
 use Rattle.v_flat.specs.declared.operators.BinaryClass.{BinaryClass}
 use Rattle.v_flat.specs.Expressions.{binary_class}
 use Rattle.v_operator.specs.declared.checked.Checked.{Checked}
-use Rattle.v_operator.specs.Made.{AreBinary, sized_at}
-use Rattle.v_operator.specs.Checked.{IsChecked}
+use Rattle.v_operator.specs.Made.{AreBinary}
+use Rattle.v_operator.specs.Checked.{IsChecked, sized_at}
 use Rattle.v_operator.proofs.Operators.{binary_checked}
 use Rattle.v_operator.proofs.found.binary.Goals as goal
 

@@ -4,8 +4,8 @@ use Rattle.v_scope.specs.declared.found.Found.{Found}
 use Rattle.v_scope.specs.Found.{both}
 use Rattle.v_syntax.specs.ExpressionTrees.{Conditional}
 use Rattle.v_operator.specs.declared.checked.Checked.{Checked}
-use Rattle.v_operator.specs.Made.{AreConditional, sized_at}
-use Rattle.v_operator.specs.Checked.{IsChecked}
+use Rattle.v_operator.specs.Made.{AreConditional}
+use Rattle.v_operator.specs.Checked.{IsChecked, sized_at}
 use Rattle.v_operator.proofs.Operators.{conditional_checked}
 use Rattle.v_operator.proofs.found.conditional.Goals as goal
 
