@@ -10,6 +10,7 @@ use Rattle.rig_model.proofs.Whole.{run_unique, start_is_front}
 use Rattle.rig_model.proofs.Stops.{run_stops}
 use Rattle.rig_model.specs.declared.file.TestCase.{TestCase}
 use Rattle.command.specs.Answer.{Answers, Answered, IsAnswer, TellsLines, RaisedAt, Quit, setup_with}
+use Rattle.command.specs.Means.{store_means, sink_means}
 use Rattle.command.specs.Reading.{Reading, refused, runs, Reads, IsTold}
 use Rattle.regression.specs.Runs.{RunsTo, Whole, Broken, status_of}
 use Rattle.command.proofs.Words.{IsRefusal}
@@ -58,12 +59,12 @@ module _ {O : Type 0} (takes breaks : O → List ℕ → O → Type 0) (told : O
   one_joined : (line : List ℕ) → joined (line ∷ []) ≡ line
   one_joined line = append-nil line
 
-  refusal_tells : (own : Status) (line : List ℕ) (s : Status) (content : Content) (out out' : O) → Answers takes breaks told budget (refused own line) s content out out' → TellsLines (told out) (told out') (line ∷ []) own s
+  refusal_tells : (own : Status) (line : List ℕ) (s : Status) (content : Content) (out out' : O) → Answers (sink_means takes breaks told) budget (refused own line) s content out out' → TellsLines (told out) (told out') (line ∷ []) own s
   refusal_tells own line s content out out' (inl (e, t)) = inl (e, subst (λ (l : List ℕ). Appends (told out) (told out') l) (sym (one_joined line)) (takes_told out line out' t))
   refusal_tells own line s content out out' (inr (inl (e, b))) = inr (inl e, subst (λ (l : List ℕ). AppendsPart (told out) (told out') l) (sym (one_joined line)) (breaks_told out line out' b))
   refusal_tells own line s content out out' (inr (inr (e, p))) = inr (inr e, puts_part_told told takes breaks takes_told breaks_told out (line ∷ []) out' p)
 
-  answer_tells : (r : Reading) (s : Status) (content : Content) (out out' : O) → Answers takes breaks told budget r s content out out'
+  answer_tells : (r : Reading) (s : Status) (content : Content) (out out' : O) → Answers (sink_means takes breaks told) budget r s content out out'
       → (lines : List (List ℕ)) × (own : Status) × IsAnswer budget r lines own × TellsLines (told out) (told out') lines own s
   answer_tells (refused own line) s content out out' a = (line ∷ [], own, (refl, refl), refusal_tells own line s content out out' a)
   answer_tells (runs ports file) s content out out' a =
@@ -75,7 +76,7 @@ module _ {O : Type 0} (takes breaks : O → List ℕ → O → Type 0) (told : O
       )
 
   pub answered : {S : Type 0} (files : S → Option (List ℕ → Option (List ℕ))) (gives : S → List ℕ → ℕ → List ℕ → S → Type 0) (misses : S → List ℕ → S → Type 0) (words : List (List ℕ)) (r : Reading) (s : Status) (store store' : S) (content : Content) (out out' : O)
-      → Reads gives misses words store r store' → IsTold (files store) words r → Answers takes breaks told budget r s content out out' → Answered files gives misses takes breaks told budget words s store store' content out out'
+      → Reads gives misses words store r store' → IsTold (files store) words r → Answers (sink_means takes breaks told) budget r s content out out' → Answered (store_means files gives misses) (sink_means takes breaks told) budget words s store store' content out out'
   answered files gives misses words r s store store' content out out' reads is_told answers =
       let t = answer_tells r s content out out' answers in
       record { reading = r; reads = reads; is_told = is_told; answers = answers; lines = t.0; own = t.1; is_answer = t.2; tells = t.3 }
@@ -86,7 +87,7 @@ module _ {O : Type 0} (takes breaks : O → List ℕ → O → Type 0) (told : O
       let b : Broken takes breaks setup case budget out out' = subst (λ (x : Status). RunsTo takes breaks told setup case budget x e content out out') is h in
       puts_broken_count faults takes breaks takes_count breaks_count out b.lines out' b.puts
 
-  pub write_raised : (before after : ℕ) (r : Reading) (s : Status) (content : Content) (out out' : O) → IsRefusal before after r → Answers takes breaks told budget r s content out out' → RaisedAt status.WriteFault (faults out) (faults out') s
+  pub write_raised : (before after : ℕ) (r : Reading) (s : Status) (content : Content) (out out' : O) → IsRefusal before after r → Answers (sink_means takes breaks told) budget r s content out out' → RaisedAt status.WriteFault (faults out) (faults out') s
   write_raised before after (refused own line) s content out out' i (inl (e, t)) = λ is. absurd (i.0 (sym e ∙ is))
   write_raised before after (refused own line) s content out out' i (inr (inl (e, b))) = λ is. breaks_count out line out' b
   write_raised before after (refused own line) s content out out' i (inr (inr (e, p))) = λ is. let no : status.NoMemory ≡ status.WriteFault = sym e ∙ is in cc
@@ -96,7 +97,7 @@ module _ {O : Type 0} (takes breaks : O → List ℕ → O → Type 0) (told : O
   run_reads : (setup : Setup) (case : TestCase) (s : Status) (e : Rig) (content : Content) (out out' : O) → RunsTo takes breaks told setup case budget s e content out out' → s ≡ status.ReadFault → ⊥
   run_reads setup case s e content out out' h is = subst (λ (x : Status). RunsTo takes breaks told setup case budget x e content out out') is h
 
-  pub read_raised : (before after : ℕ) (r : Reading) (s : Status) (content : Content) (out out' : O) → IsRefusal before after r → Answers takes breaks told budget r s content out out' → RaisedAt status.ReadFault before after s
+  pub read_raised : (before after : ℕ) (r : Reading) (s : Status) (content : Content) (out out' : O) → IsRefusal before after r → Answers (sink_means takes breaks told) budget r s content out out' → RaisedAt status.ReadFault before after s
   read_raised before after (refused own line) s content out out' i (inl (e, t)) = λ is. i.2 (sym e ∙ is)
   read_raised before after (refused own line) s content out out' i (inr (inl (e, b))) = λ is. let no : status.WriteFault ≡ status.ReadFault = sym e ∙ is in cc
   read_raised before after (refused own line) s content out out' i (inr (inr (e, p))) = λ is. let no : status.NoMemory ≡ status.ReadFault = sym e ∙ is in cc

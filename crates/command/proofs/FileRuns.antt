@@ -12,11 +12,12 @@ use Rattle.regression.specs.declared.status.Status.{Status}
 use Rattle.regression.proofs.TestRuns.{runs_err}
 use Rattle.text_forms.specs.TestsForm.{IsOneTest}
 use Rattle.command.specs.Answer.{RunsFile, setup_with}
+use Rattle.command.specs.Means.{sink_means}
 
 module _ {O : Type 0} (takes breaks : O → List ℕ → O → Type 0) (told : O → Option (List ℕ)) where
   -- nothing was put for want of memory
   pub file_none : (budget : ℕ) (ports : List ℕ) (file : TestFile) (r : Result Status NoMemory) (content : Content) (out : O) → IsOneTest (length ports) file → IsErr r
-      → RunsFile takes breaks told budget ports file (status_in r) content out out
+      → RunsFile (sink_means takes breaks told) budget ports file (status_in r) content out out
   file_none budget ports file r content out one h =
       let setup : Setup = setup_with ports file in
       let last : Rig = emptied (opening_sim setup) no_counts in

@@ -10,6 +10,7 @@ use Rattle.rig_model.specs.Run.{Run, IsRun, written}
 use Rattle.rig_model.specs.declared.file.TestCase.{TestCase}
 use Rattle.rig_model.specs.declared.file.TestFile.{TestFile}
 use Rattle.text_forms.specs.DesignForm.{flat_of}
+use Rattle.command.specs.Means.{StoreMeans, SinkMeans}
 use Rattle.command.specs.Reading.{Reading, refused, runs, Reads, IsTold}
 use Rattle.regression.specs.Runs.{RunsTo, status_of}
 use Rattle.regression.specs.declared.status.Status.{Status}
@@ -24,16 +25,16 @@ abbrev pub setup_with : List ℕ → TestFile → Setup
 setup_with ports file = record { functions = file.functions; flat = flat_of ports; trace = false }
 
 -- The test of a file is run, which leaves the simulator with this content.
-pub record RunsFile {O : Type 0} (takes breaks : O → List ℕ → O → Type 0) (told : O → Option (List ℕ)) (budget : ℕ) (ports : List ℕ) (file : TestFile) (s : Status) (content : Content) (out out' : O) : Type 0 where
+pub record RunsFile {O : Type 0} (sink : SinkMeans O) (budget : ℕ) (ports : List ℕ) (file : TestFile) (s : Status) (content : Content) (out out' : O) : Type 0 where
   pub case : TestCase
   pub is_case : file.cases ≡ case ∷ []
   pub last : Rig
-  pub runs : RunsTo takes breaks told (setup_with ports file) case budget s last content out out'
+  pub runs : RunsTo sink.takes sink.breaks sink.told (setup_with ports file) case budget s last content out out'
 
 -- The line of a refusal is put: it is taken, or it breaks, or memory is short.
-abbrev pub PutsRefusal : {O : Type 0} → (O → List ℕ → O → Type 0) → (O → List ℕ → O → Type 0) → (O → Option (List ℕ)) → Status → List ℕ → Status → O → O → Type 0
-PutsRefusal takes breaks told own line s out out' =
-    ((s ≡ own) × takes out line out') ⊎ (((s ≡ status.WriteFault) × breaks out line out') ⊎ ((s ≡ status.NoMemory) × PutsPart takes told out (line ∷ []) out'))
+abbrev pub PutsRefusal : {O : Type 0} → SinkMeans O → Status → List ℕ → Status → O → O → Type 0
+PutsRefusal sink own line s out out' =
+    ((s ≡ own) × sink.takes out line out') ⊎ (((s ≡ status.WriteFault) × sink.breaks out line out') ⊎ ((s ≡ status.NoMemory) × PutsPart sink.takes sink.told out (line ∷ []) out'))
 
 -- The simulator that was handed in, after a status: a run leaves it with the design, and a refusal as it was. After a failed
 -- put and want of memory nothing is said of it.
@@ -49,9 +50,9 @@ LeavesKernel is_loaded status.WriteFault before after = Unit {0}
 LeavesKernel is_loaded status.NoMemory before after = Unit {0}
 
 -- The line of a refusal is put, or else the test is run.
-abbrev pub Answers : {O : Type 0} → (O → List ℕ → O → Type 0) → (O → List ℕ → O → Type 0) → (O → Option (List ℕ)) → ℕ → Reading → Status → Content → O → O → Type 0
-Answers takes breaks told budget (refused own line) s content out out' = PutsRefusal takes breaks told own line s out out'
-Answers takes breaks told budget (runs ports file) s content out out' = RunsFile takes breaks told budget ports file s content out out'
+abbrev pub Answers : {O : Type 0} → SinkMeans O → ℕ → Reading → Status → Content → O → O → Type 0
+Answers sink budget (refused own line) s content out out' = PutsRefusal sink own line s out out'
+Answers sink budget (runs ports file) s content out out' = RunsFile sink budget ports file s content out out'
 
 -- The lines and the status of a reading, where nothing fails: the one line of a refusal, or those of the run.
 abbrev pub IsAnswer : ℕ → Reading → List (List ℕ) → Status → Type 0
@@ -66,18 +67,17 @@ TellsLines before after lines own s =
     ((s ≡ own) × Appends before after (joined lines))
     ⊎ (((s ≡ status.WriteFault) ⊎ (s ≡ status.NoMemory)) × AppendsPart before after (joined lines))
 
--- An answer by the four relations of the store and the sink, by the files where the store tells them, by what the simulator holds after a
--- run, and by the bytes where the sink tells them.
-pub record Answered {S O : Type 0} (files : S → Option (List ℕ → Option (List ℕ))) (gives : S → List ℕ → ℕ → List ℕ → S → Type 0) (misses : S → List ℕ → S → Type 0)
-    (takes breaks : O → List ℕ → O → Type 0) (told : O → Option (List ℕ)) (budget : ℕ) (words : List (List ℕ)) (s : Status) (store store' : S) (content : Content) (out out' : O) : Type 0 where
+-- An answer by the reads of the store and the puts of the sink, by the files where the store tells them, by what the simulator holds after
+-- a run, and by the bytes where the sink tells them.
+pub record Answered {S O : Type 0} (from : StoreMeans S) (sink : SinkMeans O) (budget : ℕ) (words : List (List ℕ)) (s : Status) (store store' : S) (content : Content) (out out' : O) : Type 0 where
   pub reading : Reading
-  pub reads : Reads gives misses words store reading store'
-  pub is_told : IsTold (files store) words reading
-  pub answers : Answers takes breaks told budget reading s content out out'
+  pub reads : Reads from.gives from.misses words store reading store'
+  pub is_told : IsTold (from.files store) words reading
+  pub answers : Answers sink budget reading s content out out'
   pub lines : List (List ℕ)
   pub own : Status
   pub is_answer : IsAnswer budget reading lines own
-  pub tells : TellsLines (told out) (told out') lines own s
+  pub tells : TellsLines (sink.told out) (sink.told out') lines own s
 
 -- Memory was short before anything was put.
 pub record Quit {O : Type 0} (s : Status) (out out' : O) : Type 0 where

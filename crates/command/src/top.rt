@@ -4,6 +4,7 @@ ghost use Rattle.command.specs.Answer.{Answers, Answered, Quit, RunsFile, Raised
 ghost use Rattle.text_forms.specs.DesignForm.{ArePorts};
 ghost use Rattle.text_forms.specs.TestsForm.{IsOneTest};
 ghost use Rattle.regression.specs.Runs.{status_in};
+ghost use Rattle.command.specs.Means.{sink_means, store_means};
 ghost use Rattle.command.specs.Reading.{CanRun, ReadsBoth, ReadsTests, read_line, reading_of, refused_line, usage_line};
 
 use crate::decision::Decision;
@@ -105,7 +106,7 @@ pub fn decide<S: Store>(
 
 /// Puts the line of a refusal.
 fn refuse<O: Sink>(alloc: Global, own: Status, line: &[u8], out: &mut O) -> Status
-    ensures { PutsRefusal O.takes O.breaks O.told own line.now result out.old out.new }
+    ensures { PutsRefusal (sink_means O.takes O.breaks O.told) own line.now result out.old out.new }
 {
     match out.put(alloc, line) {
         Ok(()) => own,
@@ -126,7 +127,7 @@ fn run_file<O: Sink, K: Gpi, L: Ledger>(
 ) -> Result<Status, NoMemory>
     requires ports { ArePorts ports.now }
     requires file { IsOneTest (length ports.now) file.now }
-    ensures runs { RunsFile O.takes O.breaks O.told budget ports.now file.now (status_in result) (K.content kernel.new) out.old out.new }
+    ensures runs { RunsFile (sink_means O.takes O.breaks O.told) budget ports.now file.now (status_in result) (K.content kernel.new) out.old out.new }
     ensures loaded { OnOk result (K.is_loaded kernel.new) }
 {
     let flat = flat_of_ports(alloc, ports)?;
@@ -147,7 +148,7 @@ pub fn answer<O: Sink, K: Gpi, L: Ledger>(
     steps: &mut Steps<L>,
 ) -> Status
     requires { CanRun decision.now }
-    ensures answers { Answers O.takes O.breaks O.told budget (reading_of decision.now) result (K.content kernel.new) out.old out.new }
+    ensures answers { Answers (sink_means O.takes O.breaks O.told) budget (reading_of decision.now) result (K.content kernel.new) out.old out.new }
     ensures kernel { LeavesKernel K.is_loaded result kernel.old kernel.new }
 {
     match decision {
@@ -190,7 +191,7 @@ pub fn cocorun<S: Store, O: Sink, K: Gpi, L: Ledger>(
     kernel: &mut K,
     steps: &mut Steps<L>,
 ) -> Status
-    ensures answer { Answered S.files S.gives S.misses O.takes O.breaks O.told default_budget (map string_bytes words.now) result store.old store.new (K.content kernel.new) out.old out.new ⊎ Quit result out.old out.new }
+    ensures answer { Answered (store_means S.files S.gives S.misses) (sink_means O.takes O.breaks O.told) default_budget (map string_bytes words.now) result store.old store.new (K.content kernel.new) out.old out.new ⊎ Quit result out.old out.new }
     ensures kernel { LeavesKernel K.is_loaded result kernel.old kernel.new }
     ensures read_fault { RaisedAt Status.ReadFault (S.faults store.old) (S.faults store.new) result }
     ensures write_fault { RaisedAt Status.WriteFault (O.faults out.old) (O.faults out.new) result }

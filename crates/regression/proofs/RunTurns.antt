@@ -7,6 +7,7 @@ use Rattle.port_io.specs.PutLaws.{takes_one, takes_then, puts_then}
 use Rattle.port_io.proofs.PartLaws.{part_then}
 use Rattle.port_io.specs.declared.ports.NoMemory.{NoMemory}
 use Rattle.gpi.specs.Content.{Content, no_counts}
+use Rattle.gpi.specs.declared.design.Flat.{Flat}
 use Rattle.rig_model.specs.Kernel.{StandsFor}
 use Rattle.rig_model.specs.Rig.{Rig, Setup}
 use Rattle.rig_model.specs.FitSteps.{FitSteps, anywhere, Moves, Short, Begins}
@@ -140,7 +141,7 @@ module _ {O : Type 0} (takes breaks : O → List ℕ → O → Type 0) (told : O
       last = record e { outcome = Some o }
 
       abbrev two : List (List ℕ)
-      two = verdict_line e.sim.time case.name o ∷ report_of (passes o ∷ []) e.sim.time ∷ []
+      two = verdict_line setup.flat e.sim.time case.name o ∷ report_of (passes o ∷ []) e.sim.time ∷ []
 
       over : Moves (FitSteps anywhere setup) budget c1 t.lines fuel' last
       over = t.turns
@@ -149,7 +150,7 @@ module _ {O : Type 0} (takes breaks : O → List ℕ → O → Type 0) (told : O
       over_reach = reached_steps setup budget case (suc over.count) c1 first 0 budget t.lines fuel' last at_first (omega arith) over.steps
 
       abbrev final : Run
-      final = test_ended case o (in_test case last (first ++ t.lines) over_reach.0)
+      final = test_ended setup case o (in_test case last (first ++ t.lines) over_reach.0)
 
       over_is : IsRun setup case budget final
       over_is = reached_end setup budget case last (first ++ t.lines) over_reach.0 fuel' o over_reach.2 over_reach.1 refl
@@ -185,8 +186,9 @@ module _ {O : Type 0} (takes breaks : O → List ℕ → O → Type 0) (told : O
       over_ends content (Ok false) e' out' r k p = record { lines = (first ++ t.lines) ++ two; starts = over_starts; puts = puts_then takes breaks out (first ++ t.lines) mid two false out' over_taken p }
       over_ends content (Err x) e' out' r k p = record { lines = (first ++ t.lines) ++ two; starts = over_starts; puts = part_then takes told out (first ++ t.lines) mid two out' over_taken p }
 
-      pub run_over : (content : Content) (time : ℕ) (s : Status) (e' : Rig) (out' : O) → time ≡ e.sim.time → e' ≡ ended e → StandsFor setup content e'
-          → EndsTo takes breaks told (verdict_line time case.name o ∷ report_of (passes o ∷ []) time ∷ []) (ended_status o) s mid out' → RunsTo takes breaks told setup case budget s e' content out out'
-      run_over content time s e' out' n r k h =
+      pub run_over : (content : Content) (flat : Flat) (time : ℕ) (s : Status) (e' : Rig) (out' : O) → flat ≡ setup.flat → time ≡ e.sim.time → e' ≡ ended e → StandsFor setup content e'
+          → EndsTo takes breaks told (verdict_line flat time case.name o ∷ report_of (passes o ∷ []) time ∷ []) (ended_status o) s mid out' → RunsTo takes breaks told setup case budget s e' content out out'
+      run_over content flat time s e' out' d n r k h =
           subst (λ (x : Status). RunsTo takes breaks told setup case budget x e' content out out') (sym h.status_is)
-          (over_ends content h.put e' out' r k (subst (λ (m : ℕ). PutsLines takes breaks told (verdict_line m case.name o ∷ report_of (passes o ∷ []) m ∷ []) h.put mid out') n h.puts))
+          (over_ends content h.put e' out' r k (subst (λ (m : ℕ). PutsLines takes breaks told (verdict_line setup.flat m case.name o ∷ report_of (passes o ∷ []) m ∷ []) h.put mid out') n
+          (subst (λ (f : Flat). PutsLines takes breaks told (verdict_line f time case.name o ∷ report_of (passes o ∷ []) time ∷ []) h.put mid out') d h.puts)))

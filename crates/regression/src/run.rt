@@ -10,7 +10,7 @@ ghost use Rattle.scheduler.specs.Turns.{Turning};
 ghost use Rattle.regression.specs.Runs.{RunsTo, PutsLine, PutsLines, EndsTo, status_in, verdict_status, ended_status, short_status};
 
 use crate::status::Status;
-use gpi::Gpi;
+use gpi::{Flat, Gpi};
 use port_io::{NoMemory, Sink, SinkFault};
 use rig_model::{Awaits, FlowMaker, Outcome, Steps, TestCase};
 use scheduler::{Engine, Tally, Turn, budget_text, report_text, verdict_text};
@@ -34,6 +34,7 @@ fn has_passed(outcome: &Outcome) -> bool
     match outcome {
         Outcome::Normal => true,
         Outcome::Raised(_) => false,
+        Outcome::ReadOnlyWrite(_) => false,
         Outcome::Stalled => false,
     }
 }
@@ -86,18 +87,19 @@ fn put_two<O: Sink>(
     }
 }
 
-/// Puts the verdict on a test that ended, and the report.
+/// Puts the verdict on a test on that design that ended, and the report.
 fn end_run<O: Sink>(
     alloc: Global,
     time: u64,
     case: &TestCase,
     outcome: &Outcome,
+    flat: &Flat,
     out: &mut O,
 ) -> Result<Status, NoMemory>
-    ensures { EndsTo O.takes O.breaks O.told (verdict_line time case.now.name outcome.now ∷ report_of (passes outcome.now ∷ []) time ∷ []) (ended_status outcome.now) (status_in result) out.old out.new }
+    ensures { EndsTo O.takes O.breaks O.told (verdict_line flat.now time case.now.name outcome.now ∷ report_of (passes outcome.now ∷ []) time ∷ []) (ended_status outcome.now) (status_in result) out.old out.new }
 {
     let passed = has_passed(outcome);
-    let verdict = verdict_text(alloc, time, case.name.bytes(), outcome)?;
+    let verdict = verdict_text(alloc, time, case.name.bytes(), outcome, flat)?;
     let report = report_one(alloc, passed, time)?;
     if put_two(alloc, out, verdict.as_slice(), report.as_slice())? {
         Ok(verdict_of(passed))
@@ -174,7 +176,7 @@ fn run_test<O: Sink, K: Gpi, M: FlowMaker + Drop, W: Awaits, L: Ledger>(
         Turn::Over(outcome) => {
             let time = kernel.now();
             engine.end_test(kernel, steps);
-            end_run(alloc, time, case, &outcome, out)
+            end_run(alloc, time, case, &outcome, engine.design(), out)
         }
         Turn::Spent => end_short(alloc, budget, out),
         Turn::WriteFault => Ok(Status::WriteFault),

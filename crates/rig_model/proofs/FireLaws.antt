@@ -1,12 +1,12 @@
 -- What events and deposits fire.
-use Rattle.std.proofs.Common.{◌≡◌, ℕ, ◌+◌, ◌≤◌, ◌==◌, ◌&&◌, Bool, true, false, not, if◌then◌else◌, List, [], ◌∷◌, ◌++◌, length, Option, None, Some, refl, sym, ap, ◌∙◌, subst, arith, length-append}
-use Rattle.std.specs.Prelude.{slice_get, slice_set}
+use Rattle.std.proofs.Common.{◌≡◌, ℕ, ◌+◌, ◌≤◌, ◌==◌, ◌&&◌, Bool, true, false, not, if◌then◌else◌, List, [], ◌∷◌, ◌++◌, length, Option, None, Some, refl, ◌∙◌, subst, arith, length-append}
+use Rattle.std.specs.Prelude.{slice_set}
 use Rattle.four_value.specs.declared.Digit.{Digit}
 use Rattle.four_value.specs.declared.Digit.TheVariants.{Zero, One, X, Z}
 use Rattle.four_value.specs.Vector.{digit_at, same_digits}
 use Rattle.gpi.specs.Activation.{with_part}
 use Rattle.gpi.specs.Design.{Proc}
-use Rattle.gpi.specs.Events.{Event, event, put, or_else, if_has, level_keys, edge_keys, tells, value_at, write_change, report_case, due_case, active_case, later_case, settle_case, end_case, time_case, activate}
+use Rattle.gpi.specs.Events.{Event, event, put, or_else, if_has, level_keys, edge_keys, tells, value_at, write_change, report_case, due_case, active_case, later_case, settle_case, end_case, time_case}
 use Rattle.gpi.specs.Keys.{Keys, has, among, least, same_key, fired_of}
 use Rattle.gpi.specs.State.{State, is_end, woken}
 use Rattle.gpi.specs.declared.types.Key.{Key}
@@ -86,61 +86,57 @@ put_fires ps s keys sig bits = change_fires ps s keys (record { sig = sig; befor
 
 -- ---- events
 
-abbrev FiresIf : State → Keys → Option Event → Type 0
-FiresIf s keys None = Unit {0}
-FiresIf s keys (Some e) = Fires s keys e
+abbrev FiresIf : Option Event → Type 0
+FiresIf None = Unit {0}
+FiresIf (Some e) = Fires e
 
-either : (s : State) (keys : Keys) (a b : Option Event) → FiresIf s keys a → FiresIf s keys b → FiresIf s keys (or_else a b)
-either s keys None b h k = k
-either s keys (Some e) b h k = h
+either : (a b : Option Event) → FiresIf a → FiresIf b → FiresIf (or_else a b)
+either None b h k = k
+either (Some e) b h k = h
 
-report_fires : (s : State) (keys : Keys) (cs : List Report) → FiresIf s keys (report_case s keys cs)
+report_fires : (s : State) (keys : Keys) (cs : List Report) → FiresIf (report_case s keys cs)
 report_fires s keys [] = tt
 report_fires s keys (c ∷ cs) =
     let h : AreOthers (edge_keys c keys) = edge_others c keys in
-    record { few = h.two; alone = λ e. absurd (let n = h.none in cc); settled = λ e. absurd (let n = h.none in cc); stays_open = λ r o. refl }
+    record { few = h.two; alone = λ e. absurd (let n = h.none in cc); settled = λ e. absurd (let n = h.none in cc) }
 
-due_fires : (ps : List Proc) (s t : State) (keys : Keys) (us : List Update) → FiresIf s keys (due_case ps t keys us)
-due_fires ps s t keys [] = tt
-due_fires ps s t keys (u ∷ us) =
+due_fires : (ps : List Proc) (t : State) (keys : Keys) (us : List Update) → FiresIf (due_case ps t keys us)
+due_fires ps t keys [] = tt
+due_fires ps t keys (u ∷ us) =
     let e : Event = put ps (record t { due = us; region = region.Active }) keys u.sig (with_part (value_at t u.sig) u.low u.bits) in
     let h : PutFires (record t { due = us; region = region.Active }) e = put_fires ps (record t { due = us; region = region.Active }) keys u.sig (with_part (value_at t u.sig) u.low u.bits) in
-    record { few = h.few; alone = λ e. absurd (let n = h.other in cc); settled = λ e. absurd (let n = h.other in cc); stays_open = λ r o. ap is_end h.region_stays }
+    record { few = h.few; alone = λ e. absurd (let n = h.other in cc); settled = λ e. absurd (let n = h.other in cc) }
 
-active_fires : (ps : List Proc) (s : State) (keys : Keys) (ns : List ℕ) → FiresIf s keys (active_case ps s ns)
-active_fires ps s keys [] = tt
-active_fires ps s keys (p ∷ rest) = record { few = omega arith; alone = λ e. cc; settled = λ e. cc; stays_open = λ r h. by_proc (slice_get ps p) h }
-  where
-    by_proc : (o : Option Proc) → is_end s.region ≡ false → is_end (activate ps (record s { active = rest }) p o).region ≡ false
-    by_proc None h = h
-    by_proc (Some proc) h = refl
+active_fires : (ps : List Proc) (s : State) (ns : List ℕ) → FiresIf (active_case ps s ns)
+active_fires ps s [] = tt
+active_fires ps s (p ∷ rest) = record { few = omega arith; alone = λ e. cc; settled = λ e. cc }
 
-settle_fires : (s : State) (keys : Keys) (b : Bool) → FiresIf s keys (let o : Option Event = if b then Some (record { state = record s { region = region.Settle }; told = None; fired = key.ReadWrite ∷ [] }) else None in o)
-settle_fires s keys true = record { few = omega arith; alone = λ e. refl; settled = λ e. refl; stays_open = λ r o. refl }
-settle_fires s keys false = tt
+settle_fires : (s : State) (b : Bool) → FiresIf (let o : Option Event = if b then Some (record { state = record s { region = region.Settle }; told = None; fired = key.ReadWrite ∷ [] }) else None in o)
+settle_fires s true = record { few = omega arith; alone = λ e. refl; settled = λ e. refl }
+settle_fires s false = tt
 
-end_fires : (s : State) (keys : Keys) (b c : Bool) → has key.ReadOnly keys ≡ b
-    → FiresIf s keys (let o : Option Event = if b && c then Some (record { state = record s { region = region.End }; told = None; fired = key.ReadOnly ∷ [] }) else None in o)
-end_fires s keys true true h = record { few = omega arith; alone = λ e. cc; settled = λ e. cc; stays_open = λ r o. absurd (let z : true ≡ false = sym h ∙ r in cc) }
-end_fires s keys true false h = tt
-end_fires s keys false c h = tt
+end_fires : (s : State) (b c : Bool)
+    → FiresIf (let o : Option Event = if b && c then Some (record { state = record s { region = region.End }; told = None; fired = key.ReadOnly ∷ [] }) else None in o)
+end_fires s true true = record { few = omega arith; alone = λ e. cc; settled = λ e. cc }
+end_fires s true false = tt
+end_fires s false c = tt
 
-time_fires : (s : State) (keys : Keys) (o : Option ℕ) → FiresIf s keys (time_case s keys o)
+time_fires : (s : State) (keys : Keys) (o : Option ℕ) → FiresIf (time_case s keys o)
 time_fires s keys None = tt
 time_fires s keys (Some t) =
     let h : AreOthers (if_has key.NextStep keys ++ key.At t ∷ []) = others_both (if_has key.NextStep keys) (key.At t ∷ []) (other_if key.NextStep keys refl) (record { one = omega arith; other = refl }) in
-    record { few = h.two; alone = λ e. absurd (let n = h.none in cc); settled = λ e. absurd (let n = h.none in cc); stays_open = λ r o. refl }
+    record { few = h.two; alone = λ e. absurd (let n = h.none in cc); settled = λ e. absurd (let n = h.none in cc) }
 
-event_if : (ps : List Proc) (s : State) (keys : Keys) → FiresIf s keys (event ps s keys)
+event_if : (ps : List Proc) (s : State) (keys : Keys) → FiresIf (event ps s keys)
 event_if ps s keys =
-    either s keys (report_case s keys s.reports) _ (report_fires s keys s.reports)
-    (either s keys (due_case ps s keys s.due) _ (due_fires ps s s keys s.due)
-    (either s keys (active_case ps s s.active) _ (active_fires ps s keys s.active)
-    (either s keys (later_case ps s keys) _ (due_fires ps s (record s { later = [] }) keys s.later)
-    (either s keys (settle_case s keys) _ (settle_fires s keys (has key.ReadWrite keys && not (is_end s.region)))
-    (either s keys (end_case s keys) (time_case s keys (least keys.times)) (end_fires s keys (has key.ReadOnly keys) (not (is_end s.region)) refl)
+    either (report_case s keys s.reports) _ (report_fires s keys s.reports)
+    (either (due_case ps s keys s.due) _ (due_fires ps s keys s.due)
+    (either (active_case ps s s.active) _ (active_fires ps s s.active)
+    (either (later_case ps s keys) _ (due_fires ps (record s { later = [] }) keys s.later)
+    (either (settle_case s keys) _ (settle_fires s (has key.ReadWrite keys && not (is_end s.region)))
+    (either (end_case s keys) (time_case s keys (least keys.times)) (end_fires s (has key.ReadOnly keys) (not (is_end s.region)))
     (time_fires s keys (least keys.times)))))))
 
 -- what an event fires
-pub event_fires : (ps : List Proc) (s : State) (keys : Keys) (e : Event) → event ps s keys ≡ Some e → Fires s keys e
-event_fires ps s keys e h = subst (λ (o : Option Event). FiresIf s keys o) h (event_if ps s keys)
+pub event_fires : (ps : List Proc) (s : State) (keys : Keys) (e : Event) → event ps s keys ≡ Some e → Fires e
+event_fires ps s keys e h = subst FiresIf h (event_if ps s keys)

@@ -14,13 +14,14 @@ use Rattle.gpi.specs.declared.targets.Object.TheVariants as object
 use Rattle.gpi.specs.declared.targets.Target.TheVariants.{Whole}
 use Rattle.gpi.specs.declared.terms.Term.TheVariants as term
 use Rattle.gpi.specs.declared.types.Counts.{Counts}
+use Rattle.gpi.specs.declared.types.Region.TheVariants.{End}
 use Rattle.gpi.specs.declared.types.SigId.{SigId}
 use Rattle.rig_model.specs.declared.file.Function.{Function}
 use Rattle.rig_model.specs.declared.file.Statement.{Statement}
 use Rattle.rig_model.specs.declared.file.Statement.TheVariants.{Write, Timer, Assert, StartSoon, Start, Info}
 use Rattle.rig_model.specs.declared.file.TestCase.{TestCase}
 use Rattle.rig_model.specs.Rig.{Setup}
-use Rattle.rig_model.specs.Run.{Run, steps, opening, written}
+use Rattle.rig_model.specs.Run.{Run, runs, steps, opening, test_begun, written}
 
 abbrev a : SigId
 a = record { 0 = 0 }
@@ -288,3 +289,26 @@ assigns_counts = refl
 assigns_cost : (at assigned 0 100).cost ≡ 8
 unfolding steps digits
 assigns_cost = refl
+
+-- ---- 19: a write in the read-only phase ends the test, and is dropped; no statement awaits that phase so far, so the task is put into it
+
+abbrev read_only_start : Run
+read_only_start =
+    let first = opening (write_and_read true) (case_t 0) in
+    let begun = test_begun (write_and_read true) (case_t 0) first.rig in
+    record first { rig = record begun { sim = record begun.sim { region = End } }; place = runs (case_t 0) }
+
+read_only_lines : (steps (write_and_read true) 100 40 read_only_start).lines
+    ≡ line (codes "0 FAIL t (ReadOnlyWrite: top.a)") ∷ closing (codes "** TESTS=1 PASS=0 FAIL=1 SKIP=0 TIME=0 **")
+unfolding steps digits
+read_only_lines = refl
+
+-- nothing was awaited
+read_only_counts : (steps (write_and_read true) 100 40 read_only_start).rig.counts ≡ counts 0 0 0
+unfolding steps
+read_only_counts = refl
+
+-- the statement itself
+read_only_cost : (steps (write_and_read true) 100 40 read_only_start).cost ≡ 1
+unfolding steps
+read_only_cost = refl

@@ -112,10 +112,10 @@ module _ (setup : Setup) (budget : ℕ) (case : TestCase) where
   -- the test ends, and so does the run
   pub reached_end : (rig : Rig) (lines : List (List ℕ)) (cost fuel : ℕ) (o : Outcome)
       → Reached (in_test case rig lines cost) → cost + fuel ≡ budget → rig.outcome ≡ Some o
-      → IsRun setup case budget (test_ended case o (in_test case rig lines cost))
+      → IsRun setup case budget (test_ended setup case o (in_test case rig lines cost))
   reached_end rig lines cost fuel o r e h =
-      let t : Reached (test_ended case o (in_test case rig lines cost))
-      = reached_step (in_test case rig lines cost) (test_ended case o (in_test case rig lines cost)) r
+      let t : Reached (test_ended setup case o (in_test case rig lines cost))
+      = reached_step (in_test case rig lines cost) (test_ended setup case o (in_test case rig lines cost)) r
       (ends_in rig lines cost fuel o h e)
       (ap (λ (x : Option Outcome). step_in setup case x (in_test case rig lines cost)) h) in
       record { count = t.count; reached = sym t.is; stopped = refl }

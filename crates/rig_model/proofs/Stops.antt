@@ -118,8 +118,8 @@ module _ (setup : Setup) (budget : ℕ) (case : TestCase) where
       cost_is : c.rig.outcome ≡ None → step_cost setup c ≡ (rig_step setup c.rig).cost
       cost_is k = ap (λ (x : Place). cost_at setup x c) p ∙ ap (λ (x : Option Outcome). cost_in setup x c) k
 
-      over_stops : (o : Outcome) → (n : ℕ) × (goes setup budget (steps setup budget n (test_ended case o c)) ≡ false)
-      over_stops o = (0, ap (goes setup budget) (steps_none setup budget 0 (test_ended case o c) refl))
+      over_stops : (o : Outcome) → (n : ℕ) × (goes setup budget (steps setup budget n (test_ended setup case o c)) ≡ false)
+      over_stops o = (0, ap (goes setup budget) (steps_none setup budget 0 (test_ended setup case o c) refl))
 
       decided : (g : Bool) → goes setup budget c ≡ g → (o : Option Outcome) → c.rig.outcome ≡ o → (n : ℕ) × (goes setup budget (steps setup budget n c) ≡ false)
       decided false g o k = (0, ap (goes setup budget) (steps_none setup budget 0 c g) ∙ g)

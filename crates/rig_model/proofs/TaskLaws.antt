@@ -1,8 +1,8 @@
 -- The steps of a task that is polled, as steps of the whole.
-use Rattle.std.proofs.Common.{◌≡◌, ℕ, zero, suc, ◌-◌, ◌⊎◌, Bool, true, false, List, [], ◌∷◌, Option, None, Some, refl, ap, sym, subst, rules, ◌∙◌, inl, inr, arith}
+use Rattle.std.proofs.Common.{◌≡◌, ℕ, zero, suc, ◌-◌, ◌⊎◌, Bool, true, false, List, [], ◌∷◌, Option, None, Some, refl, ap, sym, subst, rules, ◌∙◌, inl, inr}
 use Rattle.rig_model.specs.Task.{Task, Next, next, next_cost}
 use Rattle.rig_model.specs.Poll.{Wants, RunsOut, GoesBy, Polls, Polled}
-use Rattle.rig_model.specs.Rig.{Rig, Setup, Running, view_of}
+use Rattle.rig_model.specs.Rig.{Rig, Setup, view_of}
 use Rattle.rig_model.specs.Effect.{goes_on, is_numbered, effect, effect_of}
 use Rattle.rig_model.specs.Step.{Stepped, costing, task_at, stored, kept, rig_step}
 use Rattle.rig_model.specs.FitSteps.{FitSteps, in_turn, Moves, Short, NoFit, SameRest}

@@ -1,5 +1,6 @@
 -- What each thing that a task wants does, and what the task is given next.
 use Rattle.std.specs.Prelude.{ℕ, ◌+◌, ◌^◌, ◌==◌, ◌||◌, nat_lt, nat_le, Bool, true, false, not, List, [], ◌∷◌, ◌++◌, length, filter, Option, None, Some, if◌then◌else◌, slice_index_or}
+use Rattle.gpi.specs.State.{is_end}
 use Rattle.gpi.specs.declared.types.Key.TheVariants.{At}
 use Rattle.rig_model.specs.Line.{log_line}
 use Rattle.rig_model.specs.Task.{Task, fresh, plain_fault}
@@ -64,6 +65,15 @@ awaits task trig None c = quiet (counted [] c (with_waiting task (begun trig.for
 abbrev pub restaged : SigId → ℕ → List Staged → List Staged
 restaged sig number writes = filter (λ (w : Staged). not (w.sig.0 == sig.0)) writes ++ record { sig = sig; number = number } ∷ []
 
+-- a write in the read-only phase ends the test, and gives the task nothing; in each other region this is done
+abbrev pub write_by : Bool → SigId → After → Rig → After
+write_by true sig a c = quiet (record c { outcome = Some (outcome.ReadOnlyWrite sig) })
+write_by false sig a c = a
+
+-- the write is staged, which is one effect, and the task goes on
+abbrev pub stages : TaskNo → SigId → ℕ → Rig → After
+stages task sig number c = gives task (given.Value value.Absent) (counted [] c (record c { staged = restaged sig number c.staged }))
+
 -- a function by its number
 abbrev pub function_at : List Function → ℕ → Function
 function_at functions func = slice_index_or functions func (record { body = [] })
@@ -105,10 +115,10 @@ abbrev pub returned : Bool → Option Outcome → Option Outcome
 returned true o = Some outcome.Normal
 returned false o = o
 
--- What each thing that a task wants does, once the turn is taken from the task. A write that is staged is one effect.
+-- What each thing that a task wants does, once the turn is taken from the task.
 abbrev pub effect : Setup → TaskNo → Turned → Rig → After
 effect setup task (Await trig) c = awaits task trig (refusal trig.form c.sim.time) c
-effect setup task (Stage sig number) c = gives task (given.Value value.Absent) (counted [] c (record c { staged = restaged sig number c.staged }))
+effect setup task (Stage sig number) c = write_by (is_end c.sim.region) sig (stages task sig number c) c
 effect setup task (Start func give_way) c = starts (is_full c) task (function_at setup.functions func) give_way c
 effect setup task (Log level text) c = record { rig = goes_on task (Some (given.Value value.Absent)) c; lines = log_line c.sim.time level text ∷ [] }
 effect setup task (Done value) c = quiet (record c { tasks = dropped task c.tasks; outcome = returned (task.0 == 0) c.outcome })

@@ -10,18 +10,27 @@ use Rattle.py_syntax.specs.StatementTables.{fault_name}
 use Rattle.py_syntax.specs.declared.statement.LogLevel.{LogLevel}
 use Rattle.py_syntax.specs.declared.statement.LogLevel.TheVariants as level
 use Rattle.rig_model.specs.declared.task.Outcome.{Outcome}
-use Rattle.rig_model.specs.declared.task.Outcome.TheVariants.{Normal, Raised, Stalled}
+use Rattle.rig_model.specs.declared.task.Outcome.TheVariants.{Normal, Raised, ReadOnlyWrite, Stalled}
 
 -- a kind of fault, and what the fault says, if it says anything
 abbrev pub with_text : List ℕ → List ℕ → List ℕ
 with_text kind [] = kind
 with_text kind (byte ∷ bytes) = kind ++ codes ": " ++ byte ∷ bytes
 
--- why a test failed
-abbrev pub reason_of : Outcome → List ℕ
-reason_of Normal = []
-reason_of (Raised fault) = with_text (fault_name fault.kind) fault.text
-reason_of Stalled = codes "Stalled"
+abbrev pub path_in : Option Signal → List ℕ
+path_in None = []
+path_in (Some signal) = signal.path
+
+-- the path of a signal, which begins with the name of the top module
+abbrev pub path_of : Flat → SigId → List ℕ
+path_of flat sig = path_in (slice_get flat.signals sig.0)
+
+-- why a test failed; a write in the read-only phase is told by the path of its signal
+abbrev pub reason_of : Flat → Outcome → List ℕ
+reason_of flat Normal = []
+reason_of flat (Raised fault) = with_text (fault_name fault.kind) fault.text
+reason_of flat (ReadOnlyWrite sig) = codes "ReadOnlyWrite: " ++ path_of flat sig
+reason_of flat Stalled = codes "Stalled"
 
 -- a level as it stands in a line
 abbrev pub level_word : LogLevel → List ℕ
@@ -41,10 +50,11 @@ pass_line time name = decimal time ++ codes " PASS " ++ name ++ 10 ∷ []
 abbrev pub fail_line : ℕ → List ℕ → List ℕ → List ℕ
 fail_line time name reason = decimal time ++ codes " FAIL " ++ name ++ codes " (" ++ reason ++ codes ")" ++ 10 ∷ []
 
-abbrev pub verdict_line : ℕ → List ℕ → Outcome → List ℕ
-verdict_line time name Normal = pass_line time name
-verdict_line time name (Raised fault) = fail_line time name (reason_of (Raised fault))
-verdict_line time name Stalled = fail_line time name (reason_of Stalled)
+abbrev pub verdict_line : Flat → ℕ → List ℕ → Outcome → List ℕ
+verdict_line flat time name Normal = pass_line time name
+verdict_line flat time name (Raised fault) = fail_line time name (reason_of flat (Raised fault))
+verdict_line flat time name (ReadOnlyWrite sig) = fail_line time name (reason_of flat (ReadOnlyWrite sig))
+verdict_line flat time name Stalled = fail_line time name (reason_of flat Stalled)
 
 -- the closing line, with how many tests there were and how many of them passed, failed and were skipped
 abbrev pub report_line : ℕ → ℕ → ℕ → ℕ → ℕ → List ℕ
@@ -69,11 +79,3 @@ digit_letters digits = reverse (map digit_letter digits)
 -- a signal has this value from now on
 abbrev pub sig_line : ℕ → List ℕ → List Digit → List ℕ
 sig_line time path digits = decimal time ++ codes " SIG " ++ path ++ codes " " ++ digit_letters digits ++ 10 ∷ []
-
-abbrev pub path_in : Option Signal → List ℕ
-path_in None = []
-path_in (Some signal) = signal.path
-
--- the path of a signal, which begins with the name of the top module
-abbrev pub path_of : Flat → SigId → List ℕ
-path_of flat sig = path_in (slice_get flat.signals sig.0)

@@ -7,7 +7,7 @@ use Rattle.gpi.specs.declared.types.Counts.{Counts}
 use Rattle.rig_model.specs.Line.{test_line, verdict_line, report_line, budget_line}
 use Rattle.rig_model.specs.declared.file.TestCase.{TestCase}
 use Rattle.rig_model.specs.declared.task.Outcome.{Outcome}
-use Rattle.rig_model.specs.declared.task.Outcome.TheVariants.{Normal, Raised, Stalled}
+use Rattle.rig_model.specs.declared.task.Outcome.TheVariants.{Normal, Raised, ReadOnlyWrite, Stalled}
 use Rattle.rig_model.specs.Rig.{Rig, Setup}
 use Rattle.rig_model.specs.Counts.{counted}
 use Rattle.rig_model.specs.Effect.{with_new_task, function_at}
@@ -52,19 +52,20 @@ test_begun setup case c = with_new_task (function_at setup.functions case.func) 
 abbrev pub passes : Outcome → Bool
 passes Normal = true
 passes (Raised fault) = false
+passes (ReadOnlyWrite sig) = false
 passes Stalled = false
 
 abbrev pub report_of : List Bool → ℕ → List ℕ
 report_of verdicts time = report_line (length verdicts) (count_by (λ b. b) verdicts) (count_by not verdicts) 0 time
 
 -- a test ends: all of it is dropped, and its verdict is written; no test is left, so the run is over
-abbrev pub test_ended : TestCase → Outcome → Run → Run
-test_ended case outcome c =
+abbrev pub test_ended : Setup → TestCase → Outcome → Run → Run
+test_ended setup case outcome c =
     let verdicts = c.verdicts ++ passes outcome ∷ [] in
     record c {
       rig = ended c.rig;
       place = over;
-      lines = c.lines ++ verdict_line c.rig.sim.time case.name outcome ∷ report_of verdicts c.rig.sim.time ∷ [];
+      lines = c.lines ++ verdict_line setup.flat c.rig.sim.time case.name outcome ∷ report_of verdicts c.rig.sim.time ∷ [];
       verdicts = verdicts;
     }
 
@@ -79,7 +80,7 @@ within s c = record c { rig = s.rig; lines = c.lines ++ s.lines; cost = c.cost +
 
 -- a step of a test that runs: it ends where it has an outcome
 abbrev pub step_in : Setup → TestCase → Option Outcome → Run → Run
-step_in setup case (Some outcome) c = test_ended case outcome c
+step_in setup case (Some outcome) c = test_ended setup case outcome c
 step_in setup case None c = within (rig_step setup c.rig) c
 
 abbrev pub step_at : Setup → Place → Run → Run

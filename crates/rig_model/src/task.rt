@@ -69,7 +69,8 @@ pub enum Given {
 pub enum Turned {
     /// To wait for the trigger. It is given the trigger once that has fired.
     Await(Trig),
-    /// To stage a write of the number. It is given `None`, and the design sees the write at the next read-write phase.
+    /// To stage a write of the number. It is given `None`, and the design sees the write at the next read-write phase. In the
+    /// read-only phase the write ends the test, and no handler of the task sees it.
     Stage { sig: SigId, number: u8 },
     /// To start a task of the function of that number. It is given the task. With `give_way` the new task runs before
     /// this one goes on.
@@ -91,6 +92,8 @@ pub enum Outcome {
     Normal,
     /// A fault that nobody caught.
     Raised(Fault),
+    /// A task wrote that signal in the read-only phase (cocotb 1.8, "Triggers", `ReadOnly`).
+    ReadOnlyWrite(SigId),
     /// Nothing was left that could happen.
     Stalled,
 }

@@ -6,7 +6,7 @@ ghost use Rattle.text_forms.specs.TestsForm.{IsOneTest};
 use crate::row::{Row, push_bytes, quoted};
 use crate::runs::decision;
 use command::Decision;
-use gpi::{Gpi, SigId};
+use gpi::{Flat, Gpi, SigId};
 use list_kernel::ListKernel;
 use plain_task::{TreeMaker, WaitList};
 use port_io::{MemSink, NoMemory};
@@ -32,11 +32,11 @@ fn path_text(alloc: Global, ports: &[u8], file: &TestFile) -> Result<String, NoM
 }
 
 /// What a turn came to.
-fn turn_text(alloc: Global, turn: &Turn) -> Result<String, NoMemory> {
+fn turn_text(alloc: Global, turn: &Turn, flat: &Flat) -> Result<String, NoMemory> {
     match turn {
         Turn::Went => Ok(format!(in alloc; "went")?),
         Turn::Over(outcome) => {
-            let line = verdict_text(alloc, 0, b"t", outcome)?;
+            let line = verdict_text(alloc, 0, b"t", outcome, flat)?;
             Ok(quoted(alloc, &line)?)
         }
         Turn::Spent => Ok(format!(in alloc; "spent")?),
@@ -82,7 +82,8 @@ fn engine_of(alloc: Global, ports: &[u8], file: &TestFile) -> Result<String, NoM
     let path = path_text(alloc, ports, file)?;
     let mut kernel = ListKernel::new(alloc);
     let turn = turn::<ListKernel, Brand>(alloc, ports, file, &mut kernel, Blank::new(1))?;
-    let turn = turn_text(alloc, &turn)?;
+    let flat = flat_of_ports(alloc, ports)?;
+    let turn = turn_text(alloc, &turn, &flat)?;
     Ok(format!(in alloc; "path {path}, {turn}")?)
 }
 

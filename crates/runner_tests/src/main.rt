@@ -10,7 +10,7 @@
 //! - `design`, `flat`: what a design is read as, and what is simulated; `tests`: what tests are read as beside a design;
 //! - `release`: a key that the runner holds and lets go, at a simulator of the design, with the counts of keys;
 //! - `engine`: the path of the design's first signal, and what the first turn of the test comes to;
-//! - `sig`, `stalled`, `fault`, `closing`: lines.
+//! - `sig`, `stalled`, `read_only`, `fault`, `closing`: lines.
 //!
 //! The gate compares what is printed with `stdout`.
 #![tactic(auto)]

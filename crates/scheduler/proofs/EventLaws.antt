@@ -14,7 +14,7 @@ use Rattle.gpi.specs.declared.types.Moved.{Moved}
 use Rattle.gpi.specs.declared.types.Counts.{Counts}
 use Rattle.gpi.specs.declared.types.Fired.{Fired}
 use Rattle.gpi.specs.declared.types.Key.{Key}
-use Rattle.gpi.specs.declared.types.Key.TheVariants.{ReadOnly, ReadWrite}
+use Rattle.gpi.specs.declared.types.Key.TheVariants.{ReadWrite}
 use Rattle.gpi.specs.declared.types.SigId.{SigId}
 use Rattle.gpi.specs.declared.types.Told.{Told}
 use Rattle.port_io.specs.declared.ports.SinkFault.{SinkFault}
@@ -30,11 +30,11 @@ use Rattle.rig_model.specs.Step.{evented}
 use Rattle.rig_model.specs.declared.task.Entry.{Entry}
 use Rattle.rig_model.specs.declared.task.Staged.{Staged}
 use Rattle.rig_model.specs.declared.tree.Waiting.{Waiting}
-use Rattle.scheduler.specs.Parts.{Parts, rig_amid, StaysOpen, FitsContent}
+use Rattle.scheduler.specs.Parts.{Parts, rig_amid, FitsContent}
 use Rattle.scheduler.specs.Puts.{PutsOn}
 use Rattle.scheduler.specs.Serves.{Serves, Stays, IsEvented}
 use Rattle.scheduler.proofs.PutLaws.{puts_on_none, puts_on_then}
-use Rattle.scheduler.proofs.StandLaws.{rig_between, awaited_held, keys_named}
+use Rattle.scheduler.proofs.StandLaws.{rig_between, keys_named}
 
 -- ---- keys that fired are served
 
@@ -327,13 +327,6 @@ stays_same k waiting = record { region = refl; waits = λ x m. m }
 pub stays_then : (k1 k2 k3 : Content) (w1 w2 w3 : List Waiting) → Stays k1 k2 w1 w2 → Stays k2 k3 w2 w3 → Stays k1 k3 w1 w3
 stays_then k1 k2 k3 w1 w2 w3 s t = record { region = t.region ∙ s.region; waits = λ x m. s.waits x (t.waits x m) }
 
-pub stays_open : (k k' : Content) (w w' : List Waiting) → Stays k k' w w' → StaysOpen k w → StaysOpen k' w'
-stays_open k k' w w' s o = record { writable = ap is_end s.region ∙ o.writable; no_end = none (among ReadOnly (keys_of w')) refl }
-  where
-    none : (b : Bool) → among ReadOnly (keys_of w') ≡ b → among ReadOnly (keys_of w') ≡ false
-    none true e = absurd (let z : true ≡ false = sym (s.waits ReadOnly e) ∙ o.no_end in cc)
-    none false e = e
-
 -- ---- an event
 
 -- the next event
@@ -369,7 +362,7 @@ not_idle k k' h a = by_event (event_at k) refl a
     by_event (Some e) q r = let e : advance.Idle ≡ advance.Moved (record { change = e.told; fired = fired_of e.fired }) = r.0 in cc
 
 module _ (setup : Setup) (p : Parts) (k k1 : Content) (held : List Key) (f : FitsContent setup held k (rig_between p k)) (m : Moved) (a : Advances k m k1) where
-  event_does : Fires k.state k.keys a.event
+  event_does : Fires a.event
   event_does = event_fires k.procs k.state k.keys a.event a.next
 
   pub event_keys : keys_in m.fired ≡ a.event.fired
@@ -389,31 +382,12 @@ module _ (setup : Setup) (p : Parts) (k k1 : Content) (held : List Key) (f : Fit
   pub event_out : AreOut k1.keys (keys_in m.fired)
   event_out = out_fired k k1 (keys_in m.fired) [] event_left
 
-  no_end_key : has ReadOnly k.keys ≡ false
-  no_end_key =
-      f.stands.keys_are ReadOnly
-      ∙ awaited_held held p k.state k.counts f.held_is ReadOnly
-      ∙ among-append ReadOnly (keys_of p.waiting) held
-      ∙ ap (λ (b : Bool). b || among ReadOnly held) f.stays_open.no_end
-      ∙ f.held_is.same ReadOnly
-      ∙ other p.staged
-    where
-      other : (ws : List Staged) → among ReadOnly (staged_key ws) ≡ false
-      other [] = refl
-      other (w ∷ ws) = refl
-
   pub event_signals : widths_of k1.state.signals ≡ widths_of k.state.signals → length k1.state.signals ≡ length setup.flat.signals
   event_signals w = same_length k1.state.signals k.state.signals w ∙ f.signals
 
   -- in the read-write phase writes may go out
   pub event_writable : among ReadWrite (keys_in m.fired) ≡ true → is_end k1.state.region ≡ false
   event_writable h = ap (λ (st : State). is_end st.region) a.done.state ∙ ap is_end (event_does.settled (sym (ap (among ReadWrite) event_keys) ∙ h))
-
-  pub event_ends : StaysOpen k1 p.waiting
-  event_ends = record {
-    writable = ap (λ (st : State). is_end st.region) a.done.state ∙ event_does.stays_open no_end_key f.stays_open.writable;
-    no_end = f.stays_open.no_end;
-  }
 
   -- the keys that fired are still to be served
   pub event_stands_ahead : StandsAhead (keys_in m.fired) setup k1 (rig_amid p k1.state (keys_in m.fired) k.counts)
@@ -429,7 +403,7 @@ module _ (setup : Setup) (p : Parts) (k k1 : Content) (held : List Key) (f : Fit
   module _ {O : Type 0} (takes breaks : O → List ℕ → O → Type 0) (told : O → Option (List ℕ)) (p2 : Parts) (k2 k3 : Content) (f1 : Option SinkFault) (o1 : O) (f2 : Option SinkFault) (o2 : O)
       (fl : Serves takes breaks told setup own_keys (flushed_if setup (among ReadWrite own_keys) (rig_amid p k1.state own_keys k.counts)) p2 k2 f1 o1 f2 o2)
       (free : (x : Key) → among x (staged_key p2.staged) ≡ true → among x own_keys ≡ false) (held2 held3 : List Key) (goes : AreOnce (without_all own_keys held2) (staged_key p2.staged))
-      (s2 : length k2.state.signals ≡ length setup.flat.signals) (o : StaysOpen k2 p2.waiting) (ready3 : List Entry) (waiting3 : List Waiting) (waiting_is : waiting3 ≡ all_waiting own_keys p2.waiting) (held_is : AreAlike held3 (without_all own_keys held2))
+      (s2 : length k2.state.signals ≡ length setup.flat.signals) (ready3 : List Entry) (waiting3 : List Waiting) (waiting_is : waiting3 ≡ all_waiting own_keys p2.waiting) (held_is : AreAlike held3 (without_all own_keys held2))
       (ready_is : ready3 ≡ p2.ready ++ all_woken own_keys p2.waiting) (b : AreKeysBut k2.keys own_keys (named p2.waiting held2)) (out_is : AreOut k2.keys own_keys)
       (r : Reprimed k2 k3 own_keys (named p2.waiting held2) (named waiting3 held3)) where
     abbrev flush_of : List Key → State → After
@@ -476,10 +450,6 @@ module _ (setup : Setup) (p : Parts) (k k1 : Content) (held : List Key) (f : Fit
       stands = subst (λ (d : Rig). StandsFor setup k3 d) after_is stands_after;
       held_is = once_alike held3 (without_all own_keys held2) (staged_key p2.staged) held_is goes;
       signals = ap (λ (st : State). length st.signals) r.state ∙ s2;
-      stays_open = record {
-        writable = ap (λ (st : State). is_end st.region) r.state ∙ o.writable;
-        no_end = ap (λ (ws : List Waiting). among ReadOnly (keys_of ws)) waiting_is ∙ among_all ReadOnly own_keys p2.waiting ∙ ap (λ (b : Bool). b && not (among ReadOnly own_keys)) o.no_end;
-      };
     }
 
     same_flush : flush_of a.event.fired a.event.state ≡ flush_of own_keys k1.state

@@ -1,5 +1,5 @@
 -- An engine and its simulator stand together, before and after each effect.
-use Rattle.std.proofs.Common.{◌≡◌, ℕ, ◌||◌, Bool, true, false, not, List, [], ◌∷◌, ◌++◌, length, refl, sym, ap, subst, ◌∙◌, append_assoc, eqb-true, arith, Option, None}
+use Rattle.std.proofs.Common.{◌≡◌, ℕ, ◌||◌, Bool, true, false, not, List, [], ◌∷◌, ◌++◌, length, refl, sym, ap, subst, ◌∙◌, eqb-true, arith, Option, None, Some}
 use Rattle.std.specs.Prelude.{filter, ◌==◌}
 use Rattle.gpi.specs.Content.{Content, opening}
 use Rattle.gpi.specs.Keys.{among, has, same_key}
@@ -9,23 +9,26 @@ use Rattle.gpi.specs.declared.design.Flat.{Flat}
 use Rattle.gpi.specs.declared.design.Signal.{Signal}
 use Rattle.gpi.specs.declared.types.Counts.{Counts}
 use Rattle.gpi.specs.declared.types.Key.{Key}
-use Rattle.gpi.specs.declared.types.Key.TheVariants.{At, ReadOnly, ReadWrite}
+use Rattle.gpi.specs.declared.types.Key.TheVariants.{At, ReadWrite}
 use Rattle.gpi.specs.declared.types.SigId.{SigId}
-use Rattle.rig_model.specs.Counts.{counts_after, counted}
-use Rattle.rig_model.specs.Effect.{restaged, with_waiting, refusal, begun, awaits}
+use Rattle.rig_model.specs.Counts.{counted}
+use Rattle.rig_model.specs.Effect.{restaged, with_waiting, refusal, begun, awaits, effect, goes_on, stages, write_by}
 use Rattle.rig_model.specs.Kernel.{StandsFor}
 use Rattle.rig_model.specs.Keys.{AreAlike, AreKeys, AreOnce, Registers, KeepsKeys, Rekeyed, AreCounted}
-use Rattle.rig_model.specs.Rig.{Rig, Setup, awaited, named, keys_of, staged_key, leaves}
+use Rattle.rig_model.specs.Rig.{Rig, Setup, awaited, named, keys_of, staged_key}
 use Rattle.rig_model.specs.Run.{ended}
 use Rattle.rig_model.specs.Task.{Task}
 use Rattle.rig_model.proofs.CountLaws.{among-more, counts_same}
 use Rattle.rig_model.proofs.KernelLaws.{awaited_named, effect_stands, same_stands, once_alike, once_more, registers_rekeyed, registers_counted}
-use Rattle.rig_model.proofs.KeyLaws.{alike_among, among-append, named_same, named_unheld, no_keys_are}
+use Rattle.rig_model.proofs.KeyLaws.{alike_among, named_same, named_unheld, no_keys_are}
 use Rattle.rig_model.specs.declared.task.Entry.{Entry}
 use Rattle.rig_model.specs.declared.task.Staged.{Staged}
 use Rattle.rig_model.specs.declared.task.TaskNo.{TaskNo}
 use Rattle.rig_model.specs.declared.task.Fault.{Fault}
 use Rattle.rig_model.specs.declared.task.Trig.{Trig}
+use Rattle.rig_model.specs.declared.task.Given.TheVariants as given
+use Rattle.rig_model.specs.declared.task.Value.TheVariants.{Absent}
+use Rattle.rig_model.specs.declared.task.Turned.TheVariants.{Stage}
 use Rattle.rig_model.specs.declared.tree.Tree.{Tree}
 use Rattle.rig_model.specs.declared.tree.Tree.TheVariants.{Leaf}
 use Rattle.rig_model.specs.declared.tree.Waiting.{Waiting}
@@ -66,7 +69,6 @@ module _ {W : Type 0} (waiting : W → List Waiting) (held : W → List Key) whe
         stands = record { procs_are = f.stands.procs_are; state_is = f.stands.state_is; keys_are = f.stands.keys_are; counts_are = f.stands.counts_are };
         held_is = f.held_is;
         signals = f.signals;
-        stays_open = record { writable = f.stays_open.writable; no_end = f.stays_open.no_end };
       })
 
 -- ---- effects that fire nothing
@@ -97,26 +99,14 @@ module _ (setup : Setup) (p : Parts) (k k' : Content) (held : List Key) (f : Fit
   rekeyed : Rekeyed k k' (awaited after)
   rekeyed = record { procs = r.procs; state = r.state; keys = λ x. r.keys x ∙ sym (new_keys x) }
 
-  pub effect_fits : among ReadOnly (keys_of p'.waiting) ≡ false → FitsContent setup held' k' (rig_between p' k')
-  effect_fits e = record {
+  pub effect_fits : FitsContent setup held' k' (rig_between p' k')
+  effect_fits = record {
     stands = subst (λ (c : Rig). StandsFor setup k' c) effect_is (effect_stands setup k k' before after refl f.stands rekeyed counts_are);
     held_is = own;
     signals = ap (λ (st : State). length st.signals) r.state ∙ f.signals;
-    stays_open = record { writable = ap (λ (st : State). is_end st.region) r.state ∙ f.stays_open.writable; no_end = e };
   }
 
 -- ---- a task waits
-
-keys_of-append : (ws vs : List Waiting) → keys_of (ws ++ vs) ≡ keys_of ws ++ keys_of vs
-keys_of-append [] vs = refl
-keys_of-append (w ∷ ws) vs = ap (λ (ks : List Key). leaves w.tree ++ ks) (keys_of-append ws vs) ∙ sym (append_assoc (leaves w.tree) (keys_of ws) (keys_of vs))
-
--- a task that waits for a time doesn't wait for the end of the time step
-waits_no_end : (ws : List Waiting) (task : TaskNo) (due : ℕ) (trig : Trig) → among ReadOnly (keys_of ws) ≡ false → among ReadOnly (keys_of (ws ++ record { task = task; tree = Leaf (At due) trig } ∷ [])) ≡ false
-waits_no_end ws task due trig h =
-    ap (among ReadOnly) (keys_of-append ws (record { task = task; tree = Leaf (At due) trig } ∷ []))
-    ∙ among-append ReadOnly (keys_of ws) (At due ∷ [])
-    ∙ ap (λ (b : Bool). b || false) h
 
 module _ (setup : Setup) (p : Parts) (k k' : Content) (held held' : List Key) (f : FitsContent setup held k (rig_between p k)) (task : TaskNo) (trig : Trig) (due : ℕ) (waiting' : List Waiting)
     (waits : waiting' ≡ p.waiting ++ record { task = task; tree = Leaf (At due) trig } ∷ []) (same : AreAlike held' held)
@@ -133,9 +123,7 @@ module _ (setup : Setup) (p : Parts) (k k' : Content) (held held' : List Key) (f
       ∙ effect_is setup p k k' held f (record p { waiting = waiting' }) held' own_held r n
 
   pub wait_fits : FitsContent setup held' k' (rig_between (record p { waiting = waiting' }) k')
-  wait_fits =
-      effect_fits setup p k k' held f (record p { waiting = waiting' }) held' own_held r n
-      (ap (λ (ws : List Waiting). among ReadOnly (keys_of ws)) waits ∙ waits_no_end p.waiting task due trig f.stays_open.no_end)
+  wait_fits = effect_fits setup p k k' held f (record p { waiting = waiting' }) held' own_held r n
 
 -- ---- a write is staged
 
@@ -168,7 +156,6 @@ module _ (setup : Setup) (p : Parts) (k : Content) (held : List Key) (f : FitsCo
       stands = subst (λ (c : Rig). StandsFor setup k c) restage_is still_stands;
       held_is = subst (AreOnce held) (sym same) f.held_is;
       signals = f.signals;
-      stays_open = f.stays_open;
     }
 
 no_write : (ws : List Staged) → (length ws == 0) ≡ true → staged_key ws ≡ []
@@ -193,6 +180,13 @@ module _ (setup : Setup) (p : Parts) (k : Content) (held : List Key) (f : FitsCo
 
   written_key : staged_key staged' ≡ ReadWrite ∷ []
   written_key = ap staged_key is ∙ restaged_key sig number p.staged
+
+  -- where the read-only phase hasn't begun
+  pub goes_on_is : (task : TaskNo) (e : Rig) → is_end k.state.region ≡ false → wanted ≡ e
+      → (effect setup task (Stage sig number) (rig_between p k)).rig ≡ goes_on task (Some (given.Value Absent)) e
+  goes_on_is task e unended h =
+      ap (λ (b : Bool). (write_by b sig (stages task sig number (rig_between p k)) (rig_between p k)).rig) unended
+      ∙ ap (goes_on task (Some (given.Value Absent))) h
 
   wanted_is : wanted ≡ counted [] (rig_between p k) (record (rig_between p k) { staged = staged' })
   wanted_is = ap (λ (ws : List Staged). counted [] (rig_between p k) (record (rig_between p k) { staged = ws })) (sym is)
@@ -226,9 +220,7 @@ module _ (setup : Setup) (p : Parts) (k : Content) (held : List Key) (f : FitsCo
         ∙ effect_is setup p k k' held f (record p { waiting = waiting'; staged = staged' }) held' own_is r n
 
     pub first_fits : FitsContent setup held' k' (rig_between (record p { waiting = waiting'; staged = staged' }) k')
-    first_fits =
-        effect_fits setup p k k' held f (record p { waiting = waiting'; staged = staged' }) held' own_is r n
-        (ap (λ (ws : List Waiting). among ReadOnly (keys_of ws)) same ∙ f.stays_open.no_end)
+    first_fits = effect_fits setup p k k' held f (record p { waiting = waiting'; staged = staged' }) held' own_is r n
 
   -- a further write is staged
   module _ (more : (length p.staged == 0) ≡ false) where
@@ -256,7 +248,7 @@ module _ (setup : Setup) (p : Parts) (k k' : Content) (held : List Key) (f : Fit
   dropped_is = sym (effect_is setup p k k' held f nothing [] none_once r n)
 
   pub dropped_fits : FitsContent setup [] k' (rig_between nothing k')
-  dropped_fits = effect_fits setup p k k' held f nothing [] none_once r n refl
+  dropped_fits = effect_fits setup p k k' held f nothing [] none_once r n
 
 length_start : (ss : List Signal) → length (start_map ss) ≡ length ss
 length_start [] = refl
@@ -268,5 +260,4 @@ opening_fits setup flat e = record {
   stands = record { procs_are = ap (λ (f : Flat). procs_of f.processes) (sym e); state_is = refl; keys_are = no_keys_are; counts_are = refl };
   held_is = none_once;
   signals = length_start flat.signals ∙ ap (λ (f : Flat). length f.signals) (sym e);
-  stays_open = record { writable = refl; no_end = refl };
 }

@@ -1,5 +1,5 @@
 -- A step of a turn's loop: a task is polled, and what it wanted is done.
-use Rattle.std.proofs.Common.{◌≡◌, ◌≢◌, ℕ, ◌≤◌, ◌<◌, ◌⊎◌, true, List, Option, None, Some, IsSome, Result, Ok, IsErr, refl, subst, arith, length, inl, inr}
+use Rattle.std.proofs.Common.{◌≡◌, ◌≢◌, ℕ, ◌≤◌, ◌<◌, ◌⊎◌, true, List, Option, Some, IsSome, Result, Ok, IsErr, subst, arith, length, inl, inr}
 use Rattle.port_io.specs.PutsPart.{PutsPart}
 use Rattle.port_io.specs.declared.ports.NoMemory.{NoMemory}
 use Rattle.gpi.specs.Content.{Content}

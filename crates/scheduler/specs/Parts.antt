@@ -1,16 +1,14 @@
 -- The parts of a configuration that the engine keeps, and what holds of them.
-use Rattle.std.specs.Prelude.{◌≡◌, ℕ, ◌<◌, ◌≤◌, false, List, [], ◌∷◌, length, Option, None}
+use Rattle.std.specs.Prelude.{◌≡◌, ℕ, ◌<◌, ◌≤◌, List, [], ◌∷◌, length, Option, None}
 use Rattle.gpi.specs.Content.{Content}
-use Rattle.gpi.specs.Keys.{among}
-use Rattle.gpi.specs.State.{State, is_end}
+use Rattle.gpi.specs.State.{State}
 use Rattle.gpi.specs.declared.types.Counts.{Counts}
 use Rattle.gpi.specs.declared.types.Key.{Key}
-use Rattle.gpi.specs.declared.types.Key.TheVariants.{ReadOnly}
 use Rattle.rig_model.specs.Effect.{live_limit, start_limit}
 use Rattle.rig_model.specs.Kernel.{StandsFor}
 use Rattle.rig_model.specs.Keys.{AreOnce}
 use Rattle.rig_model.specs.Placed.{ArePlaced, placed}
-use Rattle.rig_model.specs.Rig.{Rig, Setup, keys_of, staged_key}
+use Rattle.rig_model.specs.Rig.{Rig, Setup, staged_key}
 use Rattle.rig_model.specs.Sound.{Bounds, AreSoundFunctions, AreSoundTasks}
 use Rattle.rig_model.specs.Task.{Task}
 use Rattle.rig_model.specs.declared.task.Entry.{Entry}
@@ -62,16 +60,9 @@ pub record Fits (setup : Setup) (turn : Option TaskNo) (room : ℕ) (p : Parts) 
   pub writes : AreSoundWrites (length setup.flat.signals) p.staged
   pub functions : AreSoundFunctions (bounds_of setup) setup.functions
 
--- No task waits for the end of the time step, and it isn't over for those who write. That holds as long as no form of a trigger is
--- that end; with the first that is, this goes, and a write is refused where the region is End.
-pub record StaysOpen (content : Content) (waiting : List Waiting) : Type 0 where
-  pub writable : is_end content.state.region ≡ false
-  pub no_end : among ReadOnly (keys_of waiting) ≡ false
-
 -- What holds between a configuration and a simulator: the simulator stands for it, the runner holds the read-write phase
 -- while a write is staged and no other key, each once, and the simulator has the signals of the design.
 pub record FitsContent (setup : Setup) (held : List Key) (content : Content) (c : Rig) : Type 0 where
   pub stands : StandsFor setup content c
   pub held_is : AreOnce held (staged_key c.staged)
   pub signals : length content.state.signals ≡ length setup.flat.signals
-  pub stays_open : StaysOpen content c.waiting

@@ -1,5 +1,5 @@
 //! What each thing that a task wants does.
-ghost use Rattle.std.specs.Prelude.{◌≡◌, ◌≢◌, ◌<◌, ◌∷◌, [], length, ◌≤◌, IfOk, OnOk, OnErr, Some, None, IsSome, MatchOption, Option, true};
+ghost use Rattle.std.specs.Prelude.{◌≡◌, ◌≢◌, ◌<◌, ◌∷◌, [], length, ◌≤◌, IfOk, OnErr, Some, None, IsSome, MatchOption, true};
 ghost use Rattle.gpi.specs.Content.{Content};
 ghost use Rattle.gpi.specs.declared.types.Key.TheVariants.{At};
 ghost use Rattle.rig_model.specs.Effect.{effect, refusal, begun, last_time};
@@ -19,7 +19,7 @@ use crate::Engine;
 use crate::line::log_text;
 use crate::turn::{Next, Turn};
 use crate::writes::stage;
-use gpi::{Gpi, Key, SigId};
+use gpi::{Gpi, Key, Region, SigId};
 use port_io::{Name, NoMemory, Sink, SinkFault};
 use py_syntax::{FaultKind, LogLevel};
 use rig_model::{
@@ -90,29 +90,36 @@ impl<'a, M: FlowMaker + Drop, W: Awaits> Engine<'a, M, W> {
         }
     }
 
-    /// The task stages a write: from the first one on the read-write phase is held.
+    /// The task stages a write: from the first one on the read-write phase is held. In the read-only phase (cocotb 1.8, "Triggers",
+    /// `ReadOnly`) the write ends the test, and nothing is staged or held. After `NoMemory` the same writes are staged.
     fn stage_write<K: Gpi, L: Ledger>(
         &mut self,
         kernel: &mut K,
         sig: SigId,
         number: u8,
         steps: &mut Steps<L>,
-    ) -> Result<(), NoMemory>
+    ) -> Result<Next, NoMemory>
         requires loaded { K.is_loaded kernel.old }
         requires kernel { FitsContent (setup_of M.functions self.old) (W.held self.old.awaits) (K.content kernel.old) (rig_of W.waiting self.old (K.content kernel.old)) }
         requires sound { sig.0 < length self.old.flat.now.signals }
-        ensures leads { OnOk result ((task : TaskNo) → LeadsTo (setup_of M.functions self.old) task (Turned.Stage sig number)
-            (rig_of W.waiting self.old (K.content kernel.old)) (Next.GoesOn (Given.Value Value.Absent)) (rig_of W.waiting self.new (K.content kernel.new))) }
-        ensures fits { OnOk result ((turn : Option TaskNo) → Fits (setup_of M.functions self.old) turn self.old.ready.room (parts_of W.waiting self.old)
-            → FitsAt turn M.functions W.waiting W.held self.new (K.content kernel.new)) }
+        ensures leads { IfOk result (λ next. (task : TaskNo) → LeadsTo (setup_of M.functions self.old) task (Turned.Stage sig number)
+            (rig_of W.waiting self.old (K.content kernel.old)) next (rig_of W.waiting self.new (K.content kernel.new))) }
+        ensures fits { IfOk result (λ next. (task : TaskNo) → Fits (setup_of M.functions self.old) (Some task) self.old.ready.room (parts_of W.waiting self.old)
+            → FitsNext M.functions W.waiting W.held task next self.new (K.content kernel.new)) }
+        ensures fine { IfOk result (λ next. is_fine next ≡ true) }
+        ensures staged { OnErr result (self.new.staged.items ≡ self.old.staged.items) }
         ensures setup { setup_of M.functions self.new ≡ setup_of M.functions self.old }
         ensures loaded { K.is_loaded kernel.new }
         ensures keys { AreKeys (K.content kernel.new).keys (named (W.waiting self.new.awaits) (W.held self.new.awaits)) }
     {
+        if kernel.region() == Region::End {
+            return Ok(Next::Ends(Turn::Over(Outcome::ReadOnlyWrite(sig))));
+        }
         if self.staged.is_empty() {
             self.awaits.hold(kernel, Key::ReadWrite, steps)?;
         }
-        stage(&mut self.staged, sig, number)
+        stage(&mut self.staged, sig, number)?;
+        Ok(Next::GoesOn(Given::Value(Value::Absent)))
     }
 
     /// A task writes a log line.
@@ -183,10 +190,7 @@ impl<'a, M: FlowMaker + Drop, W: Awaits> Engine<'a, M, W> {
     {
         match turned {
             Turned::Await(trig) => self.wait(kernel, task, trig, steps),
-            Turned::Stage { sig, number } => {
-                self.stage_write(kernel, sig, number, steps)?;
-                Ok(Next::GoesOn(Given::Value(Value::Absent)))
-            }
+            Turned::Stage { sig, number } => self.stage_write(kernel, sig, number, steps),
             Turned::Start { func, give_way } => self.start_task(alloc, task, func, give_way),
             Turned::Log { level, text } => self.write_log(alloc, kernel.now(), level, &text, out),
             Turned::Done(_) => Ok(self.finish(task)),

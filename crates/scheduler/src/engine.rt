@@ -80,6 +80,13 @@ impl<'a, M: FlowMaker + Drop, W: Awaits> Engine<'a, M, W> {
         &self.flat.signals.get(sig.0 as usize).path
     }
 
+    /// The design that its tests run on.
+    pub fn design(&self) -> &Flat
+        ensures { result.now ≡ (setup_of M.functions self.now).flat }
+    {
+        self.flat
+    }
+
     /// Begins a test: its line is put, and its own task is ready. Before, no test runs. `Went` where that was done,
     /// `WriteFault` where the put failed, and `NoMemory` where memory is short: after these two only `end_test` is called.
     /// What the simulator holds stays. Each call is handed a counter of steps of work.

@@ -1,9 +1,10 @@
 //! The texts of the lines of a run, each with its line feed.
 ghost use Rattle.std.specs.Prelude.{◌≡◌, ◌++◌, IfOk, OnOk};
 ghost use Rattle.std.specs.Fmt.{decimal};
-ghost use Rattle.rig_model.specs.Line.{test_line, log_line, sig_line, verdict_line, report_line, budget_line, level_word, reason_of, digit_letters};
+ghost use Rattle.rig_model.specs.Line.{test_line, log_line, sig_line, verdict_line, report_line, budget_line, level_word, path_of, reason_of, digit_letters};
 
 use four_value::Bits;
+use gpi::{Flat, SigId};
 use port_io::NoMemory;
 use py_syntax::LogLevel;
 use rig_model::Outcome;
@@ -80,9 +81,21 @@ pub fn sig_text(alloc: Global, time: u64, path: &[u8], bits: Bits) -> Result<Vec
     Ok(line)
 }
 
-/// Adds the reason why a test failed.
-fn add_reason(line: &mut Vec<u8>, outcome: &Outcome) -> Result<(), AllocError>
-    ensures { OnOk result (line.new.items ≡ line.old.items ++ reason_of outcome.now) }
+/// The path of a signal, or nothing where the design has no such signal.
+fn path_of(flat: &Flat, sig: SigId) -> &[u8]
+    ensures { result.now ≡ path_of flat.now sig }
+{
+    let at = sig.0 as usize;
+    if at < flat.signals.len() {
+        flat.signals.get(at).path.bytes()
+    } else {
+        &[]
+    }
+}
+
+/// Adds the reason why a test on that design failed.
+fn add_reason(line: &mut Vec<u8>, outcome: &Outcome, flat: &Flat) -> Result<(), AllocError>
+    ensures { OnOk result (line.new.items ≡ line.old.items ++ reason_of flat.now outcome.now) }
 {
     match outcome {
         Outcome::Normal => {}
@@ -94,6 +107,10 @@ fn add_reason(line: &mut Vec<u8>, outcome: &Outcome) -> Result<(), AllocError>
                 line.extend_from_slice(text)?;
             }
         }
+        Outcome::ReadOnlyWrite(sig) => {
+            line.extend_from_slice(b"ReadOnlyWrite: ")?;
+            line.extend_from_slice(path_of(flat, *sig))?;
+        }
         Outcome::Stalled => {
             line.extend_from_slice(b"Stalled")?;
         }
@@ -101,15 +118,17 @@ fn add_reason(line: &mut Vec<u8>, outcome: &Outcome) -> Result<(), AllocError>
     Ok(())
 }
 
-/// `<time> PASS <name>` or `<time> FAIL <name> (<reason>)`: the verdict on a test. The reason is `Stalled`, or the kind of
-/// the fault, with what it says after a colon where it says anything. The time is in steps. Only want of memory is an error.
+/// `<time> PASS <name>` or `<time> FAIL <name> (<reason>)`: the verdict on a test on that design. The reason is `Stalled`,
+/// `ReadOnlyWrite: ` with the path of the written signal, or the kind of the fault, with what it says after a colon where it says
+/// anything. The time is in steps. Only want of memory is an error.
 pub fn verdict_text(
     alloc: Global,
     time: u64,
     name: &[u8],
     outcome: &Outcome,
+    flat: &Flat,
 ) -> Result<Vec<u8>, NoMemory>
-    ensures { IfOk result (λ line. line.items ≡ verdict_line time name.now outcome.now) }
+    ensures { IfOk result (λ line. line.items ≡ verdict_line flat.now time name.now outcome.now) }
 {
     let mut line = Vec::new(alloc);
     add_number(alloc, &mut line, time)?;
@@ -120,7 +139,7 @@ pub fn verdict_text(
         line.extend_from_slice(b" FAIL ")?;
         line.extend_from_slice(name)?;
         line.extend_from_slice(b" (")?;
-        add_reason(&mut line, outcome)?;
+        add_reason(&mut line, outcome, flat)?;
         line.extend_from_slice(b")")?;
     }
     line.push(b'\n')?;
@@ -134,7 +153,7 @@ pub struct Tally {
     pub tests: u64,
     /// How many ended with their own task's return.
     pub passed: u64,
-    /// How many ended with a fault, or stalled.
+    /// How many ended in any other way.
     pub failed: u64,
     /// How many were not begun.
     pub skipped: u64,

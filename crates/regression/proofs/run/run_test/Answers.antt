@@ -1,4 +1,5 @@
-use Rattle.std.proofs.Common.{◌∙◌, refl, subst}
+use Rattle.std.proofs.Common.{◌∙◌, ap, refl, subst}
+use Rattle.rig_model.specs.Rig.{Setup}
 use Rattle.scheduler.specs.Engine.{rig_of, setup_of}
 use Rattle.scheduler.specs.Fits.{FitsAfter}
 use Rattle.scheduler.specs.declared.turn.Turn.{Turn}
@@ -39,7 +40,7 @@ returns-in-Over-clause-runs g c =
     let fits = subst (λ (t : Turn). FitsAfter g.M.FlowMaker.functions g.W.Awaits.waiting g.W.Awaits.held t c.run_turns.new.engine (g.K.Gpi.content c.run_turns.new.kernel)) c.in-Over.is c.in_ok-turn.ensures.fits in
     run_over g.O.Sink.takes g.O.Sink.breaks g.O.Sink.told _ _ _ (rig_of g.W.Awaits.waiting c.args.engine.now (g.K.Gpi.content c.args.kernel.now)) _ c.requires.new _ _ went.0 went.1 _ (rig_of g.W.Awaits.waiting c.run_turns.new.engine (g.K.Gpi.content c.run_turns.new.kernel)) _ _
     (turning_as g.O.Sink.takes g.O.Sink.breaks g.O.Sink.told _ _ _ _ _ _ _ _ _ _ c.in_ok-begun.ensures.setup c.in-Over.is c.in_ok-turn.ensures.turning)
-    _ _ _ _ _ c.now-time.ensures (c.end_test.ensures.ended fits)
+    _ _ _ _ _ _ (c.design.ensures ∙ ap (λ (s : Setup). s.flat) (c.end_test.ensures.setup ∙ c.run_turns.ensures.setup ∙ c.begin_test.ensures.setup)) c.now-time.ensures (c.end_test.ensures.ended fits)
     (stands_as _ _ _ _ (c.end_test.ensures.setup ∙ c.run_turns.ensures.setup ∙ c.begin_test.ensures.setup) (c.end_test.ensures.fits fits).kernel.stands)
     c.end_run.ensures
 

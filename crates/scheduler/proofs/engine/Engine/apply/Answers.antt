@@ -1,4 +1,4 @@
-use Rattle.std.proofs.Common.{Some, refl}
+use Rattle.std.proofs.Common.{refl}
 use Rattle.port_io.proofs.PartLaws.{part_none}
 use Rattle.scheduler.specs.Engine.{setup_of, parts_of}
 use Rattle.scheduler.proofs.FitLaws.{fits_dropped}
@@ -6,17 +6,11 @@ use Rattle.scheduler.proofs.Results.{on_err}
 use Rattle.scheduler.proofs.StandLaws.{keys_named, stands_same}
 use Rattle.scheduler.proofs.engine.Engine.apply.Goals as goal
 
-pub returns-in_err-stage_write-in-Stage-clause-part : goal.returns-in_err-stage_write-in-Stage-clause-part
-returns-in_err-stage_write-in-Stage-clause-part g c = on_err _ (part_none g.O.Sink.takes g.O.Sink.told c.args.out.now _)
-
 pub returns-in-Await-clause-part : goal.returns-in-Await-clause-part
 returns-in-Await-clause-part g c = on_err _ (part_none g.O.Sink.takes g.O.Sink.told c.args.out.now _)
 
-pub returns-in_ok-stage_write-in-Stage-clause-leads : goal.returns-in_ok-stage_write-in-Stage-clause-leads
-returns-in_ok-stage_write-in-Stage-clause-leads g c = rw c.in-Stage.is (c.in_ok-stage_write-in-Stage.ensures.leads c.args.task)
-
-pub returns-in_ok-stage_write-in-Stage-clause-fits : goal.returns-in_ok-stage_write-in-Stage-clause-fits
-returns-in_ok-stage_write-in-Stage-clause-fits g c = c.in_ok-stage_write-in-Stage.ensures.fits (Some c.args.task) c.requires.fits.own
+pub returns-in-Stage-clause-part : goal.returns-in-Stage-clause-part
+returns-in-Stage-clause-part g c = on_err _ (part_none g.O.Sink.takes g.O.Sink.told c.args.out.now _)
 
 pub returns-in-Start-clause-part : goal.returns-in-Start-clause-part
 returns-in-Start-clause-part g c = on_err _ (part_none g.O.Sink.takes g.O.Sink.told c.args.out.now _)

@@ -3,7 +3,7 @@ use Rattle.rig_model.specs.Keys.{keys_in}
 use Rattle.rig_model.specs.Rig.{Setup}
 use Rattle.rig_model.proofs.KernelLaws.{but_more}
 use Rattle.scheduler.specs.Engine.{setup_of, parts_of}
-use Rattle.scheduler.proofs.EventLaws.{advances_of, event_alone, event_but, event_out, event_signals, event_writable, event_ends, event_stands_ahead, event_fits, event_evented, stays_open}
+use Rattle.scheduler.proofs.EventLaws.{advances_of, event_alone, event_but, event_out, event_signals, event_writable, event_stands_ahead, event_fits, event_evented}
 use Rattle.scheduler.proofs.FitLaws.{fits_served, room_to_wake}
 use Rattle.scheduler.proofs.StandLaws.{keys_named}
 use Rattle.scheduler.proofs.engine.Engine.do_event.Goals as goal
@@ -38,7 +38,7 @@ returns-clause-done g c = event_evented (setup_of g.M.FlowMaker.functions c.args
     (event_stands_ahead (setup_of g.M.FlowMaker.functions c.args.self.now) (parts_of g.W.Awaits.waiting c.args.self.now) (g.K.Gpi.content c.args.kernel.now) (g.K.Gpi.content c.advance.new.self) (g.W.Awaits.held c.args.self.now.awaits) c.requires.fits.kernel c.in-Moved.moved
     (advances_of (g.K.Gpi.content c.args.kernel.now) c.in-Moved.moved (g.K.Gpi.content c.advance.new.self) (rw c.in-Moved.is at c.in_ok-moved.ensures.is))))
     c.flush_if-put.ensures.free _ _ c.flush_if-put.ensures.held
-    (c.flush_if-put.ensures.amid.signals ∙ ap (λ (s : Setup). length s.flat.signals) c.flush_if-put.ensures.setup) (stays_open _ _ _ _ c.flush_if-put.ensures.stays (event_ends (setup_of g.M.FlowMaker.functions c.args.self.now) (parts_of g.W.Awaits.waiting c.args.self.now) (g.K.Gpi.content c.args.kernel.now) (g.K.Gpi.content c.advance.new.self) (g.W.Awaits.held c.args.self.now.awaits) c.requires.fits.kernel c.in-Moved.moved (advances_of (g.K.Gpi.content c.args.kernel.now) c.in-Moved.moved (g.K.Gpi.content c.advance.new.self) (rw c.in-Moved.is at c.in_ok-moved.ensures.is))))
+    (c.flush_if-put.ensures.amid.signals ∙ ap (λ (s : Setup). length s.flat.signals) c.flush_if-put.ensures.setup)
     _ _ c.fire.ensures.waiting c.fire.ensures.held c.fire.ensures.ready c.flush_if-put.ensures.amid.keys c.flush_if-put.ensures.amid.out c.fire.ensures.keys
     c.args.out.now _ c.now-time.ensures c.tell-told.ensures
 
@@ -53,7 +53,7 @@ returns-clause-fits g c = record {
       (event_stands_ahead (setup_of g.M.FlowMaker.functions c.args.self.now) (parts_of g.W.Awaits.waiting c.args.self.now) (g.K.Gpi.content c.args.kernel.now) (g.K.Gpi.content c.advance.new.self) (g.W.Awaits.held c.args.self.now.awaits) c.requires.fits.kernel c.in-Moved.moved
       (advances_of (g.K.Gpi.content c.args.kernel.now) c.in-Moved.moved (g.K.Gpi.content c.advance.new.self) (rw c.in-Moved.is at c.in_ok-moved.ensures.is))))
       c.flush_if-put.ensures.free _ _ c.flush_if-put.ensures.held
-      (c.flush_if-put.ensures.amid.signals ∙ ap (λ (s : Setup). length s.flat.signals) c.flush_if-put.ensures.setup) (stays_open _ _ _ _ c.flush_if-put.ensures.stays (event_ends (setup_of g.M.FlowMaker.functions c.args.self.now) (parts_of g.W.Awaits.waiting c.args.self.now) (g.K.Gpi.content c.args.kernel.now) (g.K.Gpi.content c.advance.new.self) (g.W.Awaits.held c.args.self.now.awaits) c.requires.fits.kernel c.in-Moved.moved (advances_of (g.K.Gpi.content c.args.kernel.now) c.in-Moved.moved (g.K.Gpi.content c.advance.new.self) (rw c.in-Moved.is at c.in_ok-moved.ensures.is))))
+      (c.flush_if-put.ensures.amid.signals ∙ ap (λ (s : Setup). length s.flat.signals) c.flush_if-put.ensures.setup)
       _ _ c.fire.ensures.waiting c.fire.ensures.held c.fire.ensures.ready c.flush_if-put.ensures.amid.keys c.flush_if-put.ensures.amid.out c.fire.ensures.keys);
 }
 
@@ -67,7 +67,7 @@ returns-clause-keys g c = keys_named (setup_of g.M.FlowMaker.functions c.args.se
     (event_stands_ahead (setup_of g.M.FlowMaker.functions c.args.self.now) (parts_of g.W.Awaits.waiting c.args.self.now) (g.K.Gpi.content c.args.kernel.now) (g.K.Gpi.content c.advance.new.self) (g.W.Awaits.held c.args.self.now.awaits) c.requires.fits.kernel c.in-Moved.moved
     (advances_of (g.K.Gpi.content c.args.kernel.now) c.in-Moved.moved (g.K.Gpi.content c.advance.new.self) (rw c.in-Moved.is at c.in_ok-moved.ensures.is))))
     c.flush_if-put.ensures.free _ _ c.flush_if-put.ensures.held
-    (c.flush_if-put.ensures.amid.signals ∙ ap (λ (s : Setup). length s.flat.signals) c.flush_if-put.ensures.setup) (stays_open _ _ _ _ c.flush_if-put.ensures.stays (event_ends (setup_of g.M.FlowMaker.functions c.args.self.now) (parts_of g.W.Awaits.waiting c.args.self.now) (g.K.Gpi.content c.args.kernel.now) (g.K.Gpi.content c.advance.new.self) (g.W.Awaits.held c.args.self.now.awaits) c.requires.fits.kernel c.in-Moved.moved (advances_of (g.K.Gpi.content c.args.kernel.now) c.in-Moved.moved (g.K.Gpi.content c.advance.new.self) (rw c.in-Moved.is at c.in_ok-moved.ensures.is))))
+    (c.flush_if-put.ensures.amid.signals ∙ ap (λ (s : Setup). length s.flat.signals) c.flush_if-put.ensures.setup)
     _ _ c.fire.ensures.waiting c.fire.ensures.held c.fire.ensures.ready c.flush_if-put.ensures.amid.keys c.flush_if-put.ensures.amid.out c.fire.ensures.keys)
 
 pub fire-requires-clause-room : goal.fire-requires-clause-room

@@ -1,4 +1,4 @@
-use Rattle.std.proofs.Common.{◌∙◌, refl, sym, ap, subst}
+use Rattle.std.proofs.Common.{◌∙◌, refl, sym, subst}
 use Rattle.scheduler.specs.Engine.{rig_of, setup_of, parts_of}
 use Rattle.scheduler.specs.Fits.{FitsNext}
 use Rattle.scheduler.specs.Parts.{bounds_of}
