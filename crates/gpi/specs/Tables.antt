@@ -1,4 +1,4 @@
--- What only carries the proof that a design's tree is found: tables of the parents and of the depths of its nodes.
+-- A means of proof: tables of the parents and of the depths of the nodes of a design, by which its tree is found.
 use Rattle.std.specs.Prelude.{◌≡◌, ℕ, zero, suc, ◌<◌, ◌≤◌, ◌==◌, ◌||◌, nat_lt, nat_le, Bool, false, List, length, Option, Some, None, slice_get, if◌then◌else◌}
 use Rattle.gpi.specs.declared.design.Spot.{Spot}
 use Rattle.gpi.specs.declared.design.Node.{Node}

@@ -11,7 +11,8 @@ use port_io::{Name, Sequence};
 impl Flat {
     /// Whether the design is sound: none of its lists has more than 65,536 elements; each number of a signal or a node lies
     /// in its list, and so do the words of a memory; each width is 1 to 128 and fits its node; the nodes form one tree
-    /// below node 0; and the step is at least 1. It takes no memory, but 1 MiB of the stack. Its time grows with the design.
+    /// below node 0; and the step is at least 1. It takes no memory, but 1 MiB of the stack. Its time grows with the design,
+    /// and with the words of a memory at each reference to it.
     pub fn is_sound(&self) -> bool
         ensures { IsTrue result ↔ IsSoundFlat self.now }
     {
