@@ -3,28 +3,20 @@ use Rattle.std.proofs.Common.{◌≡◌, ◌<◌, ◌≤◌, ◌+◌, ◌&&◌, 
 use Rattle.std.proofs.lemmas.Bool.{ltb-true}
 use Rattle.std.specs.Str.{bytes_eq}
 use Rattle.std.specs.List.{list_all}
-use Rattle.std.proofs.lemmas.Slice.Eq.{bytes_eq-Decides}
+use Rattle.std.specs.Option.{option_or}
 use Rattle.py_syntax.specs.declared.module.Parameter.{Parameter}
-use Rattle.test_names.specs.Places.{first_place, first_of, noted, nowhere}
+use Rattle.test_names.specs.Places.{first_place, noted, nowhere}
 use Rattle.test_rules.specs.Rules.{index_of, is_in, differ}
 use Rattle.test_rules.specs.Rules.{place_of, parameter_places, are_given, fits}
 use Rattle.py_syntax.specs.ModuleForms.{has_default}
 use Rattle.py_syntax.specs.declared.call.Argument.{Argument}
 use Rattle.std.specs.Prelude.{slice_index_or, replicate}
 use Rattle.std.proofs.lemmas.List.{drop_all, get_or-replicate, length-replicate, length-map, get_or-map}
+use Rattle.test_rules.proofs.Texts.{same_bytes}
 use Rattle.test_arguments.specs.Marks.{found_or, are_all_fresh, AreMarks, AreNumbers}
 
-same_bytes : (xs ys : List ℕ) → bytes_eq xs ys ≡ bytes_eq ys xs
-same_bytes xs ys = go (bytes_eq xs ys) (bytes_eq ys xs) refl refl
-  where
-    go : (b c : Bool) → bytes_eq xs ys ≡ b → bytes_eq ys xs ≡ c → b ≡ c
-    go true true p q = refl
-    go false false p q = refl
-    go true false p q = sym (sym q ∙ (bytes_eq-Decides ys xs).1 (sym ((bytes_eq-Decides xs ys).0 p)))
-    go false true p q = sym p ∙ (bytes_eq-Decides xs ys).1 (sym ((bytes_eq-Decides ys xs).0 q))
-
 one_more : (i r : ℕ) (o : Option ℕ) (b c : Bool) → b ≡ c
-    → found_or i o (if b then 0 else suc r) ≡ found_or (i + 1) (first_of o (if c then Some i else None)) r
+    → found_or i o (if b then 0 else suc r) ≡ found_or (i + 1) (option_or o (if c then Some i else None)) r
 one_more i r (Some k) b c e = refl
 one_more i r None true true e = omega arith
 one_more i r None false false e = omega arith

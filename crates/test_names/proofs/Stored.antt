@@ -2,8 +2,9 @@
 use Rattle.std.proofs.Common.{◌≡◌, ℕ, List, [], ◌∷◌, Option, Some, None, Bool, true, false, refl, sym, ◌∙◌, ap, subst, bytes_eq, cond, option_copied, MatchOption, Bor, if◌then◌else◌}
 use Rattle.std.proofs.lemmas.Slice.Eq.{bytes_eq-Decides}
 use Rattle.std.specs.Map.{lookup}
+use Rattle.std.specs.Option.{option_or}
 use Rattle.indexmap.specs.IndexMap.{insert_entry}
-use Rattle.test_names.specs.Places.{first_place, first_of, noted}
+use Rattle.test_names.specs.Places.{first_place, noted}
 use Rattle.test_names.specs.Entries.{entries_of}
 
 pub looked_up : {K : Type 0} (items : K → List ℕ) (es : List (K × ℕ)) (n : List ℕ)
@@ -50,14 +51,15 @@ stored items k x [] n = refl
 stored items k x (e ∷ es) n =
     by_entry items k x e es (insert_entry (λ a b. bytes_eq (items a) (items b)) es k x) n (bytes_eq (items k) (items e.0)) refl (stored items k x es n)
 
-unchanged : (o : Option ℕ) → o ≡ first_of o None
+-- an answer that is there stays
+pub unchanged : (o : Option ℕ) → o ≡ option_or o None
 unchanged None = refl
 unchanged (Some y) = refl
 
-kept : (k n : List ℕ) (x : ℕ) (s : List ℕ → Option ℕ) (y : ℕ) (b : Bool) → bytes_eq n k ≡ b → s k ≡ Some y → s n ≡ first_of (s n) (if b then Some x else None)
+kept : (k n : List ℕ) (x : ℕ) (s : List ℕ → Option ℕ) (y : ℕ) (b : Bool) → bytes_eq n k ≡ b → s k ≡ Some y → s n ≡ option_or (s n) (if b then Some x else None)
 kept k n x s y true q h =
     let e : s n ≡ Some y = ap s (same_name n k q) ∙ h in
-    subst (λ (o : Option ℕ). o ≡ first_of o (Some x)) (sym e) refl
+    subst (λ (o : Option ℕ). o ≡ option_or o (Some x)) (sym e) refl
 kept k n x s y false q h = unchanged (s n)
 
 -- a name that has a place keeps it
@@ -65,10 +67,10 @@ pub note_known : (k : List ℕ) (x : ℕ) (s : List ℕ → Option ℕ) (y : ℕ
 note_known k x s y h n = kept k n x s y (bytes_eq n k) refl h
 
 added : (k n : List ℕ) (x : ℕ) (s : List ℕ → Option ℕ) (b : Bool) → bytes_eq n k ≡ b → s k ≡ None
-    → (if b then Some x else s n) ≡ first_of (s n) (if b then Some x else None)
+    → (if b then Some x else s n) ≡ option_or (s n) (if b then Some x else None)
 added k n x s true q h =
     let e : s n ≡ None = ap s (same_name n k q) ∙ h in
-    subst (λ (o : Option ℕ). Some x ≡ first_of o (Some x)) (sym e) refl
+    subst (λ (o : Option ℕ). Some x ≡ option_or o (Some x)) (sym e) refl
 added k n x s false q h = unchanged (s n)
 
 -- what a look-up among the entries finds

@@ -1,5 +1,6 @@
 -- The first place of each name.
 use Rattle.std.specs.Prelude.{ℕ, List, [], ◌∷◌, Option, None, Some, if◌then◌else◌, bytes_eq}
+use Rattle.std.specs.Option.{option_or}
 
 -- which place each name has; none where none is noted
 abbrev pub Places : Type 0
@@ -9,14 +10,9 @@ Places = List ℕ → Option ℕ
 abbrev pub nowhere : Places
 nowhere n = None
 
--- the first place counts, and the second where there is no first
-abbrev pub first_of : Option ℕ → Option ℕ → Option ℕ
-first_of (Some a) y = Some a
-first_of None y = y
-
 -- a name has this place too, which counts where it had none
 abbrev pub noted : List ℕ → ℕ → Places → Places
-noted k x s n = first_of (s n) (if bytes_eq n k then Some x else None)
+noted k x s n = option_or (s n) (if bytes_eq n k then Some x else None)
 
 -- the places by a list of names with their places
 abbrev pub first_place : List (List ℕ × ℕ) → Places

@@ -9,13 +9,7 @@ use Rattle.py_syntax.specs.declared.fault_kind.FaultKind.{FaultKind}
 use Rattle.py_syntax.specs.declared.fault_kind.FaultKind.TheVariants as kind
 use Rattle.test_rules.specs.File.{always_known, is_always_known}
 use Rattle.test_rules.specs.Names.{is_among}
-
-turned : (xs ys : List ℕ) → bytes_eq xs ys ≡ false → bytes_eq ys xs ≡ false
-turned xs ys e = go (bytes_eq ys xs) refl
-  where
-    go : (b : Bool) → bytes_eq ys xs ≡ b → b ≡ false
-    go false q = refl
-    go true q = sym ((bytes_eq-Decides xs ys).1 (sym ((bytes_eq-Decides ys xs).0 q))) ∙ e
+use Rattle.test_rules.proofs.Texts.{same_bytes}
 
 found : (n : List ℕ) (ks : List FaultKind) (k : FaultKind) → find (λ j. bytes_eq (fault_name j) n) ks ≡ Some k → bytes_eq (fault_name k) n ≡ true
 found n [] k e = cc
@@ -57,7 +51,7 @@ none_among n (k ∷ ks) e = go (bytes_eq (fault_name k) n) refl e (none_among n 
         → (find (λ j. bytes_eq (fault_name j) n) ks ≡ None → is_among n (map fault_name (filter is_always_known ks)) ≡ false)
         → is_among n (map fault_name (filter is_always_known (k ∷ ks))) ≡ false
     go true q h more = cc
-    go false q h more = kept (is_always_known k) (turned (fault_name k) n q) (more h)
+    go false q h more = kept (is_always_known k) (same_bytes n (fault_name k) ∙ q) (more h)
 
 pub no_kind_is_known : (n : List ℕ) → fault_of n ≡ None → is_among n always_known ≡ false
 unfolding fault_of

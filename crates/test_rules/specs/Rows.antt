@@ -3,6 +3,7 @@ use Rattle.std.specs.Prelude.{◌≡◌, ℕ, suc, true, false, List, [], ◌∷
 use Rattle.py_syntax.specs.BlockTrees.{Block, ModuleItem, TextAt, LineAt, FunctionAt, NoItem, Then, DocstringAt, StatementAt, ClauseAt}
 use Rattle.py_syntax.specs.ExpressionTrees as tree
 use Rattle.py_syntax.specs.ExpressionTrees.{Tree, NoTree, NoPart, TextThen, FormattedThen, FormatString, Name, Bracketed, Attribute, Subscript, Call, MethodCall, Unary, Infix}
+use Rattle.py_syntax.specs.Line.{physical_line}
 use Rattle.py_syntax.specs.ModuleTrees as line
 use Rattle.py_syntax.specs.ModuleTrees.{ModuleLine, Import, FromImport, Test, Factory, AddOption, GenerateTests}
 use Rattle.py_syntax.specs.StatementTrees.{Argument, StartedCall, FunctionCall, ClockStart, TimedValue, TimedCall, Awaited, AwaitedValue, AwaitedCall, AwaitedStart, WithTimeout, RightSide, RightValue, RightAwait, RightStart, NewEvent, NewLock, RandomInt, CocotbLog, HierarchyLog, Statement, Pass, Break, Continue, Return, Raise, Assert, Assign, AugmentedAssign, AssignValue, SetImmediateValue, Await, Act, Log, StartSoon, Caught, Kind, Kinds, KindAs, Stop, StartStop, StartStopStep, Constants, Header, If, Elif, While, For, Try, Except, With}
@@ -25,11 +26,11 @@ use Rattle.test_rules.specs.Rules.{refusal}
 use Rattle.test_rules.specs.File.{file_of}
 
 abbrev pub Refuses : List ModuleItem → FileRule → ℕ → Type 0
-Refuses xs r l = refusal (file_of xs) ≡ Some (record { rule = r; line = l })
+Refuses xs r l = refusal (file_of xs) ≡ Some (record { rule = r; line = physical_line l })
 
 -- each of these files
 abbrev pub Refuses_each : List (List ModuleItem) → FileRule → ℕ → Type 0
-Refuses_each xss r l = map (λ xs. refusal (file_of xs)) xss ≡ replicate (length xss) (Some (record { rule = r; line = l }))
+Refuses_each xss r l = map (λ xs. refusal (file_of xs)) xss ≡ replicate (length xss) (Some (record { rule = r; line = physical_line l }))
 
 abbrev pub Keeps : List ModuleItem → Type 0
 Keeps xs = refusal (file_of xs) ≡ None

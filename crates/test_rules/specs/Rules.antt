@@ -1,8 +1,10 @@
 -- The rules of a tests file, each by the lines that break it; and the first line that breaks one.
-use Rattle.std.specs.Prelude.{ℕ, suc, ◌==◌, nat_lt, not, Bool, true, false, ◌&&◌, ◌||◌, List, [], ◌∷◌, ◌++◌, length, map, sum_by, Option, Some, None, codes, if◌then◌else◌}
-use Rattle.std.specs.List.{list_any, list_all, flat_map, join_with_byte, find}
+use Rattle.std.specs.Prelude.{ℕ, suc, ◌==◌, nat_lt, not, Bool, true, false, ◌&&◌, ◌||◌, List, [], ◌∷◌, ◌++◌, length, map, sum_by, Option, Some, None, is_some, codes, if◌then◌else◌}
+use Rattle.std.specs.List.{list_any, list_all, flat_map, filter, find, join_with_byte, last_or, position_or_len}
+use Rattle.std.specs.Option.{option_or}
 use Rattle.std.specs.Str.{bytes_eq}
 use Rattle.py_syntax.specs.BlockTrees.{ModuleItem, LineAt, FunctionAt}
+use Rattle.py_syntax.specs.Line.{physical_line}
 use Rattle.py_syntax.specs.ModuleForms.{has_default}
 use Rattle.py_syntax.specs.ModuleTrees.{Import, FromImport, Test, AddOption, GenerateTests}
 use Rattle.py_syntax.specs.Modules.{module_lines}
@@ -16,12 +18,8 @@ use Rattle.test_rules.specs.declared.rule.FileRule.TheVariants as rule
 use Rattle.test_rules.specs.declared.rule.Refusal.{Refusal}
 use Rattle.test_rules.specs.File.{File, Definition, Place, places, file_of, is_known, fixed_of, value_in, function, factory, made_by, choices, is_generated, is_made, is_decorated, is_test, further, names_of, next_function, is_function, is_decorator, starts_with_function, parameters_of}
 use Rattle.test_rules.specs.Names.{Name, is_among, come_twice}
-use Rattle.test_factory.specs.Product.{Choice, case_count}
+use Rattle.test_factory.specs.Product.{Choice, case_count, case_limit}
 use Rattle.test_rules.specs.Uses.{Use, Reads, Needs, Calls, Takes, Leaves, Makes, Extends, Around, FileLine, file_lines, expects_kind, is_kind, parameter_names}
-
-abbrev pub is_some : {A : Type 0} → Option A → Bool
-is_some None = false
-is_some (Some a) = true
 
 -- ---- UnknownImport
 
@@ -193,13 +191,9 @@ is_right_setting f s = is_right_value s.name (chosen_value f s)
 abbrev pub setting_names : List Setting → List Name
 setting_names ss = map (λ s. s.name) ss
 
-abbrev pub name_differ : List Name → Bool
-name_differ [] = true
-name_differ (n ∷ ns) = not (is_among n ns) && name_differ ns
-
 abbrev pub are_right_settings : File → List Setting → Bool
 are_right_settings f ss =
-    list_all (is_right_setting f) ss && name_differ (setting_names ss)
+    list_all (is_right_setting f) ss && not (come_twice [] (setting_names ss))
     && (is_among (codes "timeout_time") (setting_names ss) || not (is_among (codes "timeout_unit") (setting_names ss)))
 
 -- A line of a factory that isn't above it is Misplaced, which counts before.
@@ -223,9 +217,6 @@ has_right_options f above _ = true
 
 -- ---- TooManyCases
 
-abbrev pub test_limit : ℕ
-test_limit = 65536
-
 -- a function is a test or it isn't
 abbrev pub one_test : File → Option Definition → ℕ
 one_test f None = 0
@@ -243,7 +234,7 @@ tests_among f ps = sum_by (λ p. tests_at f (file_of p.above) p.item) ps
 
 -- with the tests at this item there are too many
 abbrev pub is_overfull : File → Place → Bool
-is_overfull f p = nat_lt test_limit (tests_among f (places (p.above ++ p.item ∷ [])))
+is_overfull f p = nat_lt case_limit (tests_among f (places (p.above ++ p.item ∷ [])))
 
 -- ---- NoTests
 
@@ -254,14 +245,17 @@ is_generation _ = false
 abbrev pub has_tests : File → Bool
 has_tests f = list_any (is_test f) f.functions || list_any is_generation f.items
 
-abbrev pub if_text : Content → ℕ → ℕ → ℕ
-if_text Docstring l other = l
-if_text _ l other = other
+abbrev pub is_code : Content → Bool
+is_code Docstring = false
+is_code _ = true
 
--- the line of the last that is no docstring
-abbrev pub last_line : ℕ → List Placed → ℕ
-last_line l [] = l
-last_line l (p ∷ ps) = last_line (if_text p.content l p.number) ps
+abbrev pub number_or : ℕ → Option Placed → ℕ
+number_or l None = l
+number_or l (Some p) = p.number
+
+-- the line of the last that is no docstring, or line 1 where there is none
+abbrev pub last_line : List Placed → ℕ
+last_line ps = number_or 1 (last_or None (filter (λ p. is_code p.content) ps))
 
 -- ---- the rules
 
@@ -283,27 +277,37 @@ breaks rule.NoTests f l = false
 abbrev pub rules : List FileRule
 rules = rule.UnknownImport ∷ rule.UnknownName ∷ rule.Misplaced ∷ rule.DuplicateName ∷ rule.BadOption ∷ rule.TooManyCases ∷ rule.NoTests ∷ []
 
+abbrev pub is_rule : FileRule → FileRule → Bool
+is_rule rule.UnknownImport rule.UnknownImport = true
+is_rule rule.UnknownName rule.UnknownName = true
+is_rule rule.Misplaced rule.Misplaced = true
+is_rule rule.DuplicateName rule.DuplicateName = true
+is_rule rule.BadOption rule.BadOption = true
+is_rule rule.TooManyCases rule.TooManyCases = true
+is_rule rule.NoTests rule.NoTests = true
+is_rule r s = false
+
+-- a rule's place in that order, from 0
+abbrev pub order : FileRule → ℕ
+order r = position_or_len (is_rule r) rules
+
 abbrev pub refused_at : ℕ → Option FileRule → Option Refusal
 refused_at l None = None
-refused_at l (Some r) = Some (record { rule = r; line = l })
+refused_at l (Some r) = Some (record { rule = r; line = physical_line l })
 
 -- the first rule that a line breaks
 abbrev pub broken_at : File → FileLine → Option Refusal
 broken_at f l = refused_at l.number (find (λ r. breaks r f l) rules)
 
-abbrev pub or_else : {A : Type 0} → Option A → Option A → Option A
-or_else (Some a) other = Some a
-or_else None other = other
-
 -- the first line that breaks a rule
 abbrev pub first_broken : File → List FileLine → Option Refusal
 first_broken f [] = None
-first_broken f (l ∷ ls) = or_else (broken_at f l) (first_broken f ls)
+first_broken f (l ∷ ls) = option_or (broken_at f l) (first_broken f ls)
 
--- a file without a test, at its last line that is no docstring (line 1 where there is none)
+-- a file without a test, at its last line
 abbrev pub no_tests : File → Option Refusal
-no_tests f = if has_tests f then None else Some (record { rule = rule.NoTests; line = last_line 1 (module_lines f.items) })
+no_tests f = if has_tests f then None else refused_at (last_line (module_lines f.items)) (Some rule.NoTests)
 
 -- the first line that breaks a rule, and the rule; where no line breaks one, a file without a test is refused at its last line
 abbrev pub refusal : File → Option Refusal
-refusal f = or_else (first_broken f (file_lines f)) (no_tests f)
+refusal f = option_or (first_broken f (file_lines f)) (no_tests f)

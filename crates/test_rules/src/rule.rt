@@ -1,5 +1,7 @@
 //! The rules that a tests file must keep.
 
+use py_syntax::LineNumber;
+
 /// A rule of a tests file, in the order in which those that one line breaks count.
 #[derive(Clone, Copy, Debug, PartialEq, Eq)]
 pub enum FileRule {
@@ -25,6 +27,5 @@ pub enum FileRule {
 #[derive(Clone, Copy, Debug, PartialEq, Eq)]
 pub struct Refusal {
     pub rule: FileRule,
-    /// The number of the line, from 1.
-    pub line: u32,
+    pub line: LineNumber,
 }

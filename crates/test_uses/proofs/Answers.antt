@@ -96,3 +96,6 @@ more_mapped use_of f a xs i x r before now h is e p q =
 -- an element that is there, whatever stands for one that isn't
 pub same_at : {A : Type 0} (xs : List A) (i : ℕ) (d : A) → i < length xs → get_or xs i d ≡ get_or xs i (get_or xs i d)
 same_at xs i d h = get_or_default xs i d (get_or xs i d) h
+
+-- of no use, of uses and further ones, and of one use and further ones
+pub ruleset answers = (nothing, joined, consed)

@@ -1,8 +1,8 @@
 -- Which rule uses break.
-use Rattle.std.specs.Prelude.{ℕ, nat_le, List, Option, Some, None, if◌then◌else◌}
+use Rattle.std.specs.Prelude.{nat_le, List, Option, Some, None, if◌then◌else◌}
 use Rattle.std.specs.List.{list_any}
 use Rattle.test_rules.specs.File.{File}
-use Rattle.test_rules.specs.Rules.{is_unknown, astray}
+use Rattle.test_rules.specs.Rules.{is_unknown, astray, order}
 use Rattle.test_rules.specs.Uses.{Use, Around}
 use Rattle.test_rules.specs.declared.rule.FileRule.{FileRule}
 use Rattle.test_rules.specs.declared.rule.FileRule.TheVariants as rule
@@ -12,16 +12,6 @@ unfoldable pub answer : File → Around → List Use → Option FileRule
 answer f a us =
     if list_any (is_unknown f a) us then Some rule.UnknownName
     else (if list_any (astray f a) us then Some rule.Misplaced else None)
-
--- a rule's number, from 0, in the order in which those that one line breaks count
-abbrev pub order : FileRule → ℕ
-order rule.UnknownImport = 0
-order rule.UnknownName = 1
-order rule.Misplaced = 2
-order rule.DuplicateName = 3
-order rule.BadOption = 4
-order rule.TooManyCases = 5
-order rule.NoTests = 6
 
 -- the rule of two that counts on one line
 abbrev pub first_of : Option FileRule → Option FileRule → Option FileRule

@@ -17,7 +17,7 @@ pub fn refused_at(line: LineNumber, rule: Option<FileRule>) -> Option<Refusal>
     ensures { result ≡ refused_at line.0 rule }
 {
     match rule {
-        Some(rule) => Some(Refusal { rule, line: line.0 }),
+        Some(rule) => Some(Refusal { rule, line }),
         None => None,
     }
 }

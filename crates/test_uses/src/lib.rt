@@ -3,15 +3,20 @@
 //! [`Scope`] is what is known around a line. [`of_tree`], [`of_statement`], [`of_header`], [`of_line`] and [`of_defaults`] go through the
 //! trees of a line and answer the rule that their uses break, and [`of_block`] answers the first line of a block that breaks one.
 //! What else a line may break, as a name that is defined twice, is left to others.
-#![tactic(auto, using(crate::proofs::Answers::nothing, crate::proofs::Answers::joined, crate::proofs::Answers::consed))]
+#![tactic(auto)]
 
 mod block;
+#[tactic(auto, using(crate::proofs::Answers::answers))]
 mod call;
+#[tactic(auto, using(crate::proofs::Answers::answers))]
 mod expression;
+#[tactic(auto, using(crate::proofs::Answers::answers))]
 mod header;
+#[tactic(auto, using(crate::proofs::Answers::answers))]
 mod line;
 mod order;
 mod scope;
+#[tactic(auto, using(crate::proofs::Answers::answers))]
 mod statement;
 
 pub use block::{of_block, refused_at};

@@ -1,7 +1,8 @@
 //! Which of two rules counts.
 
 ghost use Rattle.std.specs.Prelude.{◌≡◌};
-ghost use Rattle.test_uses.specs.Answer.{first_of, order};
+ghost use Rattle.test_rules.specs.Rules.{order};
+ghost use Rattle.test_uses.specs.Answer.{first_of};
 
 use test_rules::FileRule;
 
