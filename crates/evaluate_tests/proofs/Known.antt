@@ -1,5 +1,5 @@
 -- The scene knows the values of all names of the rows' task.
-use Rattle.std.proofs.Common.{◌≡◌, List, lit<, sym, subst}
+use Rattle.std.proofs.Common.{◌≡◌, lit<, sym, subst}
 use Rattle.py_attribute.specs.Look.{Names}
 use Rattle.py_attribute.specs.Knows.{KnowsNames}
 use Rattle.evaluate_tests.specs.Scene.{seen}

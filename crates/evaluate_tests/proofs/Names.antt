@@ -1,5 +1,5 @@
 -- Names one after the other, and what the scene knows of them.
-use Rattle.std.proofs.Common.{◌≡◌, ℕ, Bool, true, false, List, [], ◌∷◌, ◌++◌, Some, None, if◌then◌else◌, refl, ap}
+use Rattle.std.proofs.Common.{◌≡◌, ℕ, Bool, true, false, List, [], ◌∷◌, ◌++◌, if◌then◌else◌, refl, ap}
 use Rattle.std.specs.Str.{bytes_eq}
 use Rattle.py_attribute.specs.Look.{View, Names, Local, local}
 use Rattle.py_attribute.specs.Knows.{KnowsNames, KnowsOption}

@@ -1,5 +1,5 @@
 -- How many triggers a row has.
-use Rattle.std.proofs.Common.{◌≡◌, ℕ, ◌+◌, List, [], ◌∷◌, length, refl, arith}
+use Rattle.std.proofs.Common.{◌≡◌, List, [], ◌∷◌, length, refl, arith}
 use Rattle.py_value.specs.Trigger.{Trig, row}
 use Rattle.evaluate_tests.specs.Printed.{count}
 

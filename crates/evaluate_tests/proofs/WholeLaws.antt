@@ -1,5 +1,5 @@
 -- What reading an expression says of the whole of the tokens.
-use Rattle.std.proofs.Common.{◌≡◌, ℕ, ◌+◌, ◌<◌, ◌≤◌, Bool, true, false, nat_le, List, [], ◌∷◌, length, Option, Some, None, Result, Ok, Err, if◌then◌else◌, refl, sym, ap, ◌∙◌, subst, inl, inr, ◌⊎◌, arith}
+use Rattle.std.proofs.Common.{◌≡◌, ◌+◌, ◌<◌, ◌≤◌, Bool, true, false, nat_le, List, [], ◌∷◌, length, Option, Some, None, Result, Ok, Err, if◌then◌else◌, refl, sym, ap, ◌∙◌, subst, inl, inr, ◌⊎◌, arith}
 use Rattle.std.specs.Borrow.{Bor}
 use Rattle.std.proofs.lemmas.Bool.Decides.{nat_tests}
 use Rattle.py_syntax.specs.ExpressionTrees.{Tree, height}
@@ -10,7 +10,7 @@ use Rattle.py_phrase.specs.declared.fault.ReadError.{ReadError}
 use Rattle.py_phrase.specs.declared.fault.ReadError.TheVariants as errors
 use Rattle.py_expression.specs.Ends.{Stops, IsRead, IsFound}
 use Rattle.py_expression.specs.Kept.{measured}
-use Rattle.py_expression.specs.Shown.{Shown, shown, hollow, height_limit}
+use Rattle.py_expression.specs.Shown.{Shown, shown, height_limit}
 use Rattle.py_expression.specs.Tokens.{operation_at}
 use Rattle.py_expression.specs.declared.measured.Measured.{Measured}
 use Rattle.py_expression.proofs.Nodes.{at_most_or_more, shown_whole, shown_high}

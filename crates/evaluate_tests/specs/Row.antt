@@ -1,5 +1,5 @@
 -- What is answered for a row.
-use Rattle.std.specs.Prelude.{◌≡◌, ◌⊎◌, ℕ, ◌==◌, ◌<◌, ◌≤◌, Bool, List, [], ◌∷◌, ◌++◌, Option, None, Some, codes, length}
+use Rattle.std.specs.Prelude.{◌≡◌, ℕ, ◌==◌, ◌<◌, ◌≤◌, Bool, List, [], ◌∷◌, ◌++◌, Option, None, Some, codes, length}
 use Rattle.std.specs.List.{before_first, after_first}
 use Rattle.py_syntax.specs.ExpressionTrees.{Tree, height}
 use Rattle.py_syntax.specs.ExpressionSpells.{Spells}

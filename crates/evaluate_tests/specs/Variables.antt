@@ -1,5 +1,5 @@
 -- The names of the rows' task, with their values, in the code and in contracts.
-use Rattle.std.specs.Prelude.{List, [], ◌∷◌, ◌++◌, ℕ, Option, None, Some, codes, pos, negsuc, true}
+use Rattle.std.specs.Prelude.{List, [], ◌∷◌, ◌++◌, ℕ, None, Some, codes, pos, negsuc, true}
 use Rattle.four_value.specs.declared.Digit.TheVariants as digit
 use Rattle.py_syntax.specs.declared.fault_kind.FaultKind.TheVariants.{ValueError}
 use Rattle.py_value.specs.declared.value.Value.{Value}

@@ -1,5 +1,5 @@
 use Rattle.evaluate_tests.proofs.TabLaws.{rule_before, text_behind, rule_alone, no_text}
-use Rattle.std.proofs.Common.{sym, ◌∙◌}
+use Rattle.std.proofs.Common.{sym}
 use Rattle.evaluate_tests.proofs.answer.cut.Goals as goal
 
 pub returns-in-Some-clause-rule : goal.returns-in-Some-clause-rule
