@@ -1,1 +1,5 @@
 pub mod Names
+pub mod Known
+pub mod RowLaws
+pub mod TabLaws
+pub mod WholeLaws

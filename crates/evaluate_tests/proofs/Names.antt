@@ -1,26 +1,25 @@
--- Names one after the other.
-use Rattle.std.proofs.Common.{ℕ, Bool, true, false, List, [], ◌∷◌, ◌++◌, None, if◌then◌else◌}
+-- Names one after the other, and what the scene knows of them.
+use Rattle.std.proofs.Common.{◌≡◌, ℕ, Bool, true, false, List, [], ◌∷◌, ◌++◌, if◌then◌else◌, refl, ap}
 use Rattle.std.specs.Str.{bytes_eq}
-use Rattle.py_attribute.specs.Look.{View, local}
+use Rattle.py_attribute.specs.Look.{View, Names, Local, local}
 use Rattle.py_attribute.specs.Knows.{KnowsNames, KnowsOption}
 use Rattle.evaluate_tests.specs.declared.variables.Variable.{Variable}
-use Rattle.evaluate_tests.specs.Variables.{locals_of}
+use Rattle.evaluate_tests.specs.Variables.{local_of, locals_of}
 
--- one name more, for each name that may be asked
-more_at : (view : View) (vs : List Variable) (x : Variable) (n : List ℕ) → KnowsOption view (local (locals_of vs) n) → KnowsOption view x.value
-    → KnowsOption view (local (locals_of (vs ++ x ∷ [])) n)
-more_at view [] x n h k = at (bytes_eq x.name n)
-  where
-    at : (t : Bool) → KnowsOption view (if t then x.value else None)
-    at true = k
-    at false = tt
-more_at view (y ∷ ys) x n h k = at (bytes_eq y.name n) h (λ p. more_at view ys x n p k)
-  where
-    at : (t : Bool) → KnowsOption view (if t then y.value else local (locals_of ys) n)
-        → (KnowsOption view (local (locals_of ys) n) → KnowsOption view (local (locals_of (ys ++ x ∷ [])) n))
-        → KnowsOption view (if t then y.value else local (locals_of (ys ++ x ∷ [])) n)
-    at true p f = p
-    at false p f = f p
+pub locals_more : (vs : List Variable) (v : Variable) → locals_of (vs ++ v ∷ []) ≡ locals_of vs ++ local_of v ∷ []
+locals_more [] v = refl
+locals_more (w ∷ ws) v = ap (λ ls. local_of w ∷ ls) (locals_more ws v)
 
-pub names_more : (view : View) (vs : List Variable) (x : Variable) → KnowsNames view (locals_of vs) → KnowsOption view x.value → KnowsNames view (locals_of (vs ++ x ∷ []))
-names_more view vs x h k = λ n. more_at view vs x n (h n) k
+-- the value of each name, the first of that name or not
+abbrev pub EachKnown : View → Names → Type 0
+EachKnown view [] = Unit {0}
+EachKnown view (l ∷ ls) = KnowsOption view l.value × EachKnown view ls
+
+at : (view : View) (l : Local) (ls : Names) (n : List ℕ) (t : Bool) → KnowsOption view l.value → KnowsOption view (local ls n)
+    → KnowsOption view (if t then l.value else local ls n)
+at view l ls n true h k = h
+at view l ls n false h k = k
+
+pub names_known : (view : View) (ls : Names) → EachKnown view ls → KnowsNames view ls
+names_known view [] h n = tt
+names_known view (l ∷ ls) h n = at view l ls n (bytes_eq l.name n) h.0 (names_known view ls h.1 n)

@@ -1,2 +1,4 @@
 pub mod Scene
 pub mod Variables
+pub mod Printed
+pub mod Row

@@ -1,63 +1,115 @@
 //! The answer for a row.
+ghost use Rattle.std.specs.Prelude.{◌≡◌, IfOk, Some, None, option_map, nat_le, if◌then◌else◌, position};
+ghost use Rattle.py_syntax.specs.ExpressionTrees.{view};
+ghost use Rattle.py_expression.specs.Kept.{measured};
+ghost use Rattle.py_expression.specs.Shown.{height_limit};
+ghost use Rattle.evaluate_tests.specs.Row.{is_tab, rule_of, text_of, tree_text, IsReading, TokensGive, TextGives, Replies, RowGives};
 
 use crate::scene::Scene;
-use crate::shown::push_value;
+use crate::shown::value_text;
 use crate::variables::task_names;
 use port_io::NoMemory;
 use py_evaluate::{EvalFault, evaluate};
-use py_expression::expression;
-use py_lex::logical_lines;
+use py_expression::{Measured, expression};
+use py_lex::{LineFault, logical_lines};
+use py_phrase::ReadError;
 use py_syntax::{Expression, Token};
 use py_value::TaskNo;
 use std::alloc::Global;
 
-/// What stands before the first tab, and behind it.
-fn cut(line: &[u8]) -> (&[u8], &[u8]) {
-    match line.iter().position(|byte| *byte == b'\t') {
-        Some(at) => {
-            let (front, rest) = line.split_at(at);
-            match rest {
-                [_, rest @ ..] => (front, rest),
-                [] => (front, rest),
-            }
-        }
+/// How many bytes a text may have of which something is told.
+const TEXT_LIMIT: usize = 1048576;
+
+/// The greatest height of an expression.
+const HEIGHT_LIMIT: usize = 64;
+
+/// The place of the first tab; None exactly where there is none.
+fn tab_in(line: &[u8]) -> Option<usize>
+    ensures { result ≡ position is_tab line.now }
+{
+    line.iter().position(|byte| *byte == b'\t')
+}
+
+/// What stands before the first tab, and behind it: the whole line and nothing where it has no tab.
+fn cut(line: &[u8]) -> (&[u8], &[u8])
+    ensures rule { result.0.now ≡ rule_of line.now }
+    ensures text { result.1.now ≡ text_of line.now }
+{
+    match tab_in(line) {
+        Some(at) => (&line[..at], &line[at + 1..]),
         None => (line, &[]),
     }
 }
 
-/// The value of an expression or the kind of its fault, where a task evaluates it that has made no trigger yet.
-fn push_answer(alloc: Global, out: &mut Vec<u8>, e: &Expression) -> Result<(), NoMemory> {
+/// The value of an expression or the kind of its fault, where a task evaluates it that has made no trigger yet. Only want of memory is an
+/// error.
+fn expression_text(alloc: Global, e: &Expression) -> Result<Vec<u8>, NoMemory>
+    ensures { IfOk result (λ text. text.items ≡ tree_text (view e.now)) }
+{
     let names = task_names(alloc)?;
     let mut next = 0;
     match evaluate(alloc, e, &names, &Scene, TaskNo(4), &mut next) {
-        Ok(v) => push_value(alloc, out, &v)?,
-        Err(EvalFault::Raised(fault)) => out.extend_from_slice(fault.kind.name())?,
-        Err(EvalFault::OutOfMemory) => return Err(NoMemory),
+        Ok(v) => value_text(alloc, &v),
+        Err(EvalFault::Raised(fault)) => Ok(fault.kind.name().to_vec(alloc)?),
+        Err(EvalFault::OutOfMemory) => Err(NoMemory),
     }
-    Ok(())
 }
 
-/// The answer for the expression that the tokens spell.
-fn push_tokens(alloc: Global, out: &mut Vec<u8>, tokens: &[Token]) -> Result<(), NoMemory> {
+/// The expression that was read, if it isn't too high.
+fn low(read: Measured) -> Option<Box<Expression>>
+    ensures { option_map (λ e. view e.value) result ≡ (if nat_le read.height height_limit then Some (measured read).tree else None) }
+{
+    if read.height <= HEIGHT_LIMIT {
+        Some(read.tree)
+    } else {
+        None
+    }
+}
+
+/// The expression that the tokens are; None where they aren't one, of a height of at most 64. Only want of memory is an error.
+fn read(alloc: Global, tokens: &[Token]) -> Result<Option<Box<Expression>>, NoMemory>
+    ensures { IfOk result (λ read. IsReading tokens.now (option_map (λ e. view e.value) read)) }
+{
     match expression(alloc, tokens) {
-        Ok((read, [])) => push_answer(alloc, out, &read.tree),
-        _ => Ok(out.extend_from_slice(b"no expression")?),
+        Ok((read, [])) => Ok(low(read)),
+        Ok((_, [_, ..])) => Ok(None),
+        Err(ReadError::Wrong) => Ok(None),
+        Err(ReadError::OutOfMemory) => Err(NoMemory),
     }
 }
 
-/// The rule of a row, and the answer for it.
-pub fn answer(alloc: Global, line: &[u8]) -> Result<Vec<u8>, NoMemory> {
-    let (rule, text) = cut(line);
-    let mut out = rule.to_vec(alloc)?;
-    out.extend_from_slice(b": ")?;
-    if text.len() > 1048576 {
-        return Ok(out);
+/// What the tokens of a line give. Only want of memory is an error.
+fn tokens_text(alloc: Global, tokens: &[Token]) -> Result<Vec<u8>, NoMemory>
+    ensures { IfOk result (λ text. TokensGive tokens.now text.items) }
+{
+    match read(alloc, tokens)? {
+        Some(e) => expression_text(alloc, &e),
+        None => Ok(b"no expression".to_vec(alloc)?),
+    }
+}
+
+/// What a text gives, which has to be one logical line. Only want of memory is an error.
+fn reply(alloc: Global, text: &[u8]) -> Result<Vec<u8>, NoMemory>
+    ensures { IfOk result (λ reply. Replies text.now reply.items) }
+{
+    if text.len() > TEXT_LIMIT {
+        return Ok(Vec::new(alloc));
     }
     match logical_lines(alloc, text) {
-        Ok(lines) if lines.len() == 1 => {
-            push_tokens(alloc, &mut out, lines.line(0).tokens())?;
-        }
-        _ => out.extend_from_slice(b"no line")?,
+        Ok(lines) if lines.len() == 1 => tokens_text(alloc, lines.line(0).tokens()),
+        Err(LineFault::OutOfMemory) => Err(NoMemory),
+        _ => Ok(b"no line".to_vec(alloc)?),
     }
+}
+
+/// The rule of a row, and behind `: ` the reply to its expression. Only want of memory is an error.
+pub fn answer(alloc: Global, line: &[u8]) -> Result<Vec<u8>, NoMemory>
+    ensures { IfOk result (λ text. RowGives line.now text.items) }
+{
+    let (rule, text) = cut(line);
+    let reply = reply(alloc, text)?;
+    let mut out = rule.to_vec(alloc)?;
+    out.extend_from_slice(b": ")?;
+    out.extend_from_slice(&reply)?;
     Ok(out)
 }

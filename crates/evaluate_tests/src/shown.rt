@@ -4,90 +4,119 @@
 //! half its period behind it. A trigger is what it waits for, with numbers of signals, steps and others, and `@` and its own number behind
 //! it; of those that hold others it is how many.
 
-ghost use Rattle.evaluate_tests.specs.Scene.{seen};
+ghost use Rattle.std.specs.Prelude.{◌≡◌, ◌++◌, codes, IfOk};
 ghost use Rattle.py_attribute.specs.Knows.{Knows};
+ghost use Rattle.py_value.specs.Shown.{shown};
+ghost use Rattle.py_value.specs.TriggerView.{view_form};
+ghost use Rattle.evaluate_tests.specs.Printed as meaning;
+ghost use Rattle.evaluate_tests.specs.Scene.{places, seen};
 
 use crate::scene::Scene;
-use gpi::SigId;
 use port_io::NoMemory;
 use py_attribute::shown_text;
 use py_value::{Form, Trig, Value};
 use std::alloc::Global;
 
-/// A word and a number.
-fn numbered(alloc: Global, out: &mut Vec<u8>, word: &[u8], number: u64) -> Result<(), NoMemory> {
-    out.extend_from_slice(word)?;
-    out.push(b' ')?;
-    out.extend_from_slice(number.to_string(alloc)?.as_bytes())?;
-    Ok(())
+/// How many bytes of a text are printed at most.
+const PRINTED_LIMIT: usize = 200;
+
+/// A text behind another. Only want of memory is an error.
+fn joined(mut front: Vec<u8>, back: &[u8]) -> Result<Vec<u8>, NoMemory>
+    ensures { IfOk result (λ text. text.items ≡ front.items ++ back.now) }
+{
+    front.extend_from_slice(back)?;
+    Ok(front)
 }
 
-/// What a trigger waits for.
-fn push_form(alloc: Global, out: &mut Vec<u8>, form: &Form) -> Result<(), NoMemory> {
+/// A word and a number. Only want of memory is an error.
+fn numbered(alloc: Global, word: &[u8], number: u64) -> Result<Vec<u8>, NoMemory>
+    ensures { IfOk result (λ text. text.items ≡ meaning.numbered word.now number) }
+{
+    let mut text = word.to_vec(alloc)?;
+    text.push(b' ')?;
+    text.extend_from_slice(number.to_string(alloc)?.as_bytes())?;
+    Ok(text)
+}
+
+/// The edges of one kind, as a word.
+fn edges(rising: bool) -> &'static [u8]
+    ensures { result.now ≡ meaning.edges rising }
+{
+    if rising { b"rises" } else { b"falls" }
+}
+
+/// What a trigger waits for. Only want of memory is an error.
+#[tactic(auto, using(crate::proofs::RowLaws::count_row))]
+fn form_text(alloc: Global, form: &Form) -> Result<Vec<u8>, NoMemory>
+    ensures { IfOk result (λ text. text.items ≡ meaning.form_text (view_form form.now)) }
+{
     match form {
-        Form::Time(steps) => numbered(alloc, out, b"time", *steps),
-        Form::Rise(SigId(sig)) => numbered(alloc, out, b"rise", *sig as u64),
-        Form::Fall(SigId(sig)) => numbered(alloc, out, b"fall", *sig as u64),
-        Form::Change(SigId(sig)) => numbered(alloc, out, b"change", *sig as u64),
+        Form::Time(steps) => numbered(alloc, b"time", *steps),
+        Form::Rise(sig) => numbered(alloc, b"rise", sig.0 as u64),
+        Form::Fall(sig) => numbered(alloc, b"fall", sig.0 as u64),
+        Form::Change(sig) => numbered(alloc, b"change", sig.0 as u64),
+        Form::ReadWrite => Ok(b"readwrite".to_vec(alloc)?),
+        Form::ReadOnly => Ok(b"readonly".to_vec(alloc)?),
+        Form::NextStep => Ok(b"nextstep".to_vec(alloc)?),
         Form::Cycles { sig, count, rising } => {
-            numbered(
-                alloc,
-                out,
-                if *rising { b"rises" } else { b"falls" },
-                sig.0 as u64,
-            )?;
-            numbered(alloc, out, b" times", *count)
+            let times = numbered(alloc, b" times", *count)?;
+            joined(numbered(alloc, edges(*rising), sig.0 as u64)?, &times)
         }
-        Form::Event(event) => numbered(alloc, out, b"event", event.0 as u64),
-        Form::Lock(lock) => numbered(alloc, out, b"lock", lock.0 as u64),
-        Form::Join(task) => numbered(alloc, out, b"join", task.0 as u64),
-        Form::First(parts) => numbered(alloc, out, b"first of", parts.len() as u64),
-        Form::Combine(parts) => numbered(alloc, out, b"all of", parts.len() as u64),
-        Form::ReadWrite => Ok(out.extend_from_slice(b"readwrite")?),
-        Form::ReadOnly => Ok(out.extend_from_slice(b"readonly")?),
-        _ => Ok(out.extend_from_slice(b"nextstep")?),
+        Form::Event(event) => numbered(alloc, b"event", event.0 as u64),
+        Form::Lock(lock) => numbered(alloc, b"lock", lock.0 as u64),
+        Form::Join(task) => numbered(alloc, b"join", task.0 as u64),
+        Form::First(parts) => numbered(alloc, b"first of", parts.len() as u64),
+        Form::Combine(parts) => numbered(alloc, b"all of", parts.len() as u64),
+        Form::Limit { steps, .. } => numbered(alloc, b"limit", *steps),
     }
 }
 
-/// A trigger.
-fn push_trigger(alloc: Global, out: &mut Vec<u8>, trig: &Trig) -> Result<(), NoMemory> {
-    push_form(alloc, out, &trig.form)?;
-    numbered(alloc, out, b" @", trig.id.number)
+/// A trigger. Only want of memory is an error.
+fn trigger_text(alloc: Global, trig: &Trig) -> Result<Vec<u8>, NoMemory>
+    ensures { IfOk result (λ text. text.items ≡ meaning.trigger_text trig.now) }
+{
+    let number = numbered(alloc, b" @", trig.id.number)?;
+    joined(form_text(alloc, &trig.form)?, &number)
 }
 
-/// The text as which a value is shown, or its length.
-fn push_text(alloc: Global, out: &mut Vec<u8>, v: &Value) -> Result<(), NoMemory>
+/// A clock: its signal, and half its period in steps. Only want of memory is an error.
+fn clock_text(alloc: Global, sig: u32, half: u64) -> Result<Vec<u8>, NoMemory>
+    ensures { IfOk result (λ text. text.items ≡ meaning.numbered (codes "clock") sig ++ meaning.numbered (codes " half") half) }
+{
+    let half = numbered(alloc, b" half", half)?;
+    joined(numbered(alloc, b"clock", sig as u64)?, &half)
+}
+
+/// A text, or how long it is. Only want of memory is an error.
+fn cropped(alloc: Global, text: &[u8]) -> Result<Vec<u8>, NoMemory>
+    ensures { IfOk result (λ shorter. shorter.items ≡ meaning.cropped text.now) }
+{
+    if text.len() <= PRINTED_LIMIT {
+        return Ok(text.to_vec(alloc)?);
+    }
+    let length = text.len().to_string(alloc)?;
+    joined(length.as_bytes().to_vec(alloc)?, b" bytes")
+}
+
+/// What Python shows of a value, or how long that is, behind a mark. Only want of memory is an error.
+fn marked(alloc: Global, mark: &[u8], v: &Value) -> Result<Vec<u8>, NoMemory>
     requires { Knows seen v.now }
+    ensures { IfOk result (λ text. text.items ≡ mark.now ++ meaning.cropped (shown places v.now)) }
 {
     let text = shown_text(alloc, &Scene, v)?;
-    let bytes = text.bytes();
-    if bytes.len() > 200 {
-        out.extend_from_slice(bytes.len().to_string(alloc)?.as_bytes())?;
-        out.extend_from_slice(b" bytes")?;
-    } else {
-        out.extend_from_slice(bytes)?;
-    }
-    Ok(())
+    joined(mark.to_vec(alloc)?, &cropped(alloc, text.bytes())?)
 }
 
-/// A value as it is printed.
-pub fn push_value(alloc: Global, out: &mut Vec<u8>, v: &Value) -> Result<(), NoMemory>
+/// A value as it is printed. Only want of memory is an error.
+pub fn value_text(alloc: Global, v: &Value) -> Result<Vec<u8>, NoMemory>
     requires { Knows seen v.now }
+    ensures { IfOk result (λ text. text.items ≡ meaning.printed v.now) }
 {
     match v {
-        Value::Trigger(trig) => push_trigger(alloc, out, trig),
-        Value::Clock { sig, half } => {
-            numbered(alloc, out, b"clock", sig.0 as u64)?;
-            numbered(alloc, out, b" half", *half)
-        }
-        Value::Text(_) => {
-            out.push(b'\'')?;
-            push_text(alloc, out, v)
-        }
-        Value::Vector(_) => {
-            out.push(b'#')?;
-            push_text(alloc, out, v)
-        }
-        _ => push_text(alloc, out, v),
+        Value::Trigger(trig) => trigger_text(alloc, trig),
+        Value::Clock { sig, half } => clock_text(alloc, sig.0, *half),
+        Value::Text(_) => marked(alloc, b"'", v),
+        Value::Vector(_) => marked(alloc, b"#", v),
+        _ => marked(alloc, b"", v),
     }
 }

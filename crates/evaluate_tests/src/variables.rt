@@ -1,8 +1,7 @@
 //! The names of the rows' task.
-ghost use Rattle.std.specs.Prelude.{◌≡◌, IfOk, Some, None};
-ghost use Rattle.py_attribute.specs.Knows.{KnowsNames, KnowsOption};
-ghost use Rattle.evaluate_tests.specs.Scene.{seen};
-ghost use Rattle.evaluate_tests.specs.Variables.{locals_of};
+ghost use Rattle.std.specs.Prelude.{◌≡◌, ◌++◌, ◌∷◌, [], IfOk};
+ghost use Rattle.evaluate_tests.specs.Variables.{locals_of, plain_names, vector_names};
+ghost use Rattle.evaluate_tests.specs.Variables as meaning;
 
 use four_value::{Bits, Digit};
 use gpi::SigId;
@@ -38,16 +37,15 @@ impl Locals for Variables {
     }
 }
 
-/// A name with a value that the scene knows, or unassigned, behind others.
+/// A name, with its value or unassigned, behind others. Only want of memory is an error.
+#[tactic(auto, using(crate::proofs::Names::locals_more))]
 fn push(
     alloc: Global,
     mut all: Variables,
     name: &[u8],
     value: Option<Value>,
 ) -> Result<Variables, NoMemory>
-    requires known { KnowsNames seen (locals_of all.list.items) }
-    requires value { KnowsOption seen value }
-    ensures { IfOk result (λ more. KnowsNames seen (locals_of more.list.items)) }
+    ensures { IfOk result (λ more. locals_of more.list.items ≡ locals_of all.list.items ++ record { name = name.now; value = value } ∷ []) }
 {
     let name = Name::of(alloc, name)?;
     all.list.push(Variable { name, value })?;
@@ -56,7 +54,7 @@ fn push(
 
 /// `dut` is the top; `i` 7, `j` -3, `b` True, `n` None, `t` the text `ns`.
 fn plain(alloc: Global) -> Result<Variables, NoMemory>
-    ensures { IfOk result (λ all. KnowsNames seen (locals_of all.list.items)) }
+    ensures { IfOk result (λ all. locals_of all.list.items ≡ plain_names) }
 {
     let all = Variables {
         list: Vec::new(alloc),
@@ -71,7 +69,7 @@ fn plain(alloc: Global) -> Result<Variables, NoMemory>
 
 /// `v` is the vector 0110 and `w` the vector x1, `s` and `d` are the signals `top.a` and `top.clk`, and `zz` is unassigned.
 fn vectors(alloc: Global) -> Result<Variables, NoMemory>
-    ensures { IfOk result (λ all. KnowsNames seen (locals_of all.list.items)) }
+    ensures { IfOk result (λ all. locals_of all.list.items ≡ plain_names ++ vector_names) }
 {
     let unknown = Bits::all(2, Digit::One).with_digit(1, Digit::X);
     let all = plain(alloc)?;
@@ -90,7 +88,7 @@ fn vectors(alloc: Global) -> Result<Variables, NoMemory>
 /// Those, and: `l` is a held lock and `k` a free one, `e` an event that is set and `o` one that isn't, `p` a task that has ended and `q` one
 /// that hasn't, `c` a clock, and `f` a caught ValueError that says `hm`.
 pub fn task_names(alloc: Global) -> Result<Variables, NoMemory>
-    ensures { IfOk result (λ all. KnowsNames seen (locals_of all.list.items)) }
+    ensures { IfOk result (λ all. locals_of all.list.items ≡ meaning.task_names) }
 {
     let fault = Fault {
         kind: FaultKind::ValueError,

@@ -1,0 +1,84 @@
+-- What is answered for a row.
+use Rattle.std.specs.Prelude.{◌≡◌, ℕ, ◌==◌, ◌<◌, ◌≤◌, Bool, List, [], ◌∷◌, ◌++◌, Option, None, Some, codes, length}
+use Rattle.std.specs.List.{before_first, after_first}
+use Rattle.py_syntax.specs.ExpressionTrees.{Tree, height}
+use Rattle.py_syntax.specs.ExpressionSpells.{Spells}
+use Rattle.py_syntax.specs.Line.{Line}
+use Rattle.py_syntax.specs.Logical.{lines_of, first_broken}
+use Rattle.py_syntax.specs.Places.{first_place}
+use Rattle.py_syntax.specs.Spelled.{IsSpelled}
+use Rattle.py_syntax.specs.declared.piece.Piece.{Piece}
+use Rattle.py_syntax.specs.declared.piece.Broken.{Broken}
+use Rattle.py_syntax.specs.declared.token.Token.{Token}
+use Rattle.py_expression.specs.Shown.{height_limit}
+use Rattle.py_attribute.specs.Outcome.{Scope}
+use Rattle.py_evaluate.specs.Eval.{eval}
+use Rattle.evaluate_tests.specs.Printed.{answer_text}
+use Rattle.evaluate_tests.specs.Scene.{seen}
+use Rattle.evaluate_tests.specs.Variables.{task_names}
+
+-- ---- the parts of a row
+
+abbrev pub is_tab : ℕ → Bool
+is_tab byte = byte == 9
+
+-- the rule that a row shows: what stands before its first tab, or all of it
+abbrev pub rule_of : List ℕ → List ℕ
+rule_of row = before_first is_tab row
+
+-- the expression: what stands behind that tab, or nothing
+abbrev pub text_of : List ℕ → List ℕ
+text_of row = after_first is_tab row
+
+-- ---- what an expression gives
+
+-- task 4 evaluates it
+abbrev pub scope : Scope
+scope = record { task = record { 0 = 4 }; names = task_names; view = seen }
+
+-- where the task's first trigger has the number 0
+abbrev pub tree_text : Tree → List ℕ
+tree_text e = answer_text (eval scope e 0).answer
+
+-- ---- what the tokens of a line give
+
+-- these tokens and no others spell the expression, which isn't too high
+pub record IsWhole (tokens : List Token) (e : Tree) : Type 0 where
+  pub spells : Spells e tokens []
+  pub low : height e ≤ height_limit
+
+-- the expression that tokens are, if they are one
+abbrev pub IsReading : List Token → Option Tree → Type 0
+IsReading tokens (Some e) = IsWhole tokens e
+IsReading tokens None = (e : Tree) → IsWhole tokens e → ⊥
+
+abbrev pub reading_text : Option Tree → List ℕ
+reading_text (Some e) = tree_text e
+reading_text None = codes "no expression"
+
+abbrev pub TokensGive : List Token → List ℕ → Type 0
+TokensGive tokens reply = (read : Option Tree) × IsReading tokens read × (reply ≡ reading_text read)
+
+-- ---- what a text gives
+
+-- the first rule of lines that it breaks, and its logical lines: the expression has to be all of the only one
+abbrev pub LinesGive : Option Broken → List Line → List ℕ → Type 0
+LinesGive None (line ∷ []) reply = TokensGive line.tokens reply
+LinesGive _ _ reply = reply ≡ codes "no line"
+
+-- some pieces spell the text, and their lines give the reply
+abbrev pub TextGives : List ℕ → List ℕ → Type 0
+TextGives text reply = (pieces : List Piece) × IsSpelled first_place pieces text × LinesGive (first_broken pieces) (lines_of pieces) reply
+
+-- how many bytes a text may have
+abbrev pub text_limit : ℕ
+text_limit = 1048576
+
+-- of a longer text nothing is told
+pub record Replies (text reply : List ℕ) : Type 0 where
+  pub short : length text ≤ text_limit → TextGives text reply
+  pub long : text_limit < length text → reply ≡ []
+
+-- the rule, and behind `: ` the reply to the text
+abbrev pub RowGives : List ℕ → List ℕ → Type 0
+RowGives row answer = (reply : List ℕ) × Replies (text_of row) reply × (answer ≡ rule_of row ++ (codes ": " ++ reply))
