@@ -1,6 +1,6 @@
 -- Numbers in so many digits.
-use Rattle.std.proofs.Common.{◌≡◌, ℕ, zero, suc, ◌+◌, ◌-◌, ◌^◌, ◌<◌, ◌≤◌, Bool, true, false, Ok, Err, nat_lt, if◌then◌else◌, refl, ap, sym, ◌∙◌, arith}
-use Rattle.std.specs.Prelude.{ℤ, pos, negsuc, neg_ℤ, int_le, unsigned_abs, ◌/◌, ◌%◌, ◌&&◌}
+use Rattle.std.proofs.Common.{◌≡◌, ℕ, zero, suc, ◌+◌, ◌-◌, ◌^◌, ◌<◌, ◌≤◌, true, false, Ok, Err, refl, ap, sym, ◌∙◌, arith}
+use Rattle.std.specs.Prelude.{pos, neg_ℤ, int_le, unsigned_abs, ◌/◌, ◌%◌, ◌&&◌}
 use Rattle.std.specs.Int.{int_rem_euclid}
 use Rattle.std.proofs.Math.Nat.{pow-suc, mod-eq_of_lt}
 use Rattle.std.proofs.Math.Pow.{pow_mono}
@@ -8,7 +8,7 @@ use Rattle.std.proofs.lemmas.Nat.{pow_pos}
 use Rattle.std.proofs.lemmas.Int.{ints}
 use Rattle.four_value.specs.Vector.{vector}
 use Rattle.py_syntax.specs.declared.fault_kind.FaultKind.TheVariants.{OverflowError}
-use Rattle.signal_port.specs.Written.{fits_width, number_bits}
+use Rattle.signal_port.specs.Written.{number_bits}
 
 double : (w : ℕ) → 1 ≤ w → 2 ^ w ≡ 2 ^ (w - 1) + 2 ^ (w - 1)
 double zero h = absurd (omega arith)
