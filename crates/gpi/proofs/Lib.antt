@@ -1,6 +1,7 @@
 pub mod Widths
 pub mod Lists
 pub mod Rows
+pub mod RunLengths
 pub mod Made
 pub mod Copies
 pub mod Steps

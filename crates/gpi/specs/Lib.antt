@@ -1,4 +1,5 @@
 pub mod Operators
+pub mod Runs
 pub mod Selects
 pub mod Terms
 pub mod Made

@@ -12,6 +12,7 @@ mod design;
 mod interface;
 mod operators;
 mod parents;
+mod run_lengths;
 mod selects;
 mod soundness;
 mod targets;

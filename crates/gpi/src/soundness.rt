@@ -7,6 +7,7 @@ ghost use Rattle.gpi.specs.Activation.{acts_of, SoundList};
 ghost use Rattle.gpi.specs.Activation as act;
 ghost use Rattle.gpi.specs.Design.{widths};
 ghost use Rattle.gpi.specs.Soundness.{are_wide, IsWidthFound};
+ghost use Rattle.gpi.specs.Runs.{AreRuns};
 
 use crate::acts::{Act, Acts, Label};
 use crate::design::Signal;
@@ -73,24 +74,19 @@ fn signal_width(signals: &Sequence<Signal>, sig: SigId, w: u8) -> Option<u8>
 
 impl Words {
     /// The width of the words, if it is this one.
-    #[tactic(auto, using(crate::proofs::Sound::signals))]
-    fn sound_width(self, signals: &Sequence<Signal>, w: u8) -> Option<u8>
+    #[tactic(auto, using(crate::proofs::Sound::signals, crate::proofs::RunLengths::words))]
+    fn sound_width(self, signals: &Sequence<Signal>, runs: &[u32], w: u8) -> Option<u8>
         requires wide { IsTrue (are_wide signals.now) }
         requires few { length signals.now ≤ 65536 }
+        requires runs { AreRuns runs.now (widths signals.now) }
         ensures { IsWidthFound result (AreWords self w (widths signals.now)) w }
     {
         let first = self.first.0 as usize;
-        let count = self.count as usize;
-        if first >= signals.len() {
+        if first >= signals.len() || self.count > runs[first] {
             return None;
         }
-        if count > signals.len() - first {
+        if self.count > 0 && signals.get(first).width != w {
             return None;
-        }
-        for s in first..first + count {
-            if signals.get(s).width != w {
-                return None;
-            }
         }
         proper(w)
     }
@@ -98,60 +94,78 @@ impl Words {
 
 impl Term {
     /// The width, where the expression is sound.
-    fn sound_width(&self, signals: &Sequence<Signal>) -> Option<u8>
+    fn sound_width(&self, signals: &Sequence<Signal>, runs: &[u32]) -> Option<u8>
         requires wide { IsTrue (are_wide signals.now) }
         requires few { length signals.now ≤ 65536 }
+        requires runs { AreRuns runs.now (widths signals.now) }
         ensures { IsWidthFound result (IsSound self.now (widths signals.now)) (width self.now) }
     {
         match self {
             Term::Const(bits) => Some(bits.width()),
             Term::Signal(s, w) => signal_width(signals, *s, *w),
-            Term::Word(words, i, w) => i.sound_width(signals).and(words.sound_width(signals, *w)),
+            Term::Word(words, i, w) => i
+                .sound_width(signals, runs)
+                .and(words.sound_width(signals, runs, *w)),
             Term::Select(a, _, i, w) => {
-                let operands = a.sound_width(signals).and(i.sound_width(signals));
+                let operands = a
+                    .sound_width(signals, runs)
+                    .and(i.sound_width(signals, runs));
                 operands.and(proper(*w))
             }
-            Term::Unary(_, a) => a.sound_width(signals),
+            Term::Unary(_, a) => a.sound_width(signals, runs),
             Term::Arith(_, a, b) => {
-                let (a, b) = a.sound_width(signals).zip(b.sound_width(signals))?;
+                let (a, b) = a
+                    .sound_width(signals, runs)
+                    .zip(b.sound_width(signals, runs))?;
                 common(a, b)
             }
             Term::Compare(_, a, b) => {
-                let (a, b) = a.sound_width(signals).zip(b.sound_width(signals))?;
+                let (a, b) = a
+                    .sound_width(signals, runs)
+                    .zip(b.sound_width(signals, runs))?;
                 common(a, b).and(Some(1))
             }
             Term::Logic(_, a, b) => {
-                let operands = a.sound_width(signals).and(b.sound_width(signals));
+                let operands = a
+                    .sound_width(signals, runs)
+                    .and(b.sound_width(signals, runs));
                 operands.and(Some(1))
             }
-            Term::Reduce(_, a) => a.sound_width(signals).and(Some(1)),
-            Term::Shift(_, a, count) => count.sound_width(signals).and(a.sound_width(signals)),
+            Term::Reduce(_, a) => a.sound_width(signals, runs).and(Some(1)),
+            Term::Shift(_, a, count) => count
+                .sound_width(signals, runs)
+                .and(a.sound_width(signals, runs)),
             Term::Cond(condition, a, b) => {
-                let (a, b) = a.sound_width(signals).zip(b.sound_width(signals))?;
-                condition.sound_width(signals).and(common(a, b))
+                let (a, b) = a
+                    .sound_width(signals, runs)
+                    .zip(b.sound_width(signals, runs))?;
+                condition.sound_width(signals, runs).and(common(a, b))
             }
             Term::Concat(a, b) => {
-                let (a, b) = a.sound_width(signals).zip(b.sound_width(signals))?;
+                let (a, b) = a
+                    .sound_width(signals, runs)
+                    .zip(b.sound_width(signals, runs))?;
                 joined(a, b)
             }
-            Term::Repeat(n, a) => multiplied(*n, a.sound_width(signals)?),
-            Term::Resize(a, w) => a.sound_width(signals).and(proper(*w)),
+            Term::Repeat(n, a) => multiplied(*n, a.sound_width(signals, runs)?),
+            Term::Resize(a, w) => a.sound_width(signals, runs).and(proper(*w)),
         }
     }
 }
 
 impl Object {
     /// The width, where the object is sound.
-    fn sound_width(&self, signals: &Sequence<Signal>) -> Option<u8>
+    fn sound_width(&self, signals: &Sequence<Signal>, runs: &[u32]) -> Option<u8>
         requires wide { IsTrue (are_wide signals.now) }
         requires few { length signals.now ≤ 65536 }
+        requires runs { AreRuns runs.now (widths signals.now) }
         ensures { IsWidthFound result (IsSoundObject self.now (widths signals.now)) (object_width self.now) }
     {
         match self {
             Object::Signal(s, w) => signal_width(signals, *s, *w),
             Object::Word(words, i, w) => {
-                i.sound_width(signals)?;
-                words.sound_width(signals, *w)
+                i.sound_width(signals, runs)?;
+                words.sound_width(signals, runs, *w)
             }
         }
     }
@@ -159,55 +173,71 @@ impl Object {
 
 impl Target {
     /// The width, where the target is sound.
-    fn sound_width(&self, signals: &Sequence<Signal>) -> Option<u8>
+    fn sound_width(&self, signals: &Sequence<Signal>, runs: &[u32]) -> Option<u8>
         requires wide { IsTrue (are_wide signals.now) }
         requires few { length signals.now ≤ 65536 }
+        requires runs { AreRuns runs.now (widths signals.now) }
         ensures { IsWidthFound result (IsSoundTarget self.now (widths signals.now)) (target_width self.now) }
     {
         match self {
-            Target::Whole(object) => object.sound_width(signals),
+            Target::Whole(object) => object.sound_width(signals, runs),
             Target::Select(object, _, i, w) => {
-                object.sound_width(signals)?;
-                i.sound_width(signals)?;
+                object.sound_width(signals, runs)?;
+                i.sound_width(signals, runs)?;
                 proper(*w)
             }
-            Target::Join(a, b) => joined(a.sound_width(signals)?, b.sound_width(signals)?),
+            Target::Join(a, b) => joined(
+                a.sound_width(signals, runs)?,
+                b.sound_width(signals, runs)?,
+            ),
         }
     }
 }
 
 /// Whether an assignment of a value to a target is sound.
-fn fits(target: &Target, value: &Term, signals: &Sequence<Signal>) -> bool
+fn fits(target: &Target, value: &Term, signals: &Sequence<Signal>, runs: &[u32]) -> bool
     requires wide { IsTrue (are_wide signals.now) }
     requires few { length signals.now ≤ 65536 }
+    requires runs { AreRuns runs.now (widths signals.now) }
     ensures { IsTrue result ↔ (IsSoundTarget target.now (widths signals.now) × IsSound value.now (widths signals.now) × (width value.now ≡ target_width target.now)) }
 {
-    match (target.sound_width(signals), value.sound_width(signals)) {
+    match (
+        target.sound_width(signals, runs),
+        value.sound_width(signals, runs),
+    ) {
         (Some(there), Some(given)) => given == there,
         _ => false,
     }
 }
 
 /// Whether a label of a case statement is sound: of this width, and with one of so many items.
-fn is_label(label: &Label, w: u8, items: usize, signals: &Sequence<Signal>) -> bool
+fn is_label(label: &Label, w: u8, items: usize, signals: &Sequence<Signal>, runs: &[u32]) -> bool
     requires wide { IsTrue (are_wide signals.now) }
     requires few { length signals.now ≤ 65536 }
+    requires runs { AreRuns runs.now (widths signals.now) }
     ensures { IsTrue result ↔ (IsSound label.now.value (widths signals.now) × (width label.now.value ≡ w) × (label.now.item < items)) }
 {
-    match label.value.sound_width(signals) {
+    match label.value.sound_width(signals, runs) {
         Some(found) => found == w && (label.item as usize) < items,
         None => false,
     }
 }
 
 /// Whether the labels of a case statement are sound: of the width of the value, and each with one of so many items.
-fn are_labels(labels: &Sequence<Label>, w: u8, items: usize, signals: &Sequence<Signal>) -> bool
+fn are_labels(
+    labels: &Sequence<Label>,
+    w: u8,
+    items: usize,
+    signals: &Sequence<Signal>,
+    runs: &[u32],
+) -> bool
     requires wide { IsTrue (are_wide signals.now) }
     requires few { length signals.now ≤ 65536 }
+    requires runs { AreRuns runs.now (widths signals.now) }
     ensures { IsTrue result ↔ (AreLabels labels.now w (widths signals.now) × AreItems labels.now items) }
 {
     for at in 0..labels.len() {
-        if !is_label(labels.get(at), w, items, signals) {
+        if !is_label(labels.get(at), w, items, signals, runs) {
             return false;
         }
     }
@@ -220,13 +250,15 @@ fn is_choice(
     labels: &Sequence<Label>,
     items: usize,
     signals: &Sequence<Signal>,
+    runs: &[u32],
 ) -> bool
     requires wide { IsTrue (are_wide signals.now) }
     requires few { length signals.now ≤ 65536 }
+    requires runs { AreRuns runs.now (widths signals.now) }
     ensures { IsTrue result ↔ (IsSound value.now (widths signals.now) × AreLabels labels.now (width value.now) (widths signals.now) × AreItems labels.now items) }
 {
-    match value.sound_width(signals) {
-        Some(w) => are_labels(labels, w, items, signals),
+    match value.sound_width(signals, runs) {
+        Some(w) => are_labels(labels, w, items, signals, runs),
         None => false,
     }
 }
@@ -234,26 +266,27 @@ fn is_choice(
 impl Act {
     /// Whether the statement is sound over these signals.
     #[cycle(soundness)]
-    pub fn is_sound(&self, signals: &Sequence<Signal>) -> bool
+    pub(crate) fn is_sound(&self, signals: &Sequence<Signal>, runs: &[u32]) -> bool
         requires wide { IsTrue (are_wide signals.now) }
         requires few { length signals.now ≤ 65536 }
+        requires runs { AreRuns runs.now (widths signals.now) }
         ensures { IsTrue result ↔ act.IsSound self.now (widths signals.now) }
     {
         match self {
             Act::Empty => true,
-            Act::Block(acts) => acts.are_sound(signals),
+            Act::Block(acts) => acts.are_sound(signals, runs),
             Act::If(condition, first, second) => {
-                condition.sound_width(signals).is_some()
-                    && first.is_sound(signals)
-                    && second.is_sound(signals)
+                condition.sound_width(signals, runs).is_some()
+                    && first.is_sound(signals, runs)
+                    && second.is_sound(signals, runs)
             }
             Act::Case(_, value, labels, items, other) => {
-                is_choice(value, labels, items.len(), signals)
-                    && items.are_sound(signals)
-                    && other.is_sound(signals)
+                is_choice(value, labels, items.len(), signals, runs)
+                    && items.are_sound(signals, runs)
+                    && other.is_sound(signals, runs)
             }
             Act::Blocking(target, value) | Act::Nonblocking(target, value) => {
-                fits(target, value, signals)
+                fits(target, value, signals, runs)
             }
         }
     }
@@ -262,13 +295,14 @@ impl Act {
 impl Acts {
     /// Whether each statement is sound.
     #[cycle(soundness)]
-    fn are_sound(&self, signals: &Sequence<Signal>) -> bool
+    fn are_sound(&self, signals: &Sequence<Signal>, runs: &[u32]) -> bool
         requires wide { IsTrue (are_wide signals.now) }
         requires few { length signals.now ≤ 65536 }
+        requires runs { AreRuns runs.now (widths signals.now) }
         ensures { IsTrue result ↔ SoundList (acts_of self.now) (widths signals.now) }
     {
         for at in 0..self.len() {
-            if !self.get(at).is_sound(signals) {
+            if !self.get(at).is_sound(signals, runs) {
                 return false;
             }
         }

@@ -3,16 +3,18 @@ ghost use Rattle.std.specs.Prelude.{◌≡◌, ◌≤◌, ◌↔◌, length, IsT
 ghost use Rattle.gpi.specs.Design.{widths};
 ghost use Rattle.gpi.specs.Activation.{IsSound};
 ghost use Rattle.gpi.specs.Soundness.{IsSoundFlat, AreProcesses, are_wide, are_wakes, are_spots, are_nodes, is_spot};
+ghost use Rattle.gpi.specs.Runs.{AreRuns};
 
 use crate::design::{Flat, Node, Process, Signal, Spot, Wake};
 use crate::parents::is_tree;
+use crate::run_lengths::note_runs;
 use port_io::{Name, Sequence};
 
 impl Flat {
     /// Whether the design is sound: none of its lists has more than 65,536 elements; each number of a signal or a node lies
     /// in its list, and so do the words of a memory; each width is 1 to 128 and fits its node; the nodes form one tree
-    /// below node 0; and the step is at least 1. It takes no memory, but 1 MiB of the stack. Its time grows with the design,
-    /// and with the words of a memory at each reference to it.
+    /// below node 0; and the step is at least 1. It takes no memory, but 1.25 MiB of the stack at most. Its
+    /// time grows with the design.
     pub fn is_sound(&self) -> bool
         ensures { IsTrue result ↔ IsSoundFlat self.now }
     {
@@ -39,9 +41,21 @@ impl Flat {
         requires few { length self.now.signals ≤ 65536 }
         ensures { IsTrue result ↔ AreProcesses self.now.processes (widths self.now.signals) }
     {
+        let mut runs = [0; 65536];
+        note_runs(&self.signals, &mut runs);
+        self.are_processes_by(&runs)
+    }
+
+    /// The same, by the table of how far each width runs on.
+    fn are_processes_by(&self, runs: &[u32]) -> bool
+        requires wide { IsTrue (are_wide self.now.signals) }
+        requires few { length self.now.signals ≤ 65536 }
+        requires runs { AreRuns runs.now (widths self.now.signals) }
+        ensures { IsTrue result ↔ AreProcesses self.now.processes (widths self.now.signals) }
+    {
         for at in 0..self.processes.len() {
             let process = self.processes.get(at);
-            if !is_process(process, &self.signals) {
+            if !is_process(process, &self.signals, runs) {
                 return false;
             }
         }
@@ -51,12 +65,13 @@ impl Flat {
 
 /// Whether the body and the wakes of a process are sound.
 #[tactic(auto, using(crate::proofs::Sound::signals))]
-fn is_process(process: &Process, signals: &Sequence<Signal>) -> bool
+fn is_process(process: &Process, signals: &Sequence<Signal>, runs: &[u32]) -> bool
     requires wide { IsTrue (are_wide signals.now) }
     requires few { length signals.now ≤ 65536 }
+    requires runs { AreRuns runs.now (widths signals.now) }
     ensures { IsTrue result ↔ (IsSound process.now.body (widths signals.now) × IsTrue (are_wakes process.now.wakes (length (widths signals.now)))) }
 {
-    process.body.is_sound(signals) && are_wakes(&process.wakes, signals.len())
+    process.body.is_sound(signals, runs) && are_wakes(&process.wakes, signals.len())
 }
 
 /// Whether each width is 1 to 128.
