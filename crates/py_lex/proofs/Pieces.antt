@@ -1,14 +1,13 @@
 -- Every text has pieces: at each place of it a piece stands, and it takes at least a byte.
-use Rattle.std.proofs.Common.{◌≡◌, ℕ, zero, suc, ◌+◌, ◌-◌, ◌<◌, ◌≤◌, Bool, true, false, not, ◌==◌, ◌&&◌, List, [], ◌∷◌, length, take, drop, Option, None, Some, refl, sym, ap, ◌∙◌, arith}
+use Rattle.std.proofs.Common.{◌≡◌, ℕ, zero, suc, ◌+◌, ◌<◌, ◌≤◌, Bool, true, false, not, ◌==◌, ◌&&◌, List, [], ◌∷◌, length, take, drop, Option, None, Some, refl, arith}
 use Rattle.std.proofs.lemmas.Bool.Decides.{nat_tests}
-use Rattle.std.proofs.lemmas.List.{length-take, length-drop}
 use Rattle.std.specs.Prelude.{if◌then◌else◌, slice_index, slice_get, IfSome}
 use Rattle.std.specs.List.{take_while}
 use Rattle.py_syntax.specs.Bytes.{is_digit, is_letter, is_word_byte, is_number_byte, is_quote, is_brace, is_printable, not_line_feed, line_feeds}
 use Rattle.py_syntax.specs.Numbers.{base_of}
 use Rattle.py_syntax.specs.Marks.{bracket_of, operator_at}
 use Rattle.py_syntax.specs.Texts.{text_end, literal_len, docstring_end}
-use Rattle.py_syntax.specs.Pieces.{Front, or_else, piece_at, piece_in, blank_piece, code_piece, expression_piece, format_piece, word_or_mark, word_piece, number_piece, mark_piece, mark_or_bracket, operator_piece, other_piece, quoted_piece, docstring_piece, docstring_of, long_docstring, short_docstring, text_piece, text_until, after_backslash, brace_piece, literal_piece}
+use Rattle.py_syntax.specs.Pieces.{Front, or_else, piece_at, piece_in, blank_piece, code_piece, expression_piece, format_piece, word_or_mark, word_piece, number_piece, mark_piece, mark_or_bracket, operator_piece, other_piece, quoted_piece, docstring_piece, docstring_of, long_docstring, short_docstring, text_piece, text_until, after_backslash, brace_piece}
 use Rattle.py_syntax.specs.Standing.{is_line_empty}
 use Rattle.py_syntax.specs.Places.{Place, context_of, place_after}
 use Rattle.py_syntax.specs.Found.{IsMadeOf}
