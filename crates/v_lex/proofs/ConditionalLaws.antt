@@ -1,13 +1,12 @@
 -- The directives of a conditional take the first of its parts whose condition holds.
-use Rattle.std.proofs.Common.{◌≡◌, ℕ, zero, suc, ◌+◌, ◌-◌, Bool, true, false, not, ◌&&◌, ◌||◌, List, [], ◌∷◌, ◌++◌, length, take, Option, None, Some, slice_get, ap, ◌∙◌, sym, refl, subst, arith, if◌then◌else◌}
+use Rattle.std.proofs.Common.{◌≡◌, ℕ, ◌+◌, ◌-◌, Bool, true, false, not, ◌&&◌, ◌||◌, List, [], ◌∷◌, ◌++◌, length, take, Some, slice_get, ap, ◌∙◌, sym, refl, subst, arith, if◌then◌else◌}
 use lib.Seq.{take-append_seam}
 use Rattle.std.proofs.lemmas.List.{length-append}
-use Rattle.v_lex.specs.declared.directive.Directive.{Directive}
 use Rattle.v_lex.specs.declared.directive.Directive.TheVariants as directive
 use Rattle.v_lex.specs.declared.directive.Conditional.{Conditional}
 use Rattle.v_lex.specs.declared.directive.Content.{Content}
 use Rattle.v_lex.specs.declared.directive.Content.TheVariants as content
-use Rattle.v_lex.specs.Lexing.{State, start, innermost, outer, is_taken, opened, next_part, with_next_part, after_directive, after_content}
+use Rattle.v_lex.specs.Lexing.{State, innermost, outer, is_taken, opened, next_part, with_next_part, after_directive, after_content}
 use Rattle.v_lex.specs.Row.{Part, IsRow, Stands}
 use Rattle.v_lex.specs.Conditionals.{after, behind, Opens, IsElsIf, GoesOn, Closes, IsPlain, holds, IsClosed, Ends, Passes, Nests, Parts, Branch, written, GoOn, IsConditional, takes, takes_one}
 
@@ -326,3 +325,13 @@ takes_further s place b bs last h =
     let f = behind_both at b.body (written bs) in
     moved (after s place (written (b ∷ bs))) (after u (behind at b.body) (written bs)) (behind place (written (b ∷ bs))) (behind (behind at b.body) (written bs)) (is_taken s.conditionals && not (takes_one s place (b ∷ bs))) last e f
     (chain u (behind at b.body) (is_taken s.conditionals) (takes s place b.directive) s.conditionals bs last inside h.2)
+
+none_after : (around before t : Bool) → before ≡ true → (around && not before) && t ≡ false
+none_after true before t e = rw e refl
+none_after false before t e = refl
+
+-- behind a part that is taken none is
+pub takes_none : (s : State) (place : ℕ) (first : Branch) (bs : List Branch) (last : Part) → IsConditional first bs last → takes_one s place (first ∷ bs) ≡ true
+    → takes (after s place (written (first ∷ bs))) (behind place (written (first ∷ bs))) last ≡ false
+takes_none s place b bs last h e =
+    takes_further s place b bs last h ∙ none_after (is_taken s.conditionals) (takes_one s place (b ∷ bs)) (holds (after s place (written (b ∷ bs))) last.content) e

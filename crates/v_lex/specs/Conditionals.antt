@@ -1,7 +1,6 @@
 -- What the parts of a conditional are, and which of them is taken (IEEE 1364-2005, clause 19.4): the first whose condition
 -- holds, where what stands around the conditional is taken. The laws of `laws.rt` say that the directives of `Lexing` do so.
-use Rattle.std.specs.Prelude.{◌≡◌, ℕ, ◌+◌, Bool, true, false, not, ◌&&◌, ◌||◌, List, [], ◌∷◌, ◌++◌, length}
-use Rattle.v_lex.specs.declared.directive.Directive.{Directive}
+use Rattle.std.specs.Prelude.{ℕ, ◌+◌, Bool, true, false, not, ◌||◌, List, [], ◌∷◌, ◌++◌, length}
 use Rattle.v_lex.specs.declared.directive.Directive.TheVariants as directive
 use Rattle.v_lex.specs.declared.directive.Content.{Content}
 use Rattle.v_lex.specs.declared.directive.Content.TheVariants as content

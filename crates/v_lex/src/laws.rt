@@ -1,7 +1,6 @@
 //! Laws of the definition of a text's tokens.
 
-ghost use Rattle.std.specs.Prelude.{◌≡◌, List, ℕ};
-ghost use Rattle.std.specs.Prelude.{Bool, true, false, not, ◌&&◌, ◌++◌, ◌∷◌};
+ghost use Rattle.std.specs.Prelude.{◌≡◌, List, ℕ, true, false, not, ◌&&◌, ◌++◌, ◌∷◌};
 ghost use Rattle.v_lex.specs.Lexing.{State, start, is_taken};
 ghost use Rattle.v_lex.specs.Row.{Part, IsRowOf, Stands, spelled};
 ghost use Rattle.v_lex.specs.Conditionals.{after, behind, Opens, holds, IsClosed, Branch, written, IsConditional, takes, takes_one};
@@ -15,7 +14,7 @@ pub fn one_row()
 
 /// Which parts of a conditional are taken (IEEE 1364-2005, clause 19.4): the first part where what stands around the conditional
 /// is and its condition holds; a further one where besides none before it was. So of the parts of one conditional at most one is
-/// taken, an `else` is where none before it was, and nothing is inside of a part that isn't.
+/// taken, an `else` is where none before it was, and of a conditional inside of a part that isn't taken no part is.
 pub fn conditionals()
     ensures stands { (before : List Part) (part : Part) (rest : List Part) (text : List ℕ) → IsRowOf (before ++ part ∷ rest) text
         → (behind : List ℕ) × Stands (is_taken (after start 0 before).conditionals) part.content part.bytes behind }
@@ -23,5 +22,7 @@ pub fn conditionals()
     ensures further { (s : State) (place : ℕ) (first : Branch) (more : List Branch) (last : Part) → IsConditional first more last
         → takes (after s place (written (first ∷ more))) (behind place (written (first ∷ more))) last
         ≡ (is_taken s.conditionals && not (takes_one s place (first ∷ more))) && holds (after s place (written (first ∷ more))) last.content }
+    ensures at_most_one { (s : State) (place : ℕ) (first : Branch) (more : List Branch) (last : Part) → IsConditional first more last
+        → takes_one s place (first ∷ more) ≡ true → takes (after s place (written (first ∷ more))) (behind place (written (first ∷ more))) last ≡ false }
     ensures closed { (s : State) (place : ℕ) (parts : List Part) → IsClosed false parts → (after s place parts).conditionals ≡ s.conditionals }
 {}
