@@ -1,7 +1,7 @@
 -- What is read of a text is what its pieces have.
-use Rattle.std.proofs.Common.{◌≡◌, ℕ, List, [], ◌∷◌, None, Some, Result, Ok, Err, refl, sym, subst, ap, ◌∙◌, append-nil}
+use Rattle.std.proofs.Common.{◌≡◌, ℕ, List, [], None, Some, Result, Ok, Err, refl, sym, subst, ap, ◌∙◌, append-nil}
 use Rattle.py_syntax.specs.Line.{Line}
-use Rattle.py_syntax.specs.Places.{Place, first_place}
+use Rattle.py_syntax.specs.Places.{first_place}
 use Rattle.py_syntax.specs.Found.{IsMadeOf}
 use Rattle.py_syntax.specs.Spelled.{IsSpelled}
 use Rattle.py_syntax.proofs.Stands.{spelled}

@@ -6,3 +6,4 @@ pub mod Bounds
 pub mod Reading
 pub mod Laws
 pub mod Answered
+pub mod Pieces

@@ -15,4 +15,4 @@ mod texts;
 mod words;
 
 pub use fault::LineFault;
-pub use reader::{logical_lines, one_reading};
+pub use reader::{logical_lines, one_reading, some_reading};

@@ -1,7 +1,7 @@
 //! The logical lines of a text.
 
 ghost use Rattle.std.specs.Prelude.{◌≡◌, ℕ, ◌≤◌, length, List};
-ghost use Rattle.py_syntax.specs.Places.{Place, first_place};
+ghost use Rattle.py_syntax.specs.Places.{Place, HasQuote, first_place};
 ghost use Rattle.py_syntax.specs.Spelled.{IsSpelled};
 ghost use Rattle.py_syntax.specs.declared.piece.Piece.{Piece};
 ghost use Rattle.py_lex.specs.Answer.{Answers, IsAnswered};
@@ -33,4 +33,9 @@ pub fn logical_lines(alloc: Global, text: &[u8]) -> Result<Lines, LineFault>
 /// No text is spelled by two lists of pieces, wherever it begins.
 pub fn one_reading()
     ensures { (place : Place) (text : List ℕ) (left right : List Piece) → IsSpelled place left text → IsSpelled place right text → left ≡ right }
+{}
+
+/// Every text is spelled by a list of pieces, wherever it begins: what breaks a rule of lines is a piece too.
+pub fn some_reading()
+    ensures { (place : Place) (text : List ℕ) → HasQuote place.mode → (pieces : List Piece) × IsSpelled place pieces text }
 {}

@@ -14,3 +14,4 @@ pub mod TakenFronts
 pub mod DirectiveFronts
 pub mod PieceFronts
 pub mod RowLaws
+pub mod ConditionalLaws

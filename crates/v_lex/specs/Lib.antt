@@ -7,6 +7,7 @@ pub mod DirectiveWords
 pub mod Directives
 pub mod Lexing
 pub mod Row
+pub mod Conditionals
 pub mod Numbers
 pub mod Comments
 pub mod DirectiveScan
