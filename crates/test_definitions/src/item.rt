@@ -3,9 +3,8 @@
 ghost use Rattle.std.specs.Prelude.{◌≡◌, None, Some, MatchOption};
 ghost use Rattle.py_syntax.specs.BlockTrees.{view_module_item};
 ghost use Rattle.py_syntax.specs.ModuleTrees.{view_module_line};
-ghost use Rattle.test_definitions.specs.Definitions.{defined, is_constant, is_factory, is_function, line_defined, only_if};
+ghost use Rattle.test_definitions.specs.Definitions.{defined, line_defined};
 
-use port_io::Name;
 use py_syntax::{ModuleItem, ModuleLine};
 
 /// A kind of definitions.
@@ -19,43 +18,19 @@ pub enum Kind {
     Factory,
 }
 
-impl Kind {
-    /// Whether it is that of constants.
-    fn is_constant(self) -> bool
-        ensures { result ≡ is_constant self }
-    {
-        matches!(self, Kind::Constant)
-    }
-
-    /// Whether it is that of functions.
-    fn is_function(self) -> bool
-        ensures { result ≡ is_function self }
-    {
-        matches!(self, Kind::Function)
-    }
-
-    /// Whether it is that of factories.
-    fn is_factory(self) -> bool
-        ensures { result ≡ is_factory self }
-    {
-        matches!(self, Kind::Factory)
-    }
-}
-
-/// A name, if it counts.
-fn only_if(counts: bool, name: &Name) -> Option<&[u8]>
-    ensures { MatchOption result (only_if counts name.now ≡ None) (λ found. only_if counts name.now ≡ Some found.now) }
-{
-    if counts { Some(name.bytes()) } else { None }
-}
-
 /// The name that a line outside of functions defines as one of this kind.
 fn line_defined(kind: Kind, line: &ModuleLine) -> Option<&[u8]>
     ensures { MatchOption result (line_defined kind (view_module_line line.now) ≡ None) (λ found. line_defined kind (view_module_line line.now) ≡ Some found.now) }
 {
     match line {
-        ModuleLine::Constant(name, _) => only_if(kind.is_constant(), name),
-        ModuleLine::Factory(name, _) => only_if(kind.is_factory(), name),
+        ModuleLine::Constant(name, _) => match kind {
+            Kind::Constant => Some(name.bytes()),
+            Kind::Function | Kind::Factory => None,
+        },
+        ModuleLine::Factory(name, _) => match kind {
+            Kind::Factory => Some(name.bytes()),
+            Kind::Constant | Kind::Function => None,
+        },
         ModuleLine::Import(_) => None,
         ModuleLine::FromImport(_, _) => None,
         ModuleLine::Test(_) => None,
@@ -72,6 +47,9 @@ pub fn defined(kind: Kind, item: &ModuleItem) -> Option<&[u8]>
     match item {
         ModuleItem::Docstring { .. } => None,
         ModuleItem::Line { line, .. } => line_defined(kind, line),
-        ModuleItem::Function { name, .. } => only_if(kind.is_function(), name),
+        ModuleItem::Function { name, .. } => match kind {
+            Kind::Function => Some(name.bytes()),
+            Kind::Constant | Kind::Factory => None,
+        },
     }
 }

@@ -5,7 +5,12 @@
 #![tactic(auto)]
 
 mod item;
+mod laws;
 mod tables;
 
 pub use item::{Kind, defined};
+pub use laws::{
+    above_by_place, constants_are_defined, factories_are_defined, found_at_place,
+    functions_are_defined, functions_have_parameters,
+};
 pub use tables::table;

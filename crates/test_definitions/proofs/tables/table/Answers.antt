@@ -1,18 +1,19 @@
 -- One item more is noted.
 use Rattle.std.proofs.Common.{ℕ, List, Option, map, sym, ap}
+use Rattle.std.specs.List.{position_from}
+use Rattle.std.specs.Option.{option_or}
 use Rattle.py_syntax.specs.BlockTrees.{view_module_item}
-use Rattle.test_names.specs.Places.{first_of}
-use Rattle.test_definitions.specs.Definitions.{first_from, is_defined}
+use Rattle.test_definitions.specs.Definitions.{is_defined}
 use Rattle.test_definitions.proofs.Noted.{noted_more, all_noted}
 use Rattle.test_definitions.proofs.tables.table.Goals as goal
 
 pub loop-place-init : goal.loop-place-init
 loop-place-init c = λ n.
-    ap (λ (s : List ℕ → Option ℕ). first_of (s n) (first_from 0 (is_defined c.args.kind n) (map view_module_item c.args.items.now))) (sym c.new-names.ensures)
+    ap (λ (s : List ℕ → Option ℕ). option_or (s n) (position_from (is_defined c.args.kind n) 0 (map view_module_item c.args.items.now))) (sym c.new-names.ensures)
 
 pub loop-place-preserved : goal.loop-place-preserved
 loop-place-preserved c =
-    noted_more c.args.kind _ _ _ _ _ c.loop-place-test.true c.index-items-place.is (λ n. c.in_ok-note.ensures n) c.loop-place.invariant
+    noted_more c.args.kind _ _ _ _ _ c.loop-place-test.true c.index-items-place.is (λ n. c.in_ok-note.ensures.ok n) c.loop-place.invariant
 
 pub returns : goal.returns
 returns c = all_noted c.args.kind _ _ _ c.loop-place-test.false c.loop-place.invariant

@@ -1,0 +1,40 @@
+//! What the places of a table say of the definitions of `test_rules`.
+
+ghost use Rattle.std.specs.Prelude.{◌≡◌, ℕ, Bool, List, is_some, take};
+ghost use Rattle.std.specs.List.{find, list_any, position_from};
+ghost use Rattle.std.specs.Option.{option_map};
+ghost use Rattle.py_syntax.specs.BlockTrees.{ModuleItem};
+ghost use Rattle.test_rules.specs.File.{factory, file_of, fixed_of, function, parameters_of};
+ghost use Rattle.test_rules.specs.Names.{Name};
+ghost use Rattle.test_definitions.specs.Definitions.{element_at, is_below, is_defined};
+ghost use Rattle.test_definitions.specs.declared.item.Kind.TheVariants as kind;
+
+/// A module has a constant of a name exactly where an item defines it as one.
+pub fn constants_are_defined()
+    ensures { (xs : List ModuleItem) (n : Name) → is_some (fixed_of (file_of xs).constants n) ≡ list_any (is_defined kind.Constant n) xs }
+{}
+
+/// A module has a function of a name exactly where an item defines it as one.
+pub fn functions_are_defined()
+    ensures { (xs : List ModuleItem) (n : Name) → is_some (function (file_of xs) n) ≡ list_any (is_defined kind.Function n) xs }
+{}
+
+/// A module has a factory of a name exactly where an item defines it as one.
+pub fn factories_are_defined()
+    ensures { (xs : List ModuleItem) (n : Name) → is_some (factory (file_of xs) n) ≡ list_any (is_defined kind.Factory n) xs }
+{}
+
+/// The function of a name has the parameters of the first item that defines the name as one.
+pub fn functions_have_parameters()
+    ensures { (xs : List ModuleItem) (n : Name) → option_map (λ d. d.parameters) (function (file_of xs) n) ≡ option_map parameters_of (find (is_defined kind.Function n) xs) }
+{}
+
+/// One of the first `k` items passes a test exactly where the place of the first of all that does is below `k`.
+pub fn above_by_place()
+    ensures { (p : ModuleItem → Bool) (xs : List ModuleItem) (k : ℕ) → list_any p (take k xs) ≡ is_below k (position_from p 0 xs) }
+{}
+
+/// The first item that passes a test stands in the place that is the first.
+pub fn found_at_place()
+    ensures { (p : ModuleItem → Bool) (xs : List ModuleItem) → find p xs ≡ element_at xs (position_from p 0 xs) }
+{}
