@@ -1,5 +1,5 @@
 -- A part before those behind it.
-use Rattle.std.proofs.Common.{◌≡◌, ℕ, ◌+◌, ◌<◌, List, length, drop, get_or, sym, ap, subst}
+use Rattle.std.proofs.Common.{ℕ, ◌+◌, ◌<◌, List, length, drop, get_or, sym, ap, subst}
 use Rattle.std.proofs.lemmas.List.{drop_more}
 use Rattle.v_syntax.specs.declared.expression.Expression as code
 use Rattle.v_syntax.specs.ExpressionTrees.{Trees, more, view, views}

@@ -1,5 +1,5 @@
 -- What an expression is in one context, from what was found in it.
-use Rattle.std.proofs.Common.{◌≡◌, ℕ, Result, Ok, Err, refl, sym, ap, ◌∙◌, subst}
+use Rattle.std.proofs.Common.{◌≡◌, ℕ, Result, Ok, Err, sym, ap, ◌∙◌, subst}
 use Rattle.gpi.specs.declared.terms.Term.{Term}
 use Rattle.gpi.specs.Terms.{IsWidth}
 use Rattle.v_syntax.specs.ExpressionTrees.{Tree}

@@ -1,5 +1,5 @@
 -- What an expression is in a context of w digits: a term, or the rule that is broken first.
-use Rattle.std.specs.Prelude.{◌≡◌, ℕ, List, Result, Ok, Err}
+use Rattle.std.specs.Prelude.{◌≡◌, ℕ, Result, Ok, Err}
 use Rattle.gpi.specs.declared.terms.Term.{Term}
 use Rattle.gpi.specs.Made.{Makes}
 use Rattle.v_syntax.specs.ExpressionTrees.{Tree}

@@ -1,5 +1,5 @@
 -- What is made of constants names no signal, and has one value.
-use Rattle.std.proofs.Common.{◌≡◌, ℕ, ◌++◌, ◌&&◌, List, Option, Some, None, Bool, true, false, refl, sym, ap, ◌∙◌}
+use Rattle.std.proofs.Common.{◌≡◌, ℕ, ◌++◌, ◌&&◌, List, Option, Some, None, Bool, true, false, refl, ap, ◌∙◌}
 use Rattle.four_value.specs.declared.Digit.{Digit}
 use Rattle.four_value.specs.Vector.{number, resize}
 use Rattle.gpi.specs.Operators.{truth, choose}

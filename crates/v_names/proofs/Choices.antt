@@ -1,5 +1,5 @@
 -- What a select chooses.
-use Rattle.std.proofs.Common.{◌≡◌, ℕ, ◌+◌, ◌≤◌, List, Option, Some, None, Bool, true, false, min, nat_le, if◌then◌else◌, refl, sym, ap, ◌∙◌, subst, arith}
+use Rattle.std.proofs.Common.{◌≡◌, ℕ, ◌≤◌, List, Option, Some, None, Bool, true, false, min, nat_le, if◌then◌else◌, refl, sym, ap, ◌∙◌, subst, arith}
 use Rattle.std.proofs.lemmas.Bool.Decides.{nat_tests}
 use Rattle.four_value.specs.declared.Digit.{Digit}
 use Rattle.four_value.specs.Vector.{number}
@@ -9,15 +9,15 @@ use Rattle.gpi.specs.Terms.{IsWidth}
 use Rattle.v_syntax.specs.ExpressionTrees.{Tree, SelectTree, Bit, Part, IndexedPart, first_at}
 use Rattle.v_scope.specs.declared.rule.ElabRule.TheVariants as rule
 use Rattle.v_scope.specs.declared.found.Found.{Found}
-use Rattle.v_scope.specs.declared.found.Found.TheVariants.{Sound, Noted, Lost}
+use Rattle.v_scope.specs.declared.found.Found.TheVariants.{Sound}
 use Rattle.v_scope.specs.Found.{each, both, and_then, needs, Holds}
 use Rattle.v_scope.specs.declared.meaning.Bounds.{Bounds}
 use Rattle.v_scope.specs.Scope.{Scope, span}
 use Rattle.v_scope.proofs.Gathered.{same_each, each_each, each_needs, each_then, then_same}
 use Rattle.v_scope.specs.Limits.{counted_width}
 use Rattle.v_scope.proofs.CutWidths.{fits_cut}
-use Rattle.v_flat.specs.Expressions.{number_or, own_number, own_value, no_signals, meaning, width, lesser, select_width, select_base}
-use Rattle.v_flat.specs.Checks.{checked, index, constant_of, counted, narrow, part, part_width, go_with}
+use Rattle.v_flat.specs.Expressions.{number_or, own_number, own_value, no_signals, width, lesser, select_base}
+use Rattle.v_flat.specs.Checks.{checked, index, constant_of, counted, narrow, part_width, go_with}
 use Rattle.v_operator.specs.Checked.{IsCount}
 use Rattle.v_flat.proofs.Holds.{holds_both, holds_each, holds_then, holds_needs}
 use Rattle.v_flat.proofs.Widths.{count_found}

@@ -1,5 +1,5 @@
 -- An index that has to be a constant.
-use Rattle.std.proofs.Common.{◌≡◌, ℕ, List, true, sym, ◌∙◌, subst}
+use Rattle.std.proofs.Common.{◌≡◌, List, true, sym, ◌∙◌, subst}
 use Rattle.four_value.specs.declared.Digit.{Digit}
 use Rattle.gpi.specs.declared.terms.Term.{Term}
 use Rattle.gpi.specs.declared.terms.Term.TheVariants.{Const}

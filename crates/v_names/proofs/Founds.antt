@@ -1,10 +1,8 @@
 -- What was found, through the ways of putting parts together.
-use Rattle.std.proofs.Common.{◌≡◌, ℕ, ◌≤◌, List, Option, Some, None, Bool, true, false, min, nat_le, nat_lt, refl, sym, ap, ◌∙◌, subst, arith}
-use Rattle.std.proofs.lemmas.Bool.Decides.{nat_tests}
+use Rattle.std.proofs.Common.{◌≡◌, ℕ, List, Option, Some, None, Bool, true, nat_le, refl, sym, ap, ◌∙◌}
 use Rattle.four_value.specs.declared.Digit.{Digit}
 use Rattle.four_value.specs.Vector.{number}
 use Rattle.v_syntax.specs.ExpressionTrees.{Tree, first_at}
-use Rattle.v_scope.specs.declared.rule.Broken.{Broken}
 use Rattle.v_scope.specs.declared.rule.ElabRule.TheVariants as rule
 use Rattle.v_scope.specs.declared.found.Found.{Found}
 use Rattle.v_scope.specs.declared.found.Found.TheVariants.{Sound, Noted, Lost}
@@ -13,9 +11,9 @@ use Rattle.v_scope.specs.Scope.{Scope}
 use Rattle.v_scope.proofs.Gathered.{same_each, each_each, each_noted, each_needs, both_each, holds_so}
 use Rattle.v_scope.specs.Limits.{counted_width}
 use Rattle.v_scope.proofs.CutWidths.{fits_cut}
-use Rattle.v_flat.specs.Expressions.{number_or, own_number, own_value, no_signals, meaning}
-use Rattle.v_flat.specs.Checks.{made, checked, known, known_by, constant, constant_of, counted, narrow}
-use Rattle.v_flat.proofs.Holds.{holds_then, holds_settled, holds_needs, holds_noted}
+use Rattle.v_flat.specs.Expressions.{own_value, no_signals, meaning}
+use Rattle.v_flat.specs.Checks.{made, checked, known, known_by, constant, constant_of, narrow}
+use Rattle.v_flat.proofs.Holds.{holds_then, holds_settled, holds_needs}
 use Rattle.v_flat.proofs.Widths.{widths_found, constant_found}
 
 -- the second of two, where the first has no value that counts

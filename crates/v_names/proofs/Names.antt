@@ -1,5 +1,5 @@
 -- What is found in a name with selects.
-use Rattle.std.proofs.Common.{◌≡◌, ℕ, ◌≤◌, List, Option, Some, None, false, min, refl, sym, ap, ◌∙◌, subst, arith}
+use Rattle.std.proofs.Common.{◌≡◌, ℕ, List, Option, Some, None, false, refl, sym, ap, ◌∙◌, subst, arith}
 use Rattle.four_value.specs.declared.Digit.{Digit}
 use Rattle.four_value.specs.Vector.{number, resize}
 use Rattle.gpi.specs.declared.selects.Words.{Words}
@@ -10,29 +10,28 @@ use Rattle.gpi.specs.Terms.{value, word_value, IsWidth}
 use Rattle.v_syntax.specs.ExpressionTrees.{Tree, Named, SelectsTree, Whole, One, OfWord, SelectTree, Bit, Part, IndexedPart}
 use Rattle.v_scope.specs.declared.rule.ElabRule.TheVariants as rule
 use Rattle.v_scope.specs.declared.found.Found.{Found}
-use Rattle.v_scope.specs.declared.found.Found.TheVariants.{Sound, Noted, Lost}
+use Rattle.v_scope.specs.declared.found.Found.TheVariants.{Sound}
 use Rattle.v_scope.specs.Found.{each, both, and_then, broken, Holds}
 use Rattle.v_scope.specs.declared.meaning.Bounds.{Bounds}
 use Rattle.v_scope.specs.declared.meaning.DataObject.{DataObject}
 use Rattle.v_scope.specs.declared.meaning.Meaning.{Meaning}
-use Rattle.v_scope.specs.declared.meaning.Meaning.TheVariants.{Constant, Object, Later}
+use Rattle.v_scope.specs.declared.meaning.Meaning.TheVariants.{Constant, Object}
 use Rattle.v_scope.specs.Scope.{Scope, find, width_of}
 use Rattle.v_scope.proofs.Gathered.{each_each, each_same, each_then, holds_so}
 use Rattle.v_scope.specs.Limits.{counted_width}
 use Rattle.v_context.specs.declared.contextual.Contextual.TheVariants.{Settled}
-use Rattle.v_flat.specs.Objects.{Nature, Vector, Memory, nature_of, nature_of_object, range_of, words_of}
+use Rattle.v_flat.specs.Objects.{Nature, nature_of_object, range_of, words_of}
 use Rattle.v_flat.specs.Expressions.{own_value, select_base, select_width, object_width, object_part}
 use Rattle.v_flat.specs.Checks.{checked, index, part, by_nature, of_vector, of_memory, select_at}
 use Rattle.v_flat.proofs.Holds.{holds_then, holds_any, holds_both}
 use Rattle.v_operator.specs.declared.checked.Checked.{Checked}
-use Rattle.v_operator.specs.Checked.{StandsFor, IsChecked, IsNameOf, IsObjectOf}
+use Rattle.v_operator.specs.Checked.{StandsFor, IsChecked, IsObjectOf}
 use Rattle.v_operator.proofs.Combined.{made_width, made_holds}
 use Rattle.v_names.specs.declared.choice.Choice.{Choice}
 use Rattle.v_names.specs.declared.selects.CheckedSelect.{CheckedSelect}
 use Rattle.v_names.specs.declared.selects.CheckedSelect.TheVariants as code
 use Rattle.v_names.specs.declared.selects.CheckedSelects.{CheckedSelects}
 use Rattle.v_names.specs.declared.selects.CheckedSelects.TheVariants as code_selects
-use Rattle.v_names.specs.Proper.{IsProper}
 use Rattle.v_names.specs.Selects.{StandsAlone, IsIndex, IsSelect, AreSelects}
 use Rattle.v_names.specs.Made.{Chooses, IsVector, IsMemory, StandsForName, IsName, MakesPart, MakesWord, MakesWordPart, AreParts, AreWordsOf, AreWordParts, VectorMade, WordMade, MemoryMade, choice_from, place_of}
 use Rattle.v_names.proofs.Founds.{second_of}

@@ -22,8 +22,8 @@ use Rattle.v_scope.specs.Scope.{Scope, span, width_of}
 use Rattle.v_scope.specs.Limits.{counted_width, most_digits}
 use Rattle.v_context.specs.declared.contextual.Contextual.TheVariants.{Settled}
 use Rattle.v_context.specs.Contexts.{value_in, IsSound, IsLowered}
-use Rattle.v_flat.specs.Objects.{Nature, Vector, Memory, nature_of, range_of}
-use Rattle.v_flat.specs.Expressions.{Values, whole_width, whole_value, one_width, one_value, part_of_word, select_base, select_width, named_width, named_value, number_or}
+use Rattle.v_flat.specs.Objects.{Vector, Memory, nature_of, range_of}
+use Rattle.v_flat.specs.Expressions.{whole_width, whole_value, one_width, one_value, part_of_word, select_base, select_width, named_width, named_value, number_or}
 use Rattle.v_flat.specs.Checks.{by_nature, of_vector, of_memory, part, narrow, go_with}
 use Rattle.v_operator.specs.declared.checked.Checked.{Checked}
 use Rattle.v_operator.specs.Checked.{IsNameOf, SelectsNamesOf, SelectNamesOf}

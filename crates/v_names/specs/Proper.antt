@@ -2,7 +2,6 @@
 use Rattle.std.specs.Prelude.{◌≡◌, ℕ, ◌≤◌, List, length, Option, None, Some}
 use Rattle.gpi.specs.Terms.{IsWidth}
 use Rattle.v_scope.specs.declared.meaning.Bounds.{Bounds}
-use Rattle.v_scope.specs.declared.meaning.DataObject.{DataObject}
 use Rattle.v_scope.specs.declared.meaning.Meaning.{Meaning}
 use Rattle.v_scope.specs.declared.meaning.Meaning.TheVariants.{Constant, Object, Later}
 use Rattle.v_scope.specs.Limits.{most_words}

@@ -1,12 +1,11 @@
 -- What was found, through the ways of putting parts together.
-use Rattle.std.proofs.Common.{◌≡◌, ℕ, ◌≤◌, Bool, true, false, min, refl, sym, ap, ◌∙◌, subst, nat_le, arith}
+use Rattle.std.proofs.Common.{◌≡◌, ℕ, ◌≤◌, Bool, true, false, refl, sym, ap, ◌∙◌, nat_le, arith}
 use Rattle.std.proofs.lemmas.Bool.Decides.{nat_tests}
 use Rattle.v_scope.specs.declared.rule.Broken.{Broken}
-use Rattle.v_scope.specs.declared.rule.ElabRule.{ElabRule}
 use Rattle.v_scope.specs.declared.rule.ElabRule.TheVariants as rule
 use Rattle.v_scope.specs.declared.found.Found.{Found}
 use Rattle.v_scope.specs.declared.found.Found.TheVariants.{Sound, Noted, Lost}
-use Rattle.v_scope.specs.Found.{noted, lost, each, both, and_then, wants, needs, Holds}
+use Rattle.v_scope.specs.Found.{noted, each, wants, Holds}
 use Rattle.v_scope.proofs.Gathered.{each_noted, each_wants}
 use Rattle.v_scope.specs.Limits.{counted_width, most_digits}
 use Rattle.v_scope.proofs.CutWidths.{fits_cut}

@@ -1,11 +1,11 @@
 -- What is found in an expression, from what was found in its operands.
-use Rattle.std.proofs.Common.{◌≡◌, ℕ, ◌≤◌, List, length, max, min, refl, sym, ap, ◌∙◌, subst, arith}
+use Rattle.std.proofs.Common.{◌≡◌, ℕ, ◌≤◌, List, length, max, refl, sym, ap, ◌∙◌, subst, arith}
 use Rattle.v_syntax.specs.declared.expression.UnaryOperator.{UnaryOperator}
 use Rattle.v_syntax.specs.declared.expression.BinaryOperator.{BinaryOperator}
 use Rattle.v_syntax.specs.ExpressionTrees.{Tree, Number, Bracketed, Unary, Binary, Conditional, first_at}
 use Rattle.v_scope.specs.declared.found.Found.{Found}
 use Rattle.v_scope.specs.declared.found.Found.TheVariants.{Sound}
-use Rattle.v_scope.specs.Found.{each, both, Holds}
+use Rattle.v_scope.specs.Found.{each, both}
 use Rattle.v_scope.specs.Scope.{Scope}
 use Rattle.four_value.specs.declared.Digit.{Digit}
 use Rattle.gpi.specs.Operators.{truth, choose}

@@ -13,7 +13,6 @@ use Rattle.v_scope.specs.Found.{noted, each, both, and_then, needs, Holds}
 use Rattle.v_scope.specs.Scope.{Scope}
 use Rattle.v_scope.proofs.Gathered.{same_each, each_noted, each_needs, both_each}
 use Rattle.v_scope.specs.Limits.{counted_width}
-use Rattle.v_context.specs.Concatenations.{values}
 use Rattle.v_context.specs.Concatenations as term
 use Rattle.v_flat.specs.Expressions.{own_number, widths, joined}
 use Rattle.v_flat.specs.Checks.{all_checked, constant_of, counted, filled, sized}

@@ -1,5 +1,5 @@
 -- What is found in the name of a constant.
-use Rattle.std.proofs.Common.{rules, ◌≡◌, ◌≤◌, ◌∙◌, sym, subst, length, Option, Some, arith}
+use Rattle.std.proofs.Common.{rules, ◌≡◌, ◌∙◌, sym, subst, length, Option, Some, arith}
 use Rattle.gpi.specs.declared.terms.Term.TheVariants.{Const}
 use Rattle.gpi.specs.Terms.{IsWidth}
 use Rattle.v_scope.specs.declared.meaning.Meaning.{Meaning}
