@@ -2,7 +2,7 @@
 //!
 //! `'` stands before a text and `#` before a vector's digits; of a text over 200 bytes it is the length alone. A clock has its signal and
 //! half its period behind it. A trigger is what it waits for, with numbers of signals, steps and others, and `@` and its own number behind
-//! it; of those that hold others it is how many.
+//! it; of `First` and `Combine` it is how many they hold, and of a limit its steps.
 
 ghost use Rattle.std.specs.Prelude.{◌≡◌, ◌++◌, codes, IfOk};
 ghost use Rattle.py_attribute.specs.Knows.{Knows};
