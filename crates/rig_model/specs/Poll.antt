@@ -6,7 +6,7 @@ use Rattle.rig_model.specs.declared.task.Turned.{Turned}
 use Rattle.rig_model.specs.declared.task.Turned.TheVariants as turned
 use Rattle.rig_model.specs.declared.task.Turned.TheVariants.{Spent}
 
--- the task asks for something, and will go on
+-- the task asks for something, and goes on unless that ends the test
 abbrev pub asks : Turned → Bool
 asks (turned.Await trig) = true
 asks (turned.Stage sig number) = true

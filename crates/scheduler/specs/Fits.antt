@@ -2,7 +2,7 @@
 use Rattle.std.specs.Prelude.{◌≡◌, List, Option, None, Some, length}
 use Rattle.gpi.specs.Content.{Content}
 use Rattle.gpi.specs.declared.types.Key.{Key}
-use Rattle.rig_model.specs.Keys.{AreKeysBut, AreOut}
+use Rattle.rig_model.specs.Keys.{AreKeys, AreKeysBut, AreOut}
 use Rattle.rig_model.specs.Rig.{named}
 use Rattle.rig_model.specs.declared.file.Function.{Function}
 use Rattle.rig_model.specs.declared.task.TaskNo.{TaskNo}
@@ -45,3 +45,11 @@ FitsAfter functions waiting held WriteFault e content = Unit {0}
 abbrev pub FitsNext : {M W F : Type 0} → (M → List Function) → (W → List Waiting) → (W → List Key) → TaskNo → Next → Engine M W F → Content → Type 0
 FitsNext functions waiting held task (GoesOn given) e content = FitsAt (Some task) functions waiting held e content
 FitsNext functions waiting held task (Ends turn) e content = FitsAfter functions waiting held turn e content
+
+-- Whatever a call of an engine answers: what the tests share stays, the simulator holds a design, and the registered keys are exactly those
+-- that the waiting part names.
+pub record Keeps {M W F K : Type 0} (functions : M → List Function) (waiting : W → List Waiting) (held : W → List Key) (is_loaded : K → Type 0) (content : K → Content)
+    (before after : Engine M W F) (kernel : K) : Type 0 where
+  pub setup : setup_of functions after ≡ setup_of functions before
+  pub loaded : is_loaded kernel
+  pub keys : AreKeys (content kernel).keys (named (waiting after.awaits) (held after.awaits))

@@ -3,9 +3,7 @@ ghost use Rattle.std.specs.Prelude.{◌≡◌, ◌≢◌, ◌<◌, ◌∷◌, []
 ghost use Rattle.gpi.specs.Content.{Content};
 ghost use Rattle.gpi.specs.declared.types.Key.TheVariants.{At};
 ghost use Rattle.rig_model.specs.Effect.{effect, refusal, begun, last_time};
-ghost use Rattle.rig_model.specs.Keys.{AreKeys};
 ghost use Rattle.rig_model.specs.Line.{log_line};
-ghost use Rattle.rig_model.specs.Rig.{named};
 ghost use Rattle.rig_model.specs.Sound.{IsSoundTurned, IsSoundForm};
 ghost use Rattle.rig_model.specs.Step.{task_at};
 ghost use Rattle.rig_model.specs.Task.{plain_fault};
@@ -57,7 +55,7 @@ fn due_time(form: Form, time: u64) -> Option<u64>
 impl<'a, M: FlowMaker + Drop, W: Awaits> Engine<'a, M, W> {
     ghost use Rattle.scheduler.specs.Engine.{parts_of, rig_of, setup_of};
     ghost use Rattle.scheduler.specs.Parts.{Fits, FitsContent, bounds_of};
-    ghost use Rattle.scheduler.specs.Fits.{FitsAt, FitsNext};
+    ghost use Rattle.scheduler.specs.Fits.{FitsAt, FitsNext, Keeps};
     ghost use Rattle.scheduler.specs.Turns.{LeadsTo, PutsNext, IsLogged, FitsOwn, is_fine};
 
     /// The task waits, or is given the fault of a trigger that is due too late.
@@ -75,9 +73,7 @@ impl<'a, M: FlowMaker + Drop, W: Awaits> Engine<'a, M, W> {
             (rig_of W.waiting self.old (K.content kernel.old)) next (rig_of W.waiting self.new (K.content kernel.new))) }
         ensures fits { IfOk result (λ next. FitsNext M.functions W.waiting W.held task next self.new (K.content kernel.new)) }
         ensures fine { IfOk result (λ next. is_fine next ≡ true) }
-        ensures setup { setup_of M.functions self.new ≡ setup_of M.functions self.old }
-        ensures loaded { K.is_loaded kernel.new }
-        ensures keys { AreKeys (K.content kernel.new).keys (named (W.waiting self.new.awaits) (W.held self.new.awaits)) }
+        ensures keeps { Keeps M.functions W.waiting W.held K.is_loaded K.content self.old self.new kernel.new }
     {
         match due_time(trig.form, kernel.now()) {
             Some(due) => {
@@ -108,9 +104,7 @@ impl<'a, M: FlowMaker + Drop, W: Awaits> Engine<'a, M, W> {
             → FitsNext M.functions W.waiting W.held task next self.new (K.content kernel.new)) }
         ensures fine { IfOk result (λ next. is_fine next ≡ true) }
         ensures staged { OnErr result (self.new.staged.items ≡ self.old.staged.items) }
-        ensures setup { setup_of M.functions self.new ≡ setup_of M.functions self.old }
-        ensures loaded { K.is_loaded kernel.new }
-        ensures keys { AreKeys (K.content kernel.new).keys (named (W.waiting self.new.awaits) (W.held self.new.awaits)) }
+        ensures keeps { Keeps M.functions W.waiting W.held K.is_loaded K.content self.old self.new kernel.new }
     {
         if kernel.region() == Region::End {
             return Ok(Next::Ends(Turn::Over(Outcome::ReadOnlyWrite(sig))));
@@ -184,9 +178,7 @@ impl<'a, M: FlowMaker + Drop, W: Awaits> Engine<'a, M, W> {
         ensures part { OnErr result (PutsPart O.takes O.told out.old
             (effect (setup_of M.functions self.old) task turned (rig_of W.waiting self.old (K.content kernel.old))).lines out.new) }
         ensures fits { IfOk result (λ next. FitsNext M.functions W.waiting W.held task next self.new (K.content kernel.new)) }
-        ensures setup { setup_of M.functions self.new ≡ setup_of M.functions self.old }
-        ensures loaded { K.is_loaded kernel.new }
-        ensures keys { AreKeys (K.content kernel.new).keys (named (W.waiting self.new.awaits) (W.held self.new.awaits)) }
+        ensures keeps { Keeps M.functions W.waiting W.held K.is_loaded K.content self.old self.new kernel.new }
     {
         match turned {
             Turned::Await(trig) => self.wait(kernel, task, trig, steps),

@@ -40,7 +40,7 @@ pub struct Engine<'a, M: FlowMaker + Drop, W: Awaits> {
 impl<'a, M: FlowMaker + Drop, W: Awaits> Engine<'a, M, W> {
     ghost use Rattle.scheduler.specs.Engine.{rig_of, runs_test, setup_of};
     ghost use Rattle.scheduler.specs.Parts.{bounds_of};
-    ghost use Rattle.scheduler.specs.Fits.{FitsKernel, FitsAfter};
+    ghost use Rattle.scheduler.specs.Fits.{FitsKernel, FitsAfter, Keeps};
     ghost use Rattle.scheduler.specs.Turns.{Turning, BeginsTo, has_gone};
 
     /// An engine for the design, in which no test runs. With `trace` it writes a line for each told change of a signal. No
@@ -138,9 +138,7 @@ impl<'a, M: FlowMaker + Drop, W: Awaits> Engine<'a, M, W> {
             fuel.old (rig_of W.waiting self.old (K.content kernel.old)) out.old result fuel.new (rig_of W.waiting self.new (K.content kernel.new)) out.new }
         ensures falls { result ≡ Ok Turn.Went → (fuel.new < fuel.old) ⊎ ((fuel.new ≤ fuel.old) × (length self.new.ready.entries < length self.old.ready.entries)) }
         ensures fits { IfOk result (λ turn. FitsAfter M.functions W.waiting W.held turn self.new (K.content kernel.new)) }
-        ensures setup { setup_of M.functions self.new ≡ setup_of M.functions self.old }
-        ensures loaded { K.is_loaded kernel.new }
-        ensures keys { AreKeys (K.content kernel.new).keys (named (W.waiting self.new.awaits) (W.held self.new.awaits)) }
+        ensures keeps { Keeps M.functions W.waiting W.held K.is_loaded K.content self.old self.new kernel.new }
     {
         let first = self.ready.first();
         match first {
@@ -175,9 +173,7 @@ impl<'a, M: FlowMaker + Drop, W: Awaits> Engine<'a, M, W> {
             fuel.old (rig_of W.waiting self.old (K.content kernel.old)) out.old result fuel.new (rig_of W.waiting self.new (K.content kernel.new)) out.new }
         ensures falls { result ≡ Ok Turn.Went → (fuel.new < fuel.old) ⊎ ((fuel.new ≤ fuel.old) × (length self.new.ready.entries < length self.old.ready.entries)) }
         ensures fits { IfOk result (λ turn. FitsAfter M.functions W.waiting W.held turn self.new (K.content kernel.new)) }
-        ensures setup { setup_of M.functions self.new ≡ setup_of M.functions self.old }
-        ensures loaded { K.is_loaded kernel.new }
-        ensures keys { AreKeys (K.content kernel.new).keys (named (W.waiting self.new.awaits) (W.held self.new.awaits)) }
+        ensures keeps { Keeps M.functions W.waiting W.held K.is_loaded K.content self.old self.new kernel.new }
         ensures runs { runs_test self.new ≡ has_gone result }
     {
         let turn = self.take_turn(alloc, kernel, out, fuel, steps);

@@ -9,8 +9,8 @@ ghost use Rattle.gpi.specs.declared.types.Key.{Key};
 ghost use Rattle.gpi.specs.declared.types.Key.TheVariants.{ReadWrite};
 ghost use Rattle.rig_model.specs.FitSteps.{TurnSteps};
 ghost use Rattle.rig_model.specs.Kernel.{StandsAhead};
-ghost use Rattle.rig_model.specs.Keys.{AreKeys, AreOnce, key_list, keys_in, without_all};
-ghost use Rattle.rig_model.specs.Rig.{named, staged_key, told_lines};
+ghost use Rattle.rig_model.specs.Keys.{AreOnce, key_list, keys_in, without_all};
+ghost use Rattle.rig_model.specs.Rig.{staged_key, told_lines};
 ghost use Rattle.rig_model.specs.Serve.{after_put, put_of, flushed, flushed_if};
 
 use crate::Engine;
@@ -42,7 +42,7 @@ impl<'a, M: FlowMaker + Drop, W: Awaits> Engine<'a, M, W> {
     ghost use Rattle.scheduler.specs.Parts.{rig_amid};
     ghost use Rattle.scheduler.specs.Puts.{PutsOn};
     ghost use Rattle.scheduler.specs.Serves.{Serves, Stays, IsEvented};
-    ghost use Rattle.scheduler.specs.Fits.{FitsAmid, FitsKernel, FitsAfter};
+    ghost use Rattle.scheduler.specs.Fits.{FitsAmid, FitsKernel, FitsAfter, Keeps};
     ghost use Rattle.scheduler.specs.Turns.{Turning};
 
     /// Puts the line of a told change, where changes are written and no put has failed.
@@ -184,9 +184,7 @@ impl<'a, M: FlowMaker + Drop, W: Awaits> Engine<'a, M, W> {
             (rig_of W.waiting self.old (K.content kernel.old)) (rig_of W.waiting self.new (K.content kernel.new)) out.old out.new) }
         ensures fits { OnOk result (FitsKernel M.functions W.waiting W.held self.new (K.content kernel.new)) }
         ensures none { OnErr result (out.new ≡ out.old) }
-        ensures setup { setup_of M.functions self.new ≡ setup_of M.functions self.old }
-        ensures loaded { K.is_loaded kernel.new }
-        ensures keys { AreKeys (K.content kernel.new).keys (named (W.waiting self.new.awaits) (W.held self.new.awaits)) }
+        ensures keeps { Keeps M.functions W.waiting W.held K.is_loaded K.content self.old self.new kernel.new }
     {
         let time = kernel.now();
         let moved = match kernel.advance()? {
@@ -216,9 +214,7 @@ impl<'a, M: FlowMaker + Drop, W: Awaits> Engine<'a, M, W> {
             fuel.old (rig_of W.waiting self.old (K.content kernel.old)) out.old result fuel.new (rig_of W.waiting self.new (K.content kernel.new)) out.new }
         ensures falls { result ≡ Ok Turn.Went → fuel.new < fuel.old }
         ensures fits { IfOk result (λ turn. FitsAfter M.functions W.waiting W.held turn self.new (K.content kernel.new)) }
-        ensures setup { setup_of M.functions self.new ≡ setup_of M.functions self.old }
-        ensures loaded { K.is_loaded kernel.new }
-        ensures keys { AreKeys (K.content kernel.new).keys (named (W.waiting self.new.awaits) (W.held self.new.awaits)) }
+        ensures keeps { Keeps M.functions W.waiting W.held K.is_loaded K.content self.old self.new kernel.new }
     {
         if kernel.idle() {
             return Ok(Turn::Over(Outcome::Stalled));

@@ -2,8 +2,6 @@
 ghost use Rattle.std.specs.Prelude.{◌≡◌, ◌≤◌, ◌<◌, ◌⊎◌, length, IfOk, Ok, Some};
 ghost use Rattle.rig_model.specs.Effect.{goes_on};
 ghost use Rattle.rig_model.specs.FitSteps.{FitSteps, in_turn};
-ghost use Rattle.rig_model.specs.Keys.{AreKeys};
-ghost use Rattle.rig_model.specs.Rig.{named};
 
 use crate::Engine;
 use crate::turn::{Next, Turn};
@@ -16,7 +14,7 @@ use std::sync::ledger::Ledger;
 
 impl<'a, M: FlowMaker + Drop, W: Awaits> Engine<'a, M, W> {
     ghost use Rattle.scheduler.specs.Engine.{rig_of, setup_of};
-    ghost use Rattle.scheduler.specs.Fits.{FitsAt, FitsAfter};
+    ghost use Rattle.scheduler.specs.Fits.{FitsAt, FitsAfter, Keeps};
     ghost use Rattle.scheduler.specs.Turns.{Turning};
 
     /// The task runs until its turn ends.
@@ -37,9 +35,7 @@ impl<'a, M: FlowMaker + Drop, W: Awaits> Engine<'a, M, W> {
             fuel.new (rig_of W.waiting self.new (K.content kernel.new)) out.new }
         ensures falls { result ≡ Ok Turn.Went → (fuel.new < fuel.old) ⊎ ((fuel.new ≤ fuel.old) × (length self.new.ready.entries ≤ length self.old.ready.entries)) }
         ensures fits { IfOk result (λ turn. FitsAfter M.functions W.waiting W.held turn self.new (K.content kernel.new)) }
-        ensures setup { setup_of M.functions self.new ≡ setup_of M.functions self.old }
-        ensures loaded { K.is_loaded kernel.new }
-        ensures keys { AreKeys (K.content kernel.new).keys (named (W.waiting self.new.awaits) (W.held self.new.awaits)) }
+        ensures keeps { Keeps M.functions W.waiting W.held K.is_loaded K.content self.old self.new kernel.new }
     {
         let mut given = given;
         'effects: loop {

@@ -15,8 +15,8 @@ pub turns-preserved : goal.turns-preserved
 turns-preserved g c = record {
   turning = λ r fuel e out more. c.turns.invariant.turning r fuel e out
       (went_then g.O.Sink.takes g.O.Sink.breaks g.O.Sink.told _ _ _ _ _ _ _ _ _ r fuel e out c.turns.invariant.setup (ap Ok c.in-Went.is) c.in_ok-turn.ensures.turning more);
-  setup = c.turn.ensures.setup ∙ c.turns.invariant.setup;
-  loaded = c.turn.ensures.loaded;
+  setup = c.turn.ensures.keeps.setup ∙ c.turns.invariant.setup;
+  loaded = c.turn.ensures.keeps.loaded;
   runs = c.in_ok-turn.ensures.runs ∙ ap (λ (t : Turn). has_gone (Ok t)) c.in-Went.is;
   fits = subst (λ (t : Turn). FitsAfter g.M.FlowMaker.functions g.W.Awaits.waiting g.W.Awaits.held t c.turn.new.self (g.K.Gpi.content c.turn.new.kernel)) c.in-Went.is c.in_ok-turn.ensures.fits;
 }

@@ -1,4 +1,4 @@
-use Rattle.std.proofs.Common.{◌∙◌, sym, arith}
+use Rattle.std.proofs.Common.{◌∙◌, refl, sym, arith}
 use Rattle.scheduler.specs.Engine.{setup_of, parts_of}
 use Rattle.scheduler.proofs.EventTurns.{stalled_turning, spent_turning, short_turning, went_turning, broken_turning, cut_turning}
 use Rattle.scheduler.proofs.StandLaws.{keys_named}
@@ -7,14 +7,22 @@ use Rattle.scheduler.proofs.engine.Engine.advance.Goals as goal
 pub returns-then-idle-clause-turning : goal.returns-then-idle-clause-turning
 returns-then-idle-clause-turning g c = stalled_turning g.O.Sink.takes g.O.Sink.breaks g.O.Sink.told (setup_of g.M.FlowMaker.functions c.args.self.now) (parts_of g.W.Awaits.waiting c.args.self.now) (g.K.Gpi.content c.args.kernel.now) c.requires.none c.requires.fits.kernel.stands _ _ (sym c.idle.ensures ∙ c.if-idle.true)
 
-pub returns-then-idle-clause-keys : goal.returns-then-idle-clause-keys
-returns-then-idle-clause-keys g c = keys_named (setup_of g.M.FlowMaker.functions c.args.self.now) _ _ (parts_of g.W.Awaits.waiting c.args.self.now) c.requires.fits.kernel
+pub returns-then-idle-clause-keeps : goal.returns-then-idle-clause-keeps
+returns-then-idle-clause-keeps g c = record {
+  setup = refl;
+  loaded = c.requires.loaded;
+  keys = keys_named (setup_of g.M.FlowMaker.functions c.args.self.now) _ _ (parts_of g.W.Awaits.waiting c.args.self.now) c.requires.fits.kernel;
+}
 
 pub returns-then-fuel-eq0-clause-turning : goal.returns-then-fuel-eq0-clause-turning
 returns-then-fuel-eq0-clause-turning g c = spent_turning g.O.Sink.takes g.O.Sink.breaks g.O.Sink.told (setup_of g.M.FlowMaker.functions c.args.self.now) (parts_of g.W.Awaits.waiting c.args.self.now) (g.K.Gpi.content c.args.kernel.now) c.requires.none c.requires.fits.kernel.stands _ _ (sym c.idle.ensures ∙ c.if-idle.false) c.if-fuel-eq0.true
 
-pub returns-then-fuel-eq0-clause-keys : goal.returns-then-fuel-eq0-clause-keys
-returns-then-fuel-eq0-clause-keys g c = keys_named (setup_of g.M.FlowMaker.functions c.args.self.now) _ _ (parts_of g.W.Awaits.waiting c.args.self.now) c.requires.fits.kernel
+pub returns-then-fuel-eq0-clause-keeps : goal.returns-then-fuel-eq0-clause-keeps
+returns-then-fuel-eq0-clause-keeps g c = record {
+  setup = refl;
+  loaded = c.requires.loaded;
+  keys = keys_named (setup_of g.M.FlowMaker.functions c.args.self.now) _ _ (parts_of g.W.Awaits.waiting c.args.self.now) c.requires.fits.kernel;
+}
 
 pub returns-in_err-do_event-clause-turning : goal.returns-in_err-do_event-clause-turning
 returns-in_err-do_event-clause-turning g c = short_turning g.O.Sink.takes g.O.Sink.breaks g.O.Sink.told (setup_of g.M.FlowMaker.functions c.args.self.now) (parts_of g.W.Awaits.waiting c.args.self.now) (g.K.Gpi.content c.args.kernel.now) c.requires.none _ _ _ _ _ _ c.from_residual.ensures.0 c.in_err-do_event.ensures.none

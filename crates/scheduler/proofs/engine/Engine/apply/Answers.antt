@@ -15,14 +15,26 @@ returns-in-Stage-clause-part g c = on_err _ (part_none g.O.Sink.takes g.O.Sink.t
 pub returns-in-Start-clause-part : goal.returns-in-Start-clause-part
 returns-in-Start-clause-part g c = on_err _ (part_none g.O.Sink.takes g.O.Sink.told c.args.out.now _)
 
-pub returns-in-Start-clause-keys : goal.returns-in-Start-clause-keys
-returns-in-Start-clause-keys g c = rw c.start_task.ensures.awaits (keys_named (setup_of g.M.FlowMaker.functions c.args.self.now) _ _ (parts_of g.W.Awaits.waiting c.args.self.now) c.requires.fits.kernel)
+pub returns-in-Start-clause-keeps : goal.returns-in-Start-clause-keeps
+returns-in-Start-clause-keeps g c = record {
+  setup = c.start_task.ensures.setup;
+  loaded = c.requires.loaded;
+  keys = rw c.start_task.ensures.awaits (keys_named (setup_of g.M.FlowMaker.functions c.args.self.now) _ _ (parts_of g.W.Awaits.waiting c.args.self.now) c.requires.fits.kernel);
+}
 
-pub returns-in-Log-clause-keys : goal.returns-in-Log-clause-keys
-returns-in-Log-clause-keys g c = keys_named (setup_of g.M.FlowMaker.functions c.args.self.now) _ _ (parts_of g.W.Awaits.waiting c.args.self.now) c.requires.fits.kernel
+pub returns-in-Log-clause-keeps : goal.returns-in-Log-clause-keeps
+returns-in-Log-clause-keeps g c = record {
+  setup = refl;
+  loaded = c.requires.loaded;
+  keys = keys_named (setup_of g.M.FlowMaker.functions c.args.self.now) _ _ (parts_of g.W.Awaits.waiting c.args.self.now) c.requires.fits.kernel;
+}
 
-pub returns-in-Done-clause-keys : goal.returns-in-Done-clause-keys
-returns-in-Done-clause-keys g c = rw c.finish.ensures.awaits (keys_named (setup_of g.M.FlowMaker.functions c.args.self.now) _ _ (parts_of g.W.Awaits.waiting c.args.self.now) c.requires.fits.kernel)
+pub returns-in-Done-clause-keeps : goal.returns-in-Done-clause-keeps
+returns-in-Done-clause-keeps g c = record {
+  setup = c.finish.ensures.setup;
+  loaded = c.requires.loaded;
+  keys = rw c.finish.ensures.awaits (keys_named (setup_of g.M.FlowMaker.functions c.args.self.now) _ _ (parts_of g.W.Awaits.waiting c.args.self.now) c.requires.fits.kernel);
+}
 
 pub returns-in-Raised-clause-fits : goal.returns-in-Raised-clause-fits
 returns-in-Raised-clause-fits g c = record {
@@ -30,5 +42,9 @@ returns-in-Raised-clause-fits g c = record {
   kernel = stands_same g.W.Awaits.waiting g.W.Awaits.held _ _ _ _ _ _ _ _ _ _ _ _ _ refl refl refl c.requires.fits.kernel;
 }
 
-pub returns-in-Raised-clause-keys : goal.returns-in-Raised-clause-keys
-returns-in-Raised-clause-keys g c = keys_named (setup_of g.M.FlowMaker.functions c.args.self.now) _ _ (parts_of g.W.Awaits.waiting c.args.self.now) c.requires.fits.kernel
+pub returns-in-Raised-clause-keeps : goal.returns-in-Raised-clause-keeps
+returns-in-Raised-clause-keeps g c = record {
+  setup = refl;
+  loaded = c.requires.loaded;
+  keys = keys_named (setup_of g.M.FlowMaker.functions c.args.self.now) _ _ (parts_of g.W.Awaits.waiting c.args.self.now) c.requires.fits.kernel;
+}

@@ -1,4 +1,4 @@
-use Rattle.std.proofs.Common.{◌∙◌, ap, length}
+use Rattle.std.proofs.Common.{◌∙◌, ap, refl, length}
 use Rattle.rig_model.specs.Keys.{keys_in}
 use Rattle.rig_model.specs.Rig.{Setup}
 use Rattle.rig_model.proofs.KernelLaws.{but_more}
@@ -8,8 +8,12 @@ use Rattle.scheduler.proofs.FitLaws.{fits_served, room_to_wake}
 use Rattle.scheduler.proofs.StandLaws.{keys_named}
 use Rattle.scheduler.proofs.engine.Engine.do_event.Goals as goal
 
-pub returns-in_err-moved-clause-keys : goal.returns-in_err-moved-clause-keys
-returns-in_err-moved-clause-keys g c = rw c.in_err-moved.ensures.kept (keys_named (setup_of g.M.FlowMaker.functions c.args.self.now) _ _ (parts_of g.W.Awaits.waiting c.args.self.now) c.requires.fits.kernel)
+pub returns-in_err-moved-clause-keeps : goal.returns-in_err-moved-clause-keeps
+returns-in_err-moved-clause-keeps g c = record {
+  setup = refl;
+  loaded = c.advance.ensures.loaded;
+  keys = rw c.in_err-moved.ensures.kept (keys_named (setup_of g.M.FlowMaker.functions c.args.self.now) _ _ (parts_of g.W.Awaits.waiting c.args.self.now) c.requires.fits.kernel);
+}
 
 pub flush_if-put-requires-clause-amid : goal.flush_if-put-requires-clause-amid
 flush_if-put-requires-clause-amid g c =
@@ -57,18 +61,22 @@ returns-clause-fits g c = record {
       _ _ c.fire.ensures.waiting c.fire.ensures.held c.fire.ensures.ready c.flush_if-put.ensures.amid.keys c.flush_if-put.ensures.amid.out c.fire.ensures.keys);
 }
 
-pub returns-clause-keys : goal.returns-clause-keys
-returns-clause-keys g c = keys_named (setup_of g.M.FlowMaker.functions c.args.self.now) _ _ (record (parts_of g.W.Awaits.waiting c.flush_if-put.new.self) { ready = c.fire.new.ready.entries; waiting = g.W.Awaits.waiting c.fire.new.self })
-    (event_fits (setup_of g.M.FlowMaker.functions c.args.self.now) (parts_of g.W.Awaits.waiting c.args.self.now) (g.K.Gpi.content c.args.kernel.now) (g.K.Gpi.content c.advance.new.self) (g.W.Awaits.held c.args.self.now.awaits) c.requires.fits.kernel c.in-Moved.moved
-    (advances_of (g.K.Gpi.content c.args.kernel.now) c.in-Moved.moved (g.K.Gpi.content c.advance.new.self) (rw c.in-Moved.is at c.in_ok-moved.ensures.is))
-    g.O.Sink.takes g.O.Sink.breaks g.O.Sink.told (parts_of g.W.Awaits.waiting c.flush_if-put.new.self) (g.K.Gpi.content c.flush_if-put.new.kernel) (g.K.Gpi.content c.fire.new.kernel)
-    c.tell-told.result c.tell-told.new.out c.flush_if-put.result c.flush_if-put.new.out
-    (c.flush_if-put.ensures.serves (g.K.Gpi.content c.args.kernel.now).counts
-    (event_stands_ahead (setup_of g.M.FlowMaker.functions c.args.self.now) (parts_of g.W.Awaits.waiting c.args.self.now) (g.K.Gpi.content c.args.kernel.now) (g.K.Gpi.content c.advance.new.self) (g.W.Awaits.held c.args.self.now.awaits) c.requires.fits.kernel c.in-Moved.moved
-    (advances_of (g.K.Gpi.content c.args.kernel.now) c.in-Moved.moved (g.K.Gpi.content c.advance.new.self) (rw c.in-Moved.is at c.in_ok-moved.ensures.is))))
-    c.flush_if-put.ensures.free _ _ c.flush_if-put.ensures.held
-    (c.flush_if-put.ensures.amid.signals ∙ ap (λ (s : Setup). length s.flat.signals) c.flush_if-put.ensures.setup)
-    _ _ c.fire.ensures.waiting c.fire.ensures.held c.fire.ensures.ready c.flush_if-put.ensures.amid.keys c.flush_if-put.ensures.amid.out c.fire.ensures.keys)
+pub returns-clause-keeps : goal.returns-clause-keeps
+returns-clause-keeps g c = record {
+  setup = c.flush_if-put.ensures.setup;
+  loaded = c.fire.ensures.loaded;
+  keys = keys_named (setup_of g.M.FlowMaker.functions c.args.self.now) _ _ (record (parts_of g.W.Awaits.waiting c.flush_if-put.new.self) { ready = c.fire.new.ready.entries; waiting = g.W.Awaits.waiting c.fire.new.self })
+      (event_fits (setup_of g.M.FlowMaker.functions c.args.self.now) (parts_of g.W.Awaits.waiting c.args.self.now) (g.K.Gpi.content c.args.kernel.now) (g.K.Gpi.content c.advance.new.self) (g.W.Awaits.held c.args.self.now.awaits) c.requires.fits.kernel c.in-Moved.moved
+      (advances_of (g.K.Gpi.content c.args.kernel.now) c.in-Moved.moved (g.K.Gpi.content c.advance.new.self) (rw c.in-Moved.is at c.in_ok-moved.ensures.is))
+      g.O.Sink.takes g.O.Sink.breaks g.O.Sink.told (parts_of g.W.Awaits.waiting c.flush_if-put.new.self) (g.K.Gpi.content c.flush_if-put.new.kernel) (g.K.Gpi.content c.fire.new.kernel)
+      c.tell-told.result c.tell-told.new.out c.flush_if-put.result c.flush_if-put.new.out
+      (c.flush_if-put.ensures.serves (g.K.Gpi.content c.args.kernel.now).counts
+      (event_stands_ahead (setup_of g.M.FlowMaker.functions c.args.self.now) (parts_of g.W.Awaits.waiting c.args.self.now) (g.K.Gpi.content c.args.kernel.now) (g.K.Gpi.content c.advance.new.self) (g.W.Awaits.held c.args.self.now.awaits) c.requires.fits.kernel c.in-Moved.moved
+      (advances_of (g.K.Gpi.content c.args.kernel.now) c.in-Moved.moved (g.K.Gpi.content c.advance.new.self) (rw c.in-Moved.is at c.in_ok-moved.ensures.is))))
+      c.flush_if-put.ensures.free _ _ c.flush_if-put.ensures.held
+      (c.flush_if-put.ensures.amid.signals ∙ ap (λ (s : Setup). length s.flat.signals) c.flush_if-put.ensures.setup)
+      _ _ c.fire.ensures.waiting c.fire.ensures.held c.fire.ensures.ready c.flush_if-put.ensures.amid.keys c.flush_if-put.ensures.amid.out c.fire.ensures.keys);
+}
 
 pub fire-requires-clause-room : goal.fire-requires-clause-room
 fire-requires-clause-room g c = room_to_wake (setup_of g.M.FlowMaker.functions c.flush_if-put.new.self) _ (parts_of g.W.Awaits.waiting c.flush_if-put.new.self) c.flush_if-put.ensures.amid.own

@@ -19,8 +19,12 @@ poll_task-requires-clause-live g c = turn_lives c.effects.self.live.tasks c.effe
 pub returns-in_err-turned-clause-turning : goal.returns-in_err-turned-clause-turning
 returns-in_err-turned-clause-turning g c = c.effects.invariant.turning _ _ _ _ (turning_short_of_memory g.O.Sink.takes g.O.Sink.breaks g.O.Sink.told _ _ _ _ _ _ _ _ c.from_residual.ensures.0)
 
-pub returns-in_err-turned-clause-keys : goal.returns-in_err-turned-clause-keys
-returns-in_err-turned-clause-keys g c = keys_named (setup_of g.M.FlowMaker.functions c.effects.self) _ _ (parts_of g.W.Awaits.waiting c.effects.self) c.effects.invariant.fits.kernel
+pub returns-in_err-turned-clause-keeps : goal.returns-in_err-turned-clause-keeps
+returns-in_err-turned-clause-keeps g c = record {
+  setup = c.effects.invariant.setup;
+  loaded = c.effects.invariant.loaded;
+  keys = keys_named (setup_of g.M.FlowMaker.functions c.effects.self) _ _ (parts_of g.W.Awaits.waiting c.effects.self) c.effects.invariant.fits.kernel;
+}
 
 pub returns-in-Spent-clause-turning : goal.returns-in-Spent-clause-turning
 returns-in-Spent-clause-turning g c = c.effects.invariant.turning _ _ _ _
@@ -34,8 +38,12 @@ returns-in-Spent-clause-fits g c = record {
   kernel = stands_same g.W.Awaits.waiting g.W.Awaits.held _ _ _ _ _ _ _ _ _ _ _ _ _ refl refl refl c.effects.invariant.fits.kernel;
 }
 
-pub returns-in-Spent-clause-keys : goal.returns-in-Spent-clause-keys
-returns-in-Spent-clause-keys g c = keys_named (setup_of g.M.FlowMaker.functions c.effects.self) _ _ (parts_of g.W.Awaits.waiting c.effects.self) c.effects.invariant.fits.kernel
+pub returns-in-Spent-clause-keeps : goal.returns-in-Spent-clause-keeps
+returns-in-Spent-clause-keeps g c = record {
+  setup = c.effects.invariant.setup;
+  loaded = c.effects.invariant.loaded;
+  keys = keys_named (setup_of g.M.FlowMaker.functions c.effects.self) _ _ (parts_of g.W.Awaits.waiting c.effects.self) c.effects.invariant.fits.kernel;
+}
 
 pub apply-requires : goal.apply-requires
 apply-requires g c =
@@ -66,9 +74,9 @@ effects-preserved g c = record {
   falls = goes_fall g.O.Sink.takes g.O.Sink.breaks g.O.Sink.told (setup_of g.M.FlowMaker.functions c.effects.self) (setup_of g.M.FlowMaker.functions c.args.self.now) c.effects.invariant.setup c.args.task (parts_of g.W.Awaits.waiting c.effects.self) (g.K.Gpi.content c.effects.kernel) c.effects.fuel c.effects.given c.effects.out c.in_ok-turned.turned c.poll_task.new.fuel c.poll_task.new.live.tasks c.poll_task.new.live.started
       c.in_ok-turned.ensures c.in_default.not-Spent _ _ _ c.in-GoesOn.next (rig_of g.W.Awaits.waiting c.apply.new.self (g.K.Gpi.content c.apply.new.kernel)) c.effects.invariant.falls
       (leads_of (setup_of g.M.FlowMaker.functions c.effects.self) _ _ _ _ _ _ c.in-GoesOn.is c.in_ok-next.ensures.leads);
-  setup = c.apply.ensures.setup ∙ c.effects.invariant.setup;
+  setup = c.apply.ensures.keeps.setup ∙ c.effects.invariant.setup;
   fits = subst (λ (n : Next). FitsNext g.M.FlowMaker.functions g.W.Awaits.waiting g.W.Awaits.held c.args.task n c.apply.new.self (g.K.Gpi.content c.apply.new.kernel)) c.in-GoesOn.is c.in_ok-next.ensures.fits;
-  loaded = c.apply.ensures.loaded;
+  loaded = c.apply.ensures.keeps.loaded;
 }
 
 pub returns-in-Ends-clause-turning : goal.returns-in-Ends-clause-turning
@@ -84,3 +92,17 @@ returns-in-Ends-clause-falls g c = λ h. ends_fall g.O.Sink.takes g.O.Sink.break
 
 pub returns-in-Ends-clause-fits : goal.returns-in-Ends-clause-fits
 returns-in-Ends-clause-fits g c = subst (λ (n : Next). FitsNext g.M.FlowMaker.functions g.W.Awaits.waiting g.W.Awaits.held c.args.task n c.apply.new.self (g.K.Gpi.content c.apply.new.kernel)) c.in-Ends.is c.in_ok-next.ensures.fits
+
+pub returns-in_err-next-clause-keeps : goal.returns-in_err-next-clause-keeps
+returns-in_err-next-clause-keeps g c = record {
+  setup = c.apply.ensures.keeps.setup ∙ c.effects.invariant.setup;
+  loaded = c.apply.ensures.keeps.loaded;
+  keys = c.apply.ensures.keeps.keys;
+}
+
+pub returns-in-Ends-clause-keeps : goal.returns-in-Ends-clause-keeps
+returns-in-Ends-clause-keeps g c = record {
+  setup = c.apply.ensures.keeps.setup ∙ c.effects.invariant.setup;
+  loaded = c.apply.ensures.keeps.loaded;
+  keys = c.apply.ensures.keeps.keys;
+}

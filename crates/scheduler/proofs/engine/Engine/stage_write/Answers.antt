@@ -12,25 +12,36 @@ use Rattle.scheduler.proofs.engine.Engine.stage_write.Goals.{then-is_empty+in_ok
 staged_len : (v : Vec Staged Global) {b : Bool} → (vec_len v == 0) ≡ b → (length v.items == 0) ≡ b
 staged_len v e = let z : length v.items ≡ vec_len v = omega (arith, v.ok.0) in ap (λ (n : ℕ). n == 0) z ∙ e
 
-pub returns-then-eq-clause-keys : goal.returns-then-eq-clause-keys
-returns-then-eq-clause-keys g c = keys_named (setup_of g.M.FlowMaker.functions c.args.self.now) _ _ (parts_of g.W.Awaits.waiting c.args.self.now) c.requires.kernel
+pub returns-then-eq-clause-keeps : goal.returns-then-eq-clause-keeps
+returns-then-eq-clause-keeps g c = record {
+  setup = refl;
+  loaded = c.requires.loaded;
+  keys = keys_named (setup_of g.M.FlowMaker.functions c.args.self.now) _ _ (parts_of g.W.Awaits.waiting c.args.self.now) c.requires.kernel;
+}
 
 pub hold-requires-clause-waited : goal.hold-requires-clause-waited
 hold-requires-clause-waited g c = unheld_waited (setup_of g.M.FlowMaker.functions c.args.self.now) (parts_of g.W.Awaits.waiting c.args.self.now) (g.K.Gpi.content c.args.kernel.now) _ c.requires.kernel
     (staged_len c.args.self.now.staged (sym c.is_empty.ensures ∙ c.if-is_empty.true))
 
-pub returns-in_err-hold-clause-keys : goal.returns-in_err-hold-clause-keys
-returns-in_err-hold-clause-keys g c =
-    keys_kept (g.K.Gpi.content c.args.kernel.now) _ _ _ _ _
-    (keys_named (setup_of g.M.FlowMaker.functions c.args.self.now) _ _ (parts_of g.W.Awaits.waiting c.args.self.now) c.requires.kernel)
-    c.in_err-hold.ensures.kept c.hold.ensures.waiting c.in_err-hold.ensures.err
+pub returns-in_err-hold-clause-keeps : goal.returns-in_err-hold-clause-keeps
+returns-in_err-hold-clause-keeps g c = record {
+  setup = refl;
+  loaded = c.hold.ensures.loaded;
+  keys = keys_kept (g.K.Gpi.content c.args.kernel.now) _ _ _ _ _
+      (keys_named (setup_of g.M.FlowMaker.functions c.args.self.now) _ _ (parts_of g.W.Awaits.waiting c.args.self.now) c.requires.kernel)
+      c.in_err-hold.ensures.kept c.hold.ensures.waiting c.in_err-hold.ensures.err;
+}
 
-pub returns-in_err-stage-clause-keys : goal.returns-in_err-stage-clause-keys
-returns-in_err-stage-clause-keys g c = elim c.if-is_empty.branch [
-  | then-is_empty+in_ok-hold w ↦ rw (w.self-is, w.kernel-is) (first_keys (setup_of g.M.FlowMaker.functions c.args.self.now) (parts_of g.W.Awaits.waiting c.args.self.now) _ _ c.requires.kernel c.args.sig c.args.number
-      (restaged c.args.sig c.args.number c.args.self.now.staged.items) refl (staged_len c.args.self.now.staged (sym c.is_empty.ensures ∙ w.if-is_empty.true)) _ _ _
-      w.hold.ensures.waiting w.in_ok-hold.ensures.ok w.in_ok-hold.ensures.registers)
-  | else-is_empty w ↦ rw (w.self-is, w.kernel-is) (keys_named (setup_of g.M.FlowMaker.functions c.args.self.now) _ _ (parts_of g.W.Awaits.waiting c.args.self.now) c.requires.kernel)
+pub returns-in_err-stage-clause-keeps : goal.returns-in_err-stage-clause-keeps
+returns-in_err-stage-clause-keeps g c = elim c.if-is_empty.branch [
+  | then-is_empty+in_ok-hold w ↦ rw (w.self-is, w.kernel-is) (record {
+    setup = refl;
+    loaded = w.hold.ensures.loaded;
+    keys = first_keys (setup_of g.M.FlowMaker.functions c.args.self.now) (parts_of g.W.Awaits.waiting c.args.self.now) _ _ c.requires.kernel c.args.sig c.args.number
+        (restaged c.args.sig c.args.number c.args.self.now.staged.items) refl (staged_len c.args.self.now.staged (sym c.is_empty.ensures ∙ w.if-is_empty.true)) _ _ _
+        w.hold.ensures.waiting w.in_ok-hold.ensures.ok w.in_ok-hold.ensures.registers;
+  })
+  | else-is_empty w ↦ rw (w.self-is, w.kernel-is) (record { setup = refl; loaded = c.requires.loaded; keys = keys_named (setup_of g.M.FlowMaker.functions c.args.self.now) _ _ (parts_of g.W.Awaits.waiting c.args.self.now) c.requires.kernel })
 ]
 
 pub returns-clause-leads : goal.returns-clause-leads
@@ -67,10 +78,14 @@ returns-clause-fits g c = elim c.if-is_empty.branch [
   })
 ]
 
-pub returns-clause-keys : goal.returns-clause-keys
-returns-clause-keys g c = elim c.if-is_empty.branch [
-  | then-is_empty+in_ok-hold w ↦ rw (w.self-is, w.kernel-is) (first_keys (setup_of g.M.FlowMaker.functions c.args.self.now) (parts_of g.W.Awaits.waiting c.args.self.now) _ _ c.requires.kernel c.args.sig c.args.number
-      (restaged c.args.sig c.args.number c.args.self.now.staged.items) refl (staged_len c.args.self.now.staged (sym c.is_empty.ensures ∙ w.if-is_empty.true)) _ _ _
-      w.hold.ensures.waiting w.in_ok-hold.ensures.ok w.in_ok-hold.ensures.registers)
-  | else-is_empty w ↦ rw (w.self-is, w.kernel-is) (keys_named (setup_of g.M.FlowMaker.functions c.args.self.now) _ _ (parts_of g.W.Awaits.waiting c.args.self.now) c.requires.kernel)
+pub returns-clause-keeps : goal.returns-clause-keeps
+returns-clause-keeps g c = elim c.if-is_empty.branch [
+  | then-is_empty+in_ok-hold w ↦ rw (w.self-is, w.kernel-is) (record {
+    setup = refl;
+    loaded = w.hold.ensures.loaded;
+    keys = first_keys (setup_of g.M.FlowMaker.functions c.args.self.now) (parts_of g.W.Awaits.waiting c.args.self.now) _ _ c.requires.kernel c.args.sig c.args.number
+        (restaged c.args.sig c.args.number c.args.self.now.staged.items) refl (staged_len c.args.self.now.staged (sym c.is_empty.ensures ∙ w.if-is_empty.true)) _ _ _
+        w.hold.ensures.waiting w.in_ok-hold.ensures.ok w.in_ok-hold.ensures.registers;
+  })
+  | else-is_empty w ↦ rw (w.self-is, w.kernel-is) (record { setup = refl; loaded = c.requires.loaded; keys = keys_named (setup_of g.M.FlowMaker.functions c.args.self.now) _ _ (parts_of g.W.Awaits.waiting c.args.self.now) c.requires.kernel })
 ]

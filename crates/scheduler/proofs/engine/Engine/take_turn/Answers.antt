@@ -7,3 +7,9 @@ pub returns-in-Some-clause-turning : goal.returns-in-Some-clause-turning
 returns-in-Some-clause-turning g c =
     turning_resumed g.O.Sink.takes g.O.Sink.breaks g.O.Sink.told _ (rig_of g.W.Awaits.waiting c.args.self.now (g.K.Gpi.content c.args.kernel.now)) (record { task = c.in-Some.task; given = c.in-Some.given }) c.first-first.new.self.entries
     refl c.in-Some.ensures.first refl _ _ _ _ _ _ c.run_task.ensures.turning
+
+pub returns-in-Some-clause-keeps : goal.returns-in-Some-clause-keeps
+returns-in-Some-clause-keeps g c = record { setup = c.run_task.ensures.keeps.setup; loaded = c.run_task.ensures.keeps.loaded; keys = c.run_task.ensures.keeps.keys }
+
+pub returns-in-None-clause-keeps : goal.returns-in-None-clause-keeps
+returns-in-None-clause-keeps g c = record { setup = c.advance.ensures.keeps.setup; loaded = c.advance.ensures.keeps.loaded; keys = c.advance.ensures.keeps.keys }

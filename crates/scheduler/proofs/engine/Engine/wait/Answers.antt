@@ -22,5 +22,9 @@ returns-in_ok-begin-in-Some-clause-fits g c = record {
       c.in_ok-begin-in-Some.ensures.ok c.begin.ensures.held c.begin.ensures.keys c.in_ok-begin-in-Some.ensures.counts;
 }
 
-pub returns-in-None-clause-keys : goal.returns-in-None-clause-keys
-returns-in-None-clause-keys g c = keys_named (setup_of g.M.FlowMaker.functions c.args.self.now) _ _ (parts_of g.W.Awaits.waiting c.args.self.now) c.requires.fits.kernel
+pub returns-in-None-clause-keeps : goal.returns-in-None-clause-keeps
+returns-in-None-clause-keeps g c = record {
+  setup = refl;
+  loaded = c.requires.loaded;
+  keys = keys_named (setup_of g.M.FlowMaker.functions c.args.self.now) _ _ (parts_of g.W.Awaits.waiting c.args.self.now) c.requires.fits.kernel;
+}
