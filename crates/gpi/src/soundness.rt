@@ -73,9 +73,9 @@ fn signal_width(signals: &Sequence<Signal>, sig: SigId, w: u8) -> Option<u8>
 }
 
 impl Words {
-    /// The width of the words, if it is this one.
+    /// The width of the words among these signals, if it is this one.
     #[tactic(auto, using(crate::proofs::Sound::signals, crate::proofs::RunLengths::words))]
-    fn sound_width(self, signals: &Sequence<Signal>, runs: &[u32], w: u8) -> Option<u8>
+    fn width_in(self, signals: &Sequence<Signal>, runs: &[u32], w: u8) -> Option<u8>
         requires wide { IsTrue (are_wide signals.now) }
         requires few { length signals.now ≤ 65536 }
         requires runs { AreRuns runs.now (widths signals.now) }
@@ -93,8 +93,8 @@ impl Words {
 }
 
 impl Term {
-    /// The width, where the expression is sound.
-    fn sound_width(&self, signals: &Sequence<Signal>, runs: &[u32]) -> Option<u8>
+    /// The width, where the expression is sound over these signals.
+    fn width_in(&self, signals: &Sequence<Signal>, runs: &[u32]) -> Option<u8>
         requires wide { IsTrue (are_wide signals.now) }
         requires few { length signals.now ≤ 65536 }
         requires runs { AreRuns runs.now (widths signals.now) }
@@ -104,58 +104,46 @@ impl Term {
             Term::Const(bits) => Some(bits.width()),
             Term::Signal(s, w) => signal_width(signals, *s, *w),
             Term::Word(words, i, w) => i
-                .sound_width(signals, runs)
-                .and(words.sound_width(signals, runs, *w)),
+                .width_in(signals, runs)
+                .and(words.width_in(signals, runs, *w)),
             Term::Select(a, _, i, w) => {
-                let operands = a
-                    .sound_width(signals, runs)
-                    .and(i.sound_width(signals, runs));
+                let operands = a.width_in(signals, runs).and(i.width_in(signals, runs));
                 operands.and(proper(*w))
             }
-            Term::Unary(_, a) => a.sound_width(signals, runs),
+            Term::Unary(_, a) => a.width_in(signals, runs),
             Term::Arith(_, a, b) => {
-                let (a, b) = a
-                    .sound_width(signals, runs)
-                    .zip(b.sound_width(signals, runs))?;
+                let (a, b) = a.width_in(signals, runs).zip(b.width_in(signals, runs))?;
                 common(a, b)
             }
             Term::Compare(_, a, b) => {
-                let (a, b) = a
-                    .sound_width(signals, runs)
-                    .zip(b.sound_width(signals, runs))?;
+                let (a, b) = a.width_in(signals, runs).zip(b.width_in(signals, runs))?;
                 common(a, b).and(Some(1))
             }
             Term::Logic(_, a, b) => {
-                let operands = a
-                    .sound_width(signals, runs)
-                    .and(b.sound_width(signals, runs));
+                let operands = a.width_in(signals, runs).and(b.width_in(signals, runs));
                 operands.and(Some(1))
             }
-            Term::Reduce(_, a) => a.sound_width(signals, runs).and(Some(1)),
+            Term::Reduce(_, a) => a.width_in(signals, runs).and(Some(1)),
             Term::Shift(_, a, count) => count
-                .sound_width(signals, runs)
-                .and(a.sound_width(signals, runs)),
+                .width_in(signals, runs)
+                .and(a.width_in(signals, runs)),
             Term::Cond(condition, a, b) => {
-                let (a, b) = a
-                    .sound_width(signals, runs)
-                    .zip(b.sound_width(signals, runs))?;
-                condition.sound_width(signals, runs).and(common(a, b))
+                let (a, b) = a.width_in(signals, runs).zip(b.width_in(signals, runs))?;
+                condition.width_in(signals, runs).and(common(a, b))
             }
             Term::Concat(a, b) => {
-                let (a, b) = a
-                    .sound_width(signals, runs)
-                    .zip(b.sound_width(signals, runs))?;
+                let (a, b) = a.width_in(signals, runs).zip(b.width_in(signals, runs))?;
                 joined(a, b)
             }
-            Term::Repeat(n, a) => multiplied(*n, a.sound_width(signals, runs)?),
-            Term::Resize(a, w) => a.sound_width(signals, runs).and(proper(*w)),
+            Term::Repeat(n, a) => multiplied(*n, a.width_in(signals, runs)?),
+            Term::Resize(a, w) => a.width_in(signals, runs).and(proper(*w)),
         }
     }
 }
 
 impl Object {
-    /// The width, where the object is sound.
-    fn sound_width(&self, signals: &Sequence<Signal>, runs: &[u32]) -> Option<u8>
+    /// The width, where the object is sound over these signals.
+    fn width_in(&self, signals: &Sequence<Signal>, runs: &[u32]) -> Option<u8>
         requires wide { IsTrue (are_wide signals.now) }
         requires few { length signals.now ≤ 65536 }
         requires runs { AreRuns runs.now (widths signals.now) }
@@ -164,32 +152,29 @@ impl Object {
         match self {
             Object::Signal(s, w) => signal_width(signals, *s, *w),
             Object::Word(words, i, w) => {
-                i.sound_width(signals, runs)?;
-                words.sound_width(signals, runs, *w)
+                i.width_in(signals, runs)?;
+                words.width_in(signals, runs, *w)
             }
         }
     }
 }
 
 impl Target {
-    /// The width, where the target is sound.
-    fn sound_width(&self, signals: &Sequence<Signal>, runs: &[u32]) -> Option<u8>
+    /// The width, where the target is sound over these signals.
+    fn width_in(&self, signals: &Sequence<Signal>, runs: &[u32]) -> Option<u8>
         requires wide { IsTrue (are_wide signals.now) }
         requires few { length signals.now ≤ 65536 }
         requires runs { AreRuns runs.now (widths signals.now) }
         ensures { IsWidthFound result (IsSoundTarget self.now (widths signals.now)) (target_width self.now) }
     {
         match self {
-            Target::Whole(object) => object.sound_width(signals, runs),
+            Target::Whole(object) => object.width_in(signals, runs),
             Target::Select(object, _, i, w) => {
-                object.sound_width(signals, runs)?;
-                i.sound_width(signals, runs)?;
+                object.width_in(signals, runs)?;
+                i.width_in(signals, runs)?;
                 proper(*w)
             }
-            Target::Join(a, b) => joined(
-                a.sound_width(signals, runs)?,
-                b.sound_width(signals, runs)?,
-            ),
+            Target::Join(a, b) => joined(a.width_in(signals, runs)?, b.width_in(signals, runs)?),
         }
     }
 }
@@ -202,8 +187,8 @@ fn fits(target: &Target, value: &Term, signals: &Sequence<Signal>, runs: &[u32])
     ensures { IsTrue result ↔ (IsSoundTarget target.now (widths signals.now) × IsSound value.now (widths signals.now) × (width value.now ≡ target_width target.now)) }
 {
     match (
-        target.sound_width(signals, runs),
-        value.sound_width(signals, runs),
+        target.width_in(signals, runs),
+        value.width_in(signals, runs),
     ) {
         (Some(there), Some(given)) => given == there,
         _ => false,
@@ -217,7 +202,7 @@ fn is_label(label: &Label, w: u8, items: usize, signals: &Sequence<Signal>, runs
     requires runs { AreRuns runs.now (widths signals.now) }
     ensures { IsTrue result ↔ (IsSound label.now.value (widths signals.now) × (width label.now.value ≡ w) × (label.now.item < items)) }
 {
-    match label.value.sound_width(signals, runs) {
+    match label.value.width_in(signals, runs) {
         Some(found) => found == w && (label.item as usize) < items,
         None => false,
     }
@@ -257,7 +242,7 @@ fn is_choice(
     requires runs { AreRuns runs.now (widths signals.now) }
     ensures { IsTrue result ↔ (IsSound value.now (widths signals.now) × AreLabels labels.now (width value.now) (widths signals.now) × AreItems labels.now items) }
 {
-    match value.sound_width(signals, runs) {
+    match value.width_in(signals, runs) {
         Some(w) => are_labels(labels, w, items, signals, runs),
         None => false,
     }
@@ -276,7 +261,7 @@ impl Act {
             Act::Empty => true,
             Act::Block(acts) => acts.are_sound(signals, runs),
             Act::If(condition, first, second) => {
-                condition.sound_width(signals, runs).is_some()
+                condition.width_in(signals, runs).is_some()
                     && first.is_sound(signals, runs)
                     && second.is_sound(signals, runs)
             }
