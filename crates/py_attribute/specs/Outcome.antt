@@ -53,7 +53,7 @@ abbrev pub IfKnown : View → Result Value OperationFault → Type 0
 IfKnown view (Ok v) = Knows view v
 IfKnown view (Err fault) = Unit {0}
 
--- an outcome, whose value the view knows; and the next number never falls, after want of memory either, so that none is given twice
+-- an outcome, whose value the view knows; and the next number never falls, after want of memory either
 pub record Evaluates (view : View) (result : Result Value OperationFault) (old k : ℕ) (o : Outcome Value) : Type 0 where
   pub ends : Ends result k o
   pub known : IfKnown view result

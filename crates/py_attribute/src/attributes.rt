@@ -70,10 +70,10 @@ fn lock_attribute<V: Look>(view: &V, lock: LockNo, name: &Name) -> Result<Value,
     }
 }
 
-/// `v.name` (the language reference, 6.3.1): of a hierarchy what is declared in it by that name, else `_path` or `_name`; of a signal `value`,
-/// `_path` and `_name`; of a vector `integer`, `signed_integer`, `binstr` and `is_resolvable`; of a lock `locked`. Another name, or a value of
-/// another kind, is an AttributeError. A text of over 65,536 bytes is an OverflowError; `integer` and `signed_integer` are a ValueError where
-/// a digit is x or z, the first an OverflowError over 2^127 - 1. Want of memory is an error of those that give a text.
+/// `v.name` (the language reference, 6.3.1): of a hierarchy what is declared in it by that name, else `_path` or `_name`; of a signal
+/// `value`, `_path` and `_name`; of a vector `integer`, `signed_integer`, `binstr` and `is_resolvable`; of a lock `locked`. Another name,
+/// or a value of another kind, is an AttributeError. A text of over 65,536 bytes is an OverflowError; `integer` and `signed_integer` are
+/// a ValueError where a digit is x or z, the first an OverflowError over 2^127 - 1. Want of memory for a text is the other error.
 pub fn attribute<V: Look>(
     alloc: Global,
     view: &V,
@@ -93,8 +93,8 @@ pub fn attribute<V: Look>(
     }
 }
 
-/// The signal of one digit that a value is, which clocks and edges of one kind need. A value of another kind and a wider signal are TypeErrors.
-/// It takes no memory.
+/// The signal of one digit that a value is, which clocks and edges of one kind need. A value of another kind and a wider signal are
+/// TypeErrors. It takes no memory.
 pub fn one_bit<V: Look>(view: &V, v: &Value) -> Result<SigId, FaultKind>
     requires { Knows (V.view view.now) v.now }
     ensures is { result ≡ meaning.one_bit (V.view view.now) v.now }
@@ -108,7 +108,8 @@ pub fn one_bit<V: Look>(view: &V, v: &Value) -> Result<SigId, FaultKind>
     }
 }
 
-/// `len(v)` (cocotb 1.8, `SimHandleBase`): the width of a signal, in digits. A value of another kind, a text and a vector among them, is a TypeError. It takes no memory.
+/// `len(v)` (cocotb 1.8, `SimHandleBase`): the width of a signal, in digits. A value of another kind, a text and a vector among them, is a
+/// TypeError. It takes no memory.
 pub fn len<V: Look>(view: &V, v: &Value) -> Result<Value, FaultKind>
     requires { Knows (V.view view.now) v.now }
     ensures is { result ≡ meaning.len (V.view view.now) v.now }

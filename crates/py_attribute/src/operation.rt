@@ -68,9 +68,9 @@ fn compared<V: Look>(view: &V, op: BinOp, a: &Value, b: &Value) -> Result<Value,
     }
 }
 
-/// The value of an operator with two operands, or the kind of the fault that it raises, as `py_operator::operated` does: TypeError, ValueError,
-/// ZeroDivisionError or OverflowError, in this order; but before `==` and `!=` a signal whose other operand is no signal, hierarchy or memory
-/// gives way to its value (cocotb 1.8, `NonHierarchyObject`). It takes no memory.
+/// The value of an operator with two operands, or the kind of the fault that it raises, as `py_operator::operated` does: TypeError,
+/// ValueError, ZeroDivisionError or OverflowError, in this order; but before `==` and `!=` a signal whose other operand is no signal,
+/// hierarchy or memory gives way to its value (cocotb 1.8, `NonHierarchyObject`). It takes no memory.
 pub fn operated<V: Look>(view: &V, op: BinOp, a: &Value, b: &Value) -> Result<Value, FaultKind>
     requires left { Knows (V.view view.now) a.now }
     requires right { Knows (V.view view.now) b.now }

@@ -22,8 +22,8 @@ pub fn text_value(alloc: Global, bytes: &[u8]) -> Result<Value, OperationFault>
     Ok(Value::Text(Name::of(alloc, bytes)?))
 }
 
-/// `str(v)` (the library reference, "Built-in Functions"): the text as which a value is shown. One of over 65,536 bytes, which a path may be,
-/// is an OverflowError; want of memory is the other error.
+/// `str(v)` (the library reference, "Built-in Functions"): the text as which a value is shown. One of over 65,536 bytes, which a path may
+/// be, is an OverflowError; want of memory is the other error.
 pub fn str_value<P: Paths>(alloc: Global, v: &Value, paths: &P) -> Result<Value, OperationFault>
     requires { IsOf (P.places paths.now) v.now }
     ensures { Gives (meaning.str_value (P.places paths.now) v.now) result }

@@ -41,8 +41,8 @@ fn signed_integer(bits: Bits) -> Result<Value, FaultKind>
 
 /// An attribute of a vector (cocotb 1.8, `BinaryValue`): `integer` is its unsigned number and `signed_integer` its number in two's
 /// complement, both a ValueError where a digit is x or z, the first an OverflowError over 2^127 - 1; `binstr` is the text of its
-/// digits, and `is_resolvable` is True exactly where none is x or z. Another name is an AttributeError. Want of memory is an error of
-/// `binstr` alone.
+/// digits, and `is_resolvable` is True exactly where none is x or z. Another name is an AttributeError. Want of memory for a
+/// text is the other error.
 pub fn vector_attribute(alloc: Global, bits: Bits, name: &[u8]) -> Result<Value, OperationFault>
     ensures { Gives (meaning.vector_attribute bits name.now) result }
 {

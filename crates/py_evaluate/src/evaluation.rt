@@ -291,11 +291,11 @@ fn part_text<N: Locals, V: Look>(
 ///
 /// The fault is the first that is met: UnboundLocalError of a name that is unassigned; of an operator TypeError, ValueError,
 /// ZeroDivisionError or OverflowError (`py_attribute::operated`, `py_operator::unary`); of an attribute AttributeError, ValueError or
-/// OverflowError (`py_attribute::attribute`); of an index TypeError, ValueError or IndexError (`py_attribute::indexed`); of a call TypeError,
-/// ValueError, OverflowError or RuntimeError (`py_function::called`); of a method AttributeError or RuntimeError
+/// OverflowError (`py_attribute::attribute`); of an index TypeError, ValueError or IndexError (`py_attribute::indexed`); of a call
+/// TypeError, ValueError, OverflowError or RuntimeError (`py_function::called`); of a method AttributeError or RuntimeError
 /// (`py_function::method_value`); of a text of over 65,536 bytes, an f-string's among them, OverflowError.
 ///
-/// Each trigger that is made takes the next number, which never falls, so that none is given twice; after `OutOfMemory` it may have risen.
+/// Each trigger that is made takes the next number, which never falls; after `OutOfMemory` it may have risen.
 pub fn evaluate<N: Locals, V: Look>(
     alloc: Global,
     e: &Expression,

@@ -108,7 +108,8 @@ fn call<V: Look>(
 
 /// A call of a function with these arguments, by a task whose next trigger has this number: `int`, `str`, `bool` and `len` (the library
 /// reference, "Built-in Functions"); cocotb 1.8's `get_sim_time`, `Clock`, and the triggers `Timer`, `Edge`, `RisingEdge`, `FallingEdge`,
-/// `ReadWrite`, `ReadOnly`, `NextTimeStep`, `ClockCycles`, `Join`, `First` and `Combine`. The faults are, the first that holds:
+/// `ReadWrite`, `ReadOnly`, `NextTimeStep`, `ClockCycles`, `Join`, `First` and `Combine`. The faults are, the first that holds but for what
+/// is said behind them:
 ///
 /// - TypeError: an argument is missing or of another kind, as a signal of more than one digit is for `Clock`, `ClockCycles`, `RisingEdge` and
 ///   `FallingEdge`;
@@ -119,8 +120,9 @@ fn call<V: Look>(
 ///   cycles is over 2^64 - 1;
 /// - RuntimeError: the task has made 2^63 triggers, the most that it may.
 ///
-/// A new trigger takes the next number, and so does the join of a task among the arguments of `First` and `Combine`, before a ValueError or a
-/// RuntimeError of the whole. `str`, `First` and `Combine` take memory; after want of it the next number may have risen, and never falls.
+/// A new trigger takes the next number, and so does the join of a task among the arguments of `First` and `Combine`, before a ValueError
+/// or a RuntimeError of the whole: where that join finds no number left, its RuntimeError comes before the ValueError of the whole. After
+/// want of memory the next number may have risen, and never falls.
 pub fn called<V: Look>(
     alloc: Global,
     view: &V,

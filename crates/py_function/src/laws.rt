@@ -8,7 +8,7 @@ ghost use Rattle.py_value.specs.declared.value.Value.{Value};
 ghost use Rattle.py_attribute.specs.Look.{View};
 ghost use Rattle.py_function.specs.Functions.{called, method_value};
 
-/// No call lowers the number of the task's next trigger, so that no number is given twice.
+/// No call lowers the number of the task's next trigger.
 pub fn numbers_never_fall_by_calls()
     ensures function { (task : TaskNo) (view : View) (f : Function) (values : List Value) (k : ℕ) → k ≤ (called task view f values k).next }
     ensures method { (task : TaskNo) (view : View) (v : Value) (m : Method) (k : ℕ) → k ≤ (method_value task view v m k).next }

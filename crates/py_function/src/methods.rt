@@ -66,9 +66,9 @@ fn method_call<V: Look>(
     }
 }
 
-/// `v.method()` (cocotb 1.8, "Triggers" and "Coroutines and Tasks"), by a task whose next trigger has this number: `wait` and `is_set` of an
-/// event, `acquire` of a lock, `join` and `done` of a task. A new trigger takes the next number. Another method, or a value of another kind, is
-/// an AttributeError; a trigger of a task that has made 2^63, the most that it may, is a RuntimeError. It takes no memory.
+/// `v.method()` (cocotb 1.8, "Triggers" and "Coroutines and Tasks"), by a task whose next trigger has this number: `wait` and `is_set` of
+/// an event, `acquire` of a lock, `join` and `done` of a task. A new trigger takes the next number. Another method, or a value of another
+/// kind, is an AttributeError; a trigger of a task that has made 2^63, the most that it may, is a RuntimeError. It takes no memory.
 pub fn method_value<V: Look>(
     view: &V,
     task: TaskNo,

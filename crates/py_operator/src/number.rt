@@ -76,8 +76,8 @@ pub fn whole(number: Option<i128>) -> Result<Value, FaultKind>
     }
 }
 
-/// `int(..)` (the library reference, "Built-in Functions"): the whole number that a whole number, a truth value or a vector is. Another kind is a TypeError, an x or z digit a
-/// ValueError, a vector's number over 2^127 - 1 an OverflowError. It takes no memory.
+/// `int(..)` (the library reference, "Built-in Functions"): the whole number that a whole number, a truth value or a vector is. Another
+/// kind is a TypeError, an x or z digit a ValueError, a vector's number over 2^127 - 1 an OverflowError. It takes no memory.
 pub fn int(v: &Value) -> Result<Value, FaultKind>
     ensures { result ≡ and_then (meaning.one_number v.now) (λ z. meaning.whole (held z)) }
 {

@@ -45,10 +45,10 @@ fn operated_alone(op: UnOp, a: &Value) -> Result<Value, FaultKind>
     }
 }
 
-/// The value of an operator with two operands (the language reference, 6.7 to 6.10), or the fault that it raises, whose text is
-/// empty: the first of these that holds. TypeError for an operand of a kind that the operator has no rule for; ValueError for an x or z digit where a number is
-/// needed, and for a negative count of a shift; ZeroDivisionError for `//` and `%` by 0; OverflowError for a result outside
-/// -2^127 .. 2^127 - 1. A signal is a value like any other here. It takes no memory.
+/// The value of an operator with two operands (the language reference, 6.7 to 6.10), or the fault that it raises, whose text is empty:
+/// the first of these that holds. TypeError for an operand of a kind that the operator has no rule for; ValueError for an x or z digit
+/// where a number is needed, and for a negative count of a shift; ZeroDivisionError for `//` and `%` by 0; OverflowError for a result
+/// outside -2^127 .. 2^127 - 1. A signal is a value like any other here. It takes no memory.
 pub fn binary(op: BinOp, a: Value, b: Value) -> Result<Value, Fault>
     ensures { result ≡ raised (binary_value op a b) }
 {

@@ -34,7 +34,7 @@ unit_of step_fs _ = Err TypeError
 abbrev pub whole_steps : ℕ → ℕ → Answer ℕ
 whole_steps step_fs fs = if (fs % step_fs) == 0 then (if nat_lt 0 (fs / step_fs) then Ok (fs / step_fs) else Err ValueError) else Err ValueError
 
--- no later than the latest time
+-- no longer than the longest wait
 abbrev pub not_late : ℕ → Answer ℕ
 not_late steps = if nat_lt step_limit steps then Err OverflowError else Ok steps
 

@@ -6,19 +6,19 @@ ghost use Rattle.py_time.specs.Counts as counts;
 
 use py_syntax::FaultKind;
 
-/// The latest time, in steps: `step_limit` of `py_value`.
+/// The longest time that a trigger waits, in steps: `step_limit` of `py_value`.
 const STEP_LIMIT: u128 = 1 << 62;
 
 /// A count of steps, as far as it is asked for.
 #[derive(Clone, Copy, Debug)]
 pub struct Steps {
-    /// The count, where it is no later than the latest time.
+    /// The count, where it is no more than the longest time.
     pub few: Option<u64>,
     /// Whether the count is odd.
     pub odd: bool,
 }
 
-/// The count, where it is no later than the latest time.
+/// The count, where it is no more than the longest time.
 fn few(count: u128) -> Option<u64>
     ensures { result ≡ counts.few count }
 {

@@ -13,7 +13,7 @@ text_limit = 65536
 abbrev pub signal_numbers : ℕ
 signal_numbers = 2 ^ 32
 
--- the latest time, in steps
+-- the longest time that a trigger waits, in steps
 abbrev pub step_limit : ℕ
 step_limit = 2 ^ 62
 

@@ -38,9 +38,9 @@ fn numbered_text(alloc: Global, kind: &[u8], n: u32) -> Result<Name, NoMemory>
     Name::of(alloc, &text)
 }
 
-/// The text as which a value is shown, by `str` (the library reference, "Built-in Functions") and in an f-string: `None`, `True`, `False`, a decimal number, the text itself, a
-/// vector's digits with the highest first, a signal's or hierarchy's path, a caught fault's text, `<task 0>`, `<event 0>` and
-/// `<lock 0>` with its number, `<clock>`, `<trigger>`, `<memory>`. Only want of memory is an error.
+/// The text as which a value is shown, by `str` (the library reference, "Built-in Functions") and in an f-string: `None`, `True`,
+/// `False`, a decimal number, the text itself, a vector's digits with the highest first, a signal's or hierarchy's path, a caught fault's
+/// text, `<task 0>`, `<event 0>` and `<lock 0>` with its number, `<clock>`, `<trigger>`, `<memory>`. Only want of memory is an error.
 pub fn show<P: Paths>(alloc: Global, v: &Value, paths: &P) -> Result<Name, NoMemory>
     requires { IsOf (P.places paths.now) v.now }
     ensures { IfOk result (λ name. name ≡ shown (P.places paths.now) v.now) }

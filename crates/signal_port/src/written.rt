@@ -62,9 +62,9 @@ fn number_bits(z: i128, width: u8) -> Result<Bits, FaultKind>
     }
 }
 
-/// The digits that a signal of `width` digits, 1 to 128, gets from a value (cocotb 1.8, "Writing values"): a whole number or a truth value
-/// modulo 2^width, which is an OverflowError outside -2^(width-1) .. 2^width - 1; a vector as it is, which is a ValueError where it has another
-/// width. A value of another kind is a TypeError. It takes no memory.
+/// The digits that a signal of `width` digits, 1 to 128, gets from a value (cocotb 1.8, "Writing values"): a whole number or a truth
+/// value modulo 2^width, which is an OverflowError outside -2^(width-1) .. 2^width - 1; a vector as it is, which is a ValueError where it
+/// has another width. A value of another kind is a TypeError. It takes no memory.
 pub fn to_bits(v: &Value, width: u8) -> Result<Bits, FaultKind>
     requires low { 1 ≤ width }
     requires high { width ≤ width_limit }

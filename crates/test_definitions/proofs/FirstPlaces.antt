@@ -2,28 +2,28 @@
 use Rattle.std.proofs.Common.{◌≡◌, ◌≤◌, ◌+◌, ℕ, zero, suc, nat_lt, Bool, true, false, ◌||◌, List, [], ◌∷◌, take, Option, Some, None, refl, sym, ap, ◌∙◌, cond, arith}
 use Rattle.std.proofs.lemmas.Bool.{lt-ltb, le-ltb}
 use Rattle.std.specs.List.{list_any, find, position_from, slice_get}
-use Rattle.test_definitions.specs.Definitions.{is_below, element_at}
+use Rattle.test_definitions.specs.Definitions.{is_above, element_at}
 
 -- no place is above the first
-none_above : {A : Type 0} (p : A → Bool) (i j : ℕ) (xs : List A) → i ≤ j → is_below i (position_from p j xs) ≡ false
+none_above : {A : Type 0} (p : A → Bool) (i j : ℕ) (xs : List A) → i ≤ j → is_above i (position_from p j xs) ≡ false
 none_above p i j [] h = refl
 none_above p i j (x ∷ xs) h = go (p x) (none_above p i (j + 1) xs (omega (arith, h)))
   where
-    go : (b : Bool) → is_below i (position_from p (j + 1) xs) ≡ false → is_below i (cond b (Some j) (position_from p (j + 1) xs)) ≡ false
+    go : (b : Bool) → is_above i (position_from p (j + 1) xs) ≡ false → is_above i (cond b (Some j) (position_from p (j + 1) xs)) ≡ false
     go true more = le-ltb j i h
     go false more = more
 
-above_from : {A : Type 0} (p : A → Bool) (xs : List A) (i k m : ℕ) → m ≡ i + k → list_any p (take k xs) ≡ is_below m (position_from p i xs)
+above_from : {A : Type 0} (p : A → Bool) (xs : List A) (i k m : ℕ) → m ≡ i + k → list_any p (take k xs) ≡ is_above m (position_from p i xs)
 above_from p xs i zero m e = sym (none_above p m i xs (omega (arith, e)))
 above_from p [] i (suc k) m e = refl
 above_from p (x ∷ xs) i (suc k) m e = go (p x) (above_from p xs (i + 1) k m (omega (arith, e)))
   where
-    go : (b : Bool) → list_any p (take k xs) ≡ is_below m (position_from p (i + 1) xs)
-        → (b || list_any p (take k xs)) ≡ is_below m (cond b (Some i) (position_from p (i + 1) xs))
+    go : (b : Bool) → list_any p (take k xs) ≡ is_above m (position_from p (i + 1) xs)
+        → (b || list_any p (take k xs)) ≡ is_above m (cond b (Some i) (position_from p (i + 1) xs))
     go true h = sym (lt-ltb i m (omega (arith, e)))
     go false h = h
 
-pub above_by_place : {A : Type 0} (p : A → Bool) (xs : List A) (k : ℕ) → list_any p (take k xs) ≡ is_below k (position_from p 0 xs)
+pub above_by_place : {A : Type 0} (p : A → Bool) (xs : List A) (k : ℕ) → list_any p (take k xs) ≡ is_above k (position_from p 0 xs)
 above_by_place p xs k = above_from p xs 0 k k (omega arith)
 
 some_same : (i j : ℕ) → Some i ≡ Some j → i ≡ j
@@ -38,7 +38,7 @@ found_from p (x ∷ xs) j zero m e h = go (p x) h
     go true q = refl
     go false q =
         let above : nat_lt m (j + 1) ≡ true = lt-ltb m (j + 1) (omega (arith, e)) in
-        let none : nat_lt m (j + 1) ≡ false = ap (λ o. is_below (j + 1) o) (sym q) ∙ none_above p (j + 1) (j + 1) xs (omega arith) in
+        let none : nat_lt m (j + 1) ≡ false = ap (λ o. is_above (j + 1) o) (sym q) ∙ none_above p (j + 1) (j + 1) xs (omega arith) in
         cc
 found_from p (x ∷ xs) j (suc i) m e h = go (p x) h (found_from p xs (j + 1) i m (omega (arith, e)))
   where

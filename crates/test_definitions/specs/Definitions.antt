@@ -31,9 +31,9 @@ abbrev pub is_defined : Kind → Name → ModuleItem → Bool
 is_defined k n x = is_named n (defined k x)
 
 -- a place stands above this one
-abbrev pub is_below : ℕ → Option ℕ → Bool
-is_below k None = false
-is_below k (Some i) = nat_lt i k
+abbrev pub is_above : ℕ → Option ℕ → Bool
+is_above k None = false
+is_above k (Some i) = nat_lt i k
 
 -- the element in a place that was found
 abbrev pub element_at : {A : Type 0} → List A → Option ℕ → Option A

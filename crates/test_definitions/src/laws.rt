@@ -6,7 +6,7 @@ ghost use Rattle.std.specs.Option.{option_map};
 ghost use Rattle.py_syntax.specs.BlockTrees.{ModuleItem};
 ghost use Rattle.test_rules.specs.File.{factory, file_of, fixed_of, function, parameters_of};
 ghost use Rattle.test_rules.specs.Names.{Name};
-ghost use Rattle.test_definitions.specs.Definitions.{element_at, is_below, is_defined};
+ghost use Rattle.test_definitions.specs.Definitions.{element_at, is_above, is_defined};
 ghost use Rattle.test_definitions.specs.declared.item.Kind.TheVariants as kind;
 
 /// A module has a constant of a name exactly where an item defines it as one.
@@ -31,7 +31,7 @@ pub fn functions_have_parameters()
 
 /// One of the first `k` items passes a test exactly where the place of the first of all that does is below `k`.
 pub fn above_by_place()
-    ensures { (p : ModuleItem → Bool) (xs : List ModuleItem) (k : ℕ) → list_any p (take k xs) ≡ is_below k (position_from p 0 xs) }
+    ensures { (p : ModuleItem → Bool) (xs : List ModuleItem) (k : ℕ) → list_any p (take k xs) ≡ is_above k (position_from p 0 xs) }
 {}
 
 /// The first item that passes a test stands in the place that is the first.

@@ -232,9 +232,13 @@ tests_at f above _ = 0
 abbrev pub tests_among : File → List Place → ℕ
 tests_among f ps = sum_by (λ p. tests_at f (file_of p.above) p.item) ps
 
+-- how many tests a file may have
+abbrev pub test_limit : ℕ
+test_limit = case_limit
+
 -- with the tests at this item there are too many
 abbrev pub is_overfull : File → Place → Bool
-is_overfull f p = nat_lt case_limit (tests_among f (places (p.above ++ p.item ∷ [])))
+is_overfull f p = nat_lt test_limit (tests_among f (places (p.above ++ p.item ∷ [])))
 
 -- ---- NoTests
 

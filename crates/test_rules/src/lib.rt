@@ -1,7 +1,7 @@
 //! Which rule a tests file breaks first.
 //!
-//! [`FileRule`] lists the rules, and a [`Refusal`] is the line that breaks one. The definitions stand in `specs/`: what the items of a module define (`File`), what each line uses
-//! (`Uses`), which lines break which rule, and which line is the first (`Rules`).
+//! [`FileRule`] lists the rules, and a [`Refusal`] is the line that breaks one. The definitions stand in `specs/`: what the items of a
+//! module define (`File`), what each line uses (`Uses`), which lines break which rule, and which line is the first (`Rules`).
 #![tactic(auto)]
 
 mod known;

@@ -1,8 +1,8 @@
 //! What is found in a whole expression.
 //!
-//! [`check`] goes over an expression once, and says what is broken first in it, or its width and what it is in each context.
-//! [`constant`] is the value of an expression that has to be a constant, [`selects`] the selects behind a name, as
-//! targets in procedures have them too ([`fixed_selects`] those of other targets, whose indices are constants), and [`term`] what an expression is in one context.
+//! [`check`] goes over an expression once, and says what is broken first in it, or its width and what it is in each context. [`constant`]
+//! is the value of an expression that has to be a constant, [`selects`] the selects behind a name, as targets in procedures have them too
+//! ([`fixed_selects`] those of other targets, whose indices are constants), and [`term`] what an expression is in one context.
 #![tactic(auto)]
 
 mod context;

@@ -1,7 +1,8 @@
 //! Names with selects: bits, parts and words of memories.
 //!
-//! [`CheckedSelects`] are the selects behind a name whose expressions were checked, all of them, whatever the name is;
-//! [`by_itself`] makes an index of what was found in its expression, and [`fixed_index`] one of the value of a constant. [`named`] says what is found in a name with them.
+//! [`CheckedSelects`] are the selects behind a name whose expressions were checked, all of them, whatever the name is; [`by_itself`]
+//! makes an index of what was found in its expression, and [`fixed_index`] one of the value of a constant. [`named`] says what is found
+//! in a name with them.
 #![tactic(auto)]
 
 mod bounds;

@@ -1,4 +1,4 @@
--- How wide a vector, how long a memory and how large a design may be. The standard asks for at least 65,536 digits and
+-- How wide a vector and how long a memory may be, and how many signals, processes and instances a design may have. The standard asks for at least 65,536 digits and
 -- 16,777,216 words (IEEE 1364-2005, clauses 4.3.1 and 4.9); the limits here are narrower.
 use Rattle.std.specs.Prelude.{ℕ, min}
 
