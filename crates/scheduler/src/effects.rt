@@ -1,6 +1,7 @@
 //! What each thing that a task wants does.
-ghost use Rattle.std.specs.Prelude.{◌≡◌, ◌≢◌, ◌<◌, ◌∷◌, [], length, ◌≤◌, IfOk, OnErr, Some, None, IsSome, MatchOption, true};
+ghost use Rattle.std.specs.Prelude.{◌≡◌, ◌≢◌, ◌<◌, ◌∷◌, [], length, ◌≤◌, IfOk, OnErr, IsOk, Some, None, IsSome, MatchOption, true};
 ghost use Rattle.gpi.specs.Content.{Content};
+ghost use Rattle.gpi.specs.State.{is_end};
 ghost use Rattle.gpi.specs.declared.types.Key.TheVariants.{At};
 ghost use Rattle.rig_model.specs.Effect.{effect, refusal, begun, last_time};
 ghost use Rattle.rig_model.specs.Line.{log_line};
@@ -86,8 +87,10 @@ impl<'a, M: FlowMaker + Drop, W: Awaits> Engine<'a, M, W> {
         }
     }
 
-    /// The task stages a write: from the first one on the read-write phase is held. In the read-only phase (cocotb 1.8, "Triggers",
-    /// `ReadOnly`) the write ends the test, and nothing is staged or held. After `NoMemory` the same writes are staged.
+    /// The task stages a write: from the first one on the read-write phase is held. In the read-only phase no signal may be written
+    /// (cocotb 1.8, "Triggers", `ReadOnly`). That such a write ends the test, with nothing staged or held, is this project's choice
+    /// (docs/DECISIONS.md), and it takes no memory. After `NoMemory` the same writes are staged; where none is, the read-write phase may be
+    /// held all the same, until the test is ended.
     fn stage_write<K: Gpi, L: Ledger>(
         &mut self,
         kernel: &mut K,
@@ -104,6 +107,7 @@ impl<'a, M: FlowMaker + Drop, W: Awaits> Engine<'a, M, W> {
             → FitsNext M.functions W.waiting W.held task next self.new (K.content kernel.new)) }
         ensures fine { IfOk result (λ next. is_fine next ≡ true) }
         ensures staged { OnErr result (self.new.staged.items ≡ self.old.staged.items) }
+        ensures closed { is_end (K.content kernel.old).state.region ≡ true → IsOk result }
         ensures keeps { Keeps M.functions W.waiting W.held K.is_loaded K.content self.old self.new kernel.new }
     {
         if kernel.region() == Region::End {
