@@ -1,5 +1,5 @@
 //! What each thing that a task wants does.
-ghost use Rattle.std.specs.Prelude.{◌≡◌, ◌≢◌, ◌<◌, ◌∷◌, [], length, ◌≤◌, IfOk, OnErr, IsOk, Some, None, IsSome, MatchOption, true};
+ghost use Rattle.std.specs.Prelude.{◌≡◌, ◌≢◌, ℕ, ◌<◌, ◌∷◌, [], length, ◌≤◌, IfOk, OnErr, IsOk, Some, None, IsSome, MatchOption, true};
 ghost use Rattle.gpi.specs.Content.{Content};
 ghost use Rattle.gpi.specs.State.{is_end};
 ghost use Rattle.gpi.specs.declared.types.Key.TheVariants.{At};
@@ -74,6 +74,7 @@ impl<'a, M: FlowMaker + Drop, W: Awaits> Engine<'a, M, W> {
             (rig_of W.waiting self.old (K.content kernel.old)) next (rig_of W.waiting self.new (K.content kernel.new))) }
         ensures fits { IfOk result (λ next. FitsNext M.functions W.waiting W.held task next self.new (K.content kernel.new)) }
         ensures fine { IfOk result (λ next. is_fine next ≡ true) }
+        ensures staged { self.new.staged ≡ self.old.staged }
         ensures keeps { Keeps M.functions W.waiting W.held K.is_loaded K.content self.old self.new kernel.new }
     {
         match due_time(trig.form, kernel.now()) {
@@ -160,7 +161,8 @@ impl<'a, M: FlowMaker + Drop, W: Awaits> Engine<'a, M, W> {
         }
     }
 
-    /// What the task wanted is done, once the turn is taken from it.
+    /// What the task wanted is done, once the turn is taken from it. After `NoMemory` the same writes are staged. A write in the read-only
+    /// phase takes no memory.
     pub fn apply<O: Sink, K: Gpi, L: Ledger>(
         &mut self,
         alloc: Global,
@@ -182,6 +184,9 @@ impl<'a, M: FlowMaker + Drop, W: Awaits> Engine<'a, M, W> {
         ensures part { OnErr result (PutsPart O.takes O.told out.old
             (effect (setup_of M.functions self.old) task turned (rig_of W.waiting self.old (K.content kernel.old))).lines out.new) }
         ensures fits { IfOk result (λ next. FitsNext M.functions W.waiting W.held task next self.new (K.content kernel.new)) }
+        ensures staged { OnErr result (self.new.staged.items ≡ self.old.staged.items) }
+        ensures closed { (sig : SigId) (number : ℕ) → turned ≡ Turned.Stage sig number
+            → is_end (K.content kernel.old).state.region ≡ true → IsOk result }
         ensures keeps { Keeps M.functions W.waiting W.held K.is_loaded K.content self.old self.new kernel.new }
     {
         match turned {
