@@ -46,8 +46,8 @@ abbrev pub FitsNext : {M W F : Type 0} → (M → List Function) → (W → List
 FitsNext functions waiting held task (GoesOn given) e content = FitsAt (Some task) functions waiting held e content
 FitsNext functions waiting held task (Ends turn) e content = FitsAfter functions waiting held turn e content
 
--- Whatever a call of an engine answers: what the tests share stays, the simulator holds a design, and the registered keys are exactly those
--- that the waiting part names.
+-- What a turn and its parts keep, whatever they answer: what the tests share stays, the simulator holds a design, and the registered keys
+-- are exactly those that the waiting part names.
 pub record Keeps {M W F K : Type 0} (functions : M → List Function) (waiting : W → List Waiting) (held : W → List Key) (is_loaded : K → Type 0) (content : K → Content)
     (before after : Engine M W F) (kernel : K) : Type 0 where
   pub setup : setup_of functions after ≡ setup_of functions before

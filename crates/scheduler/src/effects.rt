@@ -1,6 +1,7 @@
 //! What each thing that a task wants does.
-ghost use Rattle.std.specs.Prelude.{◌≡◌, ◌≢◌, ◌<◌, ◌∷◌, [], length, ◌≤◌, IfOk, OnErr, Some, None, IsSome, MatchOption, true};
+ghost use Rattle.std.specs.Prelude.{◌≡◌, ◌≢◌, ℕ, ◌<◌, ◌∷◌, [], length, ◌≤◌, IfOk, OnErr, IsOk, Some, None, IsSome, MatchOption, true};
 ghost use Rattle.gpi.specs.Content.{Content};
+ghost use Rattle.gpi.specs.State.{is_end};
 ghost use Rattle.gpi.specs.declared.types.Key.TheVariants.{At};
 ghost use Rattle.rig_model.specs.Effect.{effect, refusal, begun, last_time};
 ghost use Rattle.rig_model.specs.Line.{log_line};
@@ -73,6 +74,7 @@ impl<'a, M: FlowMaker + Drop, W: Awaits> Engine<'a, M, W> {
             (rig_of W.waiting self.old (K.content kernel.old)) next (rig_of W.waiting self.new (K.content kernel.new))) }
         ensures fits { IfOk result (λ next. FitsNext M.functions W.waiting W.held task next self.new (K.content kernel.new)) }
         ensures fine { IfOk result (λ next. is_fine next ≡ true) }
+        ensures staged { self.new.staged ≡ self.old.staged }
         ensures keeps { Keeps M.functions W.waiting W.held K.is_loaded K.content self.old self.new kernel.new }
     {
         match due_time(trig.form, kernel.now()) {
@@ -86,8 +88,10 @@ impl<'a, M: FlowMaker + Drop, W: Awaits> Engine<'a, M, W> {
         }
     }
 
-    /// The task stages a write: from the first one on the read-write phase is held. In the read-only phase (cocotb 1.8, "Triggers",
-    /// `ReadOnly`) the write ends the test, and nothing is staged or held. After `NoMemory` the same writes are staged.
+    /// The task stages a write: from the first one on the read-write phase is held. In the read-only phase no signal may be written
+    /// (cocotb 1.8, "Triggers", `ReadOnly`). That such a write ends the test, with nothing staged or held, is this project's choice
+    /// (docs/DECISIONS.md), and it takes no memory. After `NoMemory` the same writes are staged; where none is, the read-write phase may be
+    /// held all the same, until the test is ended.
     fn stage_write<K: Gpi, L: Ledger>(
         &mut self,
         kernel: &mut K,
@@ -104,6 +108,7 @@ impl<'a, M: FlowMaker + Drop, W: Awaits> Engine<'a, M, W> {
             → FitsNext M.functions W.waiting W.held task next self.new (K.content kernel.new)) }
         ensures fine { IfOk result (λ next. is_fine next ≡ true) }
         ensures staged { OnErr result (self.new.staged.items ≡ self.old.staged.items) }
+        ensures closed { is_end (K.content kernel.old).state.region ≡ true → IsOk result }
         ensures keeps { Keeps M.functions W.waiting W.held K.is_loaded K.content self.old self.new kernel.new }
     {
         if kernel.region() == Region::End {
@@ -156,7 +161,8 @@ impl<'a, M: FlowMaker + Drop, W: Awaits> Engine<'a, M, W> {
         }
     }
 
-    /// What the task wanted is done, once the turn is taken from it.
+    /// What the task wanted is done, once the turn is taken from it. After `NoMemory` the same writes are staged. A write in the read-only
+    /// phase takes no memory.
     pub fn apply<O: Sink, K: Gpi, L: Ledger>(
         &mut self,
         alloc: Global,
@@ -178,6 +184,9 @@ impl<'a, M: FlowMaker + Drop, W: Awaits> Engine<'a, M, W> {
         ensures part { OnErr result (PutsPart O.takes O.told out.old
             (effect (setup_of M.functions self.old) task turned (rig_of W.waiting self.old (K.content kernel.old))).lines out.new) }
         ensures fits { IfOk result (λ next. FitsNext M.functions W.waiting W.held task next self.new (K.content kernel.new)) }
+        ensures staged { OnErr result (self.new.staged.items ≡ self.old.staged.items) }
+        ensures closed { (sig : SigId) (number : ℕ) → turned ≡ Turned.Stage sig number
+            → is_end (K.content kernel.old).state.region ≡ true → IsOk result }
         ensures keeps { Keeps M.functions W.waiting W.held K.is_loaded K.content self.old self.new kernel.new }
     {
         match turned {
