@@ -1,9 +1,12 @@
--- What the parts of a conditional are, and which of them is taken (IEEE 1364-2005, clause 19.4): the first whose condition
+-- What the branches of a conditional are, and which of them is taken (IEEE 1364-2005, clause 19.4): the first whose condition
 -- holds, where what stands around the conditional is taken. The laws of `laws.rt` say that the directives of `Lexing` do so.
-use Rattle.std.specs.Prelude.{ℕ, ◌+◌, Bool, true, false, not, ◌||◌, List, [], ◌∷◌, ◌++◌, length}
+-- A part is one of a text's row, as in `Row`; a branch is a directive with the parts up to the conditional's next one.
+use Rattle.std.specs.Prelude.{ℕ, ◌+◌, Bool, true, false, not, ◌||◌, List, [], ◌∷◌, ◌++◌, length, ◌⊎◌}
 use Rattle.v_lex.specs.declared.directive.Directive.TheVariants as directive
+use Rattle.v_lex.specs.declared.directive.LexRule.TheVariants as rule
 use Rattle.v_lex.specs.declared.directive.Content.{Content}
 use Rattle.v_lex.specs.declared.directive.Content.TheVariants as content
+use Rattle.v_lex.specs.Directives.{BeginsConditional}
 use Rattle.v_lex.specs.Lexing.{State, is_taken, after_content}
 use Rattle.v_lex.specs.Row.{Part}
 
@@ -46,6 +49,15 @@ Closes _ = ⊥
 abbrev pub IsPlain : Content → Type 0
 IsPlain c = (Opens c → ⊥) × (GoesOn c → ⊥) × (Closes c → ⊥)
 
+-- What a part may hold that isn't taken, where this text begins with the part: a separator, a comment or skipped bytes, a comment
+-- that isn't closed, or a directive of a conditional, which without its name may be broken. So it is no token, and no `define` or
+-- `timescale`.
+abbrev pub MayBeSkipped : Content → List ℕ → Type 0
+MayBeSkipped content.Gap text = Unit {0}
+MayBeSkipped (content.Broken rule.UnclosedText) text = Unit {0}
+MayBeSkipped (content.Directive directive.Broken) text = BeginsConditional text
+MayBeSkipped c text = Opens c ⊎ (GoesOn c ⊎ Closes c)
+
 -- The condition of a directive, with these names defined: of `ifdef X` and `elsif X` that X is defined, of `ifndef X` that it
 -- isn't; an `else` has none, so that it holds. A conditional whose name is missing has no condition that holds.
 abbrev pub holds : State → Content → Bool
@@ -63,35 +75,35 @@ pub data IsClosed : Bool → List Part → Type 0 where
   Ends : (inner : Bool) → IsClosed inner []
   Passes : (inner : Bool) (p : Part) (ps : List Part) → IsPlain p.content → IsClosed inner ps → IsClosed inner (p ∷ ps)
   Nests : (inner : Bool) (first last : Part) (inside ps : List Part) → Opens first.content → Closes last.content → IsClosed true inside → IsClosed inner ps → IsClosed inner (first ∷ inside ++ last ∷ ps)
-  Parts : (p : Part) (ps : List Part) → GoesOn p.content → IsClosed true ps → IsClosed true (p ∷ ps)
+  Branches : (p : Part) (ps : List Part) → GoesOn p.content → IsClosed true ps → IsClosed true (p ∷ ps)
 
--- one part of a conditional: its directive, and what stands in it
+-- one branch of a conditional: its directive, and what stands in it
 pub record Branch : Type 0 where
   pub directive : Part
   pub body : List Part
 
--- all parts of a text that the parts of a conditional are
+-- all parts of a text that the branches of a conditional are
 abbrev pub written : List Branch → List Part
 written [] = []
 written (b ∷ bs) = b.directive ∷ b.body ++ written bs
 
--- further parts of a conditional, up to the directive of the last
+-- further branches of a conditional, up to the directive of the last
 abbrev pub GoOn : List Branch → Part → Type 0
 GoOn [] last = GoesOn last.content
 GoOn (b ∷ bs) last = IsElsIf b.directive.content × IsClosed false b.body × GoOn bs last
 
--- a conditional up to the directive of one of its parts behind the first
+-- a conditional up to the directive of one of its branches behind the first
 abbrev pub IsConditional : Branch → List Branch → Part → Type 0
 IsConditional first more last = Opens first.directive.content × IsClosed false first.body × GoOn more last
 
--- the part whose directive this is, is taken
-abbrev pub takes : State → ℕ → Part → Bool
-takes s place p = is_taken (after_content s place p.content).conditionals
+-- the branch whose directive this is, is taken
+abbrev pub is_branch_taken : State → ℕ → Part → Bool
+is_branch_taken s place p = is_taken (after_content s place p.content).conditionals
 
--- one of these parts of a conditional is taken
+-- one of these branches of a conditional is taken
 abbrev pub takes_one : State → ℕ → List Branch → Bool
 takes_one s place [] = false
 takes_one s place (b ∷ bs) =
     let body = after_content s place b.directive.content in
     let at = place + length b.directive.bytes in
-    takes s place b.directive || takes_one (after body at b.body) (behind at b.body) bs
+    is_branch_taken s place b.directive || takes_one (after body at b.body) (behind at b.body) bs
