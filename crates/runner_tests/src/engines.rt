@@ -2,8 +2,8 @@
 ghost use Rattle.std.specs.Prelude.{◌≡◌, ◌<◌, IfOk, length, string_bytes};
 ghost use Rattle.text_forms.specs.DesignForm.{ArePorts};
 ghost use Rattle.text_forms.specs.TestsForm.{IsOneTest};
-ghost use Rattle.runner_tests.specs.Row.{characters};
-ghost use Rattle.runner_tests.specs.Engines.{first_path, turn_word};
+ghost use Rattle.runner_tests.specs.Row.{characters, part_of};
+ghost use Rattle.runner_tests.specs.Engines.{FirstTurn, ShowsEngine, ShowsFiles, first_path, turn_word};
 
 use crate::row::{Row, push_bytes, quoted};
 use crate::runs::decision;
@@ -72,6 +72,7 @@ fn turn<K: Gpi, L: Ledger>(
     requires name { blank.name ≡ L.name }
     requires parts { blank.parts ≡ L.parts }
     requires some { 0 < blank.parts }
+    ensures { IfOk result (λ turn. FirstTurn ports.now file.now turn) }
 {
     let flat = flat_of_ports(alloc, ports)?;
     kernel.load(alloc, &flat)?;
@@ -95,6 +96,7 @@ fn turn<K: Gpi, L: Ledger>(
 fn engine_of(alloc: Global, ports: &[u8], file: &TestFile) -> Result<String, NoMemory>
     requires ports { ArePorts ports.now }
     requires file { IsOneTest (length ports.now) file.now }
+    ensures { IfOk result (λ text. ShowsEngine ports.now file.now (string_bytes text)) }
 {
     let path = path_text(alloc, ports, file)?;
     let mut kernel = ListKernel::new(alloc);
@@ -104,7 +106,9 @@ fn engine_of(alloc: Global, ports: &[u8], file: &TestFile) -> Result<String, NoM
 }
 
 /// The same of a row, where its texts run; else the status of the refusal.
-pub fn engine_text(alloc: Global, row: &Row<'_>) -> Result<String, NoMemory> {
+pub fn engine_text(alloc: Global, row: &Row<'_>) -> Result<String, NoMemory>
+    ensures { IfOk result (λ text. ShowsFiles (part_of row.now 2) (part_of row.now 3) (string_bytes text)) }
+{
     match decision(alloc, row.part(2), row.part(3))? {
         Decision::Refused(own, _) => Ok(String::from_str(alloc, status_name(own))?),
         Decision::Runs(ports, file) => engine_of(alloc, &ports, &file),
