@@ -23,6 +23,7 @@ mod releases;
 mod row;
 mod runs;
 mod traces;
+mod words;
 
 use anyhow::{Result, ensure};
 use commands::{command_text, kept_text};
