@@ -16,7 +16,7 @@ use Rattle.scheduler.specs.declared.turn.Turn.TheVariants.{Went, Over, Spent, Wr
 use Rattle.text_forms.specs.DesignForm.{flat_of}
 use Rattle.command.specs.Answer.{setup_with}
 use Rattle.command.specs.Reading.{Reading, refused, runs}
-use Rattle.runner_tests.specs.Row.{characters, quoted}
+use Rattle.table_rows.specs.Shown.{in_quotes, latin}
 use Rattle.runner_tests.specs.Files.{ComesTo}
 use Rattle.runner_tests.specs.Words.{status_word}
 
@@ -58,7 +58,7 @@ pub record FirstTurn (ports : List ℕ) (file : TestFile) (turn : Turn) : Type 0
 -- what a turn on a design came to: a test that has ended shows the line of its verdict, at time 0 and under the name `t`
 abbrev pub turn_word : Flat → Turn → List ℕ
 turn_word flat Went = codes "went"
-turn_word flat (Over outcome) = quoted (verdict_line flat 0 (codes "t") outcome)
+turn_word flat (Over outcome) = in_quotes (verdict_line flat 0 (codes "t") outcome)
 turn_word flat Spent = codes "spent"
 turn_word flat WriteFault = codes "no put"
 
@@ -70,7 +70,7 @@ first_path ports = path_in (slice_get (flat_of ports).signals 0)
 pub record ShowsEngine (ports : List ℕ) (file : TestFile) (text : List ℕ) : Type 0 where
   pub turn : Turn
   pub is_first : FirstTurn ports file turn
-  pub shows : text ≡ codes "path " ++ characters (first_path ports) ++ codes ", " ++ turn_word (flat_of ports) turn
+  pub shows : text ≡ codes "path " ++ latin (first_path ports) ++ codes ", " ++ turn_word (flat_of ports) turn
 
 -- A refusal shows its status.
 abbrev pub ShowsReading : Reading → List ℕ → Type 0

@@ -4,11 +4,11 @@ use Rattle.std.specs.Str.{bytes_eq}
 use Rattle.port_io.specs.Memory.{Files}
 use Rattle.port_io.specs.Steps.{StoreGives, StoreMisses}
 use Rattle.command.specs.Reading.{Reading, ReadsBoth}
-use Rattle.runner_tests.specs.Row.{unescaped}
+use Rattle.table_rows.specs.Rows.{written}
 
 -- a part is the text of a file, or `-` where there is none
 abbrev pub with_file : List ℕ → List ℕ → Files → Files
-with_file name part store = if bytes_eq part (codes "-") then store else record store { files = record { name = name; bytes = unescaped part } ∷ store.files }
+with_file name part store = if bytes_eq part (codes "-") then store else record store { files = record { name = name; bytes = written part } ∷ store.files }
 
 abbrev pub no_files : Files
 no_files = record { files = []; calls = 0; failing = []; faults = 0 }

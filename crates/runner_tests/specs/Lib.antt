@@ -1,4 +1,3 @@
-pub mod Row
 pub mod Files
 pub mod Lines
 pub mod Words

@@ -10,7 +10,7 @@ use Rattle.regression.specs.Runs.{RunsTo}
 use Rattle.regression.specs.declared.status.Status.{Status}
 use Rattle.text_forms.specs.DesignForm.{flat_of}
 use Rattle.command.specs.Reading.{Reading, refused, runs}
-use Rattle.runner_tests.specs.Row.{quoted}
+use Rattle.table_rows.specs.Shown.{in_quotes}
 use Rattle.runner_tests.specs.Files.{ComesTo}
 use Rattle.runner_tests.specs.Words.{status_word}
 use Rattle.runner_tests.specs.Engines.{no_lines, told}
@@ -42,4 +42,4 @@ pub record ShowsTrace (design tests text : List ℕ) : Type 0 where
   pub own : Status
   pub out : Lines
   pub traces : TracesFiles design tests own no_lines out
-  pub shows : text ≡ status_word own ++ codes " " ++ quoted out.bytes
+  pub shows : text ≡ status_word own ++ codes " " ++ in_quotes out.bytes

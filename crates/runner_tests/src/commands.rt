@@ -2,7 +2,6 @@
 ghost use Rattle.std.specs.Prelude.{◌≡◌, ◌<◌, IfOk, OnOk};
 ghost use Rattle.runner_tests.specs.Files.{store_with, with_file};
 
-use crate::row::{Row, push_bytes, quoted, unescaped};
 use crate::words::counts_text;
 use command::cocorun;
 use list_kernel::ListKernel;
@@ -12,6 +11,7 @@ use rig_model::Steps;
 use std::alloc::Global;
 use std::marker::Brand;
 use std::sync::ledger::{Blank, Ledger};
+use table_rows::{Row, push_bytes, quoted, text_of};
 
 /// Adds the file of that name whose text a part is, unless that is `-`. Only want of memory is an error, here and below.
 fn add_file(alloc: Global, store: &mut MemStore, name: &str, part: &[u8]) -> Result<(), NoMemory>
@@ -20,7 +20,7 @@ fn add_file(alloc: Global, store: &mut MemStore, name: &str, part: &[u8]) -> Res
     if part == b"-".as_slice() {
         return Ok(());
     }
-    store.add(name, &unescaped(alloc, part)?)
+    store.add(name, &text_of(alloc, part)?)
 }
 
 /// A store with the design and the tests, each where there is one.

@@ -2,10 +2,10 @@
 ghost use Rattle.std.specs.Prelude.{◌≡◌, ◌<◌, IfOk, length, string_bytes};
 ghost use Rattle.text_forms.specs.DesignForm.{ArePorts};
 ghost use Rattle.text_forms.specs.TestsForm.{IsOneTest};
-ghost use Rattle.runner_tests.specs.Row.{characters, part_of};
+ghost use Rattle.table_rows.specs.Rows.{part_at};
+ghost use Rattle.table_rows.specs.Shown.{latin};
 ghost use Rattle.runner_tests.specs.Engines.{FirstTurn, ShowsEngine, ShowsFiles, first_path, turn_word};
 
-use crate::row::{Row, push_bytes, quoted};
 use crate::runs::decision;
 use crate::words::status_name;
 use command::Decision;
@@ -18,11 +18,12 @@ use scheduler::{Engine, Turn, verdict_text};
 use std::alloc::Global;
 use std::marker::Brand;
 use std::sync::ledger::{Blank, Ledger};
+use table_rows::{Row, push_bytes, quoted};
 use text_forms::flat_of_ports;
 
 /// Bytes as characters. Only want of memory is an error, here and below.
 fn text_of(alloc: Global, bytes: &[u8]) -> Result<String, NoMemory>
-    ensures { IfOk result (λ text. string_bytes text ≡ characters bytes.now) }
+    ensures { IfOk result (λ text. string_bytes text ≡ latin bytes.now) }
 {
     let mut text = String::new(alloc);
     push_bytes(&mut text, bytes)?;
@@ -33,7 +34,7 @@ fn text_of(alloc: Global, bytes: &[u8]) -> Result<String, NoMemory>
 #[tactic(auto, using(crate::proofs::FirstPath::path_none, crate::proofs::FirstPath::path_some))]
 fn path_text(alloc: Global, ports: &[u8], file: &TestFile) -> Result<String, NoMemory>
     requires { ArePorts ports.now }
-    ensures { IfOk result (λ text. string_bytes text ≡ characters (first_path ports.now)) }
+    ensures { IfOk result (λ text. string_bytes text ≡ latin (first_path ports.now)) }
 {
     let flat = flat_of_ports(alloc, ports)?;
     let maker = TreeMaker::new(alloc, file)?;
@@ -108,7 +109,7 @@ fn engine_of(alloc: Global, ports: &[u8], file: &TestFile) -> Result<String, NoM
 
 /// The same of a row, where its texts run; else the status of the refusal.
 pub fn engine_text(alloc: Global, row: &Row<'_>) -> Result<String, NoMemory>
-    ensures { IfOk result (λ text. ShowsFiles (part_of row.now 2) (part_of row.now 3) (string_bytes text)) }
+    ensures { IfOk result (λ text. ShowsFiles (part_at 2 row.now) (part_at 3 row.now) (string_bytes text)) }
 {
     match decision(alloc, row.part(2), row.part(3))? {
         Decision::Refused(own, _) => Ok(String::from_str(alloc, status_name(own))?),

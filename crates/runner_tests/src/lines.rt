@@ -3,10 +3,10 @@ ghost use Rattle.std.specs.Prelude.{◌≡◌, IfOk, string_bytes};
 ghost use Rattle.rig_model.specs.Line.{report_line, sig_line};
 ghost use Rattle.rig_model.specs.declared.task.Outcome.TheVariants.{Raised};
 ghost use Rattle.py_syntax.specs.declared.fault_kind.FaultKind.TheVariants.{ValueError};
-ghost use Rattle.runner_tests.specs.Row.{part_of, quoted};
+ghost use Rattle.table_rows.specs.Rows.{part_at};
+ghost use Rattle.table_rows.specs.Shown.{in_quotes};
 ghost use Rattle.runner_tests.specs.Lines.{line_of, number_of, some_digits, told_outcome};
 
-use crate::row::{Row, quoted};
 use four_value::{Bits, Digit};
 use gpi::SigId;
 use port_io::{Name, NoMemory};
@@ -14,11 +14,12 @@ use py_syntax::FaultKind;
 use rig_model::{Fault, Outcome};
 use scheduler::{Tally, report_text, sig_text, verdict_text};
 use std::alloc::Global;
+use table_rows::{Row, quoted};
 use text_forms::flat_of_ports;
 
 /// The line of a change to `10x0`. Only want of memory is an error, here and below.
 fn change_line(alloc: Global, row: &Row<'_>) -> Result<Vec<u8>, NoMemory>
-    ensures { IfOk result (λ line. line.items ≡ sig_line (number_of row.now 2) (part_of row.now 3) some_digits) }
+    ensures { IfOk result (λ line. line.items ≡ sig_line (number_of row.now 2) (part_at 3 row.now) some_digits) }
 {
     let value = Bits::from_number(4, 8).with_digit(1, Digit::X);
     sig_text(alloc, row.number(2), row.part(3), value)
@@ -34,7 +35,7 @@ fn outcome_line(alloc: Global, row: &Row<'_>, outcome: &Outcome) -> Result<Vec<u
 
 /// The line of a ValueError that says something.
 fn fault_line(alloc: Global, row: &Row<'_>) -> Result<Vec<u8>, NoMemory>
-    ensures { IfOk result (λ line. line.items ≡ told_outcome row.now (Raised (record { kind = ValueError; text = part_of row.now 4 }))) }
+    ensures { IfOk result (λ line. line.items ≡ told_outcome row.now (Raised (record { kind = ValueError; text = part_at 4 row.now }))) }
 {
     let outcome = Outcome::Raised(Fault {
         kind: FaultKind::ValueError,
@@ -78,7 +79,7 @@ fn line_of(alloc: Global, row: &Row<'_>) -> Result<Vec<u8>, NoMemory>
 
 /// The same, as it is shown.
 pub fn line_text(alloc: Global, row: &Row<'_>) -> Result<String, NoMemory>
-    ensures { IfOk result (λ text. string_bytes text ≡ quoted (line_of row.now)) }
+    ensures { IfOk result (λ text. string_bytes text ≡ in_quotes (line_of row.now)) }
 {
     let line = line_of(alloc, row)?;
     Ok(quoted(alloc, &line)?)

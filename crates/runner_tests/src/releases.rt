@@ -2,7 +2,6 @@
 ghost use Rattle.std.specs.Prelude.{◌≡◌, ◌<◌, length};
 ghost use Rattle.text_forms.specs.DesignForm.{ArePorts};
 
-use crate::row::Row;
 use crate::runs::decision;
 use crate::words::{counts_text, status_name};
 use command::Decision;
@@ -14,6 +13,7 @@ use rig_model::{Awaits, Steps};
 use std::alloc::Global;
 use std::marker::Brand;
 use std::sync::ledger::{Blank, Ledger};
+use table_rows::Row;
 use text_forms::flat_of_ports;
 
 /// The read-write phase is held at a simulator of the design, and let go before it fires. Whether the simulator has nothing to do then.

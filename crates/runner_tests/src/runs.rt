@@ -8,7 +8,6 @@ ghost use Rattle.runner_tests.specs.Engines.{told};
 ghost use Rattle.runner_tests.specs.Files.{ComesTo};
 
 use crate::commands::store_of;
-use crate::row::{Row, quoted};
 use crate::words::{counts_text, status_name};
 use command::{Decision, answer, decide};
 use gpi::Gpi;
@@ -19,6 +18,7 @@ use rig_model::Steps;
 use std::alloc::Global;
 use std::marker::Brand;
 use std::sync::ledger::{Blank, Ledger};
+use table_rows::{Row, quoted};
 
 /// What a design and tests come to. Only want of memory is an error.
 pub fn decision(alloc: Global, design: &[u8], tests: &[u8]) -> Result<Decision, NoMemory>

@@ -2,10 +2,9 @@
 ghost use Rattle.std.specs.Prelude.{◌≡◌, ◌<◌, IfOk, length, string_bytes};
 ghost use Rattle.text_forms.specs.DesignForm.{ArePorts};
 ghost use Rattle.text_forms.specs.TestsForm.{IsOneTest};
-ghost use Rattle.runner_tests.specs.Row.{part_of};
+ghost use Rattle.table_rows.specs.Rows.{part_at};
 ghost use Rattle.runner_tests.specs.Runs.{ShowsTrace, Traces, TracesFiles};
 
-use crate::row::{Row, quoted};
 use crate::runs::decision;
 use crate::words::status_name;
 use command::Decision;
@@ -19,6 +18,7 @@ use scheduler::Engine;
 use std::alloc::Global;
 use std::marker::Brand;
 use std::sync::ledger::{Blank, Ledger};
+use table_rows::{Row, quoted};
 use text_forms::flat_of_ports;
 
 /// The status of a run whose told changes are written.
@@ -48,7 +48,7 @@ fn trace<K: Gpi, L: Ledger>(
 
 /// The same of a row, where its texts run; else the status of the refusal.
 fn traced(alloc: Global, row: &Row<'_>, sink: &mut MemSink) -> Result<Status, NoMemory>
-    ensures { IfOk result (λ status. TracesFiles (part_of row.now 2) (part_of row.now 3) status sink.old sink.new) }
+    ensures { IfOk result (λ status. TracesFiles (part_at 2 row.now) (part_at 3 row.now) status sink.old sink.new) }
 {
     match decision(alloc, row.part(2), row.part(3))? {
         Decision::Refused(own, _) => Ok(own),
@@ -61,7 +61,7 @@ fn traced(alloc: Global, row: &Row<'_>, sink: &mut MemSink) -> Result<Status, No
 
 /// The status of such a run, and what it put.
 pub fn trace_text(alloc: Global, row: &Row<'_>) -> Result<String, NoMemory>
-    ensures { IfOk result (λ text. ShowsTrace (part_of row.now 2) (part_of row.now 3) (string_bytes text)) }
+    ensures { IfOk result (λ text. ShowsTrace (part_at 2 row.now) (part_at 3 row.now) (string_bytes text)) }
 {
     let mut sink = MemSink::new(alloc);
     let status = traced(alloc, row, &mut sink)?;

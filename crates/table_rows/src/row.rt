@@ -92,8 +92,8 @@ fn first_of(part: &[u8]) -> Option<(u8, &[u8])>
     }
 }
 
-/// The text that a part says.
-fn text_of(alloc: Global, part: &[u8]) -> Result<Vec<u8>, AllocError>
+/// The text that a part says, in which `\` stands before two hexadecimal digits of a byte. Only want of memory is an error.
+pub fn text_of(alloc: Global, part: &[u8]) -> Result<Vec<u8>, AllocError>
     ensures { IfOk result (λ text. text.items ≡ written part.now) }
 {
     let mut text = Vec::new(alloc);
@@ -105,9 +105,9 @@ fn text_of(alloc: Global, part: &[u8]) -> Result<Vec<u8>, AllocError>
     Ok(text)
 }
 
-/// The number that decimal digits say.
+/// The number that decimal digits say, the largest of 64 bits where it is beyond.
 #[tactic(auto, using(crate::proofs::Numbers::read_on))]
-fn number_of(part: &[u8]) -> u64
+pub fn number_of(part: &[u8]) -> u64
     ensures { result ≡ decimal part.now }
 {
     let mut number = 0u64;
