@@ -1,5 +1,4 @@
 pub mod Names
 pub mod Known
 pub mod RowLaws
-pub mod TabLaws
 pub mod WholeLaws

@@ -1,6 +1,5 @@
 -- What is answered for a row.
-use Rattle.std.specs.Prelude.{◌≡◌, ℕ, ◌==◌, ◌<◌, ◌≤◌, Bool, List, [], ◌∷◌, ◌++◌, Option, None, Some, codes, length}
-use Rattle.std.specs.List.{before_first, after_first}
+use Rattle.std.specs.Prelude.{◌≡◌, ℕ, ◌<◌, ◌≤◌, List, [], ◌∷◌, ◌++◌, Option, None, Some, codes, length}
 use Rattle.py_syntax.specs.ExpressionTrees.{Tree, height}
 use Rattle.py_syntax.specs.ExpressionSpells.{Spells}
 use Rattle.py_syntax.specs.Line.{Line}
@@ -13,22 +12,10 @@ use Rattle.py_syntax.specs.declared.token.Token.{Token}
 use Rattle.py_expression.specs.Shown.{height_limit}
 use Rattle.py_attribute.specs.Outcome.{Scope}
 use Rattle.py_evaluate.specs.Eval.{eval}
+use Rattle.table_rows.specs.Rows.{front_of, behind}
 use Rattle.evaluate_tests.specs.Printed.{answer_text}
 use Rattle.evaluate_tests.specs.Scene.{seen}
 use Rattle.evaluate_tests.specs.Variables.{task_names}
-
--- ---- the parts of a row
-
-abbrev pub is_tab : ℕ → Bool
-is_tab byte = byte == 9
-
--- the rule that a row shows: what stands before its first tab, or all of it
-abbrev pub rule_of : List ℕ → List ℕ
-rule_of row = before_first is_tab row
-
--- the expression: what stands behind that tab, or nothing
-abbrev pub text_of : List ℕ → List ℕ
-text_of row = after_first is_tab row
 
 -- ---- what an expression gives
 
@@ -79,6 +66,6 @@ pub record Replies (text reply : List ℕ) : Type 0 where
   pub short : length text ≤ text_limit → TextGives text reply
   pub long : text_limit < length text → reply ≡ []
 
--- the rule, and behind `: ` the reply to the text
+-- the rule, which is what stands before the first tab of the row, and behind `: ` the reply to what stands behind that tab
 abbrev pub RowGives : List ℕ → List ℕ → Type 0
-RowGives row answer = (reply : List ℕ) × Replies (text_of row) reply × (answer ≡ rule_of row ++ (codes ": " ++ reply))
+RowGives row answer = (reply : List ℕ) × Replies (behind 9 row) reply × (answer ≡ front_of 9 row ++ (codes ": " ++ reply))

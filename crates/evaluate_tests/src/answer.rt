@@ -1,9 +1,9 @@
 //! The answer for a row.
-ghost use Rattle.std.specs.Prelude.{◌≡◌, IfOk, Some, None, option_map, nat_le, if◌then◌else◌, position};
+ghost use Rattle.std.specs.Prelude.{◌≡◌, IfOk, Some, None, option_map, nat_le, if◌then◌else◌};
 ghost use Rattle.py_syntax.specs.ExpressionTrees.{view};
 ghost use Rattle.py_expression.specs.Kept.{measured};
 ghost use Rattle.py_expression.specs.Shown.{height_limit};
-ghost use Rattle.evaluate_tests.specs.Row.{is_tab, rule_of, text_of, tree_text, IsReading, TokensGive, TextGives, Replies, RowGives};
+ghost use Rattle.evaluate_tests.specs.Row.{tree_text, IsReading, TokensGive, TextGives, Replies, RowGives};
 
 use crate::scene::Scene;
 use crate::shown::value_text;
@@ -16,30 +16,13 @@ use py_phrase::ReadError;
 use py_syntax::{Expression, Token};
 use py_value::TaskNo;
 use std::alloc::Global;
+use table_rows::cut;
 
 /// How many bytes a text may have of which something is told.
 const TEXT_LIMIT: usize = 1048576;
 
 /// The greatest height of an expression.
 const HEIGHT_LIMIT: usize = 64;
-
-/// The place of the first tab; None exactly where there is none.
-fn tab_in(line: &[u8]) -> Option<usize>
-    ensures { result ≡ position is_tab line.now }
-{
-    line.iter().position(|byte| *byte == b'\t')
-}
-
-/// What stands before the first tab, and behind it: the whole line and nothing where it has no tab.
-fn cut(line: &[u8]) -> (&[u8], &[u8])
-    ensures rule { result.0.now ≡ rule_of line.now }
-    ensures text { result.1.now ≡ text_of line.now }
-{
-    match tab_in(line) {
-        Some(at) => (&line[..at], &line[at + 1..]),
-        None => (line, &[]),
-    }
-}
 
 /// The value of an expression or the kind of its fault, where a task evaluates it that has made no trigger yet. Only want of memory is an
 /// error.
@@ -106,7 +89,7 @@ fn reply(alloc: Global, text: &[u8]) -> Result<Vec<u8>, NoMemory>
 pub fn answer(alloc: Global, line: &[u8]) -> Result<Vec<u8>, NoMemory>
     ensures { IfOk result (λ text. RowGives line.now text.items) }
 {
-    let (rule, text) = cut(line);
+    let (rule, text) = cut(line, b'\t');
     let reply = reply(alloc, text)?;
     let mut out = rule.to_vec(alloc)?;
     out.extend_from_slice(b": ")?;

@@ -13,7 +13,8 @@ use Rattle.py_parse.specs.declared.fault.PyFault.{PyFault}
 use Rattle.py_parse.specs.declared.fault.PyFault.TheVariants as py_fault
 use Rattle.python_tests.specs.declared.answer.Asked.{Asked}
 use Rattle.python_tests.specs.declared.answer.Asked.TheVariants as asked
-use Rattle.python_tests.specs.Row.{behind, front, repeated, unescaped}
+use Rattle.table_rows.specs.Rows.{behind, front_of, written}
+use Rattle.python_tests.specs.Row.{repeated}
 use Rattle.python_tests.specs.Shown.{lines_text}
 
 -- what a word asks
@@ -25,9 +26,9 @@ asked_by word =
 
 -- the text that is asked about
 abbrev pub source_of : Asked → List ℕ → List ℕ
-source_of asked.Lines part = unescaped part
-source_of asked.Tree part = unescaped part
-source_of asked.Read part = unescaped part
+source_of asked.Lines part = written part
+source_of asked.Tree part = written part
+source_of asked.Read part = written part
 source_of asked.Repeat part = repeated part
 
 -- a fault by its name, with its line in brackets
@@ -95,8 +96,8 @@ pub record ShowsSource (a : Asked) (source text : List ℕ) : Type 0 where
   pub short : length source ≤ most_bytes → ShowsText a source text
   pub long : most_bytes < length source → text ≡ codes "too long"
 
--- The row's rule, and what is shown of its text.
+-- The row's rule, and what is shown of its text; tabs stand between what is asked, the rule and the text.
 pub record ShowsRow (line out : List ℕ) : Type 0 where
   pub shown : List ℕ
-  pub is_shown : ShowsSource (asked_by (front line)) (source_of (asked_by (front line)) (behind (behind line))) shown
-  pub is_out : out ≡ front (behind line) ++ codes ": " ++ shown
+  pub is_shown : ShowsSource (asked_by (front_of 9 line)) (source_of (asked_by (front_of 9 line)) (behind 9 (behind 9 line))) shown
+  pub is_out : out ≡ front_of 9 (behind 9 line) ++ codes ": " ++ shown

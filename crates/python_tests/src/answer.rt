@@ -3,12 +3,13 @@ ghost use Rattle.std.specs.Prelude.{◌≡◌, IfOk};
 ghost use Rattle.python_tests.specs.Answers.{ShowsLines, ShowsModule, ShowsParsed, ShowsRow, ShowsSource, asked_by, at_line, line_fault_text, py_fault_text, source_of};
 
 use crate::lines::lines_text;
-use crate::row::{cut, repeated, text_of};
+use crate::row::repeated;
 use py_lex::{LineFault, logical_lines};
 use py_parse::{PyFault, parse};
 use py_print::module_text;
 use py_syntax::{Lines, Module};
 use std::alloc::{AllocError, Global};
+use table_rows::{cut, text_of};
 
 /// What is asked.
 #[derive(Clone, Copy, Debug, PartialEq, Eq)]
@@ -127,8 +128,8 @@ fn text_in(alloc: Global, asked: Asked, part: &[u8]) -> Result<Vec<u8>, AllocErr
 pub fn answer(alloc: Global, line: &[u8]) -> Result<Vec<u8>, AllocError>
     ensures { IfOk result (λ out. ShowsRow line.now out.items) }
 {
-    let (word, row) = cut(line);
-    let (rule, part) = cut(row);
+    let (word, row) = cut(line, b'\t');
+    let (rule, part) = cut(row, b'\t');
     let asked = asked_by(word);
     let text = text_in(alloc, asked, part)?;
     let mut out = rule.to_vec(alloc)?;

@@ -1,9 +1,9 @@
 //! The command with its words, over files and lines in memory.
-ghost use Rattle.std.specs.Prelude.{◌≡◌, ◌<◌};
+ghost use Rattle.std.specs.Prelude.{◌≡◌, ◌<◌, IfOk, OnOk};
+ghost use Rattle.runner_tests.specs.Files.{store_with, with_file};
 
-use crate::row::{Row, push_bytes, quoted};
+use crate::words::counts_text;
 use command::cocorun;
-use gpi::Gpi;
 use list_kernel::ListKernel;
 use port_io::{MemSink, MemStore, NoMemory};
 use regression::Status;
@@ -11,26 +11,25 @@ use rig_model::Steps;
 use std::alloc::Global;
 use std::marker::Brand;
 use std::sync::ledger::{Blank, Ledger};
+use table_rows::{Row, push_bytes, quoted, text_of};
 
-/// Adds the file of that name, whose text is part `i`, unless that is `-`.
-fn add_file(
-    alloc: Global,
-    store: &mut MemStore,
-    name: &str,
-    row: &Row<'_>,
-    i: usize,
-) -> Result<(), NoMemory> {
-    match row.part(i) {
-        b"-" => Ok(()),
-        _ => store.add(name, &row.text(alloc, i)?),
+/// Adds the file of that name whose text a part is, unless that is `-`. Only want of memory is an error, here and below.
+fn add_file(alloc: Global, store: &mut MemStore, name: &str, part: &[u8]) -> Result<(), NoMemory>
+    ensures { OnOk result (store.new ≡ with_file name.now part.now store.old) }
+{
+    if part == b"-".as_slice() {
+        return Ok(());
     }
+    store.add(name, &text_of(alloc, part)?)
 }
 
-/// A store with the design, which is part `i`, and the tests, which are the part behind it.
-pub fn store_of(alloc: Global, row: &Row<'_>, i: usize) -> Result<MemStore, NoMemory> {
+/// A store with the design and the tests, each where there is one.
+pub fn store_of(alloc: Global, design: &[u8], tests: &[u8]) -> Result<MemStore, NoMemory>
+    ensures { IfOk result (λ store. store ≡ store_with design.now tests.now) }
+{
     let mut store = MemStore::new(alloc);
-    add_file(alloc, &mut store, "d.v", row, i)?;
-    add_file(alloc, &mut store, "t.py", row, i.saturating_add(1))?;
+    add_file(alloc, &mut store, "d.v", design)?;
+    add_file(alloc, &mut store, "t.py", tests)?;
     Ok(store)
 }
 
@@ -71,7 +70,7 @@ fn outcome(
     kernel: &mut ListKernel,
 ) -> Result<(Status, MemSink), NoMemory> {
     let words = words_of(alloc, row)?;
-    let mut store = store_of(alloc, row, 3)?;
+    let mut store = store_of(alloc, row.part(3), row.part(4))?;
     let mut sink = MemSink::new(alloc);
     store.fail_at(row.number(5))?;
     sink.fail_at(row.number(6))?;
@@ -85,15 +84,6 @@ pub fn command_text(alloc: Global, row: &Row<'_>) -> Result<String, NoMemory> {
     let (status, sink) = outcome(alloc, row, &mut kernel)?;
     let lines = quoted(alloc, sink.bytes())?;
     Ok(format!(in alloc; "{status:?} {lines}")?)
-}
-
-/// How many keys a simulator registered, removed and fired since it was loaded.
-pub fn counts_text<K: Gpi>(alloc: Global, kernel: &K) -> Result<String, NoMemory> {
-    let counts = kernel.counts();
-    Ok(format!(in alloc;
-        "primed={} removed={} fired={}",
-        counts.primed, counts.removed, counts.fired
-    )?)
 }
 
 /// The same on a simulator that other commands had before, and its counts.

@@ -1,10 +1,13 @@
 //! An engine, and the first turn of a test.
-ghost use Rattle.std.specs.Prelude.{◌≡◌, ◌<◌, length};
+ghost use Rattle.std.specs.Prelude.{◌≡◌, ◌<◌, IfOk, length, string_bytes};
 ghost use Rattle.text_forms.specs.DesignForm.{ArePorts};
 ghost use Rattle.text_forms.specs.TestsForm.{IsOneTest};
+ghost use Rattle.table_rows.specs.Rows.{part_at};
+ghost use Rattle.table_rows.specs.Shown.{latin};
+ghost use Rattle.runner_tests.specs.Engines.{FirstTurn, ShowsEngine, ShowsFiles, first_path, turn_word};
 
-use crate::row::{Row, push_bytes, quoted};
 use crate::runs::decision;
+use crate::words::status_name;
 use command::Decision;
 use gpi::{Flat, Gpi, SigId};
 use list_kernel::ListKernel;
@@ -15,32 +18,45 @@ use scheduler::{Engine, Turn, verdict_text};
 use std::alloc::Global;
 use std::marker::Brand;
 use std::sync::ledger::{Blank, Ledger};
+use table_rows::{Row, push_bytes, quoted};
 use text_forms::flat_of_ports;
 
-/// The path of the first signal, as an engine tells it.
+/// Bytes as characters. Only want of memory is an error, here and below.
+fn text_of(alloc: Global, bytes: &[u8]) -> Result<String, NoMemory>
+    ensures { IfOk result (λ text. string_bytes text ≡ latin bytes.now) }
+{
+    let mut text = String::new(alloc);
+    push_bytes(&mut text, bytes)?;
+    Ok(text)
+}
+
+/// The path of the first signal, as an engine tells it; an empty one where there is none.
+#[tactic(auto, using(crate::proofs::FirstPath::path_none, crate::proofs::FirstPath::path_some))]
 fn path_text(alloc: Global, ports: &[u8], file: &TestFile) -> Result<String, NoMemory>
     requires { ArePorts ports.now }
+    ensures { IfOk result (λ text. string_bytes text ≡ latin (first_path ports.now)) }
 {
     let flat = flat_of_ports(alloc, ports)?;
     let maker = TreeMaker::new(alloc, file)?;
-    let mut path = String::new(alloc);
-    if flat.signals.len() > 0 {
-        let engine = Engine::new(alloc, maker, WaitList::new(alloc), &flat, false)?;
-        push_bytes(&mut path, engine.path(SigId(0)).bytes())?;
+    if flat.signals.len() == 0 {
+        return Ok(String::new(alloc));
     }
-    Ok(path)
+    let engine = Engine::new(alloc, maker, WaitList::new(alloc), &flat, false)?;
+    text_of(alloc, engine.path(SigId(0)).bytes())
 }
 
-/// What a turn came to.
-fn turn_text(alloc: Global, turn: &Turn, flat: &Flat) -> Result<String, NoMemory> {
+/// What a turn on a design came to.
+fn turn_text(alloc: Global, turn: &Turn, flat: &Flat) -> Result<String, NoMemory>
+    ensures { IfOk result (λ text. string_bytes text ≡ turn_word flat.now turn.now) }
+{
     match turn {
-        Turn::Went => Ok(format!(in alloc; "went")?),
+        Turn::Went => Ok(String::from_str(alloc, "went")?),
         Turn::Over(outcome) => {
             let line = verdict_text(alloc, 0, b"t", outcome, flat)?;
             Ok(quoted(alloc, &line)?)
         }
-        Turn::Spent => Ok(format!(in alloc; "spent")?),
-        Turn::WriteFault => Ok(format!(in alloc; "no put")?),
+        Turn::Spent => Ok(String::from_str(alloc, "spent")?),
+        Turn::WriteFault => Ok(String::from_str(alloc, "no put")?),
     }
 }
 
@@ -57,6 +73,7 @@ fn turn<K: Gpi, L: Ledger>(
     requires name { blank.name ≡ L.name }
     requires parts { blank.parts ≡ L.parts }
     requires some { 0 < blank.parts }
+    ensures { IfOk result (λ turn. FirstTurn ports.now file.now turn) }
 {
     let flat = flat_of_ports(alloc, ports)?;
     kernel.load(alloc, &flat)?;
@@ -70,7 +87,9 @@ fn turn<K: Gpi, L: Ledger>(
             let mut fuel = 3;
             engine.turn(alloc, kernel, &mut sink, &mut fuel, &mut steps)
         }
-        other => Ok(other),
+        Turn::Over(outcome) => Ok(Turn::Over(outcome)),
+        Turn::Spent => Ok(Turn::Spent),
+        Turn::WriteFault => Ok(Turn::WriteFault),
     }
 }
 
@@ -78,6 +97,7 @@ fn turn<K: Gpi, L: Ledger>(
 fn engine_of(alloc: Global, ports: &[u8], file: &TestFile) -> Result<String, NoMemory>
     requires ports { ArePorts ports.now }
     requires file { IsOneTest (length ports.now) file.now }
+    ensures { IfOk result (λ text. ShowsEngine ports.now file.now (string_bytes text)) }
 {
     let path = path_text(alloc, ports, file)?;
     let mut kernel = ListKernel::new(alloc);
@@ -87,10 +107,12 @@ fn engine_of(alloc: Global, ports: &[u8], file: &TestFile) -> Result<String, NoM
     Ok(format!(in alloc; "path {path}, {turn}")?)
 }
 
-/// The same of a row, where its texts run.
-pub fn engine_text(alloc: Global, row: &Row<'_>) -> Result<String, NoMemory> {
-    match decision(alloc, row, 2)? {
-        Decision::Refused(own, _) => Ok(format!(in alloc; "{own:?}")?),
+/// The same of a row, where its texts run; else the status of the refusal.
+pub fn engine_text(alloc: Global, row: &Row<'_>) -> Result<String, NoMemory>
+    ensures { IfOk result (λ text. ShowsFiles (part_at 2 row.now) (part_at 3 row.now) (string_bytes text)) }
+{
+    match decision(alloc, row.part(2), row.part(3))? {
+        Decision::Refused(own, _) => Ok(String::from_str(alloc, status_name(own))?),
         Decision::Runs(ports, file) => engine_of(alloc, &ports, &file),
     }
 }

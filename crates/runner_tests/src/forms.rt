@@ -1,15 +1,20 @@
 //! What texts are read as.
+ghost use Rattle.std.specs.Prelude.{IfOk, string_bytes};
 ghost use Rattle.text_forms.specs.DesignForm.{ArePorts};
+ghost use Rattle.runner_tests.specs.Designs.{ShowsDesign};
+ghost use Rattle.table_rows.specs.Rows.{part_at, written};
 
-use crate::row::{Row, push_bytes};
 use gpi::Signal;
 use port_io::NoMemory;
 use rig_model::{Statement, TestFile};
 use std::alloc::{AllocError, Global};
+use table_rows::{Row, push_bytes};
 use text_forms::{flat_of_ports, read_design, read_tests};
 
-/// The letters of a design's ports.
-pub fn design_text(alloc: Global, row: &Row<'_>) -> Result<String, NoMemory> {
+/// The letters of a design's ports. Only want of memory is an error, here and below.
+pub fn design_text(alloc: Global, row: &Row<'_>) -> Result<String, NoMemory>
+    ensures { IfOk result (λ text. ShowsDesign (written (part_at 2 row.now)) (string_bytes text)) }
+{
     let text = row.text(alloc, 2)?;
     match read_design(alloc, &text)? {
         Some(ports) => {

@@ -1,6 +1,7 @@
 //! Answers rows of commands, runs and texts: its standard input has one row in each line, and it prints a line for each.
 //!
-//! A row is parted by tabs: what is asked, the rule that the row shows, and what is given (`row.rt` tells the escapes in it).
+//! A row is parted by tabs: what is asked, the rule that the row shows, and what is given, in whose texts `\` stands before two
+//! hexadecimal digits of a byte.
 //! Asked is one of:
 //!
 //! - `command`: the command with its words, the design `d.v` and the tests `t.py` (`-` where there is no such file), the number of
@@ -20,9 +21,9 @@ mod engines;
 mod forms;
 mod lines;
 mod releases;
-mod row;
 mod runs;
 mod traces;
+mod words;
 
 use anyhow::{Result, ensure};
 use commands::{command_text, kept_text};
@@ -32,10 +33,10 @@ use lines::line_text;
 use list_kernel::ListKernel;
 use port_io::NoMemory;
 use releases::release_text;
-use row::{Row, push_bytes};
 use runs::run_text;
 use std::alloc::Global;
 use std::io::Read;
+use table_rows::{Row, push_bytes};
 use traces::trace_text;
 
 /// What a row comes to. The kernel is that of the `kept` rows.
@@ -56,7 +57,7 @@ fn shown(alloc: Global, row: &Row<'_>, kernel: &mut ListKernel) -> Result<String
 
 /// The answer for a row: its rule, and what it comes to.
 fn answer(alloc: Global, line: &[u8], kernel: &mut ListKernel) -> Result<String, NoMemory> {
-    let row = Row::of(alloc, line)?;
+    let row = Row::of(line);
     let mut out = String::new(alloc);
     push_bytes(&mut out, row.part(1))?;
     out.push_str(": ")?;

@@ -2,9 +2,8 @@
 ghost use Rattle.std.specs.Prelude.{◌≡◌, ◌<◌, length};
 ghost use Rattle.text_forms.specs.DesignForm.{ArePorts};
 
-use crate::commands::counts_text;
-use crate::row::Row;
 use crate::runs::decision;
+use crate::words::{counts_text, status_name};
 use command::Decision;
 use gpi::{Gpi, Key};
 use list_kernel::ListKernel;
@@ -14,6 +13,7 @@ use rig_model::{Awaits, Steps};
 use std::alloc::Global;
 use std::marker::Brand;
 use std::sync::ledger::{Blank, Ledger};
+use table_rows::Row;
 use text_forms::flat_of_ports;
 
 /// The read-write phase is held at a simulator of the design, and let go before it fires. Whether the simulator has nothing to do then.
@@ -39,8 +39,8 @@ fn release<K: Gpi, L: Ledger>(
 
 /// The same of a row, where its design runs, with the counts of keys.
 pub fn release_text(alloc: Global, row: &Row<'_>) -> Result<String, NoMemory> {
-    match decision(alloc, row, 2)? {
-        Decision::Refused(own, _) => Ok(format!(in alloc; "{own:?}")?),
+    match decision(alloc, row.part(2), row.part(3))? {
+        Decision::Refused(own, _) => Ok(String::from_str(alloc, status_name(own))?),
         Decision::Runs(ports, _) => {
             let mut kernel = ListKernel::new(alloc);
             let idle = release::<ListKernel, Brand>(alloc, &ports, &mut kernel, Blank::new(1))?;

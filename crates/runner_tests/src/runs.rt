@@ -1,10 +1,16 @@
 //! Runs within a budget.
 ghost use Rattle.std.specs.Prelude.{◌≡◌, ◌<◌, IfOk};
-ghost use Rattle.command.specs.Reading.{CanRun};
+ghost use Rattle.command.specs.Reading.{CanRun, reading_of};
+ghost use Rattle.port_io.specs.Steps.{SinkBreaks, SinkTakes};
+ghost use Rattle.command.specs.Answer.{Answers};
+ghost use Rattle.command.specs.Means.{sink_means};
+ghost use Rattle.runner_tests.specs.Engines.{told};
+ghost use Rattle.runner_tests.specs.Files.{ComesTo};
 
-use crate::commands::{counts_text, store_of};
-use crate::row::{Row, quoted};
+use crate::commands::store_of;
+use crate::words::{counts_text, status_name};
 use command::{Decision, answer, decide};
+use gpi::Gpi;
 use list_kernel::ListKernel;
 use port_io::{MemSink, NoMemory};
 use regression::Status;
@@ -12,28 +18,31 @@ use rig_model::Steps;
 use std::alloc::Global;
 use std::marker::Brand;
 use std::sync::ledger::{Blank, Ledger};
+use table_rows::{Row, quoted};
 
-/// What the design, which is part `i`, and the tests behind it come to.
-pub fn decision(alloc: Global, row: &Row<'_>, i: usize) -> Result<Decision, NoMemory>
-    ensures { IfOk result (λ decision. CanRun decision) }
+/// What a design and tests come to. Only want of memory is an error.
+pub fn decision(alloc: Global, design: &[u8], tests: &[u8]) -> Result<Decision, NoMemory>
+    ensures comes { IfOk result (λ decision. ComesTo design.now tests.now (reading_of decision)) }
+    ensures can_run { IfOk result (λ decision. CanRun decision) }
 {
-    let mut store = store_of(alloc, row, i)?;
+    let mut store = store_of(alloc, design, tests)?;
     decide(alloc, "d.v", "t.py", &mut store)
 }
 
 /// The status of a run within a budget. The blank is for the counter of steps of work.
-fn run<L: Ledger>(
+fn run<K: Gpi, L: Ledger>(
     alloc: Global,
     decision: &Decision,
     budget: u64,
     sink: &mut MemSink,
-    kernel: &mut ListKernel,
+    kernel: &mut K,
     blank: Blank,
 ) -> Status
     requires can_run { CanRun decision.now }
     requires name { blank.name ≡ L.name }
     requires parts { blank.parts ≡ L.parts }
     requires some { 0 < blank.parts }
+    ensures { Answers (sink_means SinkTakes SinkBreaks told) budget (reading_of decision.now) result (K.content kernel.new) sink.old sink.new }
 {
     let mut steps = Steps::<L>::new(blank);
     answer(alloc, decision, budget, kernel, sink, &mut steps)
@@ -41,11 +50,11 @@ fn run<L: Ledger>(
 
 /// The status of a run, the counts of keys after it, and what it put.
 pub fn run_text(alloc: Global, row: &Row<'_>) -> Result<String, NoMemory> {
-    let decision = decision(alloc, row, 3)?;
+    let decision = decision(alloc, row.part(3), row.part(4))?;
     let mut sink = MemSink::new(alloc);
     let mut kernel = ListKernel::new(alloc);
     let budget = row.number(2);
-    let status = run::<Brand>(
+    let status = run::<ListKernel, Brand>(
         alloc,
         &decision,
         budget,
@@ -55,5 +64,6 @@ pub fn run_text(alloc: Global, row: &Row<'_>) -> Result<String, NoMemory> {
     );
     let counts = counts_text(alloc, &kernel)?;
     let lines = quoted(alloc, sink.bytes())?;
-    Ok(format!(in alloc; "{status:?} {counts} {lines}")?)
+    let name = status_name(status);
+    Ok(format!(in alloc; "{name} {counts} {lines}")?)
 }

@@ -1,10 +1,12 @@
 //! Runs whose told changes are written.
-ghost use Rattle.std.specs.Prelude.{◌≡◌, ◌<◌, length};
+ghost use Rattle.std.specs.Prelude.{◌≡◌, ◌<◌, IfOk, length, string_bytes};
 ghost use Rattle.text_forms.specs.DesignForm.{ArePorts};
 ghost use Rattle.text_forms.specs.TestsForm.{IsOneTest};
+ghost use Rattle.table_rows.specs.Rows.{part_at};
+ghost use Rattle.runner_tests.specs.Runs.{ShowsTrace, Traces, TracesFiles};
 
-use crate::row::{Row, quoted};
 use crate::runs::decision;
+use crate::words::status_name;
 use command::Decision;
 use gpi::Gpi;
 use list_kernel::ListKernel;
@@ -16,6 +18,7 @@ use scheduler::Engine;
 use std::alloc::Global;
 use std::marker::Brand;
 use std::sync::ledger::{Blank, Ledger};
+use table_rows::{Row, quoted};
 use text_forms::flat_of_ports;
 
 /// The status of a run whose told changes are written.
@@ -32,6 +35,7 @@ fn trace<K: Gpi, L: Ledger>(
     requires name { blank.name ≡ L.name }
     requires parts { blank.parts ≡ L.parts }
     requires some { 0 < blank.parts }
+    ensures { IfOk result (λ status. Traces ports.now file.now status sink.old sink.new) }
 {
     let flat = flat_of_ports(alloc, ports)?;
     kernel.load(alloc, &flat)?;
@@ -42,9 +46,11 @@ fn trace<K: Gpi, L: Ledger>(
     Ok(run_all(alloc, case, &mut engine, kernel, sink, 100, &mut steps))
 }
 
-/// The same of a row, where its texts run.
-fn traced(alloc: Global, row: &Row<'_>, sink: &mut MemSink) -> Result<Status, NoMemory> {
-    match decision(alloc, row, 2)? {
+/// The same of a row, where its texts run; else the status of the refusal.
+fn traced(alloc: Global, row: &Row<'_>, sink: &mut MemSink) -> Result<Status, NoMemory>
+    ensures { IfOk result (λ status. TracesFiles (part_at 2 row.now) (part_at 3 row.now) status sink.old sink.new) }
+{
+    match decision(alloc, row.part(2), row.part(3))? {
         Decision::Refused(own, _) => Ok(own),
         Decision::Runs(ports, file) => {
             let mut kernel = ListKernel::new(alloc);
@@ -54,9 +60,12 @@ fn traced(alloc: Global, row: &Row<'_>, sink: &mut MemSink) -> Result<Status, No
 }
 
 /// The status of such a run, and what it put.
-pub fn trace_text(alloc: Global, row: &Row<'_>) -> Result<String, NoMemory> {
+pub fn trace_text(alloc: Global, row: &Row<'_>) -> Result<String, NoMemory>
+    ensures { IfOk result (λ text. ShowsTrace (part_at 2 row.now) (part_at 3 row.now) (string_bytes text)) }
+{
     let mut sink = MemSink::new(alloc);
     let status = traced(alloc, row, &mut sink)?;
     let lines = quoted(alloc, sink.bytes())?;
-    Ok(format!(in alloc; "{status:?} {lines}")?)
+    let name = status_name(status);
+    Ok(format!(in alloc; "{name} {lines}")?)
 }

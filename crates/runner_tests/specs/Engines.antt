@@ -1,0 +1,84 @@
+-- The first turn of a test, and how it is shown.
+use Rattle.std.specs.Prelude.{◌≡◌, ℕ, List, [], ◌∷◌, ◌++◌, Option, Some, Ok, slice_get, codes}
+use Rattle.port_io.specs.Memory.{Lines}
+use Rattle.port_io.specs.Steps.{SinkTakes, SinkBreaks}
+use Rattle.gpi.specs.Content.{opening}
+use Rattle.gpi.specs.declared.design.Flat.{Flat}
+use Rattle.rig_model.specs.Rig.{Rig, Setup}
+use Rattle.rig_model.specs.Run.{emptied}
+use Rattle.rig_model.specs.FitSteps.{TurnSteps}
+use Rattle.rig_model.specs.Line.{path_in, verdict_line}
+use Rattle.rig_model.specs.declared.file.TestCase.{TestCase}
+use Rattle.rig_model.specs.declared.file.TestFile.{TestFile}
+use Rattle.scheduler.specs.Turns.{BeginsTo, Turning}
+use Rattle.scheduler.specs.declared.turn.Turn.{Turn}
+use Rattle.scheduler.specs.declared.turn.Turn.TheVariants.{Went, Over, Spent, WriteFault}
+use Rattle.text_forms.specs.DesignForm.{flat_of}
+use Rattle.command.specs.Answer.{setup_with}
+use Rattle.command.specs.Reading.{Reading, refused, runs}
+use Rattle.table_rows.specs.Shown.{in_quotes, latin}
+use Rattle.runner_tests.specs.Files.{ComesTo}
+use Rattle.runner_tests.specs.Words.{status_word}
+
+-- a sink without a byte, of which no call fails
+abbrev pub no_lines : Lines
+no_lines = record { bytes = []; calls = 0; failing = []; faults = 0 }
+
+abbrev pub told : Lines → Option (List ℕ)
+told sink = Some sink.bytes
+
+-- no test has begun, and the simulator has just loaded the design of these ports
+abbrev pub unbegun : List ℕ → Rig
+unbegun ports = emptied (opening (flat_of ports)).state (opening (flat_of ports)).counts
+
+-- One turn from here within three statements and events.
+pub record TakesTurn (setup : Setup) (begun : Rig) (out : Lines) (turn : Turn) : Type 0 where
+  pub left : ℕ
+  pub last : Rig
+  pub after : Lines
+  pub turning : Turning SinkTakes SinkBreaks told (TurnSteps setup) setup 3 begun out (Ok turn) left last after
+
+-- A turn follows where the test was begun.
+abbrev pub Follows : Setup → Turn → Rig → Lines → Turn → Type 0
+Follows setup Went begun out turn = TakesTurn setup begun out turn
+Follows setup (Over outcome) begun out turn = turn ≡ Over outcome
+Follows setup Spent begun out turn = turn ≡ Spent
+Follows setup WriteFault begun out turn = turn ≡ WriteFault
+
+-- The test of a file begins on a design of these ports, and its first turn comes to this.
+pub record FirstTurn (ports : List ℕ) (file : TestFile) (turn : Turn) : Type 0 where
+  pub case : TestCase
+  pub is_case : file.cases ≡ case ∷ []
+  pub first : Turn
+  pub begun : Rig
+  pub out : Lines
+  pub begins : BeginsTo SinkTakes SinkBreaks told (setup_with ports file) case (unbegun ports) (Ok first) begun no_lines out
+  pub follows : Follows (setup_with ports file) first begun out turn
+
+-- what a turn on a design came to: a test that has ended shows the line of its verdict, at time 0 and under the name `t`
+abbrev pub turn_word : Flat → Turn → List ℕ
+turn_word flat Went = codes "went"
+turn_word flat (Over outcome) = in_quotes (verdict_line flat 0 (codes "t") outcome)
+turn_word flat Spent = codes "spent"
+turn_word flat WriteFault = codes "no put"
+
+-- the path of the first signal of a design, where it has one
+abbrev pub first_path : List ℕ → List ℕ
+first_path ports = path_in (slice_get (flat_of ports).signals 0)
+
+-- The path of the first signal, and what the first turn comes to.
+pub record ShowsEngine (ports : List ℕ) (file : TestFile) (text : List ℕ) : Type 0 where
+  pub turn : Turn
+  pub is_first : FirstTurn ports file turn
+  pub shows : text ≡ codes "path " ++ latin (first_path ports) ++ codes ", " ++ turn_word (flat_of ports) turn
+
+-- A refusal shows its status.
+abbrev pub ShowsReading : Reading → List ℕ → Type 0
+ShowsReading (refused own line) text = text ≡ status_word own
+ShowsReading (runs ports file) text = ShowsEngine ports file text
+
+-- The text is what the design and the tests come to.
+pub record ShowsFiles (design tests text : List ℕ) : Type 0 where
+  pub reading : Reading
+  pub comes : ComesTo design tests reading
+  pub shows : ShowsReading reading text

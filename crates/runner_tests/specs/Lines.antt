@@ -1,0 +1,35 @@
+-- The line that a row asks for.
+use Rattle.std.specs.Prelude.{List, ℕ, [], slice_set, codes, if◌then◌else◌}
+use Rattle.std.specs.Str.{bytes_eq}
+use Rattle.four_value.specs.Vector.{vector}
+use Rattle.four_value.specs.declared.Digit.{Digit}
+use Rattle.four_value.specs.declared.Digit.TheVariants.{X}
+use Rattle.py_syntax.specs.declared.fault_kind.FaultKind.TheVariants.{ValueError}
+use Rattle.rig_model.specs.Line.{sig_line, verdict_line, report_line}
+use Rattle.rig_model.specs.declared.task.Outcome.{Outcome}
+use Rattle.rig_model.specs.declared.task.Outcome.TheVariants.{Raised, ReadOnlyWrite, Stalled}
+use Rattle.text_forms.specs.DesignForm.{flat_of}
+use Rattle.table_rows.specs.Rows.{decimal, part_at}
+
+-- `10x0`: the number 8 of four digits, with an x
+abbrev pub some_digits : List Digit
+some_digits = slice_set (vector 4 8) 1 X
+
+-- a part of a row as a number
+abbrev pub number_of : List ℕ → ℕ → ℕ
+number_of row i = decimal (part_at i row)
+
+-- the line of a verdict on a test of a design with the one net `a`
+abbrev pub told_outcome : List ℕ → Outcome → List ℕ
+told_outcome row outcome = verdict_line (flat_of (codes "a")) (number_of row 2) (part_at 3 row) outcome
+
+-- a change to `10x0`, a verdict on a test that stalled, one on a write to `a` in the read-only phase, one on a ValueError that says
+-- something, or the closing line
+abbrev pub line_of : List ℕ → List ℕ
+line_of row =
+    if bytes_eq (part_at 0 row) (codes "sig") then sig_line (number_of row 2) (part_at 3 row) some_digits
+    else (if bytes_eq (part_at 0 row) (codes "stalled") then told_outcome row Stalled
+    else (if bytes_eq (part_at 0 row) (codes "read_only") then told_outcome row (ReadOnlyWrite (record { 0 = 0 }))
+    else (if bytes_eq (part_at 0 row) (codes "fault") then told_outcome row (Raised (record { kind = ValueError; text = part_at 4 row }))
+    else (if bytes_eq (part_at 0 row) (codes "closing") then report_line (number_of row 2) (number_of row 3) (number_of row 4) (number_of row 5) (number_of row 6)
+    else []))))

@@ -1,0 +1,45 @@
+-- What a run puts, and how it is shown.
+use Rattle.std.specs.Prelude.{◌≡◌, ℕ, true, List, [], ◌∷◌, ◌++◌, codes}
+use Rattle.port_io.specs.Memory.{Lines}
+use Rattle.port_io.specs.Steps.{SinkTakes, SinkBreaks}
+use Rattle.gpi.specs.Content.{Content}
+use Rattle.rig_model.specs.Rig.{Rig, Setup}
+use Rattle.rig_model.specs.declared.file.TestCase.{TestCase}
+use Rattle.rig_model.specs.declared.file.TestFile.{TestFile}
+use Rattle.regression.specs.Runs.{RunsTo}
+use Rattle.regression.specs.declared.status.Status.{Status}
+use Rattle.text_forms.specs.DesignForm.{flat_of}
+use Rattle.command.specs.Reading.{Reading, refused, runs}
+use Rattle.table_rows.specs.Shown.{in_quotes}
+use Rattle.runner_tests.specs.Files.{ComesTo}
+use Rattle.runner_tests.specs.Words.{status_word}
+use Rattle.runner_tests.specs.Engines.{no_lines, told}
+
+-- told changes are written
+abbrev pub traced_with : List ℕ → TestFile → Setup
+traced_with ports file = record { functions = file.functions; flat = flat_of ports; trace = true }
+
+-- A run within 100 statements and events whose told changes are written.
+pub record Traces (ports : List ℕ) (file : TestFile) (own : Status) (out out' : Lines) : Type 0 where
+  pub case : TestCase
+  pub is_case : file.cases ≡ case ∷ []
+  pub last : Rig
+  pub content : Content
+  pub runs : RunsTo SinkTakes SinkBreaks told (traced_with ports file) case 100 own last content out out'
+
+-- A refusal puts nothing.
+abbrev pub TracesReading : Reading → Status → Lines → Lines → Type 0
+TracesReading (refused own line) status out out' = (status ≡ own) × (out' ≡ out)
+TracesReading (runs ports file) status out out' = Traces ports file status out out'
+
+pub record TracesFiles (design tests : List ℕ) (own : Status) (out out' : Lines) : Type 0 where
+  pub reading : Reading
+  pub comes : ComesTo design tests reading
+  pub traces : TracesReading reading own out out'
+
+-- The status of such a run, and what it put.
+pub record ShowsTrace (design tests text : List ℕ) : Type 0 where
+  pub own : Status
+  pub out : Lines
+  pub traces : TracesFiles design tests own no_lines out
+  pub shows : text ≡ status_word own ++ codes " " ++ in_quotes out.bytes
