@@ -1,7 +1,7 @@
 -- Steps along the lists of a design, for the test of its soundness.
 use Rattle.std.proofs.Common.{◌≡◌, ℕ, zero, suc, ◌+◌, ◌-◌, ◌<◌, ◌≤◌, ◌&&◌, ◌↔◌, nat_lt, nat_le, Bool, true, false, IsTrue, List, [], ◌∷◌, length, drop, slice_get, slice_index, Some, refl, ap, sym, subst, ◌∙◌, arith, add-one}
 use Rattle.std.proofs.lemmas.List.{drop_all}
-use Rattle.std.proofs.lemmas.Bool.{leb-true}
+use Rattle.std.proofs.lemmas.Bool.{leb-true, and_parts}
 use Rattle.gpi.specs.declared.design.Signal.{Signal}
 use Rattle.gpi.specs.declared.design.Wake.{Wake}
 use Rattle.gpi.specs.declared.design.Process.{Process}
@@ -88,18 +88,14 @@ processes_step ps n p ws h = rw (drop_found ps n p h, add-one) refl
 
 -- ---- a signal's width is 1 to 128
 
-both : (a b : Bool) → IsTrue (a && b) → IsTrue a × IsTrue b
-both true b h = (refl, h)
-both false b h = absurd (cc)
-
 pub wide_at : (ss : List Signal) (n : ℕ) (s : Signal) → slice_get ss n ≡ Some s → IsTrue (are_wide ss) → IsWidth s.width
 wide_at [] n s h w = absurd (cc)
 wide_at (x ∷ ss) zero s h w =
     let e : x ≡ s = cc in
-    let k = both (nat_le 1 x.width && nat_le x.width 128) (are_wide ss) w in
-    let l = both (nat_le 1 x.width) (nat_le x.width 128) k.0 in
+    let k = and_parts (nat_le 1 x.width && nat_le x.width 128) (are_wide ss) w in
+    let l = and_parts (nat_le 1 x.width) (nat_le x.width 128) k.0 in
     subst (λ (y : Signal). IsWidth y.width) e (leb-true 1 x.width l.0, leb-true x.width 128 l.1)
-wide_at (x ∷ ss) (suc n) s h w = wide_at ss n s h (both (nat_le 1 x.width && nat_le x.width 128) (are_wide ss) w).1
+wide_at (x ∷ ss) (suc n) s h w = wide_at ss n s h (and_parts (nat_le 1 x.width && nat_le x.width 128) (are_wide ss) w).1
 
 -- ---- loops that end at the first that isn't so
 

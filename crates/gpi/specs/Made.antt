@@ -1,6 +1,7 @@
 -- What the constructors of expressions make: the value, the width and soundness of the new one by those of its parts.
 use Rattle.std.specs.Prelude.{◌≡◌, ℕ, ◌+◌, ◌*◌, ◌≤◌, List, [], ◌∷◌, ◌++◌}
 use Rattle.four_value.specs.declared.Digit.{Digit}
+use Rattle.four_value.specs.Limits.{most_digits}
 use Rattle.four_value.specs.Vector.{resize, number}
 use Rattle.gpi.specs.declared.selects.Words.{Words}
 use Rattle.gpi.specs.declared.selects.Range.{Range}
@@ -49,10 +50,10 @@ abbrev pub MakesCond : Term → Term → Term → Term → Type 0
 MakesCond c a b t = Makes t (λ m. choose (truth (value c m)) (value a m) (value b m)) (width a) (λ ws. IsSound c ws × IsSound a ws × IsSound b ws × (width a ≡ width b))
 
 abbrev pub MakesConcat : Term → Term → Term → Type 0
-MakesConcat a b t = Makes t (λ m. value b m ++ value a m) (width b + width a) (λ ws. IsSound a ws × IsSound b ws × (width b + width a ≤ 128))
+MakesConcat a b t = Makes t (λ m. value b m ++ value a m) (width b + width a) (λ ws. IsSound a ws × IsSound b ws × (width b + width a ≤ most_digits))
 
 abbrev pub MakesRepeat : ℕ → Term → Term → Type 0
-MakesRepeat n a t = Makes t (λ m. copies n (value a m)) (n * width a) (λ ws. IsSound a ws × (1 ≤ n) × (n * width a ≤ 128))
+MakesRepeat n a t = Makes t (λ m. copies n (value a m)) (n * width a) (λ ws. IsSound a ws × (1 ≤ n) × (n * width a ≤ most_digits))
 
 abbrev pub MakesResize : Term → ℕ → Term → Type 0
 MakesResize a w t = Makes t (λ m. resize (value a m) w) w (λ ws. IsSound a ws × IsWidth w)
