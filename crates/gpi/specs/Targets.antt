@@ -71,7 +71,8 @@ pub record IsObjectCopy (a b : Object) : Type 0 where
   pub sound : (ws : List ℕ) → IsSoundObject a ws → IsSoundObject b ws
 
 -- t has these updates, this width and soundness
-pub record MakesTarget (t : Target) (updates : (ℕ → List Digit) → List Digit → List Update) (w : ℕ) (Sound : List ℕ → Type 0) : Type 0 where
+pub record MakesTarget (t : Target) (updates : (ℕ → List Digit) → List Digit → List Update) (w : ℕ)
+    (Sound : List ℕ → Type 0) : Type 0 where
   pub updates_are : (m : ℕ → List Digit) (ds : List Digit) → updates_of t m ds ≡ updates m ds
   pub width_is : target_width t ≡ w
   pub sound : (ws : List ℕ) → Sound ws → IsSoundTarget t ws

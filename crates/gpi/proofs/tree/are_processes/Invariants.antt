@@ -4,4 +4,5 @@ use Rattle.gpi.specs.Soundness.{AreProcesses}
 use Rattle.gpi.proofs.tree.are_processes.Given as goal
 
 abbrev pub invariant-loop-at : goal.invariant-loop-at
-invariant-loop-at l = AreProcesses l.processes (widths l.table.signals.now) ↔ AreProcesses (drop l.at l.processes) (widths l.table.signals.now)
+invariant-loop-at l = AreProcesses l.processes (widths l.table.signals.now)
+    ↔ AreProcesses (drop l.at l.processes) (widths l.table.signals.now)
