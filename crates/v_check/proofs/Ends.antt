@@ -10,7 +10,6 @@ use Rattle.v_scope.specs.Found.{each, ended, Holds}
 use Rattle.v_scope.specs.Scope.{Scope}
 use Rattle.v_scope.specs.Limits.{counted_width}
 use Rattle.v_context.specs.Contexts.{IsLowered}
-use Rattle.v_flat.specs.Expressions.{width}
 use Rattle.v_flat.specs.Checks.{checked}
 use Rattle.v_operator.specs.declared.checked.Checked.{Checked}
 use Rattle.v_operator.specs.Checked.{StandsFor, IsChecked}

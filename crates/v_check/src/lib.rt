@@ -5,10 +5,10 @@
 //! ([`fixed_selects`] those of other targets, whose indices are constants), and [`term`] what an expression is in one context.
 #![tactic(auto)]
 
+mod behind_names;
 mod context;
-mod fixed;
 mod walk;
 
+pub use behind_names::{fixed_selects, selects};
 pub use context::term;
-pub use fixed::fixed_selects;
-pub use walk::{check, constant, selects};
+pub use walk::{check, constant};

@@ -1,19 +1,20 @@
 //! The walk over an expression.
 
-ghost use Rattle.std.specs.Prelude.{◌≡◌, false, IfOk};
+ghost use Rattle.std.specs.Prelude.{◌≡◌, IfOk};
 ghost use Rattle.v_scope.specs.Scope.{means};
 ghost use Rattle.v_syntax.specs.ExpressionTrees.{view, view_select, view_selects, views};
 ghost use Rattle.v_flat.specs.Checks.{constant_of};
 ghost use Rattle.v_operator.specs.Checked.{IsChecked, IsCount};
 ghost use Rattle.v_parts.specs.Parts.{AreChecked};
 ghost use Rattle.v_names.specs.Proper.{AreProper};
-ghost use Rattle.v_names.specs.Selects.{AreSelects, IsSelect};
+ghost use Rattle.v_names.specs.Selects.{AreSelects, IsIndex, IsSelect};
 
 use four_value::Bits;
+use gpi::Term;
 use port_io::NoMemory;
 use std::alloc::Global;
 use v_constant::counted;
-use v_names::{CheckedSelect, CheckedSelects, by_itself, named};
+use v_names::{CheckedSelect, CheckedSelects, by_itself, fixed_index, named};
 use v_operator::{Checked, binary, bracketed, conditional, number, unary};
 use v_parts::{Parts, concatenation, replication};
 use v_scope::{Found, Scope};
@@ -34,7 +35,7 @@ pub fn check(
     match expression {
         Expression::Number { value, .. } => Ok(number(*value)),
         Expression::Operand(operand) => {
-            let selects = selects(alloc, scope, &operand.selects)?;
+            let selects = selects_by(alloc, scope, false, &operand.selects)?;
             Ok(named(alloc, scope, operand.name.bytes(), operand.at, selects)?)
         }
         Expression::Bracketed { at, inner } => Ok(bracketed(*at, check(alloc, scope, inner)?)),
@@ -85,7 +86,7 @@ fn all(alloc: Global, scope: &Scope, expressions: &[Expression]) -> Result<Found
 }
 
 /// A count, from what was found in its expression. Only want of memory is an error.
-pub(crate) fn counted_by(
+fn counted_by(
     alloc: Global,
     scope: &Scope,
     expression: &Expression,
@@ -98,15 +99,41 @@ pub(crate) fn counted_by(
     Ok(counted(expression.first(), value))
 }
 
-/// A select, all of whose expressions are checked. Only want of memory is an error.
+/// An index, from what was found in its expression: the value of a constant where it has to be one (clause 6.1). Only want of memory
+/// is an error.
+fn index_by(
+    alloc: Global,
+    scope: &Scope,
+    fixed: bool,
+    expression: &Expression,
+    found: Found<Checked>,
+) -> Result<Found<Term>, NoMemory>
+    requires { IsChecked (means scope.now) (view expression.now) found }
+    ensures { IfOk result (IsIndex fixed (means scope.now) (view expression.now)) }
+{
+    if fixed {
+        let value = v_constant::constant(alloc, scope, expression, found)?;
+        Ok(fixed_index(value))
+    } else {
+        Ok(by_itself(alloc, found)?)
+    }
+}
+
+/// A select, all of whose expressions are checked; its index has to be a constant where it is fixed. Only want of memory is an error.
 #[cycle(checking)]
-fn select(alloc: Global, scope: &Scope, select: &Select) -> Result<CheckedSelect, NoMemory>
+fn select(
+    alloc: Global,
+    scope: &Scope,
+    fixed: bool,
+    select: &Select,
+) -> Result<CheckedSelect, NoMemory>
     requires { AreProper (means scope.now) }
-    ensures { IfOk result (IsSelect false (means scope.now) (view_select select.now)) }
+    ensures { IfOk result (IsSelect fixed (means scope.now) (view_select select.now)) }
 {
     match select {
         Select::Bit { at, index } => {
-            let index = by_itself(alloc, check(alloc, scope, index)?)?;
+            let found = check(alloc, scope, index)?;
+            let index = index_by(alloc, scope, fixed, index, found)?;
             Ok(CheckedSelect::Bit { at: *at, index })
         }
         Select::Part { at, left, right } => {
@@ -123,7 +150,8 @@ fn select(alloc: Global, scope: &Scope, select: &Select) -> Result<CheckedSelect
         Select::IndexedPart { at, base, width } => {
             let found = check(alloc, scope, width)?;
             let count = counted_by(alloc, scope, width, found)?;
-            let index = by_itself(alloc, check(alloc, scope, base)?)?;
+            let found = check(alloc, scope, base)?;
+            let index = index_by(alloc, scope, fixed, base, found)?;
             Ok(CheckedSelect::IndexedPart {
                 at: *at,
                 base: index,
@@ -133,23 +161,29 @@ fn select(alloc: Global, scope: &Scope, select: &Select) -> Result<CheckedSelect
     }
 }
 
-/// The selects behind a name, all of whose expressions are checked, whatever the name is (clause 5.2). Only want of memory is an
-/// error.
+/// The selects behind a name, all of whose expressions are checked, whatever the name is; indices have to be constants where the selects
+/// are fixed. Only want of memory is an error.
 #[cycle(checking)]
-pub fn selects(alloc: Global, scope: &Scope, selects: &Selects) -> Result<CheckedSelects, NoMemory>
+pub(crate) fn selects_by(
+    alloc: Global,
+    scope: &Scope,
+    fixed: bool,
+    selects: &Selects,
+) -> Result<CheckedSelects, NoMemory>
     requires { AreProper (means scope.now) }
-    ensures { IfOk result (AreSelects false (means scope.now) (view_selects selects.now)) }
+    ensures { IfOk result (AreSelects fixed (means scope.now) (view_selects selects.now)) }
 {
     match selects {
         Selects::Whole => Ok(CheckedSelects::Whole),
-        Selects::One(one) => Ok(CheckedSelects::One(select(alloc, scope, one)?)),
+        Selects::One(one) => Ok(CheckedSelects::One(select(alloc, scope, fixed, one)?)),
         Selects::OfWord {
             word,
             select: part,
             ..
         } => {
-            let index = by_itself(alloc, check(alloc, scope, word)?)?;
-            Ok(CheckedSelects::OfWord(index, select(alloc, scope, part)?))
+            let found = check(alloc, scope, word)?;
+            let index = index_by(alloc, scope, fixed, word, found)?;
+            Ok(CheckedSelects::OfWord(index, select(alloc, scope, fixed, part)?))
         }
     }
 }

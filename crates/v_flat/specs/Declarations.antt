@@ -1,5 +1,7 @@
 -- Parameters and declarations of an instance.
 use Rattle.std.specs.Prelude.{ℕ, ◌+◌, ◌%◌, List, [], ◌∷◌, ◌++◌, map, length, Option, None, Some, Result, Ok, Bool, true, false, ◌&&◌, ◌||◌, ◌==◌, not, is_some, is_none, nat_le, bytes_eq, if◌then◌else◌}
+use Rattle.std.specs.List.{list_any}
+use Rattle.std.specs.Option.{option_or}
 use Rattle.four_value.specs.declared.Digit.{Digit}
 use Rattle.four_value.specs.Vector.{number, resize}
 use Rattle.v_syntax.specs.declared.statement.Identifier.{Identifier}
@@ -19,8 +21,8 @@ use Rattle.v_scope.specs.declared.meaning.DataKind.TheVariants.{Input, Net, Regi
 use Rattle.v_scope.specs.declared.meaning.Meaning.TheVariants.{Constant}
 use Rattle.v_scope.specs.declared.meaning.Meaning.{Meaning}
 use Rattle.v_scope.specs.Limits.{most_digits, most_parts}
-use Rattle.v_scope.specs.Scope.{width_of, plain, Scope, means, before, first_of}
-use Rattle.v_flat.specs.Objects.{count_of, is_among}
+use Rattle.v_scope.specs.Scope.{width_of, plain, Scope, means, before}
+use Rattle.v_flat.specs.Objects.{count_of}
 use Rattle.v_flat.specs.Expressions.{number_or}
 use Rattle.v_flat.specs.Checks.{constant_of}
 use Rattle.v_flat.specs.Headers.{HeadedPort, headed, first_head, Port, port_name, Parameter, ports_in, items_in}
@@ -112,7 +114,7 @@ pub record Place : Type 0 where
 -- a direction stands for ports of the header alone, and an input is no register
 abbrev pub is_port : Option Direction → List ℕ → List Port → Bool
 is_port None n ps = true
-is_port (Some d) n ps = is_among n (map port_name ps)
+is_port (Some d) n ps = list_any (bytes_eq n) (map port_name ps)
 
 abbrev pub is_input_reg : Option Direction → Option Sort → Bool
 is_input_reg (Some direction.Input) (Some Reg) = true
@@ -140,7 +142,7 @@ abbrev pub same_bounds : Bounds → Bounds → Bool
 same_bounds a b = (a.left == b.left) && (a.right == b.right)
 
 abbrev pub whole_of : Declared → Declared → Declared
-whole_of old d = record old { direction = first_of old.direction d.direction; sort = first_of old.sort d.sort }
+whole_of old d = record old { direction = option_or old.direction d.direction; sort = option_or old.sort d.sort }
 
 abbrev pub declared_too : Place → ℕ → Declared → List Declared → Found (List Declared)
 declared_too w p d ds = wants (nat_le (w.first + (signals_in ds + count_of d.words)) most_parts) rule.TooMany p (Sound (ds ++ (d ∷ [])))
@@ -219,7 +221,8 @@ find_direction n (p ∷ ps) = if bytes_eq p.name n then is_some p.direction else
 abbrev pub names_checked : Place → List (List ℕ) → List Identifier → Result (Unit {0}) Broken
 names_checked w seen [] = Ok tt
 names_checked w seen (i ∷ is) =
-    next (ended (needs (not (is_among i.name seen) && find_direction i.name w.ports) rule.BadPort i.at fine)) (λ u. names_checked w (i.name ∷ seen) is)
+    next (ended (needs (not (list_any (bytes_eq i.name) seen) && find_direction i.name w.ports) rule.BadPort i.at fine))
+    (λ u. names_checked w (i.name ∷ seen) is)
 
 abbrev pub header_declared : Place → HeaderPortsTree → Result (List Declared) Broken
 header_declared w (NamedPorts is) = next (names_checked w [] is) (λ u. Ok [])
@@ -240,7 +243,7 @@ port_lines (p ∷ ps) ds = listed (find_declared p.name ds) ++ port_lines ps ds
 
 abbrev pub other_lines : List (List ℕ) → List Declared → List Declared
 other_lines ports [] = []
-other_lines ports (d ∷ ds) = if is_among d.name ports then other_lines ports ds else d ∷ other_lines ports ds
+other_lines ports (d ∷ ds) = if list_any (bytes_eq d.name) ports then other_lines ports ds else d ∷ other_lines ports ds
 
 abbrev pub in_order : List Port → List Declared → List Declared
 in_order ps ds = port_lines ps ds ++ other_lines (map port_name ps) ds

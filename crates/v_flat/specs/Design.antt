@@ -38,7 +38,7 @@ use Rattle.v_scope.specs.declared.meaning.Meaning.{Meaning}
 use Rattle.v_scope.specs.declared.meaning.Meaning.TheVariants.{Constant, Object, Later}
 use Rattle.v_scope.specs.Limits.{most_parts}
 use Rattle.v_scope.specs.Scope.{width_of, low_of, Scope, find, means, named, nothing}
-use Rattle.v_flat.specs.Objects.{count_of, is_among}
+use Rattle.v_flat.specs.Objects.{count_of}
 use Rattle.v_flat.specs.Checks.{checked, constant_of}
 use Rattle.v_flat.specs.Targets.{Drive, Driving, driving, as_target}
 use Rattle.v_flat.specs.Statements.{Span, reads, statement_reads, statement_checked, assign, activation, done}
@@ -232,7 +232,8 @@ named_value s n (Some e) x = each (one_more n) (both (constant_of s e) x)
 abbrev pub named_given : Scope → List (List ℕ) → List (List ℕ) → List ConnectionTree → Found (List Given)
 named_given s ns seen [] = Sound []
 named_given s ns seen (Connection p i v ∷ cs) =
-    wants (is_among i.name ns && not (is_among i.name seen)) rule.BadPort i.at (named_value s i.name v (named_given s ns (i.name ∷ seen) cs))
+    wants (list_any (bytes_eq i.name) ns && not (list_any (bytes_eq i.name) seen)) rule.BadPort i.at
+    (named_value s i.name v (named_given s ns (i.name ∷ seen) cs))
 
 abbrev pub given_of : Scope → Option ConnectionsTree → List (List ℕ) → Found (List Given)
 given_of s None ns = Sound []
@@ -274,7 +275,7 @@ ordered_joints s (e ∷ es) (p ∷ ps) driven =
 -- a port that isn't there, or stood there before
 abbrev pub port_once : Identifier → List (List ℕ) → Option Port → Option Port
 port_once i seen None = None
-port_once i seen (Some p) = if is_among i.name seen then None else Some p
+port_once i seen (Some p) = if list_any (bytes_eq i.name) seen then None else Some p
 
 abbrev pub value_checked : Scope → Option Tree → Found (Unit {0})
 value_checked s None = fine
@@ -361,14 +362,14 @@ Sub = List (List ℕ) → ModuleTree → Path → Outside → Design → Result 
 abbrev pub module_there : Identifier → ℕ → List (List ℕ) → Design → Option ModuleTree → Found ModuleTree
 module_there i room above d None = broken rule.UnknownModule i.at
 module_there i room above d (Some m) =
-    needs (not (is_among i.name above)) rule.RecursiveInstance i.at
+    needs (not (list_any (bytes_eq i.name) above)) rule.RecursiveInstance i.at
     (needs (nat_lt 0 room && nat_lt (length d.nodes) most_parts) rule.TooMany i.at (Sound m))
 
 abbrev pub child_name : List ℕ × Spot → List ℕ
 child_name c = c.0
 
 abbrev pub is_fresh : List ℕ → State → Bool
-is_fresh n s = is_none (find n s.scope) && not (is_among n (map child_name s.children))
+is_fresh n s = is_none (find n s.scope) && not (list_any (bytes_eq n) (map child_name s.children))
 
 -- what is found in the item before its subtree is walked
 abbrev pub instance_checked : ℕ → Option ConnectionsTree → Identifier → Option ConnectionsTree → State → ModuleTree → Found (List Given × Joints)
@@ -440,7 +441,7 @@ abbrev pub used_modules : List ModuleTree → List (List ℕ)
 used_modules ms = flat_map (λ m. instance_names (items_in m)) ms
 
 abbrev pub unused : List (List ℕ) → List ModuleTree → List ModuleTree
-unused ns ms = filter (λ m. not (is_among (module_name m).name ns)) ms
+unused ns ms = filter (λ m. not (list_any (bytes_eq (module_name m).name) ns)) ms
 
 abbrev pub only : List ModuleTree → Option ModuleTree
 only (m ∷ []) = Some m
@@ -454,7 +455,7 @@ top_of ms None = only (unused (used_modules ms) ms)
 abbrev pub modules_checked : List (List ℕ) → List ModuleTree → Result (Unit {0}) Broken
 modules_checked seen [] = Ok tt
 modules_checked seen (m ∷ ms) =
-    next (ended (needs (not (is_among (module_name m).name seen)) rule.DuplicateName (module_name m).at fine)) (λ u.
+    next (ended (needs (not (list_any (bytes_eq (module_name m).name) seen)) rule.DuplicateName (module_name m).at fine)) (λ u.
     modules_checked ((module_name m).name ∷ seen) ms)
 
 abbrev pub from_top : List ModuleTree → Option ModuleTree → Result Design Broken

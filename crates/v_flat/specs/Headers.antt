@@ -1,5 +1,6 @@
 -- What a module's header and declarations say before its parameters have values: its ports, its parameters, its names.
 use Rattle.std.specs.Prelude.{ℕ, List, [], ◌∷◌, ◌++◌, map, Option, None, Some, Bool, true, false, bytes_eq, if◌then◌else◌}
+use Rattle.std.specs.List.{list_any}
 use Rattle.v_syntax.specs.declared.statement.Identifier.{Identifier}
 use Rattle.v_syntax.specs.declared.item.Direction.{Direction}
 use Rattle.v_syntax.specs.declared.item.Direction.TheVariants as direction
@@ -9,7 +10,6 @@ use Rattle.v_syntax.specs.ExpressionTrees.{Tree}
 use Rattle.v_syntax.specs.SourceTrees.{RangeTree, PortHeadTree, Head, NetTree, Net as NetOf, RegisterTree, Register as RegisterOf, ParameterTree, Parameter as ParameterOf, Ports, Nets, Registers, Integers, Parameters, ItemTree, ItemAt, HeaderPortTree, HeaderPortOf, HeaderParameterTree, HeaderParameterOf, HeaderPortsTree, NamedPorts, DeclaredPorts, ModuleTree, ModuleOf}
 use Rattle.v_scope.specs.declared.meaning.Meaning.TheVariants.{Later}
 use Rattle.v_scope.specs.Scope.{Scope}
-use Rattle.v_flat.specs.Objects.{is_among}
 
 abbrev pub module_name : ModuleTree → Identifier
 module_name (ModuleOf n ps ports is) = n
@@ -52,7 +52,8 @@ pub record Port : Type 0 where
 -- the direction that the items declare first
 abbrev pub declared_direction : List ℕ → List ItemTree → Option Direction
 declared_direction n [] = None
-declared_direction n (ItemAt p (Ports h is) ∷ rest) = if is_among n (map name_of is) then Some (direction_of h) else declared_direction n rest
+declared_direction n (ItemAt p (Ports h is) ∷ rest) =
+    if list_any (bytes_eq n) (map name_of is) then Some (direction_of h) else declared_direction n rest
 declared_direction n (ItemAt p k ∷ rest) = declared_direction n rest
 
 abbrev pub headed_port : HeadedPort → Port
@@ -72,7 +73,7 @@ port_name p = p.name
 -- each name once
 abbrev pub distinct : List (List ℕ) → List Port → List Port
 distinct seen [] = []
-distinct seen (p ∷ ps) = if is_among p.name seen then distinct seen ps else p ∷ distinct (p.name ∷ seen) ps
+distinct seen (p ∷ ps) = if list_any (bytes_eq p.name) seen then distinct seen ps else p ∷ distinct (p.name ∷ seen) ps
 
 abbrev pub ports_of : ModuleTree → List Port
 ports_of m = distinct [] (all_ports (ports_in m) (items_in m))
@@ -140,4 +141,4 @@ all_names m = map (λ p. p.name.name) (parameters_of m) ++ (header_names (ports_
 
 -- where constants alone are known, each declared name is no constant
 abbrev pub later : List (List ℕ) → Scope
-later ns n = if is_among n ns then Some Later else None
+later ns n = if list_any (bytes_eq n) ns then Some Later else None

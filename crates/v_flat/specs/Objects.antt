@@ -1,6 +1,5 @@
 -- Nets, registers and memories, and what selects from them (IEEE 1364-2005, clauses 4.2, 4.9 and 5.2).
-use Rattle.std.specs.Prelude.{ℕ, List, Option, None, Some, Bool, if◌then◌else◌, bytes_eq}
-use Rattle.std.specs.List.{list_any}
+use Rattle.std.specs.Prelude.{ℕ, List, Option, None, Some, if◌then◌else◌}
 use Rattle.gpi.specs.declared.selects.Range.{Range}
 use Rattle.gpi.specs.declared.selects.Words.{Words}
 use Rattle.gpi.specs.declared.selects.Order.TheVariants.{Falling, Rising}
@@ -20,9 +19,6 @@ count_of (Some b) = width_of b
 -- the words of a memory, from their first signal on
 abbrev pub words_of : ℕ → Bounds → Words
 words_of first b = record { first = record { 0 = first }; low = low_of b; count = width_of b }
-
-abbrev pub is_among : List ℕ → List (List ℕ) → Bool
-is_among n ms = list_any (λ m. bytes_eq m n) ms
 
 -- what a name with selects can be
 pub data Nature : Type 0 where

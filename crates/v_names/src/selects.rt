@@ -67,16 +67,10 @@ pub fn by_itself(alloc: Global, found: Found<Checked>) -> Result<Found<Term>, No
 }
 
 /// An index that has to be a constant, from its value, as those in the target of a continuous assignment (IEEE 1364-2005, clause
-/// 6.1).
+/// 6.1): the term of that constant, with all that is broken in it.
 pub fn fixed_index(value: Found<Bits>) -> Found<Term>
-    ensures { ChecksFixedIndex value result }
-{
-    constant_term(value)
-}
-
-/// The value of a constant as an expression.
-fn constant_term(value: Found<Bits>) -> Found<Term>
-    ensures { result ≡ each Const value }
+    ensures is { result ≡ each Const value }
+    ensures checks { ChecksFixedIndex value result }
 {
     match value {
         Found::Sound(value) => Found::Sound(Term::Const(value)),

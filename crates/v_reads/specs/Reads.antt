@@ -1,5 +1,6 @@
--- The signals that the code tells, as the definition has them.
-use Rattle.std.specs.Prelude.{List, map}
+-- The signals that the code tells, as the definition has them, and what a list of them holds to which more are added.
+use Rattle.std.specs.Prelude.{◌≡◌, List, ◌++◌, length, map, take, Result, OnOk}
+use Rattle.port_io.specs.declared.ports.NoMemory.{NoMemory}
 use Rattle.v_flat.specs.Statements.{Span}
 use Rattle.v_reads.specs.declared.span.Span as code
 
@@ -8,3 +9,8 @@ span_of x = record { first = x.first; count = x.count }
 
 abbrev pub spans_of : List code.Span → List Span
 spans_of xs = map span_of xs
+
+-- what is read stands behind what stood before; after want of memory, which may leave some of it behind, what stood before is the front
+pub record Adds (old new : List code.Span) (read : List Span) (done : Result (Unit {0}) NoMemory) : Type 0 where
+  pub all : OnOk done (spans_of new ≡ spans_of old ++ read)
+  pub front : take (length old) new ≡ old

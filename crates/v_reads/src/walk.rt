@@ -1,11 +1,12 @@
 //! The walk over an expression.
+#![tactic(auto, using(gpi::proofs::Steps::kept))]
 
-ghost use Rattle.std.specs.Prelude.{◌≡◌, ◌++◌, IfOk, OnOk};
+ghost use Rattle.std.specs.Prelude.{◌≡◌, IfOk};
 ghost use Rattle.v_scope.specs.Scope.{find, means};
 ghost use Rattle.v_syntax.specs.ExpressionTrees.{view, view_select, view_selects, views};
 ghost use Rattle.v_flat.specs.Statements.{all_read, name_read, reads, select_read, selects_read};
 ghost use Rattle.v_names.specs.Proper.{AreProper};
-ghost use Rattle.v_reads.specs.Reads.{spans_of};
+ghost use Rattle.v_reads.specs.Reads.{Adds, spans_of};
 
 use crate::Span;
 use port_io::NoMemory;
@@ -14,10 +15,10 @@ use v_names::index_count;
 use v_scope::{Meaning, Scope};
 use v_syntax::{Expression, Select, Selects};
 
-/// Adds what a name reads: the signals of a net, a register or a memory.
+/// Adds what a name reads: the signals of a net, a register or a memory. Only want of memory is an error.
 fn add_name(spans: &mut Vec<Span>, scope: &Scope, name: &[u8]) -> Result<(), NoMemory>
     requires { AreProper (means scope.now) }
-    ensures { OnOk result (spans_of spans.new.items ≡ spans_of spans.old.items ++ name_read (find name.now (means scope.now))) }
+    ensures { Adds spans.old.items spans.new.items (name_read (find name.now (means scope.now))) result }
 {
     if let Some(Meaning::Object(object)) = scope.find(name) {
         let count = match object.words {
@@ -32,11 +33,11 @@ fn add_name(spans: &mut Vec<Span>, scope: &Scope, name: &[u8]) -> Result<(), NoM
     Ok(())
 }
 
-/// Adds what an expression reads.
+/// Adds what an expression reads. Only want of memory is an error.
 #[cycle(reading)]
 fn add(spans: &mut Vec<Span>, scope: &Scope, expression: &Expression) -> Result<(), NoMemory>
     requires { AreProper (means scope.now) }
-    ensures { OnOk result (spans_of spans.new.items ≡ spans_of spans.old.items ++ reads (means scope.now) (view expression.now)) }
+    ensures { Adds spans.old.items spans.new.items (reads (means scope.now) (view expression.now)) result }
 {
     match expression {
         Expression::Number { .. } => Ok(()),
@@ -60,11 +61,11 @@ fn add(spans: &mut Vec<Span>, scope: &Scope, expression: &Expression) -> Result<
     }
 }
 
-/// Adds what each of these expressions reads.
+/// Adds what each of these expressions reads. Only want of memory is an error.
 #[cycle(reading)]
 fn add_all(spans: &mut Vec<Span>, scope: &Scope, expressions: &[Expression]) -> Result<(), NoMemory>
     requires { AreProper (means scope.now) }
-    ensures { OnOk result (spans_of spans.new.items ≡ spans_of spans.old.items ++ all_read (means scope.now) (views expressions.now)) }
+    ensures { Adds spans.old.items spans.new.items (all_read (means scope.now) (views expressions.now)) result }
 {
     for expression in expressions {
         add(spans, scope, expression)?;
@@ -72,11 +73,11 @@ fn add_all(spans: &mut Vec<Span>, scope: &Scope, expressions: &[Expression]) -> 
     Ok(())
 }
 
-/// Adds what the selects behind a name read.
+/// Adds what the selects behind a name read. Only want of memory is an error.
 #[cycle(reading)]
 fn add_selects(spans: &mut Vec<Span>, scope: &Scope, selects: &Selects) -> Result<(), NoMemory>
     requires { AreProper (means scope.now) }
-    ensures { OnOk result (spans_of spans.new.items ≡ spans_of spans.old.items ++ selects_read (means scope.now) (view_selects selects.now)) }
+    ensures { Adds spans.old.items spans.new.items (selects_read (means scope.now) (view_selects selects.now)) result }
 {
     match selects {
         Selects::Whole => Ok(()),
@@ -88,11 +89,12 @@ fn add_selects(spans: &mut Vec<Span>, scope: &Scope, selects: &Selects) -> Resul
     }
 }
 
-/// Adds what a select reads: its index. The bounds of a part and the width of an indexed part are constants.
+/// Adds what a select reads: its index. The bounds of a part and the width of an indexed part are constants. Only want of memory is an
+/// error.
 #[cycle(reading)]
 fn add_select(spans: &mut Vec<Span>, scope: &Scope, select: &Select) -> Result<(), NoMemory>
     requires { AreProper (means scope.now) }
-    ensures { OnOk result (spans_of spans.new.items ≡ spans_of spans.old.items ++ select_read (means scope.now) (view_select select.now)) }
+    ensures { Adds spans.old.items spans.new.items (select_read (means scope.now) (view_select select.now)) result }
 {
     match select {
         Select::Bit { index, .. } => add(spans, scope, index),

@@ -1,5 +1,6 @@
 -- What names mean in an instance (IEEE 1364-2005, clause 4.11).
 use Rattle.std.specs.Prelude.{ℕ, ◌+◌, ◌-◌, List, [], ◌∷◌, Option, None, Some, Bool, min, if◌then◌else◌, nat_le, bytes_eq}
+use Rattle.std.specs.Option.{option_or}
 use Rattle.v_scope.specs.declared.meaning.Bounds.{Bounds}
 use Rattle.v_scope.specs.declared.meaning.Meaning.{Meaning}
 
@@ -37,12 +38,8 @@ abbrev pub named : List ℕ → Meaning → Scope → Scope
 named k x s n = if bytes_eq n k then Some x else s n
 
 -- the first scope counts, and the second where a name isn't declared in the first
-abbrev pub first_of : {A : Type 0} → Option A → Option A → Option A
-first_of (Some a) y = Some a
-first_of None y = y
-
 abbrev pub before : Scope → Scope → Scope
-before s t n = first_of (s n) (t n)
+before s t n = option_or (s n) (t n)
 
 -- what each name means by a list of names with their meanings
 abbrev pub means : List (List ℕ × Meaning) → Scope

@@ -1,10 +1,21 @@
 -- The index of a constant's value.
-use Rattle.std.proofs.Common.{subst, sym, true}
-use Rattle.gpi.specs.declared.terms.Term.{Term}
+use Rattle.std.proofs.Common.{List, subst, true}
+use Rattle.four_value.specs.declared.Digit.{Digit}
+use Rattle.gpi.specs.declared.terms.Term.TheVariants.{Const}
 use Rattle.v_scope.specs.declared.found.Found.{Found}
+use Rattle.v_scope.specs.Found.{each}
 use Rattle.v_names.specs.Selects.{IsIndex}
 use Rattle.v_names.proofs.Fixed.{fixed_found}
 use Rattle.v_names.proofs.selects.fixed_index.Goals as goal
 
-pub returns : goal.returns
-returns c = λ s e h. subst (λ (f : Found Term). IsIndex true s e f) (sym c.constant_term.ensures) (fixed_found s e c.args.value h)
+pub returns-in-Sound-clause-checks : goal.returns-in-Sound-clause-checks
+returns-in-Sound-clause-checks c = λ s e h.
+    subst (λ (x : Found (List Digit)). IsIndex true s e (each Const x)) c.in-Sound.is (fixed_found s e c.args.value h)
+
+pub returns-in-Noted-clause-checks : goal.returns-in-Noted-clause-checks
+returns-in-Noted-clause-checks c = λ s e h.
+    subst (λ (x : Found (List Digit)). IsIndex true s e (each Const x)) c.in-Noted.is (fixed_found s e c.args.value h)
+
+pub returns-in-Lost-clause-checks : goal.returns-in-Lost-clause-checks
+returns-in-Lost-clause-checks c = λ s e h.
+    subst (λ (x : Found (List Digit)). IsIndex true s e (each Const x)) c.in-Lost.is (fixed_found s e c.args.value h)

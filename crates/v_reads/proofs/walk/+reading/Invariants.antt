@@ -1,5 +1,5 @@
--- What was read, and the expressions that are left.
-use Rattle.std.proofs.Common.{◌≡◌, ◌++◌, drop}
+-- What was read, the expressions that are left, and what stood before.
+use Rattle.std.proofs.Common.{◌≡◌, ◌++◌, drop, length, take}
 use Rattle.v_scope.specs.Scope.{means}
 use Rattle.v_syntax.specs.ExpressionTrees.{views}
 use Rattle.v_flat.specs.Statements.{all_read}
@@ -7,5 +7,8 @@ use Rattle.v_reads.specs.Reads.{spans_of}
 use Rattle.v_reads.proofs.walk.+reading.Given as goal
 
 abbrev pub invariant-add_all-loop-expression : goal.invariant-add_all-loop-expression
-invariant-add_all-loop-expression l =
-    spans_of l.initial.spans.items ++ all_read (means l.scope) (views l.expressions) ≡ spans_of l.spans.items ++ all_read (means l.scope) (views (drop l.expression-index l.expressions))
+invariant-add_all-loop-expression l = record {
+  all : spans_of l.initial.spans.items ++ all_read (means l.scope) (views l.expressions)
+      ≡ spans_of l.spans.items ++ all_read (means l.scope) (views (drop l.expression-index l.expressions));
+  front : take (length l.initial.spans.items) l.spans.items ≡ l.initial.spans.items;
+}
