@@ -109,6 +109,6 @@ one_within task ts vs n v k whole h is w =
     let o = as_trigger task v k in
     let f : Trig → ℕ → Outcome Trigs = λ t j. bind (as_triggers task rest j) (λ us i. gives (Then t us) i) in
     let one : o.next ≤ (bind o f).next =
-        bind_rises o o.next f (same o.next) (λ t j. bind_rises (as_triggers task rest j) j (λ us i. gives (Then t us) i) (all_rise task rest j) (λ us i. same i)) in
+    bind_rises o o.next f (same o.next) (λ t j. bind_rises (as_triggers task rest j) j (λ us i. gives (Then t us) i) (all_rise task rest j) (λ us i. same i)) in
     let all : o.next ≤ (behind ts (bind o f)).next = bind_rises (bind o f) o.next (λ us i. gives (joined ts us) i) one (λ us i. same i) in
     subst (λ (p : Outcome Trigs). o.next ≤ p.next) (sym (from_place task ts vs n v k h is) ∙ w) all

@@ -138,10 +138,8 @@ pub fn called<V: Look>(
     next: &mut u64,
 ) -> Result<Value, OperationFault>
     requires { KnowsAll (V.view view.now) values.now }
-    ensures {
-      let o = meaning.called task (V.view view.now) function values.now next.old in
-      Evaluates (V.view view.now) result next.old next.new o (meaning.MayWant function next.old next.new o)
-    }
+    ensures { let o = meaning.called task (V.view view.now) function values.now next.old in
+        Evaluates (V.view view.now) result next.old next.new o (meaning.MayWant function next.old next.new o) }
 {
     call(alloc, view, task, function, values, next)
 }

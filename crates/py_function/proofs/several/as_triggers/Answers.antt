@@ -22,7 +22,7 @@ returns-in_err-as_trigger-clause-want c =
     let o = as_trigger c.args.task c.v-item.result c.loop-v.next in
     let p = err_from_is_err_and c.from_residual.result c.from_residual.ensures.1 in
     let within = one_within c.args.task c.loop-v.trigs.list.items c.args.values.now c.loop-v.v-index c.v-item.result c.loop-v.next whole
-        c.loop-v-test.true c.v-item.is c.loop-v.invariant.0 in
+    c.loop-v-test.true c.v-item.is c.loop-v.invariant.0 in
     rw (p.1, p.2)
     (want_on c.in_err-as_trigger.field-0.0 (c.as_trigger.new.next ≤ o.next) (c.as_trigger.new.next ≤ whole.next) (λ h. omega (arith, h, within)) c.in_err-as_trigger.ensures.want)
 
@@ -30,7 +30,7 @@ pub returns-in_err-push-clause-want : goal.returns-in_err-push-clause-want
 returns-in_err-push-clause-want c =
     let whole = as_triggers c.args.task c.args.values.now c.args.next.now in
     let step = triggers_step c.args.task c.loop-v.trigs.list.items c.args.values.now c.loop-v.v-index c.v-item.result c.loop-v.next c.as_trigger.new.next c.in_ok-as_trigger.field-0
-        whole c.loop-v-test.true c.v-item.is c.loop-v.invariant.0 c.in_ok-as_trigger.ensures.ends in
+    whole c.loop-v-test.true c.v-item.is c.loop-v.invariant.0 c.in_ok-as_trigger.ensures.ends in
     wants _ (c.as_trigger.new.next ≤ whole.next)
     (rest_within c.args.task (c.loop-v.trigs.list.items ++ c.in_ok-as_trigger.field-0 ∷ []) (drop (c.loop-v.v-index + 1) c.args.values.now) c.as_trigger.new.next whole step)
 
