@@ -4,3 +4,4 @@ pub mod Plain
 pub mod Others
 pub mod Operators
 pub mod Onward
+pub mod Want
