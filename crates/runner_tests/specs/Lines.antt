@@ -31,5 +31,6 @@ line_of row =
     else (if bytes_eq (part_at 0 row) (codes "stalled") then told_outcome row Stalled
     else (if bytes_eq (part_at 0 row) (codes "read_only") then told_outcome row (ReadOnlyWrite (record { 0 = 0 }))
     else (if bytes_eq (part_at 0 row) (codes "fault") then told_outcome row (Raised (record { kind = ValueError; text = part_at 4 row }))
-    else (if bytes_eq (part_at 0 row) (codes "closing") then report_line (decimal_at 2 row) (decimal_at 3 row) (decimal_at 4 row) (decimal_at 5 row) (decimal_at 6 row)
+    else (if bytes_eq (part_at 0 row) (codes "closing")
+    then report_line (decimal_at 2 row) (decimal_at 3 row) (decimal_at 4 row) (decimal_at 5 row) (decimal_at 6 row)
     else []))))

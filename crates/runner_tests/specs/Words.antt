@@ -29,7 +29,8 @@ digit_word digit.Z = codes "Z"
 
 -- how many keys a simulator registered, removed and fired since it was loaded
 abbrev pub counts_word : Counts → List ℕ
-counts_word counts = codes "primed=" ++ decimal counts.primed ++ codes " removed=" ++ decimal counts.removed ++ codes " fired=" ++ decimal counts.fired
+counts_word counts =
+    codes "primed=" ++ decimal counts.primed ++ codes " removed=" ++ decimal counts.removed ++ codes " fired=" ++ decimal counts.fired
 
 -- a status, and the lines that were put
 abbrev pub ended_word : Status → List ℕ → List ℕ

@@ -4,7 +4,7 @@ ghost use Rattle.std.specs.List.{slice_split};
 ghost use Rattle.command.specs.Answer.{LeavesKernel};
 ghost use Rattle.list_kernel.specs.Kernel.{IsLoaded, content_of};
 ghost use Rattle.table_rows.specs.Rows.{is_byte};
-ghost use Rattle.runner_tests.specs.Commands.{CommandComes, Commands, ShowsCommand, ShowsKept, word_in, words_of};
+ghost use Rattle.runner_tests.specs.Commands.{RowEnds, CommandEnds, ShowsCommand, ShowsKept, word_in, words_of};
 ghost use Rattle.runner_tests.specs.Files.{store_with, with_file};
 
 use crate::words::{counted_text, ended_text, latin_text};
@@ -79,7 +79,7 @@ fn run<L: Ledger>(
     requires name { blank.name ≡ L.name }
     requires parts { blank.parts ≡ L.parts }
     requires some { 0 < blank.parts }
-    ensures answer { Commands (map string_bytes words.now) store.old sink.old result store.new (content_of kernel.new) sink.new }
+    ensures answer { CommandEnds (map string_bytes words.now) store.old sink.old result store.new (content_of kernel.new) sink.new }
     ensures leaves { LeavesKernel IsLoaded result kernel.old kernel.new }
 {
     let mut steps = Steps::<L>::new(blank);
@@ -92,7 +92,7 @@ fn outcome(
     row: &Row<'_>,
     kernel: &mut ListKernel,
 ) -> Result<(Status, MemSink), NoMemory>
-    ensures comes { IfOk result (λ ended. CommandComes row.now (content_of kernel.new) ended.0 ended.1) }
+    ensures comes { IfOk result (λ ended. RowEnds row.now (content_of kernel.new) ended.0 ended.1) }
     ensures leaves { IfOk result (λ ended. LeavesKernel IsLoaded ended.0 kernel.old kernel.new) }
 {
     let words = words_of(alloc, row.part(2))?;
@@ -114,11 +114,7 @@ pub fn command_text(alloc: Global, row: &Row<'_>) -> Result<String, NoMemory>
 }
 
 /// The same on a simulator that other commands had before, and its counts. After an Err nothing is said of the simulator.
-pub fn kept_text(
-    alloc: Global,
-    row: &Row<'_>,
-    kernel: &mut ListKernel,
-) -> Result<String, NoMemory>
+pub fn kept_text(alloc: Global, row: &Row<'_>, kernel: &mut ListKernel) -> Result<String, NoMemory>
     ensures { IfOk result (λ text. ShowsKept row.now kernel.old kernel.new (string_bytes text)) }
 {
     let (status, sink) = outcome(alloc, row, kernel)?;

@@ -1,14 +1,11 @@
 //! Runs within a budget.
 ghost use Rattle.std.specs.Prelude.{◌≡◌, ◌<◌, IfOk, string_bytes};
 ghost use Rattle.command.specs.Reading.{CanRun, reading_of};
-ghost use Rattle.port_io.specs.Steps.{SinkBreaks, SinkTakes};
 ghost use Rattle.command.specs.Answer.{Answers, LeavesKernel};
-ghost use Rattle.command.specs.Means.{sink_means};
-ghost use Rattle.runner_tests.specs.Engines.{told};
 ghost use Rattle.table_rows.specs.Rows.{part_at};
 ghost use Rattle.runner_tests.specs.Files.{ComesTo};
 ghost use Rattle.runner_tests.specs.Lines.{decimal_at};
-ghost use Rattle.runner_tests.specs.Runs.{ShowsRun};
+ghost use Rattle.runner_tests.specs.Runs.{ShowsRun, line_means};
 
 use crate::commands::store_of;
 use crate::words::counted_text;
@@ -45,7 +42,7 @@ fn run<K: Gpi, L: Ledger>(
     requires name { blank.name ≡ L.name }
     requires parts { blank.parts ≡ L.parts }
     requires some { 0 < blank.parts }
-    ensures answers { Answers (sink_means SinkTakes SinkBreaks told) budget (reading_of decision.now) result (K.content kernel.new) sink.old sink.new }
+    ensures answers { Answers line_means budget (reading_of decision.now) result (K.content kernel.new) sink.old sink.new }
     ensures leaves { LeavesKernel K.is_loaded result kernel.old kernel.new }
 {
     let mut steps = Steps::<L>::new(blank);

@@ -6,8 +6,8 @@ use Rattle.table_rows.specs.Rows.{part_at, written}
 use Rattle.runner_tests.specs.Tests.{ShowsFile, ShowsTests}
 use Rattle.runner_tests.proofs.forms.file_text.Goals as goal
 
-shown : {T : Type 0} (bytes : T → List ℕ) (source tests own ports : List ℕ) → IsDesign source ports → own ≡ tests → (r : Result T NoMemory)
-    → IfOk r (λ text. ShowsTests ports own (bytes text)) → IfOk r (λ text. ShowsFile source tests (bytes text))
+shown : {T : Type 0} (bytes : T → List ℕ) (source tests own ports : List ℕ) → IsDesign source ports → own ≡ tests
+    → (r : Result T NoMemory) → IfOk r (λ text. ShowsTests ports own (bytes text)) → IfOk r (λ text. ShowsFile source tests (bytes text))
 shown bytes source tests own ports is_design same (Err no_memory) shows = tt
 shown bytes source tests own ports is_design same (Ok text) shows = record {
   found = Some ports;
@@ -17,6 +17,7 @@ shown bytes source tests own ports is_design same (Ok text) shows = record {
 
 pub returns-in-Some : goal.returns-in-Some
 returns-in-Some c =
-    shown string_bytes (written (part_at 2 c.args.row.now)) (written (part_at 3 c.args.row.now)) c.deref-in-Some-2.result.now c.deref-in-Some.result.now
+    shown string_bytes (written (part_at 2 c.args.row.now)) (written (part_at 3 c.args.row.now)) c.deref-in-Some-2.result.now
+    c.deref-in-Some.result.now
     (subst (λ (ports : List ℕ). IsDesign (written (part_at 2 c.args.row.now)) ports) (sym c.deref-in-Some.ensures.value) (search rules))
     (c.deref-in-Some-2.ensures.value ∙ c.in_ok-text-in-Some.ensures) c.tests_text.result c.tests_text.ensures

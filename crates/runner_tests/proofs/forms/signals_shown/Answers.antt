@@ -6,5 +6,5 @@ use Rattle.runner_tests.proofs.forms.signals_shown.Goals as goal
 
 pub loop-at-preserved : goal.loop-at-preserved
 loop-at-preserved c =
-    more_written signal_word c.args.signals.now c.loop-at.at c.get.result.now (string_bytes c.loop-at.text) c.deref.result.now (string_bytes c.push_str.new.self)
+    more_written signal_word c.args.signals.now c.loop-at.at c.get.result.now (string_bytes c.loop-at.text) c.deref.result.now _
     c.loop-at.invariant c.get.ensures (c.deref.ensures ∙ c.in_ok-signal_shown.ensures) c.in_ok-push_str.ensures.bytes
