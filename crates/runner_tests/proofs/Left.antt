@@ -1,5 +1,5 @@
 -- What a simulator holds after a refusal.
-use Rattle.std.proofs.Common.{◌≡◌, ap}
+use Rattle.std.proofs.Common.{ap}
 use Rattle.gpi.specs.Content.{Content}
 use Rattle.command.specs.Answer.{LeavesKernel}
 use Rattle.regression.specs.declared.status.Status.{Status}
