@@ -12,7 +12,6 @@ use std::alloc::{AllocError, Global};
 
 /// An item of a block, behind a space; nothing of a docstring.
 #[cycle(blocks)]
-#[tactic(auto, using(crate::proofs::Rows::row_of_items))]
 fn item_text(alloc: Global, item: &BlockItem) -> Result<Vec<u8>, AllocError>
     ensures { IfOk result (λ text. text.items ≡ item_text (view_item item.now)) }
 {
