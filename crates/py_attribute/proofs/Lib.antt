@@ -5,3 +5,4 @@ pub mod Others
 pub mod Operators
 pub mod Onward
 pub mod Want
+pub mod Numbers

@@ -1,5 +1,5 @@
 -- The next number never falls by an evaluation, and where memory runs out it lies on the way.
-use Rattle.std.proofs.Common.{◌≡◌, ℕ, ◌≤◌, Bool, true, false, List, ◌∷◌, ◌++◌, ap, sym, subst, inl, inr, ◌⊎◌, arith}
+use Rattle.std.proofs.Common.{◌≡◌, ℕ, ◌≤◌, Bool, true, false, List, ◌∷◌, ◌++◌, ap, inl, inr, ◌⊎◌, arith}
 use Rattle.std.specs.Prelude.{IsTrue}
 use Rattle.py_syntax.specs.ExpressionTrees.{Tree, Constant, FormatString, Name, Bracketed, Attribute, Subscript, Call, MethodCall, Unary, Infix, Trees, NoTree, Then, Parts, NoPart, TextThen, FormattedThen}
 use Rattle.py_syntax.specs.declared.expression.BoolOp.{BoolOp}
@@ -25,7 +25,7 @@ use Rattle.py_evaluate.specs.Wants.{Behind, goes_on, Wants, RowWants, PartsWant}
 same : (k : ℕ) → k ≤ k
 same k = omega arith
 
-decided_rises : (o : BoolOp) (t : Bool) (v : Value) (k : ℕ) (second : ℕ → Outcome Value) → ((i : ℕ) → i ≤ (second i).next) → k ≤ (decided o t v k second).next
+pub decided_rises : (o : BoolOp) (t : Bool) (v : Value) (k : ℕ) (second : ℕ → Outcome Value) → ((i : ℕ) → i ≤ (second i).next) → k ≤ (decided o t v k second).next
 decided_rises Or true v k second h = same k
 decided_rises Or false v k second h = h k
 decided_rises And true v k second h = h k
@@ -53,13 +53,13 @@ mutual
       bind_rises (eval s l k) k (λ a j. decided o (truth a) a j (λ i. eval s r i)) (eval_rises s l k)
       (λ a j. decided_rises o (truth a) a j (λ i. eval s r i) (λ i. eval_rises s r i))
 
-  row_rises : (s : Scope) (es : Trees) (k : ℕ) → k ≤ (eval_row s es k).next
+  pub row_rises : (s : Scope) (es : Trees) (k : ℕ) → k ≤ (eval_row s es k).next
   row_rises s NoTree k = same k
   row_rises s (Then e es) k =
       bind_rises (eval s e k) k (λ v j. bind (eval_row s es j) (λ vs i. gives (v ∷ vs) i)) (eval_rises s e k)
       (λ v j. bind_rises (eval_row s es j) j (λ vs i. gives (v ∷ vs) i) (row_rises s es j) (λ vs i. same i))
 
-  parts_rise : (s : Scope) (ps : Parts) (k : ℕ) → k ≤ (eval_parts s ps k).next
+  pub parts_rise : (s : Scope) (ps : Parts) (k : ℕ) → k ≤ (eval_parts s ps k).next
   parts_rise s NoPart k = same k
   parts_rise s (TextThen t ps) k = bind_rises (eval_parts s ps k) k (λ bytes j. gives (t ++ bytes) j) (parts_rise s ps k) (λ bytes j. same j)
   parts_rise s (FormattedThen e ps) k =

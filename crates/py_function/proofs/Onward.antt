@@ -21,14 +21,14 @@ use Rattle.py_function.specs.Functions as meaning
 same : (k : ℕ) → k ≤ k
 same k = omega arith
 
-new_rises : (task : TaskNo) (form : Form) (k : ℕ) → k ≤ (new_trigger task form k).next
+pub new_rises : (task : TaskNo) (form : Form) (k : ℕ) → k ≤ (new_trigger task form k).next
 new_rises task form k = at (nat_lt k trigger_limit)
   where
     at : (t : Bool) → k ≤ (if t then gives (trigger.Made (record { task = task; number = k }) form) (suc k) else refuses RuntimeError k).next
     at true = omega arith
     at false = same k
 
-tree_rises : (task : TaskNo) (form : Form) (k : ℕ) → k ≤ (new_tree task form k).next
+pub tree_rises : (task : TaskNo) (form : Form) (k : ℕ) → k ≤ (new_tree task form k).next
 tree_rises task form k = at (is_small form)
   where
     at : (t : Bool) → k ≤ (if t then new_trigger task form k else refuses ValueError k).next
@@ -42,7 +42,7 @@ made_rises : (task : TaskNo) (form : Answer Form) (k : ℕ) → k ≤ (new_value
 made_rises task (Ok form) k = value_rises (new_trigger task form k) k (new_rises task form k)
 made_rises task (Err kind) k = same k
 
-one_rises : (task : TaskNo) (v : Value) (k : ℕ) → k ≤ (as_trigger task v k).next
+pub one_rises : (task : TaskNo) (v : Value) (k : ℕ) → k ≤ (as_trigger task v k).next
 one_rises task (value.Trigger t) k = same k
 one_rises task (value.Task t) k = new_rises task (trigger.Join t) k
 one_rises task _ k = same k
@@ -53,7 +53,7 @@ all_rise task (v ∷ vs) k =
     bind_rises (as_trigger task v k) k (λ t j. bind (as_triggers task vs j) (λ ts i. gives (trigger.Then t ts) i)) (one_rises task v k)
     (λ t j. bind_rises (as_triggers task vs j) j (λ ts i. gives (trigger.Then t ts) i) (all_rise task vs j) (λ ts i. same i))
 
-parts_rise : (task : TaskNo) (vs : List Value) (k : ℕ) → k ≤ (parts task vs k).next
+pub parts_rise : (task : TaskNo) (vs : List Value) (k : ℕ) → k ≤ (parts task vs k).next
 parts_rise task vs k = at (list_all is_waitable vs)
   where
     at : (t : Bool) → k ≤ (if t then as_triggers task vs k else refuses TypeError k).next
