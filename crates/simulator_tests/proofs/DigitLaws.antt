@@ -1,5 +1,5 @@
 -- Digits as a text.
-use Rattle.std.proofs.Common.{◌≡◌, ◌<◌, ◌-◌, ◌++◌, ◌∷◌, [], ℕ, List, map, reverse, take, min, length, replicate, refl, ap, sym, ◌∙◌, lit<}
+use Rattle.std.proofs.Common.{◌≡◌, ◌<◌, ◌-◌, ◌++◌, ◌∷◌, [], ℕ, List, map, reverse, take, min, length, replicate, refl, ap, ◌∙◌, lit<}
 use Rattle.std.proofs.lemmas.List.{length-map, length-reverse, take_at, take_min}
 use Rattle.std.proofs.lemmas.Str.{encode_ascii}
 use Rattle.table_rows.specs.Shown.{latin}

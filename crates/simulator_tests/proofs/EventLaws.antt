@@ -1,5 +1,5 @@
 -- Events one after the other.
-use Rattle.std.proofs.Common.{◌≡◌, ℕ, zero, suc, ◌+◌, List, ◌++◌, Option, None, Some, option_to_list, Result, IfOk, Ok, Err, add-one, refl, ap, sym, subst}
+use Rattle.std.proofs.Common.{◌≡◌, ℕ, suc, ◌+◌, List, ◌++◌, Option, None, Some, option_to_list, Result, IfOk, Ok, Err, add-one, refl, ap, sym, subst}
 use Rattle.gpi.specs.Content.{Content, Answers, opening}
 use Rattle.gpi.specs.Events.{Event}
 use Rattle.gpi.specs.Keys.{fired_of}

@@ -1,5 +1,5 @@
 -- What a design comes to: the changes that its simulator tells until nothing is left (IEEE 1364-2005, clause 11).
-use Rattle.std.specs.Prelude.{◌≡◌, ℕ, zero, suc, ◌<◌, List, [], ◌∷◌, ◌++◌, Option, Some, None, option_to_list}
+use Rattle.std.specs.Prelude.{◌≡◌, ℕ, zero, suc, ◌<◌, List, [], ◌++◌, Option, Some, None, option_to_list}
 use Rattle.gpi.specs.Content.{Content, Does, opening}
 use Rattle.gpi.specs.Events.{Event, event}
 use Rattle.gpi.specs.Soundness.{IsSoundFlat}

@@ -1,4 +1,4 @@
-use Rattle.std.proofs.Common.{◌≡◌, arith, subst, sym}
+use Rattle.std.proofs.Common.{◌≡◌, arith, subst}
 use Rattle.gpi.specs.Content.{Answers}
 use Rattle.gpi.specs.declared.types.Advance.{Advance}
 use Rattle.simulator_tests.specs.Rests.{Events, next}
