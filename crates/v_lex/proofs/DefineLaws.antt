@@ -1,5 +1,5 @@
 -- A name is defined where the last `define` or `undef` of it says so.
-use Rattle.std.proofs.Common.{◌≡◌, ℕ, suc, ◌+◌, ◌<◌, Bool, true, false, List, [], ◌∷◌, ◌++◌, length, ap, ◌⊎◌, inl, inr, ◌∙◌, sym, refl}
+use Rattle.std.proofs.Common.{◌≡◌, ℕ, suc, ◌+◌, Bool, true, false, List, [], ◌∷◌, ◌++◌, length, ap, ◌⊎◌, inl, inr, ◌∙◌, sym, refl}
 use Rattle.std.proofs.Common.{arith, if◌then◌else◌}
 use Rattle.std.specs.Prelude.{◌≢◌, All}
 use Rattle.std.specs.Str.{bytes_eq}

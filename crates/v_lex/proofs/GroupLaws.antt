@@ -1,13 +1,11 @@
 -- A row breaks no rule just where its parts are unbroken and its conditionals are whole.
-use Rattle.std.proofs.Common.{◌≡◌, ℕ, ◌+◌, Bool, true, false, not, ◌&&◌, List, [], ◌∷◌, ◌++◌, length, ap, ◌⊎◌, inl, inr, ◌∙◌, sym, refl}
+use Rattle.std.proofs.Common.{◌≡◌, ℕ, ◌+◌, Bool, true, false, not, ◌&&◌, List, [], ◌∷◌, ◌++◌, length, ap, inl, inr, ◌∙◌, sym, refl}
 use Rattle.std.proofs.Common.{subst, append_assoc, if◌then◌else◌}
 use Rattle.std.specs.List.{list_all}
 use Rattle.std.proofs.lemmas.Bool.{false≢true}
 use Rattle.v_lex.specs.declared.directive.Directive.{Directive}
 use Rattle.v_lex.specs.declared.directive.Directive.TheVariants as directive
-use Rattle.v_lex.specs.declared.directive.LexRule.{LexRule}
 use Rattle.v_lex.specs.declared.directive.LexRule.TheVariants as rule
-use Rattle.v_lex.specs.declared.directive.BrokenRule.{BrokenRule}
 use Rattle.v_lex.specs.declared.directive.Conditional.{Conditional}
 use Rattle.v_lex.specs.declared.directive.Content.{Content}
 use Rattle.v_lex.specs.declared.directive.Content.TheVariants as content
