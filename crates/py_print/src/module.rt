@@ -1,5 +1,8 @@
 //! Modules.
 
+ghost use Rattle.std.specs.Prelude.{IfOk};
+ghost use Rattle.py_print.specs.Text.{IsModuleText};
+
 use crate::block::push_block;
 use crate::expression::{push_constant, push_named};
 use crate::piece::push_text;
@@ -141,11 +144,10 @@ fn push_function(
     Ok(())
 }
 
-/// A module.
-pub fn module_text(alloc: Global, module: &Module) -> Result<Vec<u8>, AllocError> {
+/// The items of a module, each behind a space.
+fn items_text(alloc: Global, items: &[ModuleItem]) -> Result<Vec<u8>, AllocError> {
     let mut out = Vec::new(alloc);
-    out.extend_from_slice(b"(module")?;
-    for item in &module.items {
+    for item in items {
         match item {
             ModuleItem::Docstring { .. } => {}
             ModuleItem::Line { line, .. } => {
@@ -163,6 +165,15 @@ pub fn module_text(alloc: Global, module: &Module) -> Result<Vec<u8>, AllocError
             }
         }
     }
+    Ok(out)
+}
+
+/// A module: its items in brackets, behind the word `module`. Only want of memory is an error.
+pub fn module_text(alloc: Global, module: &Module) -> Result<Vec<u8>, AllocError>
+    ensures { IfOk result (λ text. IsModuleText text.items) }
+{
+    let mut out = b"(module".to_vec(alloc)?;
+    out.extend_from_slice(&items_text(alloc, &module.items)?)?;
     out.extend_from_slice(b")")?;
     Ok(out)
 }
