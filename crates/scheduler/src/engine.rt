@@ -1,13 +1,15 @@
 //! The engine, and its public calls.
-ghost use Rattle.std.specs.Prelude.{◌≡◌, ◌≤◌, ◌<◌, ◌⊎◌, [], List, length, IfOk, OnOk, Ok, IsSomeAnd, slice_get, true, false};
+ghost use Rattle.std.specs.Prelude.{◌≡◌, ◌≤◌, ◌<◌, ◌⊎◌, [], List, length, IfOk, OnOk, Ok, true, false};
+ghost use Rattle.port_io.specs.Means.{sink_means};
 ghost use Rattle.gpi.specs.Content.{Content, opening};
 ghost use Rattle.rig_model.specs.Keys.{AreKeys};
 ghost use Rattle.rig_model.specs.Rig.{named};
 ghost use Rattle.rig_model.specs.Sound.{AreSoundFunctions};
 ghost use Rattle.rig_model.specs.FitSteps.{TurnSteps};
+ghost use Rattle.rig_model.specs.Line.{path_of};
 ghost use Rattle.rig_model.specs.Run.{emptied, ended};
 
-use crate::line::test_text;
+use crate::line::{path_of, test_text};
 use crate::tasks::LiveTasks;
 use crate::turn::{Turn, has_gone};
 use gpi::{Flat, Gpi, SigId};
@@ -75,9 +77,9 @@ impl<'a, M: FlowMaker + Drop, W: Awaits> Engine<'a, M, W> {
     /// The path of a signal of the design, as `top.a` (IEEE 1364-2005, 12.5). It takes no memory.
     pub fn path(&self, sig: SigId) -> &Name
         requires { sig.0 < length self.now.flat.now.signals }
-        ensures { IsSomeAnd (slice_get self.now.flat.now.signals sig.0) (λ signal. result.now ≡ signal.path) }
+        ensures { result.now ≡ path_of self.now.flat.now sig }
     {
-        &self.flat.signals.get(sig.0 as usize).path
+        path_of(self.flat, sig)
     }
 
     /// The design that its tests run on.
@@ -102,7 +104,7 @@ impl<'a, M: FlowMaker + Drop, W: Awaits> Engine<'a, M, W> {
         requires fits { FitsKernel M.functions W.waiting W.held self.old (K.content kernel.old) }
         requires empty { rig_of W.waiting self.old (K.content kernel.old) ≡ emptied (K.content kernel.old).state (K.content kernel.old).counts }
         requires func { case.now.func < length (M.functions self.old.maker) }
-        ensures begins { BeginsTo O.takes O.breaks O.told (setup_of M.functions self.old) case.now
+        ensures begins { BeginsTo (sink_means O.Sink) (setup_of M.functions self.old) case.now
             (rig_of W.waiting self.old (K.content kernel.old)) result (rig_of W.waiting self.new (K.content kernel.new)) out.old out.new }
         ensures fits { IfOk result (λ turn. FitsAfter M.functions W.waiting W.held turn self.new (K.content kernel.new)) }
         ensures setup { setup_of M.functions self.new ≡ setup_of M.functions self.old }
@@ -134,7 +136,7 @@ impl<'a, M: FlowMaker + Drop, W: Awaits> Engine<'a, M, W> {
     ) -> Result<Turn, NoMemory>
         requires loaded { K.is_loaded kernel.old }
         requires fits { FitsKernel M.functions W.waiting W.held self.old (K.content kernel.old) }
-        ensures turning { Turning O.takes O.breaks O.told (TurnSteps (setup_of M.functions self.old)) (setup_of M.functions self.old)
+        ensures turning { Turning (sink_means O.Sink) (TurnSteps (setup_of M.functions self.old)) (setup_of M.functions self.old)
             fuel.old (rig_of W.waiting self.old (K.content kernel.old)) out.old result fuel.new (rig_of W.waiting self.new (K.content kernel.new)) out.new }
         ensures falls { result ≡ Ok Turn.Went → (fuel.new < fuel.old) ⊎ ((fuel.new ≤ fuel.old) × (length self.new.ready.entries < length self.old.ready.entries)) }
         ensures fits { IfOk result (λ turn. FitsAfter M.functions W.waiting W.held turn self.new (K.content kernel.new)) }
@@ -169,7 +171,7 @@ impl<'a, M: FlowMaker + Drop, W: Awaits> Engine<'a, M, W> {
         requires loaded { K.is_loaded kernel.old }
         requires fits { FitsKernel M.functions W.waiting W.held self.old (K.content kernel.old) }
         requires runs { runs_test self.old ≡ true }
-        ensures turning { Turning O.takes O.breaks O.told (TurnSteps (setup_of M.functions self.old)) (setup_of M.functions self.old)
+        ensures turning { Turning (sink_means O.Sink) (TurnSteps (setup_of M.functions self.old)) (setup_of M.functions self.old)
             fuel.old (rig_of W.waiting self.old (K.content kernel.old)) out.old result fuel.new (rig_of W.waiting self.new (K.content kernel.new)) out.new }
         ensures falls { result ≡ Ok Turn.Went → (fuel.new < fuel.old) ⊎ ((fuel.new ≤ fuel.old) × (length self.new.ready.entries < length self.old.ready.entries)) }
         ensures fits { IfOk result (λ turn. FitsAfter M.functions W.waiting W.held turn self.new (K.content kernel.new)) }

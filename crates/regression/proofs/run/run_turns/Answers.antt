@@ -1,4 +1,5 @@
 use Rattle.std.proofs.Common.{◌≡◌, ◌≤◌, ◌∙◌, ap, Ok, None, subst, length, arith, inl, inr}
+use Rattle.port_io.specs.Means.{sink_means}
 use Rattle.scheduler.specs.Engine.{setup_of, parts_of}
 use Rattle.scheduler.specs.Fits.{FitsAfter, FitsKernel}
 use Rattle.scheduler.specs.Turns.{has_gone}
@@ -9,12 +10,12 @@ use Rattle.regression.proofs.run.run_turns.Goals as goal
 
 pub returns-in_err-turn-clause-turning : goal.returns-in_err-turn-clause-turning
 returns-in_err-turn-clause-turning g c = c.turns.invariant.turning _ _ _ _
-    (turning_err g.O.Sink.takes g.O.Sink.breaks g.O.Sink.told _ _ _ _ _ _ _ _ _ _ c.turns.invariant.setup c.from_residual.ensures.0 c.in_err-turn.ensures.turning)
+    (turning_err (sink_means g.O.Sink) _ _ _ _ _ _ _ _ _ _ c.turns.invariant.setup c.from_residual.ensures.0 c.in_err-turn.ensures.turning)
 
 pub turns-preserved : goal.turns-preserved
 turns-preserved g c = record {
   turning = λ r fuel e out more. c.turns.invariant.turning r fuel e out
-      (went_then g.O.Sink.takes g.O.Sink.breaks g.O.Sink.told _ _ _ _ _ _ _ _ _ r fuel e out c.turns.invariant.setup (ap Ok c.in-Went.is) c.in_ok-turn.ensures.turning more);
+      (went_then (sink_means g.O.Sink) _ _ _ _ _ _ _ _ _ r fuel e out c.turns.invariant.setup (ap Ok c.in-Went.is) c.in_ok-turn.ensures.turning more);
   setup = c.turn.ensures.keeps.setup ∙ c.turns.invariant.setup;
   loaded = c.turn.ensures.keeps.loaded;
   runs = c.in_ok-turn.ensures.runs ∙ ap (λ (t : Turn). has_gone (Ok t)) c.in-Went.is;
@@ -23,7 +24,7 @@ turns-preserved g c = record {
 
 pub returns-in-turns-clause-turning : goal.returns-in-turns-clause-turning
 returns-in-turns-clause-turning g c = c.turns.invariant.turning _ _ _ _
-    (turning_anywhere g.O.Sink.takes g.O.Sink.breaks g.O.Sink.told _ _ _ _ _ _ _ _ _ c.turns.invariant.setup c.in_ok-turn.ensures.turning)
+    (turning_anywhere (sink_means g.O.Sink) _ _ _ _ _ _ _ _ _ c.turns.invariant.setup c.in_ok-turn.ensures.turning)
 
 pub turns-smaller : goal.turns-smaller
 turns-smaller g c =
