@@ -24,7 +24,8 @@ abbrev pub setup_with : List ℕ → TestFile → Setup
 setup_with ports file = record { functions = file.functions; flat = flat_of ports; trace = false }
 
 -- The test of a file is run, which leaves the simulator with this content.
-pub record RunsFile {O : Type 0} (sink : SinkMeans O) (budget : ℕ) (ports : List ℕ) (file : TestFile) (s : Status) (content : Content) (out out' : O) : Type 0 where
+pub record RunsFile {O : Type 0} (sink : SinkMeans O) (budget : ℕ) (ports : List ℕ) (file : TestFile)
+    (s : Status) (content : Content) (out out' : O) : Type 0 where
   pub case : TestCase
   pub is_case : file.cases ≡ case ∷ []
   pub last : Rig
@@ -55,15 +56,17 @@ IsAnswer budget (runs ports file) lines s =
     (case : TestCase) × (file.cases ≡ case ∷ []) × (run : Run) × IsRun (setup_with ports file) case budget run
     × (lines ≡ written (setup_with ports file) budget run) × (s ≡ status_of run)
 
--- What a sink that tells its bytes has after a status: all the bytes of the lines with the own status, and a front of them where a put broke or memory was short.
+-- What a sink that tells its bytes has after a status: all the bytes of the lines with the own status, and a front of them where a put
+-- broke or memory was short.
 abbrev pub TellsLines : Option (List ℕ) → Option (List ℕ) → List (List ℕ) → Status → Status → Type 0
 TellsLines before after lines own s =
     ((s ≡ own) × Appends before after (joined lines))
     ⊎ (((s ≡ status.WriteFault) ⊎ (s ≡ status.NoMemory)) × AppendsPart before after (joined lines))
 
--- An answer by the reads of the store and the puts of the sink, by the files where the store tells them, by what the simulator holds after
--- a run, and by the bytes where the sink tells them.
-pub record Answered {S O : Type 0} (from : StoreMeans S) (sink : SinkMeans O) (budget : ℕ) (words : List (List ℕ)) (s : Status) (store store' : S) (content : Content) (out out' : O) : Type 0 where
+-- An answer by the reads of the store and the puts of the sink, by the files where the store tells them, by what the simulator holds
+-- after a run, and by the bytes where the sink tells them.
+pub record Answered {S O : Type 0} (from : StoreMeans S) (sink : SinkMeans O) (budget : ℕ) (words : List (List ℕ))
+    (s : Status) (store store' : S) (content : Content) (out out' : O) : Type 0 where
   pub reading : Reading
   pub reads : Reads from words store reading store'
   pub is_told : IsTold (from.files store) words reading

@@ -1,5 +1,5 @@
 -- Lines that are put, and the status after them.
-use Rattle.std.proofs.Common.{◌≡◌, ℕ, List, Option, Some, Result, Ok, Err, IsErr, refl, subst}
+use Rattle.std.proofs.Common.{◌≡◌, ℕ, List, [], ◌∷◌, Option, Some, Result, Ok, Err, IsErr, refl, ap, subst, ◌∙◌}
 use Rattle.port_io.specs.Means.{SinkMeans, PutsTo}
 use Rattle.port_io.proofs.PartLaws.{part_none}
 use Rattle.port_io.specs.declared.ports.NoMemory.{NoMemory}
@@ -8,6 +8,9 @@ use Rattle.port_io.specs.declared.ports.SinkFault.TheVariants.{OutOfMemory}
 use Rattle.regression.specs.Runs.{EndsTo, status_in}
 use Rattle.regression.specs.Status.{put_status}
 use Rattle.regression.specs.declared.status.Status.{Status}
+
+pub two_lines : (a b c d : List ℕ) → a ≡ c → b ≡ d → a ∷ b ∷ [] ≡ c ∷ d ∷ []
+two_lines a b c d e f = ap (λ (l : List ℕ). l ∷ b ∷ []) e ∙ ap (λ (l : List ℕ). c ∷ l ∷ []) f
 
 module _ {O : Type 0} (sink : SinkMeans O) where
   -- nothing was put

@@ -38,7 +38,7 @@ module _ {O : Type 0} (sink : SinkMeans O) where
 
   -- a test whose line broke
   pub begun_broke : (setup : Setup) (case : TestCase) (c : Rig) (t : Turn) (e : Rig) (out out' : O) → t ≡ WriteFault → BeginsTo sink setup case c (Ok t) e out out' → sink.breaks out (test_line c.sim.time case.name) out'
-  begun_broke setup case c t e out out' h b = subst (λ (x : Turn). BeginsTo sink setup case c (Ok x) e out out') h b
+  begun_broke setup case c t e out out' h b = (subst (λ (x : Turn). BeginsTo sink setup case c (Ok x) e out out') h b).1
 
   -- turns whose answer is known, under the same setup
   pub turning_as : (setup' setup : Setup) (fuel : ℕ) (c : Rig) (out : O) (t : Turn) (t' : Turn) (fuel' : ℕ) (e : Rig) (out' : O) → setup' ≡ setup → t ≡ t'

@@ -29,7 +29,8 @@ status_of c = stopped_status (is_over c.place) (list_all (λ b. b) c.verdicts)
 
 -- All lines of the run are taken. The engine stands where the run stops, and what the simulator holds stands for that place:
 -- its state, its registered keys and its counts.
-pub record Whole {O : Type 0} (sink : SinkMeans O) (setup : Setup) (case : TestCase) (budget : ℕ) (s : Status) (e : Rig) (content : Content) (out out' : O) : Type 0 where
+pub record Whole {O : Type 0} (sink : SinkMeans O) (setup : Setup) (case : TestCase) (budget : ℕ) (s : Status)
+    (e : Rig) (content : Content) (out out' : O) : Type 0 where
   pub run : Run
   pub is_run : IsRun setup case budget run
   pub status_is : s ≡ status_of run
@@ -38,7 +39,8 @@ pub record Whole {O : Type 0} (sink : SinkMeans O) (setup : Setup) (case : TestC
   pub stands : StandsFor setup content run.rig
 
 -- The first lines of the run are put in order, up to a put that fails so.
-pub record PutsStart {O : Type 0} (sink : SinkMeans O) (setup : Setup) (case : TestCase) (budget : ℕ) (fault : SinkFault) (out out' : O) : Type 0 where
+pub record PutsStart {O : Type 0} (sink : SinkMeans O) (setup : Setup) (case : TestCase) (budget : ℕ)
+    (fault : SinkFault) (out out' : O) : Type 0 where
   pub lines : List (List ℕ)
   pub starts : IsStart setup case budget lines
   pub puts : PutsTo sink out lines (Some fault) out'

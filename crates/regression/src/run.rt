@@ -1,5 +1,5 @@
 //! A whole run.
-ghost use Rattle.std.specs.Prelude.{◌≡◌, ◌≢◌, ◌<◌, [], ◌∷◌, length, IfOk, Ok, true};
+ghost use Rattle.std.specs.Prelude.{◌≡◌, ◌≢◌, ◌<◌, [], ◌∷◌, length, IfOk, OnOk, Ok, true};
 ghost use Rattle.std.specs.Result.{result_err};
 ghost use Rattle.port_io.specs.Means.{PutsTo, sink_means};
 ghost use Rattle.gpi.specs.Content.{no_counts};
@@ -7,7 +7,7 @@ ghost use Rattle.rig_model.specs.FitSteps.{FitSteps, anywhere};
 ghost use Rattle.rig_model.specs.Line.{passes, verdict_line, budget_line};
 ghost use Rattle.rig_model.specs.Run.{emptied, opening_sim, report_of};
 ghost use Rattle.scheduler.specs.Engine.{rig_of, runs_test, setup_of};
-ghost use Rattle.scheduler.specs.Fits.{FitsKernel, FitsAfter};
+ghost use Rattle.scheduler.specs.Fits.{FitsKernel};
 ghost use Rattle.scheduler.specs.Turns.{Turning};
 ghost use Rattle.regression.specs.Runs.{RunsTo, EndsTo, status_in, verdict_status};
 
@@ -101,7 +101,7 @@ fn run_turns<O: Sink, K: Gpi, M: FlowMaker + Drop, W: Awaits, L: Ledger>(
         fuel.old (rig_of W.waiting engine.old (K.content kernel.old)) out.old result fuel.new (rig_of W.waiting engine.new (K.content kernel.new)) out.new }
     ensures stops { result ≢ Ok Turn.Went }
     ensures setup { setup_of M.functions engine.new ≡ setup_of M.functions engine.old }
-    ensures fits { IfOk result (λ turn. FitsAfter M.functions W.waiting W.held turn engine.new (K.content kernel.new)) }
+    ensures fits { OnOk result (FitsKernel M.functions W.waiting W.held engine.new (K.content kernel.new)) }
     ensures loaded { K.is_loaded kernel.new }
 {
     'turns: loop {

@@ -27,7 +27,8 @@ pub record Stays (before after : Content) (waiting waiting' : List Waiting) : Ty
   pub waits : (k : Key) → among k (keys_of waiting') ≡ true → among k (keys_of waiting) ≡ true
 
 -- The next event is done, and what it fired is served: so c leads to d, and the lines were put.
-pub record IsEvented {O : Type 0} (sink : SinkMeans O) (setup : Setup) (c d : Rig) (out out' : O) (fault : Option SinkFault) : Type 0 where
+pub record IsEvented {O : Type 0} (sink : SinkMeans O) (setup : Setup) (c d : Rig)
+    (out out' : O) (fault : Option SinkFault) : Type 0 where
   pub event : Event
   pub is : event_of setup c ≡ Some event
   pub rig_is : (evented setup event c).rig ≡ d

@@ -30,8 +30,10 @@ has_gone (Ok Spent) = false
 has_gone (Ok WriteFault) = false
 has_gone (Err no_memory) = false
 
--- From c, steps of this kind write these lines and lead to e. After a failed put, and where memory was short, they are those whose lines were being put.
-abbrev pub TurnsTo : (ℕ → ℕ → Rig → List (List ℕ) → ℕ → Rig → Type 0) → Setup → ℕ → Rig → List (List ℕ) → Result Turn NoMemory → ℕ → Rig → Type 0
+-- From c, steps of this kind write these lines and lead to e. After a failed put, and where memory was short, they are those whose lines
+-- were being put.
+abbrev pub TurnsTo : (ℕ → ℕ → Rig → List (List ℕ) → ℕ → Rig → Type 0) → Setup
+    → ℕ → Rig → List (List ℕ) → Result Turn NoMemory → ℕ → Rig → Type 0
 TurnsTo kind setup fuel c lines (Ok Went) fuel' e = Moves kind fuel c lines fuel' e
 TurnsTo kind setup fuel c lines (Ok (Over outcome)) fuel' e = Moves kind fuel c lines fuel' (record e { outcome = Some outcome })
 TurnsTo kind setup fuel c lines (Ok Spent) fuel' e = Short kind setup fuel c lines fuel' e
@@ -56,7 +58,8 @@ pub record Turning {O : Type 0} (sink : SinkMeans O) (kind : ℕ → ℕ → Rig
 -- What a task wanted leads here: its effect, once the turn is taken from the task.
 abbrev pub LeadsTo : Setup → TaskNo → Turned → Rig → Next → Rig → Type 0
 LeadsTo setup task turned c (GoesOn given) e = (asks turned ≡ true) × ((effect setup task turned c).rig ≡ goes_on task (Some given) e)
-LeadsTo setup task turned c (Ends Went) e = ((asks turned ≡ true) ⊎ (length e.ready ≤ length c.ready)) × ((effect setup task turned c).rig ≡ e)
+LeadsTo setup task turned c (Ends Went) e =
+    ((asks turned ≡ true) ⊎ (length e.ready ≤ length c.ready)) × ((effect setup task turned c).rig ≡ e)
 LeadsTo setup task turned c (Ends (Over outcome)) e = (effect setup task turned c).rig ≡ record e { outcome = Some outcome }
 LeadsTo setup task turned c (Ends Spent) e = ⊥
 LeadsTo setup task turned c (Ends WriteFault) e = Unit {0}
@@ -80,10 +83,11 @@ abbrev pub FitsOwn : Setup → TaskNo → ℕ → Next → Parts → Type 0
 FitsOwn setup task room (GoesOn given) p = Fits setup (Some task) room p
 FitsOwn setup task room (Ends turn) p = Fits setup None room p
 
--- From c a test begins: its line is put, and its own task is ready.
+-- From c a test begins: its own task is ready, and its line is put or breaks.
 abbrev pub BeginsTo : {O : Type 0} → SinkMeans O → Setup → TestCase → Rig → Result Turn NoMemory → Rig → O → O → Type 0
 BeginsTo sink setup case c (Ok Went) e out out' = (e ≡ test_begun setup case c) × sink.takes out (test_line c.sim.time case.name) out'
 BeginsTo sink setup case c (Ok (Over outcome)) e out out' = ⊥
 BeginsTo sink setup case c (Ok Spent) e out out' = ⊥
-BeginsTo sink setup case c (Ok WriteFault) e out out' = sink.breaks out (test_line c.sim.time case.name) out'
+BeginsTo sink setup case c (Ok WriteFault) e out out' =
+    (e ≡ test_begun setup case c) × sink.breaks out (test_line c.sim.time case.name) out'
 BeginsTo sink setup case c (Err no_memory) e out out' = PutsPart sink.takes sink.told out (test_line c.sim.time case.name ∷ []) out'

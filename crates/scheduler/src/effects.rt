@@ -163,7 +163,7 @@ impl<'a, M: FlowMaker + Drop, W: Awaits> Engine<'a, M, W> {
 
     /// What the task wanted is done, once the turn is taken from it. After `NoMemory` the same writes are staged. A write in the read-only
     /// phase takes no memory.
-    pub fn apply<O: Sink, K: Gpi, L: Ledger>(
+    pub(crate) fn apply<O: Sink, K: Gpi, L: Ledger>(
         &mut self,
         alloc: Global,
         kernel: &mut K,

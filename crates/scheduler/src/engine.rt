@@ -24,8 +24,8 @@ use std::sync::ledger::Ledger;
 ///
 /// An engine and its simulator fit where the two stand together for a configuration of the design: the registered keys are
 /// those of the waiting tasks, and the read-write phase where a write is staged. A new engine and a simulator that has just
-/// loaded the design fit. Each call that finds them fitting leaves them so, unless it answers `WriteFault` or `NoMemory`;
-/// after these two the registered keys are still those that the engine's waiting part names, and `end_test` asks no more.
+/// loaded the design fit. Each call that finds them fitting leaves them so, unless it answers `NoMemory`; then the registered
+/// keys are still those that the engine's waiting part names, and `end_test` asks no more.
 #[derive(Drop)]
 pub struct Engine<'a, M: FlowMaker + Drop, W: Awaits> {
     pub(crate) flat: &'a Flat,
@@ -42,7 +42,7 @@ pub struct Engine<'a, M: FlowMaker + Drop, W: Awaits> {
 impl<'a, M: FlowMaker + Drop, W: Awaits> Engine<'a, M, W> {
     ghost use Rattle.scheduler.specs.Engine.{rig_of, runs_test, setup_of};
     ghost use Rattle.scheduler.specs.Parts.{bounds_of};
-    ghost use Rattle.scheduler.specs.Fits.{FitsKernel, FitsAfter, Keeps};
+    ghost use Rattle.scheduler.specs.Fits.{FitsKernel, Keeps};
     ghost use Rattle.scheduler.specs.Turns.{Turning, BeginsTo, has_gone};
 
     /// An engine for the design, in which no test runs. With `trace` it writes a line for each told change of a signal. No
@@ -89,7 +89,7 @@ impl<'a, M: FlowMaker + Drop, W: Awaits> Engine<'a, M, W> {
         self.flat
     }
 
-    /// Begins a test: its line is put, and its own task is ready. Before, no test runs. `Went` where that was done,
+    /// Begins a test: its own task is ready, and its line is put. Before, no test runs. `Went` where that was done,
     /// `WriteFault` where the put failed, and `NoMemory` where memory is short: after these two only `end_test` is called.
     /// What the simulator holds stays. Each call is handed a counter of steps of work.
     pub fn begin_test<O: Sink, K: Gpi, L: Ledger>(
@@ -106,7 +106,7 @@ impl<'a, M: FlowMaker + Drop, W: Awaits> Engine<'a, M, W> {
         requires func { case.now.func < length (M.functions self.old.maker) }
         ensures begins { BeginsTo (sink_means O.Sink) (setup_of M.functions self.old) case.now
             (rig_of W.waiting self.old (K.content kernel.old)) result (rig_of W.waiting self.new (K.content kernel.new)) out.old out.new }
-        ensures fits { IfOk result (λ turn. FitsAfter M.functions W.waiting W.held turn self.new (K.content kernel.new)) }
+        ensures fits { OnOk result (FitsKernel M.functions W.waiting W.held self.new (K.content kernel.new)) }
         ensures setup { setup_of M.functions self.new ≡ setup_of M.functions self.old }
         ensures kernel { kernel.new ≡ kernel.old }
         ensures keys { AreKeys (K.content kernel.new).keys (named (W.waiting self.new.awaits) (W.held self.new.awaits)) }
@@ -139,7 +139,7 @@ impl<'a, M: FlowMaker + Drop, W: Awaits> Engine<'a, M, W> {
         ensures turning { Turning (sink_means O.Sink) (TurnSteps (setup_of M.functions self.old)) (setup_of M.functions self.old)
             fuel.old (rig_of W.waiting self.old (K.content kernel.old)) out.old result fuel.new (rig_of W.waiting self.new (K.content kernel.new)) out.new }
         ensures falls { result ≡ Ok Turn.Went → (fuel.new < fuel.old) ⊎ ((fuel.new ≤ fuel.old) × (length self.new.ready.entries < length self.old.ready.entries)) }
-        ensures fits { IfOk result (λ turn. FitsAfter M.functions W.waiting W.held turn self.new (K.content kernel.new)) }
+        ensures fits { OnOk result (FitsKernel M.functions W.waiting W.held self.new (K.content kernel.new)) }
         ensures keeps { Keeps M.functions W.waiting W.held K.is_loaded K.content self.old self.new kernel.new }
     {
         let first = self.ready.first();
@@ -174,7 +174,7 @@ impl<'a, M: FlowMaker + Drop, W: Awaits> Engine<'a, M, W> {
         ensures turning { Turning (sink_means O.Sink) (TurnSteps (setup_of M.functions self.old)) (setup_of M.functions self.old)
             fuel.old (rig_of W.waiting self.old (K.content kernel.old)) out.old result fuel.new (rig_of W.waiting self.new (K.content kernel.new)) out.new }
         ensures falls { result ≡ Ok Turn.Went → (fuel.new < fuel.old) ⊎ ((fuel.new ≤ fuel.old) × (length self.new.ready.entries < length self.old.ready.entries)) }
-        ensures fits { IfOk result (λ turn. FitsAfter M.functions W.waiting W.held turn self.new (K.content kernel.new)) }
+        ensures fits { OnOk result (FitsKernel M.functions W.waiting W.held self.new (K.content kernel.new)) }
         ensures keeps { Keeps M.functions W.waiting W.held K.is_loaded K.content self.old self.new kernel.new }
         ensures runs { runs_test self.new ≡ has_gone result }
     {

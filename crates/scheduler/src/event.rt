@@ -43,7 +43,7 @@ impl<'a, M: FlowMaker + Drop, W: Awaits> Engine<'a, M, W> {
     ghost use Rattle.scheduler.specs.Parts.{rig_amid};
     ghost use Rattle.scheduler.specs.Puts.{PutsOn};
     ghost use Rattle.scheduler.specs.Serves.{Serves, Stays, IsEvented};
-    ghost use Rattle.scheduler.specs.Fits.{FitsAmid, FitsKernel, FitsAfter, Keeps};
+    ghost use Rattle.scheduler.specs.Fits.{FitsAmid, FitsKernel, Keeps};
     ghost use Rattle.scheduler.specs.Turns.{Turning};
 
     /// Puts the line of a told change, where changes are written and no put has failed.
@@ -200,7 +200,7 @@ impl<'a, M: FlowMaker + Drop, W: Awaits> Engine<'a, M, W> {
     }
 
     /// The simulator does an event, where no task is ready. Where nothing is left that could happen the test has stalled.
-    pub fn advance<O: Sink, K: Gpi, L: Ledger>(
+    pub(crate) fn advance<O: Sink, K: Gpi, L: Ledger>(
         &mut self,
         alloc: Global,
         kernel: &mut K,
@@ -214,7 +214,7 @@ impl<'a, M: FlowMaker + Drop, W: Awaits> Engine<'a, M, W> {
         ensures turning { Turning (sink_means O.Sink) (TurnSteps (setup_of M.functions self.old)) (setup_of M.functions self.old)
             fuel.old (rig_of W.waiting self.old (K.content kernel.old)) out.old result fuel.new (rig_of W.waiting self.new (K.content kernel.new)) out.new }
         ensures falls { result ≡ Ok Turn.Went → fuel.new < fuel.old }
-        ensures fits { IfOk result (λ turn. FitsAfter M.functions W.waiting W.held turn self.new (K.content kernel.new)) }
+        ensures fits { OnOk result (FitsKernel M.functions W.waiting W.held self.new (K.content kernel.new)) }
         ensures keeps { Keeps M.functions W.waiting W.held K.is_loaded K.content self.old self.new kernel.new }
     {
         if kernel.idle() {

@@ -31,7 +31,7 @@ impl<'a, M: FlowMaker + Drop, W: Awaits> Engine<'a, M, W> {
     }
 
     /// A task of that function is live and ready: its number.
-    pub fn add_task(&mut self, alloc: Global, func: u32) -> Result<TaskNo, NoMemory>
+    pub(crate) fn add_task(&mut self, alloc: Global, func: u32) -> Result<TaskNo, NoMemory>
         requires func { func < length (M.functions self.old.maker) }
         requires few { length self.old.ready.entries + length (W.waiting self.old.awaits) ≤ length self.old.live.tasks }
         requires live { length self.old.live.tasks < live_limit }
@@ -55,7 +55,7 @@ impl<'a, M: FlowMaker + Drop, W: Awaits> Engine<'a, M, W> {
     }
 
     /// A task starts another, and goes on or gives way to it.
-    pub fn start_task(
+    pub(crate) fn start_task(
         &mut self,
         alloc: Global,
         task: TaskNo,

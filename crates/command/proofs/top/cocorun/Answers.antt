@@ -19,6 +19,13 @@ returns-then-words-ne2-clause-answer g c =
     c.refuse.ensures
     )
 
+-- the status of the usage line is neither for a put nor for memory
+pub returns-then-words-ne2-clause-write_fault : goal.returns-then-words-ne2-clause-write_fault
+returns-then-words-ne2-clause-write_fault g c =
+    write_raised (sink_means g.O.Sink) g.met.O.Sink.takes_told g.met.O.Sink.breaks_told g.O.Sink.faults g.met.O.Sink.takes_count g.met.O.Sink.breaks_count default_budget
+    0 0 (refused Usage c.as_slice.result.now) c.refuse.result (g.K.Gpi.content c.args.kernel.now) c.args.out.now c.refuse.new.out
+    (λ x. cc, λ x. cc, λ x. cc) c.refuse.ensures
+
 pub returns-in-Ok-decide-clause-answer : goal.returns-in-Ok-decide-clause-answer
 returns-in-Ok-decide-clause-answer g c =
     let reads : Reads (store_means g.S.Store) (map string_bytes c.args.words.now) c.args.store.now (reading_of c.in-Ok-decide.decision) c.decide.new.store

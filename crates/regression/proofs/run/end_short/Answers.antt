@@ -10,6 +10,6 @@ pub returns-in_err-line : goal.returns-in_err-line
 returns-in_err-line g c = ends_none (sink_means g.O.Sink) _ _ _ _ c.from_residual.ensures.0
 
 pub returns : goal.returns
-returns g c = ends_put (sink_means g.O.Sink) (c.as_slice.result.now ∷ []) (budget_line c.args.budget ∷ []) Budget _ _ c.args.out.now c.put.new.self
+returns g c = ends_put (sink_means g.O.Sink) (c.as_slice.result.now ∷ []) (budget_line c.args.budget ∷ []) Budget _ _ c.args.out.now c.put-put.new.self
     (ap (λ (l : List ℕ). l ∷ []) (c.as_slice.ensures.value ∙ c.in_ok-line.ensures)) c.after.ensures
-    (put_done (sink_means g.O.Sink) c.args.out.now c.as_slice.result.now _ c.put.new.self c.put.ensures.taken c.put.ensures.broken c.put.ensures.part)
+    (put_done (sink_means g.O.Sink) c.args.out.now c.as_slice.result.now _ c.put-put.new.self c.put-put.ensures.taken c.put-put.ensures.broken c.put-put.ensures.part)

@@ -1,7 +1,6 @@
-use Rattle.std.proofs.Common.{◌≡◌, ◌≤◌, ◌∙◌, ap, Ok, None, subst, length, arith, inl, inr}
+use Rattle.std.proofs.Common.{◌≡◌, ◌≤◌, ◌∙◌, ap, Ok, None, length, arith, inl, inr}
 use Rattle.port_io.specs.Means.{sink_means}
 use Rattle.scheduler.specs.Engine.{setup_of, parts_of}
-use Rattle.scheduler.specs.Fits.{FitsAfter, FitsKernel}
 use Rattle.scheduler.specs.Turns.{has_gone}
 use Rattle.scheduler.specs.declared.turn.Turn.{Turn}
 use Rattle.scheduler.proofs.FitLaws.{few_ready}
@@ -19,7 +18,7 @@ turns-preserved g c = record {
   setup = c.turn.ensures.keeps.setup ∙ c.turns.invariant.setup;
   loaded = c.turn.ensures.keeps.loaded;
   runs = c.in_ok-turn.ensures.runs ∙ ap (λ (t : Turn). has_gone (Ok t)) c.in-Went.is;
-  fits = subst (λ (t : Turn). FitsAfter g.M.FlowMaker.functions g.W.Awaits.waiting g.W.Awaits.held t c.turn.new.self (g.K.Gpi.content c.turn.new.kernel)) c.in-Went.is c.in_ok-turn.ensures.fits;
+  fits = c.in_ok-turn.ensures.fits;
 }
 
 pub returns-in-turns-clause-turning : goal.returns-in-turns-clause-turning
@@ -28,7 +27,5 @@ returns-in-turns-clause-turning g c = c.turns.invariant.turning _ _ _ _
 
 pub turns-smaller : goal.turns-smaller
 turns-smaller g c =
-    let fits : FitsKernel g.M.FlowMaker.functions g.W.Awaits.waiting g.W.Awaits.held c.turn.new.self (g.K.Gpi.content c.turn.new.kernel)
-    = subst (λ (t : Turn). FitsAfter g.M.FlowMaker.functions g.W.Awaits.waiting g.W.Awaits.held t c.turn.new.self (g.K.Gpi.content c.turn.new.kernel)) c.in-Went.is c.in_ok-turn.ensures.fits in
-    let few : length c.turn.new.self.ready.entries ≤ 65536 = few_ready (setup_of g.M.FlowMaker.functions c.turn.new.self) _ (parts_of g.W.Awaits.waiting c.turn.new.self) None fits.own in
+    let few : length c.turn.new.self.ready.entries ≤ 65536 = few_ready (setup_of g.M.FlowMaker.functions c.turn.new.self) _ (parts_of g.W.Awaits.waiting c.turn.new.self) None c.in_ok-turn.ensures.fits.own in
     elim (c.in_ok-turn.ensures.falls (ap Ok c.in-Went.is)) [ inl a ↦ omega (arith, a) | inr b ↦ omega (arith, b.0, b.1) ]

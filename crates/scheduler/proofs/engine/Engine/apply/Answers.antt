@@ -1,7 +1,7 @@
 use Rattle.std.proofs.Common.{refl}
 use Rattle.port_io.specs.Means.{sink_means}
 use Rattle.scheduler.specs.Engine.{setup_of, parts_of, rig_of}
-use Rattle.scheduler.proofs.FitLaws.{fits_dropped}
+use Rattle.scheduler.proofs.FitLaws.{fits_dropped, fits_logged}
 use Rattle.scheduler.proofs.StandLaws.{keys_named, stands_same}
 use Rattle.scheduler.proofs.TurnLaws.{next_quiet, await_quiet, stage_quiet, start_quiet}
 use Rattle.scheduler.proofs.engine.Engine.apply.Goals as goal
@@ -31,6 +31,9 @@ returns-in-Log-clause-keeps g c = record {
   loaded = c.requires.loaded;
   keys = keys_named (setup_of g.M.FlowMaker.functions c.args.self.now) _ _ (parts_of g.W.Awaits.waiting c.args.self.now) c.requires.fits.kernel;
 }
+
+pub returns-in-Log-clause-fits : goal.returns-in-Log-clause-fits
+returns-in-Log-clause-fits g c = fits_logged g.M.FlowMaker.functions g.W.Awaits.waiting g.W.Awaits.held c.args.task _ c.args.self.now (g.K.Gpi.content c.args.kernel.now) c.requires.fits
 
 pub returns-in-Done-clause-keeps : goal.returns-in-Done-clause-keeps
 returns-in-Done-clause-keeps g c = record {
