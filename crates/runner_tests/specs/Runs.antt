@@ -1,6 +1,7 @@
 -- What a run puts, and how it is shown.
 use Rattle.std.specs.Prelude.{◌≡◌, ℕ, true, List, [], ◌∷◌, ◌++◌, codes}
 use Rattle.port_io.specs.Memory.{Lines}
+use Rattle.port_io.specs.Steps.{SinkTakes, SinkBreaks}
 use Rattle.gpi.specs.Content.{Content}
 use Rattle.rig_model.specs.Rig.{Rig, Setup}
 use Rattle.rig_model.specs.declared.file.TestCase.{TestCase}
@@ -12,7 +13,7 @@ use Rattle.command.specs.Reading.{Reading, refused, runs}
 use Rattle.table_rows.specs.Shown.{in_quotes}
 use Rattle.runner_tests.specs.Files.{ComesTo}
 use Rattle.runner_tests.specs.Words.{status_word}
-use Rattle.runner_tests.specs.Engines.{no_lines, line_means}
+use Rattle.runner_tests.specs.Engines.{no_lines, told}
 
 -- told changes are written
 abbrev pub traced_with : List ℕ → TestFile → Setup
@@ -24,7 +25,7 @@ pub record Traces (ports : List ℕ) (file : TestFile) (own : Status) (out out' 
   pub is_case : file.cases ≡ case ∷ []
   pub last : Rig
   pub content : Content
-  pub runs : RunsTo line_means (traced_with ports file) case 100 own last content out out'
+  pub runs : RunsTo SinkTakes SinkBreaks told (traced_with ports file) case 100 own last content out out'
 
 -- A refusal puts nothing.
 abbrev pub TracesReading : Reading → Status → Lines → Lines → Type 0

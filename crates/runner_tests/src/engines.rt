@@ -31,7 +31,7 @@ fn text_of(alloc: Global, bytes: &[u8]) -> Result<String, NoMemory>
 }
 
 /// The path of the first signal, as an engine tells it; an empty one where there is none.
-#[tactic(auto, using(crate::proofs::FirstPath::path_none))]
+#[tactic(auto, using(crate::proofs::FirstPath::path_none, crate::proofs::FirstPath::path_some))]
 fn path_text(alloc: Global, ports: &[u8], file: &TestFile) -> Result<String, NoMemory>
     requires { ArePorts ports.now }
     ensures { IfOk result (λ text. string_bytes text ≡ latin (first_path ports.now)) }

@@ -1,8 +1,10 @@
 //! Runs within a budget.
 ghost use Rattle.std.specs.Prelude.{◌≡◌, ◌<◌, IfOk};
 ghost use Rattle.command.specs.Reading.{CanRun, reading_of};
+ghost use Rattle.port_io.specs.Steps.{SinkBreaks, SinkTakes};
 ghost use Rattle.command.specs.Answer.{Answers};
-ghost use Rattle.runner_tests.specs.Engines.{line_means};
+ghost use Rattle.command.specs.Means.{sink_means};
+ghost use Rattle.runner_tests.specs.Engines.{told};
 ghost use Rattle.runner_tests.specs.Files.{ComesTo};
 
 use crate::commands::store_of;
@@ -40,7 +42,7 @@ fn run<K: Gpi, L: Ledger>(
     requires name { blank.name ≡ L.name }
     requires parts { blank.parts ≡ L.parts }
     requires some { 0 < blank.parts }
-    ensures { Answers line_means budget (reading_of decision.now) result (K.content kernel.new) sink.old sink.new }
+    ensures { Answers (sink_means SinkTakes SinkBreaks told) budget (reading_of decision.now) result (K.content kernel.new) sink.old sink.new }
 {
     let mut steps = Steps::<L>::new(blank);
     answer(alloc, decision, budget, kernel, sink, &mut steps)
