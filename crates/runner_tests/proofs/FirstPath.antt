@@ -7,6 +7,7 @@ pub path_none : (xs : List Signal) → length xs ≡ 0 → path_in (slice_get xs
 path_none [] e = refl
 path_none (x ∷ xs) e = cc
 
-pub path_some : (xs : List Signal) (path : List ℕ) → IsSomeAnd (slice_get xs 0) (λ signal. path ≡ signal.path) → path_in (slice_get xs 0) ≡ path
+pub path_some : (xs : List Signal) (path : List ℕ)
+    → IsSomeAnd (slice_get xs 0) (λ signal. path ≡ signal.path) → path_in (slice_get xs 0) ≡ path
 path_some [] path h = absurd h
 path_some (x ∷ xs) path h = sym h

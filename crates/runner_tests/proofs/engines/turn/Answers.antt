@@ -34,17 +34,18 @@ went_on ports file case is_case begun out begins (Ok turn) left last after turni
   follows = record { left = left; last = last; after = after; turning = turning };
 }
 
-first_turn : (ports : List ℕ) (file : TestFile) (case : TestCase) (s s' : Setup) (c : Rig) (out₀ : Lines) (first : Turn) (begun : Rig) (out : Lines)
+first_turn : (ports : List ℕ) (file : TestFile) (case : TestCase) (s s' : Setup) (c : Rig)
+    (out₀ : Lines) (first : Turn) (begun : Rig) (out : Lines)
     → BeginsTo SinkTakes SinkBreaks told s case c (Ok first) begun out₀ out
     → (r : Result Turn NoMemory) (left : ℕ) (last : Rig) (after : Lines)
     → Turning SinkTakes SinkBreaks told (TurnSteps s') s' 3 begun out r left last after
     → file.cases ≡ case ∷ [] → s' ≡ s → s ≡ setup_with ports file → c ≡ unbegun ports → out₀ ≡ no_lines → first ≡ Went
     → IfOk r (λ turn. FirstTurn ports file turn)
-first_turn ports file case s s' c out₀ first begun out begins r left last after turning is_case same is_setup is_unbegun is_empty has_gone =
+first_turn ports file case s s' c out₀ first begun out begins r left last after turning is_case same is_setup is_new is_empty has_gone =
     went_on ports file case is_case begun out
     (subst (λ x. BeginsTo SinkTakes SinkBreaks told (setup_with ports file) case (unbegun ports) (Ok x) begun no_lines out) has_gone
     (subst (λ x. BeginsTo SinkTakes SinkBreaks told (setup_with ports file) case (unbegun ports) (Ok first) begun x out) is_empty
-    (subst (λ x. BeginsTo SinkTakes SinkBreaks told (setup_with ports file) case x (Ok first) begun out₀ out) is_unbegun
+    (subst (λ x. BeginsTo SinkTakes SinkBreaks told (setup_with ports file) case x (Ok first) begun out₀ out) is_new
     (subst (λ x. BeginsTo SinkTakes SinkBreaks told x case c (Ok first) begun out₀ out) is_setup begins))))
     r left last after
     (subst (λ x. Turning SinkTakes SinkBreaks told (TurnSteps x) x 3 begun out r left last after) is_setup
