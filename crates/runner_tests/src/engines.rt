@@ -23,7 +23,7 @@ use text_forms::flat_of_ports;
 
 /// The path of the first signal, as an engine tells it; an empty one where there is none. Only want of memory is an error, here and
 /// below.
-#[tactic(auto, using(crate::proofs::FirstPath::path_none, crate::proofs::FirstPath::path_some))]
+#[tactic(auto, using(crate::proofs::FirstPath::path_none))]
 fn path_text(alloc: Global, ports: &[u8], file: &TestFile) -> Result<String, NoMemory>
     requires { ArePorts ports.now }
     ensures { IfOk result (λ text. string_bytes text ≡ latin (first_path ports.now)) }

@@ -5,7 +5,8 @@ ghost use Rattle.command.specs.Answer.{Answers, LeavesKernel};
 ghost use Rattle.table_rows.specs.Rows.{part_at};
 ghost use Rattle.runner_tests.specs.Files.{ComesTo};
 ghost use Rattle.runner_tests.specs.Lines.{decimal_at};
-ghost use Rattle.runner_tests.specs.Runs.{ShowsRun, line_means};
+ghost use Rattle.runner_tests.specs.Engines.{line_means};
+ghost use Rattle.runner_tests.specs.Runs.{ShowsRun};
 
 use crate::commands::store_of;
 use crate::words::counted_text;

@@ -7,9 +7,9 @@ use Rattle.regression.specs.declared.status.Status.{Status}
 use Rattle.command.specs.Answer.{Answers, LeavesKernel}
 use Rattle.command.specs.Reading.{Reading}
 use Rattle.list_kernel.specs.Kernel.{IsLoaded, content_of}
-use Rattle.runner_tests.specs.Engines.{no_lines}
+use Rattle.runner_tests.specs.Engines.{line_means, no_lines}
 use Rattle.runner_tests.specs.Files.{ComesTo}
-use Rattle.runner_tests.specs.Runs.{ShowsRun, line_means}
+use Rattle.runner_tests.specs.Runs.{ShowsRun}
 use Rattle.runner_tests.specs.Words.{counted_word}
 use Rattle.runner_tests.proofs.Left.{leaves_content}
 use Rattle.runner_tests.proofs.runs.run_text.Goals as goal
