@@ -1,18 +1,16 @@
 -- What a row's command comes to, and how it is shown.
-use Rattle.std.specs.Prelude.{◌≡◌, ◌⊎◌, ℕ, List, [], ◌∷◌, ◌++◌, Some}
+use Rattle.std.specs.Prelude.{◌≡◌, ◌⊎◌, ℕ, List, [], ◌∷◌, ◌++◌}
 use Rattle.std.specs.List.{flat_map, slice_split}
-use Rattle.port_io.specs.Memory.{Files, Lines, file_of}
-use Rattle.port_io.specs.Steps.{StoreGives, StoreMisses}
+use Rattle.port_io.specs.Memory.{Files, Lines}
 use Rattle.gpi.specs.Content.{Content}
 use Rattle.regression.specs.declared.status.Status.{Status}
 use Rattle.command.specs.Answer.{Answered, LeavesKernel, Quit, default_budget}
-use Rattle.port_io.specs.Means.{StoreMeans}
 use Rattle.list_kernel.specs.Kernel.{IsLoaded, content_of}
 use Rattle.list_kernel.specs.declared.kernel.ListKernel.{ListKernel}
 use Rattle.table_rows.specs.Rows.{is_byte, part_at}
 use Rattle.table_rows.specs.Shown.{latin}
 use Rattle.runner_tests.specs.Engines.{line_means, no_lines}
-use Rattle.runner_tests.specs.Files.{store_with}
+use Rattle.runner_tests.specs.Files.{file_means, store_with}
 use Rattle.runner_tests.specs.Lines.{decimal_at}
 use Rattle.runner_tests.specs.Words.{counted_word, ended_word}
 
@@ -36,10 +34,6 @@ store_at row = with_failing_read (decimal_at 5 row) (store_with (part_at 3 row) 
 -- no line yet, and the put that fails
 abbrev pub sink_at : List ℕ → Lines
 sink_at row = record no_lines { failing = decimal_at 6 row ∷ [] }
-
--- what a store in memory tells, and what a read does to it
-abbrev pub file_means : StoreMeans Files
-file_means = record { files = λ store. Some (file_of store.files); gives = StoreGives; misses = StoreMisses }
 
 -- A command of these words, over this store and this sink, ends with this status, and leaves a store, the simulator with this content,
 -- and a sink.

@@ -25,7 +25,7 @@ use Rattle.runner_tests.specs.Words.{status_word}
 abbrev pub no_lines : Lines
 no_lines = record { bytes = []; calls = 0; failing = []; faults = 0 }
 
--- what a sink in memory means
+-- what a sink in memory tells, and what a put does to it
 abbrev pub line_means : SinkMeans Lines
 line_means = record { takes = SinkTakes; breaks = SinkBreaks; told = λ sink. Some sink.bytes }
 

@@ -1,7 +1,8 @@
 -- The files of a row, and what they come to.
-use Rattle.std.specs.Prelude.{ℕ, List, [], ◌∷◌, codes, if◌then◌else◌}
+use Rattle.std.specs.Prelude.{ℕ, List, [], ◌∷◌, Some, codes, if◌then◌else◌}
 use Rattle.std.specs.Str.{bytes_eq}
-use Rattle.port_io.specs.Memory.{Files}
+use Rattle.port_io.specs.Means.{StoreMeans}
+use Rattle.port_io.specs.Memory.{Files, file_of}
 use Rattle.port_io.specs.Steps.{StoreGives, StoreMisses}
 use Rattle.command.specs.Reading.{Reading, ReadsBoth}
 use Rattle.table_rows.specs.Rows.{written}
@@ -19,7 +20,11 @@ no_files = record { files = []; calls = 0; failing = []; faults = 0 }
 abbrev pub store_with : List ℕ → List ℕ → Files
 store_with design tests = with_file (codes "t.py") tests (with_file (codes "d.v") design no_files)
 
+-- what a store in memory tells, and what a read does to it
+abbrev pub file_means : StoreMeans Files
+file_means = record { files = λ store. Some (file_of store.files); gives = StoreGives; misses = StoreMisses }
+
 -- The reading is that of the command for these two files.
 pub record ComesTo (design tests : List ℕ) (reading : Reading) : Type 0 where
   pub after : Files
-  pub reads : ReadsBoth StoreGives StoreMisses (codes "d.v") (codes "t.py") (store_with design tests) reading after
+  pub reads : ReadsBoth file_means (codes "d.v") (codes "t.py") (store_with design tests) reading after

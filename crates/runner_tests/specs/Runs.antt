@@ -12,7 +12,7 @@ use Rattle.command.specs.Answer.{Answers, LeavesKernel}
 use Rattle.command.specs.Reading.{Reading, refused, runs}
 use Rattle.runner_tests.specs.Files.{ComesTo}
 use Rattle.runner_tests.specs.Words.{counted_word, ended_word}
-use Rattle.runner_tests.specs.Engines.{no_lines, line_means}
+use Rattle.runner_tests.specs.Engines.{line_means, no_lines}
 
 -- told changes are written
 abbrev pub traced_with : List ℕ → TestFile → Setup

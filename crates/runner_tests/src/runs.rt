@@ -3,9 +3,9 @@ ghost use Rattle.std.specs.Prelude.{◌≡◌, ◌<◌, IfOk, string_bytes};
 ghost use Rattle.command.specs.Reading.{CanRun, reading_of};
 ghost use Rattle.command.specs.Answer.{Answers, LeavesKernel};
 ghost use Rattle.table_rows.specs.Rows.{part_at};
-ghost use Rattle.runner_tests.specs.Engines.{line_means};
 ghost use Rattle.runner_tests.specs.Files.{ComesTo};
 ghost use Rattle.runner_tests.specs.Lines.{decimal_at};
+ghost use Rattle.runner_tests.specs.Engines.{line_means};
 ghost use Rattle.runner_tests.specs.Runs.{ShowsRun};
 
 use crate::commands::store_of;
