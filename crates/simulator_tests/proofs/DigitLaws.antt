@@ -22,7 +22,8 @@ latin_digits (Z ∷ ds) = ascii_first 122 (lit< tt) _ _ (latin_digits ds)
 -- a text begins with the digits
 text_front : (ds : List Digit) → take (length ds) (text ds) ≡ map digit_byte (reverse ds)
 text_front ds =
-    take_at (map digit_byte (reverse ds)) (replicate (128 - length ds) 32) (length ds) (length-map (reverse ds) digit_byte ∙ length-reverse ds)
+    take_at (map digit_byte (reverse ds)) (replicate (128 - length ds) 32) (length ds)
+    (length-map (reverse ds) digit_byte ∙ length-reverse ds)
 
 -- the front of a text, as characters, is its digits
 pub digits_shown : (ds : List Digit) (n : ℕ) → n ≡ length ds → latin (take n (text ds)) ≡ digits_text ds
