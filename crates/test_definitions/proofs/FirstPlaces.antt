@@ -2,7 +2,11 @@
 use Rattle.std.proofs.Common.{◌≡◌, ◌≤◌, ◌+◌, ℕ, zero, suc, nat_lt, Bool, true, false, ◌||◌, List, [], ◌∷◌, take, Option, Some, None, refl, sym, ap, ◌∙◌, cond, arith}
 use Rattle.std.proofs.lemmas.Bool.{lt-ltb, le-ltb}
 use Rattle.std.specs.List.{list_any, find, position_from, slice_get}
-use Rattle.test_definitions.specs.Definitions.{is_above, element_at}
+use Rattle.std.specs.Option.{option_and_then, option_map_or}
+
+-- a place stands above this one
+abbrev is_above : ℕ → Option ℕ → Bool
+is_above k o = option_map_or (λ i. nat_lt i k) o false
 
 -- no place is above the first
 none_above : {A : Type 0} (p : A → Bool) (i j : ℕ) (xs : List A) → i ≤ j → is_above i (position_from p j xs) ≡ false
@@ -23,7 +27,8 @@ above_from p (x ∷ xs) i (suc k) m e = go (p x) (above_from p xs (i + 1) k m (o
     go true h = sym (lt-ltb i m (omega (arith, e)))
     go false h = h
 
-pub above_by_place : {A : Type 0} (p : A → Bool) (xs : List A) (k : ℕ) → list_any p (take k xs) ≡ is_above k (position_from p 0 xs)
+pub above_by_place : {A : Type 0} (p : A → Bool) (xs : List A) (k : ℕ)
+    → list_any p (take k xs) ≡ option_map_or (λ i. nat_lt i k) (position_from p 0 xs) false
 above_by_place p xs k = above_from p xs 0 k k (omega arith)
 
 some_same : (i j : ℕ) → Some i ≡ Some j → i ≡ j
@@ -61,9 +66,9 @@ none_found p (x ∷ xs) j h = go (p x) h (none_found p xs (j + 1))
     go true q more = cc
     go false q more = more q
 
-pub found_at_place : {A : Type 0} (p : A → Bool) (xs : List A) → find p xs ≡ element_at xs (position_from p 0 xs)
+pub found_at_place : {A : Type 0} (p : A → Bool) (xs : List A) → find p xs ≡ option_and_then (slice_get xs) (position_from p 0 xs)
 found_at_place p xs = go (position_from p 0 xs) refl
   where
-    go : (o : Option ℕ) → position_from p 0 xs ≡ o → find p xs ≡ element_at xs o
+    go : (o : Option ℕ) → position_from p 0 xs ≡ o → find p xs ≡ option_and_then (slice_get xs) o
     go None e = none_found p xs 0 e
     go (Some i) e = found_from p xs 0 i i (omega arith) e

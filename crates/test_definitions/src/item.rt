@@ -22,21 +22,10 @@ pub enum Kind {
 fn line_defined(kind: Kind, line: &ModuleLine) -> Option<&[u8]>
     ensures { MatchOption result (line_defined kind (view_module_line line.now) ≡ None) (λ found. line_defined kind (view_module_line line.now) ≡ Some found.now) }
 {
-    match line {
-        ModuleLine::Constant(name, _) => match kind {
-            Kind::Constant => Some(name.bytes()),
-            Kind::Function | Kind::Factory => None,
-        },
-        ModuleLine::Factory(name, _) => match kind {
-            Kind::Factory => Some(name.bytes()),
-            Kind::Constant | Kind::Function => None,
-        },
-        ModuleLine::Import(_) => None,
-        ModuleLine::FromImport(_, _) => None,
-        ModuleLine::Test(_) => None,
-        ModuleLine::AddOption(_, _, _) => None,
-        ModuleLine::GenerateTests(_, _, _) => None,
-        ModuleLine::Function(_, _) => None,
+    match (line, kind) {
+        (ModuleLine::Constant(name, _), Kind::Constant) => Some(name.bytes()),
+        (ModuleLine::Factory(name, _), Kind::Factory) => Some(name.bytes()),
+        _ => None,
     }
 }
 
@@ -44,12 +33,9 @@ fn line_defined(kind: Kind, line: &ModuleLine) -> Option<&[u8]>
 pub fn defined(kind: Kind, item: &ModuleItem) -> Option<&[u8]>
     ensures { MatchOption result (defined kind (view_module_item item.now) ≡ None) (λ found. defined kind (view_module_item item.now) ≡ Some found.now) }
 {
-    match item {
-        ModuleItem::Docstring { .. } => None,
-        ModuleItem::Line { line, .. } => line_defined(kind, line),
-        ModuleItem::Function { name, .. } => match kind {
-            Kind::Function => Some(name.bytes()),
-            Kind::Constant | Kind::Factory => None,
-        },
+    match (item, kind) {
+        (ModuleItem::Line { line, .. }, _) => line_defined(kind, line),
+        (ModuleItem::Function { name, .. }, Kind::Function) => Some(name.bytes()),
+        _ => None,
     }
 }

@@ -1,12 +1,12 @@
 //! What the places of a table say of the definitions of `test_rules`.
 
-ghost use Rattle.std.specs.Prelude.{◌≡◌, ℕ, Bool, List, is_some, take};
+ghost use Rattle.std.specs.Prelude.{◌≡◌, ℕ, nat_lt, Bool, false, List, is_some, take, slice_get, option_and_then};
 ghost use Rattle.std.specs.List.{find, list_any, position_from};
-ghost use Rattle.std.specs.Option.{option_map};
+ghost use Rattle.std.specs.Option.{option_map, option_map_or};
 ghost use Rattle.py_syntax.specs.BlockTrees.{ModuleItem};
 ghost use Rattle.test_rules.specs.File.{factory, file_of, fixed_of, function, parameters_of};
 ghost use Rattle.test_rules.specs.Names.{Name};
-ghost use Rattle.test_definitions.specs.Definitions.{element_at, is_above, is_defined};
+ghost use Rattle.test_definitions.specs.Definitions.{is_defined};
 ghost use Rattle.test_definitions.specs.declared.item.Kind.TheVariants as kind;
 
 /// A module has a constant of a name exactly where an item defines it as one.
@@ -31,10 +31,10 @@ pub fn functions_have_parameters()
 
 /// One of the first `k` items passes a test exactly where the place of the first of all that does is below `k`.
 pub fn above_by_place()
-    ensures { (p : ModuleItem → Bool) (xs : List ModuleItem) (k : ℕ) → list_any p (take k xs) ≡ is_above k (position_from p 0 xs) }
+    ensures { (p : ModuleItem → Bool) (xs : List ModuleItem) (k : ℕ) → list_any p (take k xs) ≡ option_map_or (λ i. nat_lt i k) (position_from p 0 xs) false }
 {}
 
-/// The first item that passes a test stands in the place that is the first.
+/// The first item that passes a test stands at the first place at which one passes.
 pub fn found_at_place()
-    ensures { (p : ModuleItem → Bool) (xs : List ModuleItem) → find p xs ≡ element_at xs (position_from p 0 xs) }
+    ensures { (p : ModuleItem → Bool) (xs : List ModuleItem) → find p xs ≡ option_and_then (slice_get xs) (position_from p 0 xs) }
 {}

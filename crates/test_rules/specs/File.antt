@@ -1,5 +1,5 @@
 -- What the items of a module define (the language reference, 4.2.1 and 7.11).
-use Rattle.std.specs.Prelude.{ℕ, suc, not, Bool, true, false, ◌&&◌, List, [], ◌∷◌, ◌++◌, map, length, slice_get, Option, Some, None, codes, if◌then◌else◌}
+use Rattle.std.specs.Prelude.{ℕ, suc, not, Bool, true, false, ◌&&◌, List, [], ◌∷◌, ◌++◌, map, length, slice_get, Option, Some, None, is_some, codes, if◌then◌else◌}
 use Rattle.std.specs.List.{list_any, filter, filter_map, flat_map, find}
 use Rattle.std.specs.Str.{bytes_eq}
 use Rattle.py_syntax.specs.BlockTrees.{ModuleItem, TextAt, LineAt, FunctionAt, Block}
@@ -169,13 +169,9 @@ is_generated above n = list_any (generates n) above.items
 abbrev pub is_made : File → Definition → Bool
 is_made f d = list_any (λ x. bytes_eq x.function d.name) f.factories
 
-abbrev pub is_decorated : Option (List Setting) → Bool
-is_decorated None = false
-is_decorated (Some ss) = true
-
 -- a test outside of factories
 abbrev pub is_test : File → Definition → Bool
-is_test f d = is_decorated d.options && not (is_made f d)
+is_test f d = is_some d.options && not (is_made f d)
 
 abbrev pub further : List Parameter → List Parameter
 further [] = []

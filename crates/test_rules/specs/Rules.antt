@@ -1,7 +1,7 @@
 -- The rules of a tests file, each by the lines that break it; and the first line that breaks one.
 use Rattle.std.specs.Prelude.{ℕ, suc, ◌==◌, nat_lt, not, Bool, true, false, ◌&&◌, ◌||◌, List, [], ◌∷◌, ◌++◌, length, map, sum_by, Option, Some, None, is_some, codes, if◌then◌else◌}
 use Rattle.std.specs.List.{list_any, list_all, flat_map, filter, find, join_with_byte, last_or, position_or_len}
-use Rattle.std.specs.Option.{option_or}
+use Rattle.std.specs.Option.{option_map_or, option_or}
 use Rattle.std.specs.Str.{bytes_eq}
 use Rattle.py_syntax.specs.BlockTrees.{ModuleItem, LineAt, FunctionAt}
 use Rattle.py_syntax.specs.Line.{physical_line}
@@ -16,7 +16,7 @@ use Rattle.py_syntax.specs.declared.module.Setting.{Setting}
 use Rattle.test_rules.specs.declared.rule.FileRule.{FileRule}
 use Rattle.test_rules.specs.declared.rule.FileRule.TheVariants as rule
 use Rattle.test_rules.specs.declared.rule.Refusal.{Refusal}
-use Rattle.test_rules.specs.File.{File, Definition, Place, places, file_of, is_known, fixed_of, value_in, function, factory, made_by, choices, is_generated, is_made, is_decorated, is_test, further, names_of, next_function, is_function, is_decorator, starts_with_function, parameters_of}
+use Rattle.test_rules.specs.File.{File, Definition, Place, places, file_of, is_known, fixed_of, value_in, function, factory, made_by, choices, is_generated, is_made, is_test, further, names_of, next_function, is_function, is_decorator, starts_with_function, parameters_of}
 use Rattle.test_rules.specs.Names.{Name, is_among, come_twice}
 use Rattle.test_factory.specs.Product.{Choice, case_count, case_limit}
 use Rattle.test_rules.specs.Uses.{Use, Reads, Needs, Calls, Takes, Leaves, Makes, Extends, Around, FileLine, file_lines, expects_kind, is_kind, parameter_names}
@@ -136,7 +136,7 @@ is_empty (x ∷ xs) = false
 
 -- a decorated or a factory's function without a first parameter, or a test outside of factories with a further one without default
 abbrev pub is_misfit : File → Definition → Bool
-is_misfit f d = ((is_decorated d.options || is_made f d) && is_empty d.parameters) || (is_test f d && not (have_defaults (further d.parameters)))
+is_misfit f d = ((is_some d.options || is_made f d) && is_empty d.parameters) || (is_test f d && not (have_defaults (further d.parameters)))
 
 abbrev pub is_misfit_at : File → Option Definition → Bool
 is_misfit_at f None = false
@@ -253,19 +253,14 @@ abbrev pub is_code : Content → Bool
 is_code Docstring = false
 is_code _ = true
 
-abbrev pub number_or : ℕ → Option Placed → ℕ
-number_or l None = l
-number_or l (Some p) = p.number
-
 -- the line of the last that is no docstring, or line 1 where there is none
 abbrev pub last_line : List Placed → ℕ
-last_line ps = number_or 1 (last_or None (filter (λ p. is_code p.content) ps))
+last_line ps = option_map_or (λ p. p.number) (last_or None (filter (λ p. is_code p.content) ps)) 1
 
 -- ---- the rules
 
 abbrev pub if_placed : (Place → Bool) → Option Place → Bool
-if_placed breaks None = false
-if_placed breaks (Some p) = breaks p
+if_placed breaks o = option_map_or breaks o false
 
 -- The rules, each by the lines that break it. `NoTests` is broken by no line, but by a file (`no_tests`).
 abbrev pub breaks : FileRule → File → FileLine → Bool

@@ -1,5 +1,5 @@
 -- What the lines of a module use, and where: each rule on names asks about these alone.
-use Rattle.std.specs.Prelude.{ℕ, Bool, true, false, ◌||◌, ◌&&◌, List, [], ◌∷◌, ◌++◌, map, Option, Some, None, codes, if◌then◌else◌}
+use Rattle.std.specs.Prelude.{ℕ, Bool, true, false, ◌||◌, ◌&&◌, List, [], ◌∷◌, ◌++◌, map, Option, Some, None, is_some, codes, if◌then◌else◌}
 use Rattle.std.specs.List.{flat_map}
 use Rattle.std.specs.Str.{bytes_eq}
 use Rattle.py_syntax.specs.BlockTrees.{BlockItem, DocstringAt, StatementAt, ClauseAt, Block, NoItem, Then, ModuleItem, TextAt, LineAt, FunctionAt}
@@ -207,13 +207,9 @@ own_names ps b = parameter_names ps ++ other_names ps b
 abbrev pub default_uses : Parameter → List Use
 default_uses p = if_given (λ c. Takes c ∷ []) p.default
 
-abbrev pub is_kind_name : Option FaultKind → Bool
-is_kind_name None = false
-is_kind_name (Some k) = true
-
 -- a name of a fault kind
 abbrev pub is_kind : Const → Bool
-is_kind (constant.Named n) = is_kind_name (fault_of n)
+is_kind (constant.Named n) = is_some (fault_of n)
 is_kind _ = false
 
 -- `expect_error` with a fault kind

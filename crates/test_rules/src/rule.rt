@@ -2,8 +2,8 @@
 
 use py_syntax::LineNumber;
 
-/// A rule of a tests file, in the order in which those that one line breaks count.
-#[derive(Clone, Copy, Debug, PartialEq, Eq)]
+/// A rule of a tests file. Of those that one line breaks the one that stands first here counts, which is the least.
+#[derive(Clone, Copy, Debug, PartialEq, Eq, PartialOrd, Ord)]
 pub enum FileRule {
     /// A module, or a name of a module, that can't be imported.
     UnknownImport,
