@@ -1,5 +1,6 @@
 -- The run of a file, for which memory was short.
-use Rattle.std.proofs.Common.{ℕ, List, [], length, Option, Result, IsErr}
+use Rattle.std.proofs.Common.{ℕ, List, [], length, Result, IsErr}
+use Rattle.port_io.specs.Means.{SinkMeans}
 use Rattle.port_io.specs.declared.ports.NoMemory.{NoMemory}
 use Rattle.port_io.proofs.PartLaws.{part_none}
 use Rattle.gpi.specs.Content.{Content, no_counts}
@@ -12,12 +13,11 @@ use Rattle.regression.specs.declared.status.Status.{Status}
 use Rattle.regression.proofs.TestRuns.{runs_err}
 use Rattle.text_forms.specs.TestsForm.{IsOneTest}
 use Rattle.command.specs.Answer.{RunsFile, setup_with}
-use Rattle.command.specs.Means.{sink_means}
 
-module _ {O : Type 0} (takes breaks : O → List ℕ → O → Type 0) (told : O → Option (List ℕ)) where
+module _ {O : Type 0} (sink : SinkMeans O) where
   -- nothing was put for want of memory
   pub file_none : (budget : ℕ) (ports : List ℕ) (file : TestFile) (r : Result Status NoMemory) (content : Content) (out : O) → IsOneTest (length ports) file → IsErr r
-      → RunsFile (sink_means takes breaks told) budget ports file (status_in r) content out out
+      → RunsFile sink budget ports file (status_in r) content out out
   file_none budget ports file r content out one h =
       let setup : Setup = setup_with ports file in
       let last : Rig = emptied (opening_sim setup) no_counts in
@@ -25,5 +25,5 @@ module _ {O : Type 0} (takes breaks : O → List ℕ → O → Type 0) (told : O
         case = one.case;
         is_case = one.is_case;
         last = last;
-        runs = runs_err takes breaks told setup one.case budget r last content out out h (record { lines = []; starts = start_none setup budget one.case; puts = part_none takes told out [] });
+        runs = runs_err sink setup one.case budget r last content out out h (record { lines = []; starts = start_none setup budget one.case; puts = part_none sink.takes sink.told out [] });
       }

@@ -1,9 +1,10 @@
 -- Two words, or another number of them; and what is known of a reading.
 use Rattle.std.proofs.Common.{◌≡◌, ◌≢◌, ℕ, ◌≤◌, List, [], ◌∷◌, length, map, get_or, Option, refl, arith, ap, sym, subst, ◌∙◌, inl, inr}
 use Rattle.port_io.specs.Ports.{GivesFile, IsRaised}
+use Rattle.port_io.specs.Means.{StoreMeans}
 use Rattle.port_io.specs.CountLaws.{then_raised}
 use Rattle.rig_model.specs.declared.file.TestFile.{TestFile}
-use Rattle.command.specs.Reading.{Reading, refused, runs, Reads, ReadsBoth, ReadsTests, IsTold, TextOfDesign, TextOfTests, usage_line, read_line, refused_line, most}
+use Rattle.command.specs.Reading.{Reading, refused, runs, Reads, ReadsBoth, ReadsTests, IsTold, TextOfDesign, TextOfTests, told_means, usage_line, read_line, refused_line, most}
 use Rattle.regression.specs.declared.status.Status.{Status}
 use Rattle.regression.specs.declared.status.Status.TheVariants as status
 
@@ -12,62 +13,55 @@ abbrev pub IsRefusal : ℕ → ℕ → Reading → Type 0
 IsRefusal before after (refused own line) = (own ≢ status.WriteFault) × (own ≢ status.NoMemory) × (own ≡ status.ReadFault → IsRaised before after)
 IsRefusal before after (runs ports file) = Unit {0}
 
-module _ {S : Type 0} (gives : S → List ℕ → ℕ → List ℕ → S → Type 0) (misses : S → List ℕ → S → Type 0) where
-  pub reads_usage : {W : Type 0} (f : W → List ℕ) (words : List W) (s : S) (line : List ℕ) → length words ≢ 2 → line ≡ usage_line → Reads gives misses (map f words) s (refused status.Usage line) s
+module _ {S : Type 0} (from : StoreMeans S) where
+  pub reads_usage : {W : Type 0} (f : W → List ℕ) (words : List W) (s : S) (line : List ℕ) → length words ≢ 2 → line ≡ usage_line → Reads from (map f words) s (refused status.Usage line) s
   reads_usage f [] s line h e = (ap (refused status.Usage) e, refl)
   reads_usage f (a ∷ []) s line h e = (ap (refused status.Usage) e, refl)
   reads_usage f (a ∷ b ∷ []) s line h e = absurd (h refl)
   reads_usage f (a ∷ b ∷ c ∷ words) s line h e = (ap (refused status.Usage) e, refl)
 
   reads_both : {W : Type 0} (f : W → List ℕ) (words : List W) (s : S) (r : Reading) (s' : S) (d e : W) → length words ≡ 2
-      → ReadsBoth gives misses (f (get_or words 0 d)) (f (get_or words 1 e)) s r s' → Reads gives misses (map f words) s r s'
+      → ReadsBoth from (f (get_or words 0 d)) (f (get_or words 1 e)) s r s' → Reads from (map f words) s r s'
   reads_both f [] s r s' d e h k = absurd (omega arith)
   reads_both f (a ∷ []) s r s' d e h k = absurd (omega arith)
   reads_both f (a ∷ b ∷ []) s r s' d e h k = k
   reads_both f (a ∷ b ∷ c ∷ words) s r s' d e h k = absurd (omega arith)
 
   pub reads_two : {W : Type 0} (f : W → List ℕ) (words : List W) (s : S) (r : Reading) (s' : S) (d e : W) (x y : List ℕ) → length words ≡ 2
-      → d ≡ get_or words 0 d → e ≡ get_or words 1 e → x ≡ f d → y ≡ f e → ReadsBoth gives misses x y s r s' → Reads gives misses (map f words) s r s'
+      → d ≡ get_or words 0 d → e ≡ get_or words 1 e → x ≡ f d → y ≡ f e → ReadsBoth from x y s r s' → Reads from (map f words) s r s'
   reads_two f words s r s' d e x y h di ei xi yi k =
       reads_both f words s r s' d e h
-      (subst (λ (t : List ℕ). ReadsBoth gives misses t (f (get_or words 1 e)) s r s') (xi ∙ ap f di)
-      (subst (λ (t : List ℕ). ReadsBoth gives misses x t s r s') (yi ∙ ap f ei) k))
+      (subst (λ (t : List ℕ). ReadsBoth from t (f (get_or words 1 e)) s r s') (xi ∙ ap f di)
+      (subst (λ (t : List ℕ). ReadsBoth from x t s r s') (yi ∙ ap f ei) k))
 
   -- the reads of a store that tells its files give the first bytes of these, since no read changes what it tells
-  module _ (files : S → Option (List ℕ → Option (List ℕ)))
-      (gives_file : (before : S) (name : List ℕ) (n : ℕ) (bytes : List ℕ) (after : S) → gives before name n bytes after → GivesFile (files before) name n bytes)
-      (gives_same : (before : S) (name : List ℕ) (n : ℕ) (bytes : List ℕ) (after : S) → gives before name n bytes after → files after ≡ files before) where
-    abbrev told_gives : Option (List ℕ → Option (List ℕ)) → Unit {0} → List ℕ → ℕ → List ℕ → Unit {0} → Type 0
-    told_gives fs a name n text b = GivesFile fs name n text
-
-    abbrev told_misses : Unit {0} → List ℕ → Unit {0} → Type 0
-    told_misses a name b = Unit {0}
-
-    tests_told : (fs : Option (List ℕ → Option (List ℕ))) (tests ports : List ℕ) (s : S) (r : Reading) (s' : S) → files s ≡ fs → ReadsTests gives misses tests ports s r s'
-        → ReadsTests (told_gives fs) told_misses tests ports tt r tt
+  module _ (gives_file : (before : S) (name : List ℕ) (n : ℕ) (bytes : List ℕ) (after : S) → from.gives before name n bytes after → GivesFile (from.files before) name n bytes)
+      (gives_same : (before : S) (name : List ℕ) (n : ℕ) (bytes : List ℕ) (after : S) → from.gives before name n bytes after → from.files after ≡ from.files before) where
+    tests_told : (fs : Option (List ℕ → Option (List ℕ))) (tests ports : List ℕ) (s : S) (r : Reading) (s' : S) → from.files s ≡ fs → ReadsTests from tests ports s r s'
+        → ReadsTests (told_means fs) tests ports tt r tt
     tests_told fs tests ports s r s' e (inl (is, m)) = inl (is, tt)
     tests_told fs tests ports s r s' e (inr (text, given, t)) =
         inr (text, subst (λ (x : Option (List ℕ → Option (List ℕ))). GivesFile x tests most text) e (gives_file s tests most text s' given), t)
 
-    design_told : (fs : Option (List ℕ → Option (List ℕ))) (design tests text : List ℕ) (s : S) (r : Reading) (s' : S) → files s ≡ fs → TextOfDesign gives misses design tests text s r s'
-        → TextOfDesign (told_gives fs) told_misses design tests text tt r tt
+    design_told : (fs : Option (List ℕ → Option (List ℕ))) (design tests text : List ℕ) (s : S) (r : Reading) (s' : S) → from.files s ≡ fs → TextOfDesign from design tests text s r s'
+        → TextOfDesign (told_means fs) design tests text tt r tt
     design_told fs design tests text s r s' e (inl (is, same, none)) = inl (is, refl, none)
     design_told fs design tests text s r s' e (inr (ports, is, t)) = inr (ports, is, tests_told fs tests ports s r s' e t)
 
-    both_told : (design tests : List ℕ) (s : S) (r : Reading) (s' : S) → ReadsBoth gives misses design tests s r s' → ReadsBoth (told_gives (files s)) told_misses design tests tt r tt
+    both_told : (design tests : List ℕ) (s : S) (r : Reading) (s' : S) → ReadsBoth from design tests s r s' → ReadsBoth (told_means (from.files s)) design tests tt r tt
     both_told design tests s r s' (inl (is, m)) = inl (is, tt)
     both_told design tests s r s' (inr (text, mid, given, t)) =
-        inr (text, tt, gives_file s design most text mid given, design_told (files s) design tests text mid r s' (gives_same s design most text mid given) t)
+        inr (text, tt, gives_file s design most text mid given, design_told (from.files s) design tests text mid r s' (gives_same s design most text mid given) t)
 
-    pub reads_told : (words : List (List ℕ)) (s : S) (r : Reading) (s' : S) → Reads gives misses words s r s' → IsTold (files s) words r
+    pub reads_told : (words : List (List ℕ)) (s : S) (r : Reading) (s' : S) → Reads from words s r s' → IsTold (from.files s) words r
     reads_told [] s r s' (e, same) = (e, refl)
     reads_told (a ∷ []) s r s' (e, same) = (e, refl)
     reads_told (design ∷ tests ∷ []) s r s' k = both_told design tests s r s' k
     reads_told (a ∷ b ∷ c ∷ words) s r s' (e, same) = (e, refl)
 
   module _ (faults : S → ℕ)
-      (gives_count : (before : S) (name : List ℕ) (most : ℕ) (bytes : List ℕ) (after : S) → gives before name most bytes after → faults before ≤ faults after)
-      (misses_count : (before : S) (name : List ℕ) (after : S) → misses before name after → IsRaised (faults before) (faults after)) where
+      (gives_count : (before : S) (name : List ℕ) (most : ℕ) (bytes : List ℕ) (after : S) → from.gives before name most bytes after → faults before ≤ faults after)
+      (misses_count : (before : S) (name : List ℕ) (after : S) → from.misses before name after → IsRaised (faults before) (faults after)) where
     plain : (before after : ℕ) (own : Status) (line : List ℕ) (r : Reading) → r ≡ refused own line → own ≢ status.WriteFault → own ≢ status.NoMemory → (own ≡ status.ReadFault → IsRaised before after) → IsRefusal before after r
     plain before after own line r e a b c = subst (λ (x : Reading). IsRefusal before after x) (sym e) (a, b, c)
 
@@ -78,19 +72,19 @@ module _ {S : Type 0} (gives : S → List ℕ → ℕ → List ℕ → S → Typ
     raised_later before mid after (refused own line) h (a, b, c) = (a, b, λ e. then_raised before mid after h (c e))
     raised_later before mid after (runs ports file) h i = tt
 
-    text_of_tests : (tests ports text : List ℕ) (r : Reading) (before after : ℕ) → TextOfTests gives misses tests ports text r → IsRefusal before after r
+    text_of_tests : (tests ports text : List ℕ) (r : Reading) (before after : ℕ) → TextOfTests from tests ports text r → IsRefusal before after r
     text_of_tests tests ports text r before after (inl (e, none)) = plain before after status.TestsRefused (refused_line tests) r e (λ x. cc) (λ x. cc) (λ x. cc)
     text_of_tests tests ports text r before after (inr (file, e, is)) = run_refuses before after ports file r e
 
-    tests_refusal : (tests ports : List ℕ) (s : S) (r : Reading) (s' : S) → ReadsTests gives misses tests ports s r s' → IsRefusal (faults s) (faults s') r
+    tests_refusal : (tests ports : List ℕ) (s : S) (r : Reading) (s' : S) → ReadsTests from tests ports s r s' → IsRefusal (faults s) (faults s') r
     tests_refusal tests ports s r s' (inl (e, m)) = plain (faults s) (faults s') status.ReadFault (read_line tests) r e (λ x. cc) (λ x. cc) (λ x. misses_count s tests s' m)
     tests_refusal tests ports s r s' (inr (text, given, t)) = text_of_tests tests ports text r (faults s) (faults s') t
 
-    design_refusal : (design tests text : List ℕ) (s : S) (r : Reading) (s' : S) → TextOfDesign gives misses design tests text s r s' → IsRefusal (faults s) (faults s') r
+    design_refusal : (design tests text : List ℕ) (s : S) (r : Reading) (s' : S) → TextOfDesign from design tests text s r s' → IsRefusal (faults s) (faults s') r
     design_refusal design tests text s r s' (inl (e, same, none)) = plain (faults s) (faults s') status.DesignRefused (refused_line design) r e (λ x. cc) (λ x. cc) (λ x. cc)
     design_refusal design tests text s r s' (inr (ports, is, t)) = tests_refusal tests ports s r s' t
 
-    pub both_refusal : (design tests : List ℕ) (s : S) (r : Reading) (s' : S) → ReadsBoth gives misses design tests s r s' → IsRefusal (faults s) (faults s') r
+    pub both_refusal : (design tests : List ℕ) (s : S) (r : Reading) (s' : S) → ReadsBoth from design tests s r s' → IsRefusal (faults s) (faults s') r
     both_refusal design tests s r s' (inl (e, m)) = plain (faults s) (faults s') status.ReadFault (read_line design) r e (λ x. cc) (λ x. cc) (λ x. misses_count s design s' m)
     both_refusal design tests s r s' (inr (text, mid, given, t)) =
         raised_later (faults s) (faults mid) (faults s') r (gives_count s design most text mid given) (design_refusal design tests text mid r s' t)
@@ -98,7 +92,7 @@ module _ {S : Type 0} (gives : S → List ℕ → ℕ → List ℕ → S → Typ
     usage_refusal : (s : S) (r : Reading) (s' : S) → r ≡ refused status.Usage usage_line → IsRefusal (faults s) (faults s') r
     usage_refusal s r s' e = plain (faults s) (faults s') status.Usage usage_line r e (λ x. cc) (λ x. cc) (λ x. cc)
 
-    pub reads_refusal : (words : List (List ℕ)) (s : S) (r : Reading) (s' : S) → Reads gives misses words s r s' → IsRefusal (faults s) (faults s') r
+    pub reads_refusal : (words : List (List ℕ)) (s : S) (r : Reading) (s' : S) → Reads from words s r s' → IsRefusal (faults s) (faults s') r
     reads_refusal [] s r s' (e, same) = usage_refusal s r s' e
     reads_refusal (a ∷ []) s r s' (e, same) = usage_refusal s r s' e
     reads_refusal (design ∷ tests ∷ []) s r s' k = both_refusal design tests s r s' k

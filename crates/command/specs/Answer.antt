@@ -2,7 +2,7 @@
 use Rattle.std.specs.Prelude.{◌≡◌, ◌⊎◌, ℕ, false, List, [], ◌∷◌, Option}
 use Rattle.std.specs.Io.KnownBytes.{Appends}
 use Rattle.port_io.specs.Ports.{AppendsPart, IsRaised}
-use Rattle.port_io.specs.PutsPart.{PutsPart}
+use Rattle.port_io.specs.Means.{StoreMeans, SinkMeans}
 use Rattle.port_io.specs.ToldLaws.{joined}
 use Rattle.gpi.specs.Content.{Content}
 use Rattle.rig_model.specs.Rig.{Rig, Setup}
@@ -10,9 +10,8 @@ use Rattle.rig_model.specs.Run.{Run, IsRun, written}
 use Rattle.rig_model.specs.declared.file.TestCase.{TestCase}
 use Rattle.rig_model.specs.declared.file.TestFile.{TestFile}
 use Rattle.text_forms.specs.DesignForm.{flat_of}
-use Rattle.command.specs.Means.{StoreMeans, SinkMeans}
 use Rattle.command.specs.Reading.{Reading, refused, runs, Reads, IsTold}
-use Rattle.regression.specs.Runs.{RunsTo, status_of}
+use Rattle.regression.specs.Runs.{RunsTo, EndsTo, status_of}
 use Rattle.regression.specs.declared.status.Status.{Status}
 use Rattle.regression.specs.declared.status.Status.TheVariants as status
 
@@ -25,16 +24,12 @@ abbrev pub setup_with : List ℕ → TestFile → Setup
 setup_with ports file = record { functions = file.functions; flat = flat_of ports; trace = false }
 
 -- The test of a file is run, which leaves the simulator with this content.
-pub record RunsFile {O : Type 0} (sink : SinkMeans O) (budget : ℕ) (ports : List ℕ) (file : TestFile) (s : Status) (content : Content) (out out' : O) : Type 0 where
+pub record RunsFile {O : Type 0} (sink : SinkMeans O) (budget : ℕ) (ports : List ℕ) (file : TestFile)
+    (s : Status) (content : Content) (out out' : O) : Type 0 where
   pub case : TestCase
   pub is_case : file.cases ≡ case ∷ []
   pub last : Rig
-  pub runs : RunsTo sink.takes sink.breaks sink.told (setup_with ports file) case budget s last content out out'
-
--- The line of a refusal is put: it is taken, or it breaks, or memory is short.
-abbrev pub PutsRefusal : {O : Type 0} → SinkMeans O → Status → List ℕ → Status → O → O → Type 0
-PutsRefusal sink own line s out out' =
-    ((s ≡ own) × sink.takes out line out') ⊎ (((s ≡ status.WriteFault) × sink.breaks out line out') ⊎ ((s ≡ status.NoMemory) × PutsPart sink.takes sink.told out (line ∷ []) out'))
+  pub runs : RunsTo sink (setup_with ports file) case budget s last content out out'
 
 -- The simulator that was handed in, after a status: a run leaves it with the design, and a refusal as it was. After a failed
 -- put and want of memory nothing is said of it.
@@ -51,7 +46,7 @@ LeavesKernel is_loaded status.NoMemory before after = Unit {0}
 
 -- The line of a refusal is put, or else the test is run.
 abbrev pub Answers : {O : Type 0} → SinkMeans O → ℕ → Reading → Status → Content → O → O → Type 0
-Answers sink budget (refused own line) s content out out' = PutsRefusal sink own line s out out'
+Answers sink budget (refused own line) s content out out' = EndsTo sink (line ∷ []) own s out out'
 Answers sink budget (runs ports file) s content out out' = RunsFile sink budget ports file s content out out'
 
 -- The lines and the status of a reading, where nothing fails: the one line of a refusal, or those of the run.
@@ -61,17 +56,19 @@ IsAnswer budget (runs ports file) lines s =
     (case : TestCase) × (file.cases ≡ case ∷ []) × (run : Run) × IsRun (setup_with ports file) case budget run
     × (lines ≡ written (setup_with ports file) budget run) × (s ≡ status_of run)
 
--- What a sink that tells its bytes has after a status: all the bytes of the lines with the own status, and a front of them where a put broke or memory was short.
+-- What a sink that tells its bytes has after a status: all the bytes of the lines with the own status, and a front of them where a put
+-- broke or memory was short.
 abbrev pub TellsLines : Option (List ℕ) → Option (List ℕ) → List (List ℕ) → Status → Status → Type 0
 TellsLines before after lines own s =
     ((s ≡ own) × Appends before after (joined lines))
     ⊎ (((s ≡ status.WriteFault) ⊎ (s ≡ status.NoMemory)) × AppendsPart before after (joined lines))
 
--- An answer by the reads of the store and the puts of the sink, by the files where the store tells them, by what the simulator holds after
--- a run, and by the bytes where the sink tells them.
-pub record Answered {S O : Type 0} (from : StoreMeans S) (sink : SinkMeans O) (budget : ℕ) (words : List (List ℕ)) (s : Status) (store store' : S) (content : Content) (out out' : O) : Type 0 where
+-- An answer by the reads of the store and the puts of the sink, by the files where the store tells them, by what the simulator holds
+-- after a run, and by the bytes where the sink tells them.
+pub record Answered {S O : Type 0} (from : StoreMeans S) (sink : SinkMeans O) (budget : ℕ) (words : List (List ℕ))
+    (s : Status) (store store' : S) (content : Content) (out out' : O) : Type 0 where
   pub reading : Reading
-  pub reads : Reads from.gives from.misses words store reading store'
+  pub reads : Reads from words store reading store'
   pub is_told : IsTold (from.files store) words reading
   pub answers : Answers sink budget reading s content out out'
   pub lines : List (List ℕ)

@@ -1,6 +1,7 @@
 -- What the words come to, by the reads that are made.
 use Rattle.std.specs.Prelude.{◌≡◌, ◌⊎◌, ℕ, List, [], ◌∷◌, ◌++◌, length, Option, codes}
 use Rattle.port_io.specs.Ports.{GivesFile}
+use Rattle.port_io.specs.Means.{StoreMeans}
 use Rattle.rig_model.specs.declared.file.TestFile.{TestFile}
 use Rattle.text_forms.specs.DesignForm.{ArePorts, IsDesign}
 use Rattle.text_forms.specs.TestsForm.{IsTests, IsOneTest}
@@ -29,7 +30,7 @@ refused_line name = codes "error: " ++ name ++ codes ": NotBuilt" ++ 10 ∷ []
 abbrev pub most : ℕ
 most = 1048577
 
-module _ {S : Type 0} (gives : S → List ℕ → ℕ → List ℕ → S → Type 0) (misses : S → List ℕ → S → Type 0) where
+module _ {S : Type 0} (from : StoreMeans S) where
   -- the bytes of the file of the tests are read, for a design with these ports
   abbrev pub TextOfTests : List ℕ → List ℕ → List ℕ → Reading → Type 0
   TextOfTests tests ports text r =
@@ -39,8 +40,8 @@ module _ {S : Type 0} (gives : S → List ℕ → ℕ → List ℕ → S → Typ
   -- the file of the tests is read
   abbrev pub ReadsTests : List ℕ → List ℕ → S → Reading → S → Type 0
   ReadsTests tests ports s r s' =
-      ((r ≡ refused status.ReadFault (read_line tests)) × misses s tests s')
-      ⊎ ((text : List ℕ) × gives s tests most text s' × TextOfTests tests ports text r)
+      ((r ≡ refused status.ReadFault (read_line tests)) × from.misses s tests s')
+      ⊎ ((text : List ℕ) × from.gives s tests most text s' × TextOfTests tests ports text r)
 
   -- the bytes of the design are read
   abbrev pub TextOfDesign : List ℕ → List ℕ → List ℕ → S → Reading → S → Type 0
@@ -51,8 +52,8 @@ module _ {S : Type 0} (gives : S → List ℕ → ℕ → List ℕ → S → Typ
   -- the file of the design is read, and then that of the tests
   abbrev pub ReadsBoth : List ℕ → List ℕ → S → Reading → S → Type 0
   ReadsBoth design tests s r s' =
-      ((r ≡ refused status.ReadFault (read_line design)) × misses s design s')
-      ⊎ ((text : List ℕ) × (mid : S) × gives s design most text mid × TextOfDesign design tests text mid r s')
+      ((r ≡ refused status.ReadFault (read_line design)) × from.misses s design s')
+      ⊎ ((text : List ℕ) × (mid : S) × from.gives s design most text mid × TextOfDesign design tests text mid r s')
 
   -- Two words name a design and tests; any others are refused, and nothing is read.
   abbrev pub Reads : List (List ℕ) → S → Reading → S → Type 0
@@ -61,10 +62,14 @@ module _ {S : Type 0} (gives : S → List ℕ → ℕ → List ℕ → S → Typ
   Reads (design ∷ tests ∷ []) s r s' = ReadsBoth design tests s r s'
   Reads (a ∷ b ∷ c ∷ words) s r s' = (r ≡ refused status.Usage usage_line) × (s' ≡ s)
 
+-- a store of which its files are known alone
+abbrev pub told_means : Option (List ℕ → Option (List ℕ)) → StoreMeans (Unit {0})
+told_means files = record { files = λ a. files; gives = λ a name n text b. GivesFile files name n text; misses = λ a name b. Unit {0} }
+
 -- The reading is one of these files: a text is the first bytes of the file of its name, at most as many as are asked for, where there are
 -- files to tell of, and no file is read that isn't there. A read may fail all the same.
 abbrev pub IsTold : Option (List ℕ → Option (List ℕ)) → List (List ℕ) → Reading → Type 0
-IsTold files words r = Reads (λ (a : Unit {0}) (name : List ℕ) (n : ℕ) (text : List ℕ) (b : Unit {0}). GivesFile files name n text) (λ (a : Unit {0}) (name : List ℕ) (b : Unit {0}). Unit {0}) words tt r tt
+IsTold files words r = Reads (told_means files) words tt r tt
 
 -- what a decision stands for
 abbrev pub reading_of : Decision → Reading

@@ -1,16 +1,16 @@
 //! The top call.
 ghost use Rattle.std.specs.Prelude.{◌≡◌, ◌⊎◌, ◌∷◌, [], List, ℕ, length, IfOk, OnOk, map, string_bytes};
-ghost use Rattle.command.specs.Answer.{Answers, Answered, Quit, RunsFile, RaisedAt, LeavesKernel, PutsRefusal, default_budget};
+ghost use Rattle.port_io.specs.Means.{sink_means, store_means};
+ghost use Rattle.command.specs.Answer.{Answers, Answered, Quit, RunsFile, RaisedAt, LeavesKernel, default_budget};
 ghost use Rattle.text_forms.specs.DesignForm.{ArePorts};
 ghost use Rattle.text_forms.specs.TestsForm.{IsOneTest};
-ghost use Rattle.regression.specs.Runs.{status_in};
-ghost use Rattle.command.specs.Means.{sink_means, store_means};
+ghost use Rattle.regression.specs.Runs.{EndsTo, status_in};
 ghost use Rattle.command.specs.Reading.{CanRun, ReadsBoth, ReadsTests, read_line, reading_of, refused_line, usage_line};
 
 use crate::decision::Decision;
 use gpi::Gpi;
 use plain_task::{TreeMaker, WaitList};
-use port_io::{NoMemory, Sink, SinkFault, Store, StoreFault};
+use port_io::{NoMemory, Sink, Store, StoreFault};
 use regression::{Status, run_all};
 use rig_model::{Steps, TestFile};
 use scheduler::Engine;
@@ -65,7 +65,7 @@ fn decide_tests<S: Store>(
     store: &mut S,
 ) -> Result<Decision, NoMemory>
     requires { ArePorts ports.items }
-    ensures reads { IfOk result (λ decision. ReadsTests S.gives S.misses tests.now ports.items store.old (reading_of decision) store.new) }
+    ensures reads { IfOk result (λ decision. ReadsTests (store_means S.Store) tests.now ports.items store.old (reading_of decision) store.new) }
     ensures can_run { IfOk result (λ decision. CanRun decision) }
 {
     match store.read_file(alloc, tests, MOST) {
@@ -88,7 +88,7 @@ pub fn decide<S: Store>(
     tests: &str,
     store: &mut S,
 ) -> Result<Decision, NoMemory>
-    ensures reads { IfOk result (λ decision. ReadsBoth S.gives S.misses design.now tests.now store.old (reading_of decision) store.new) }
+    ensures reads { IfOk result (λ decision. ReadsBoth (store_means S.Store) design.now tests.now store.old (reading_of decision) store.new) }
     ensures can_run { IfOk result (λ decision. CanRun decision) }
 {
     match store.read_file(alloc, design, MOST) {
@@ -106,13 +106,10 @@ pub fn decide<S: Store>(
 
 /// Puts the line of a refusal.
 fn refuse<O: Sink>(alloc: Global, own: Status, line: &[u8], out: &mut O) -> Status
-    ensures { PutsRefusal (sink_means O.takes O.breaks O.told) own line.now result out.old out.new }
+    ensures { EndsTo (sink_means O.Sink) (line.now ∷ []) own result out.old out.new }
 {
-    match out.put(alloc, line) {
-        Ok(()) => own,
-        Err(SinkFault::Failed) => Status::WriteFault,
-        Err(SinkFault::OutOfMemory) => Status::NoMemory,
-    }
+    let put = out.put(alloc, line);
+    own.after(put)
 }
 
 /// Runs the test of the file on a design with these ports.
@@ -127,7 +124,7 @@ fn run_file<O: Sink, K: Gpi, L: Ledger>(
 ) -> Result<Status, NoMemory>
     requires ports { ArePorts ports.now }
     requires file { IsOneTest (length ports.now) file.now }
-    ensures runs { RunsFile (sink_means O.takes O.breaks O.told) budget ports.now file.now (status_in result) (K.content kernel.new) out.old out.new }
+    ensures runs { RunsFile (sink_means O.Sink) budget ports.now file.now (status_in result) (K.content kernel.new) out.old out.new }
     ensures loaded { OnOk result (K.is_loaded kernel.new) }
 {
     let flat = flat_of_ports(alloc, ports)?;
@@ -148,7 +145,7 @@ pub fn answer<O: Sink, K: Gpi, L: Ledger>(
     steps: &mut Steps<L>,
 ) -> Status
     requires { CanRun decision.now }
-    ensures answers { Answers (sink_means O.takes O.breaks O.told) budget (reading_of decision.now) result (K.content kernel.new) out.old out.new }
+    ensures answers { Answers (sink_means O.Sink) budget (reading_of decision.now) result (K.content kernel.new) out.old out.new }
     ensures kernel { LeavesKernel K.is_loaded result kernel.old kernel.new }
 {
     match decision {
@@ -191,7 +188,7 @@ pub fn cocorun<S: Store, O: Sink, K: Gpi, L: Ledger>(
     kernel: &mut K,
     steps: &mut Steps<L>,
 ) -> Status
-    ensures answer { Answered (store_means S.files S.gives S.misses) (sink_means O.takes O.breaks O.told) default_budget (map string_bytes words.now) result store.old store.new (K.content kernel.new) out.old out.new ⊎ Quit result out.old out.new }
+    ensures answer { Answered (store_means S.Store) (sink_means O.Sink) default_budget (map string_bytes words.now) result store.old store.new (K.content kernel.new) out.old out.new ⊎ Quit result out.old out.new }
     ensures kernel { LeavesKernel K.is_loaded result kernel.old kernel.new }
     ensures read_fault { RaisedAt Status.ReadFault (S.faults store.old) (S.faults store.new) result }
     ensures write_fault { RaisedAt Status.WriteFault (O.faults out.old) (O.faults out.new) result }

@@ -1,10 +1,14 @@
 -- The scene knows the values of all names of the rows' task.
-use Rattle.std.proofs.Common.{◌≡◌, lit<, sym, subst}
+use Rattle.std.proofs.Common.{◌≡◌, lit<, refl, sym, subst, arith}
 use Rattle.py_attribute.specs.Look.{Names}
-use Rattle.py_attribute.specs.Knows.{KnowsNames}
+use Rattle.py_attribute.specs.Knows.{KnowsNames, KnowsClock}
 use Rattle.evaluate_tests.specs.Scene.{seen}
 use Rattle.evaluate_tests.specs.Variables.{task_names}
 use Rattle.evaluate_tests.proofs.Names.{EachKnown, names_known}
+
+-- its clock of 5 steps a half
+clock_known : KnowsClock seen (record { 0 = 1 }) 5
+clock_known = record { signal = (lit< tt, lit< tt); bit = refl; steps = (omega arith, omega arith) }
 
 each_known : EachKnown seen task_names
 each_known = (
@@ -29,7 +33,7 @@ each_known = (
                     (lit< tt, lit< tt),
                     (
                       tt,
-                      (lit< tt, (lit< tt, (lit< tt, (lit< tt, (lit< tt, (lit< tt, ((lit< tt, lit< tt), (tt, tt)))))))),
+                      (lit< tt, (lit< tt, (lit< tt, (lit< tt, (lit< tt, (lit< tt, (clock_known, (tt, tt)))))))),
                     ),
                   ),
                 ),

@@ -1,5 +1,7 @@
 -- Names one after the other, and what the scene knows of them.
-use Rattle.std.proofs.Common.{◌≡◌, ℕ, Bool, true, false, List, [], ◌∷◌, ◌++◌, if◌then◌else◌, refl, ap}
+use Rattle.std.proofs.Common.{◌≡◌, ℕ, Bool, true, false, List, [], ◌∷◌, ◌++◌, if◌then◌else◌, Some, refl, ap}
+use Rattle.std.specs.List.{find}
+use Rattle.std.specs.Option.{option_and_then}
 use Rattle.std.specs.Str.{bytes_eq}
 use Rattle.py_attribute.specs.Look.{View, Names, Local, local}
 use Rattle.py_attribute.specs.Knows.{KnowsNames, KnowsOption}
@@ -16,7 +18,7 @@ EachKnown view [] = Unit {0}
 EachKnown view (l ∷ ls) = KnowsOption view l.value × EachKnown view ls
 
 at : (view : View) (l : Local) (ls : Names) (n : List ℕ) (t : Bool) → KnowsOption view l.value → KnowsOption view (local ls n)
-    → KnowsOption view (if t then l.value else local ls n)
+    → KnowsOption view (option_and_then (λ (m : Local). m.value) (if t then Some l else find (λ (m : Local). bytes_eq m.name n) ls))
 at view l ls n true h k = h
 at view l ls n false h k = k
 

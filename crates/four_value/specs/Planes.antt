@@ -1,5 +1,6 @@
 -- How two planes of bits stand for the digits of a vector.
 use Rattle.std.specs.Prelude.{ℕ, zero, suc, ◌+◌, ◌*◌, ◌%◌, ◌/◌, ◌^◌, ◌<◌, ◌≤◌, List, [], ◌∷◌}
+use Rattle.four_value.specs.Limits.{most_digits}
 use Rattle.four_value.specs.declared.Digit.{Digit}
 use Rattle.four_value.specs.declared.Digit.TheVariants.{Zero, One, X, Z}
 
@@ -42,6 +43,6 @@ unknown_plane (d ∷ ds) = unknown_bit d + 2 * unknown_plane ds
 -- planes of a vector: its width is 1 to 128, and neither plane has a bit at the width or above
 pub record ArePlanes (width value unknown : ℕ) : Type 0 where
   pub low : 1 ≤ width
-  pub high : width ≤ 128
+  pub high : width ≤ most_digits
   pub value_fits : value < 2 ^ width
   pub unknown_fits : unknown < 2 ^ width

@@ -18,6 +18,9 @@ mod edges;
 mod events;
 mod vector;
 
+/// The most digits that a vector may have. The standard asks for at least 65,536 (IEEE 1364-2005, clause 4.3.1).
+pub const MOST_DIGITS: u8 = 128;
+
 /// One of the four values of a net or a variable (clause 4.1).
 #[derive(Clone, Copy, Debug, PartialEq, Eq)]
 pub enum Digit {

@@ -1,7 +1,7 @@
 pub mod Widths
 pub mod Lists
 pub mod Rows
-pub mod RunLengths
+pub mod StretchLaws
 pub mod Made
 pub mod Copies
 pub mod Steps

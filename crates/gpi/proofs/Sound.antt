@@ -1,7 +1,7 @@
 -- Steps along the lists of a design, for the test of its soundness.
 use Rattle.std.proofs.Common.{◌≡◌, ℕ, zero, suc, ◌+◌, ◌-◌, ◌<◌, ◌≤◌, ◌&&◌, ◌↔◌, nat_lt, nat_le, Bool, true, false, IsTrue, List, [], ◌∷◌, length, drop, slice_get, slice_index, Some, refl, ap, sym, subst, ◌∙◌, arith, add-one}
 use Rattle.std.proofs.lemmas.List.{drop_all}
-use Rattle.std.proofs.lemmas.Bool.{leb-true}
+use Rattle.std.proofs.lemmas.Bool.{leb-true, and_parts}
 use Rattle.gpi.specs.declared.design.Signal.{Signal}
 use Rattle.gpi.specs.declared.design.Wake.{Wake}
 use Rattle.gpi.specs.declared.design.Process.{Process}
@@ -43,7 +43,8 @@ width_at [] n s h = absurd (cc)
 width_at (x ∷ ss) zero s h = let e : x ≡ s = cc in ap (λ (y : Signal). y.width) e
 width_at (x ∷ ss) (suc n) s h = width_at ss n s h
 
-pub wide_step : (ss : List Signal) (n : ℕ) (s : Signal) → slice_get ss n ≡ Some s → are_wide (drop n ss) ≡ ((nat_le 1 s.width && nat_le s.width 128) && are_wide (drop (n + 1) ss))
+pub wide_step : (ss : List Signal) (n : ℕ) (s : Signal) → slice_get ss n ≡ Some s
+    → are_wide (drop n ss) ≡ ((nat_le 1 s.width && nat_le s.width 128) && are_wide (drop (n + 1) ss))
 wide_step ss n s h = rw (drop_found ss n s h, add-one) refl
 
 pub wide_end : (ss : List Signal) (n : ℕ) → length ss ≤ n → are_wide (drop n ss) ≡ true
@@ -51,7 +52,8 @@ wide_end ss n h = rw (drop_all n ss h) refl
 
 -- ---- wakes, children, nodes
 
-pub wakes_step : (ws : List Wake) (n k : ℕ) (w : Wake) → slice_get ws n ≡ Some w → are_wakes (drop n ws) k ≡ (nat_lt w.sig.0 k && are_wakes (drop (n + 1) ws) k)
+pub wakes_step : (ws : List Wake) (n k : ℕ) (w : Wake) → slice_get ws n ≡ Some w
+    → are_wakes (drop n ws) k ≡ (nat_lt w.sig.0 k && are_wakes (drop (n + 1) ws) k)
 wakes_step ws n k w h = rw (drop_found ws n w h, add-one) refl
 
 pub wakes_end : (ws : List Wake) (n k : ℕ) → length ws ≤ n → are_wakes (drop n ws) k ≡ true
@@ -88,18 +90,14 @@ processes_step ps n p ws h = rw (drop_found ps n p h, add-one) refl
 
 -- ---- a signal's width is 1 to 128
 
-both : (a b : Bool) → IsTrue (a && b) → IsTrue a × IsTrue b
-both true b h = (refl, h)
-both false b h = absurd (cc)
-
 pub wide_at : (ss : List Signal) (n : ℕ) (s : Signal) → slice_get ss n ≡ Some s → IsTrue (are_wide ss) → IsWidth s.width
 wide_at [] n s h w = absurd (cc)
 wide_at (x ∷ ss) zero s h w =
     let e : x ≡ s = cc in
-    let k = both (nat_le 1 x.width && nat_le x.width 128) (are_wide ss) w in
-    let l = both (nat_le 1 x.width) (nat_le x.width 128) k.0 in
+    let k = and_parts (nat_le 1 x.width && nat_le x.width 128) (are_wide ss) w in
+    let l = and_parts (nat_le 1 x.width) (nat_le x.width 128) k.0 in
     subst (λ (y : Signal). IsWidth y.width) e (leb-true 1 x.width l.0, leb-true x.width 128 l.1)
-wide_at (x ∷ ss) (suc n) s h w = wide_at ss n s h (both (nat_le 1 x.width && nat_le x.width 128) (are_wide ss) w).1
+wide_at (x ∷ ss) (suc n) s h w = wide_at ss n s h (and_parts (nat_le 1 x.width && nat_le x.width 128) (are_wide ss) w).1
 
 -- ---- loops that end at the first that isn't so
 
@@ -165,12 +163,19 @@ block_is x ws r h = subst (λ (S : Type 0). IsTrue r ↔ S) (sym (list_sound x w
 
 pub case_is : (t : Term) (labels : List Label) (items : Acts) (a : Act) (ws : List ℕ) (r : Bool) (n : ℕ) → n ≡ length (acts_of items)
     → term.IsSound t ws × AreLabels labels (width t) ws × AreItems labels n → SoundList (acts_of items) ws → IsTrue r ↔ IsSound a ws
-    → IsTrue r ↔ (term.IsSound t ws × AreLabels labels (width t) ws × AreItems labels (row_length (hidden-the_row-Act-0 items.list)) × AreSound (hidden-the_row-Act-0 items.list) ws × IsSound a ws)
-case_is t labels items a ws r n e h l i =
-    (λ x. case_sound t labels items a ws (h.0, h.1, subst (λ (k : ℕ). AreItems labels k) e h.2, l, i.0 x), λ x. i.1 (case_back t labels items a ws x).4)
+    → IsTrue r ↔ (term.IsSound t ws × AreLabels labels (width t) ws × AreItems labels (row_length (hidden-the_row-Act-0 items.list))
+    × AreSound (hidden-the_row-Act-0 items.list) ws × IsSound a ws)
+case_is t labels items a ws r n e h l i = (
+  λ x. case_sound t labels items a ws (h.0, h.1, subst (λ (k : ℕ). AreItems labels k) e h.2, l, i.0 x),
+  λ x. i.1 (case_back t labels items a ws x).4,
+)
 
-pub case_no : (t : Term) (labels : List Label) (items : Acts) (a : Act) (ws : List ℕ) (r : Bool) (n : ℕ) → n ≡ length (acts_of items) → r ≡ false
+pub case_no : (t : Term) (labels : List Label) (items : Acts) (a : Act) (ws : List ℕ) (r : Bool) (n : ℕ) → n ≡ length (acts_of items)
+    → r ≡ false
     → (term.IsSound t ws × AreLabels labels (width t) ws × AreItems labels n → SoundList (acts_of items) ws → ⊥)
-    → IsTrue r ↔ (term.IsSound t ws × AreLabels labels (width t) ws × AreItems labels (row_length (hidden-the_row-Act-0 items.list)) × AreSound (hidden-the_row-Act-0 items.list) ws × IsSound a ws)
-case_no t labels items a ws r n e h f =
-    (λ x. absurd (cc), λ x. let b = case_back t labels items a ws x in absurd (f (b.0, b.1, subst (λ (k : ℕ). AreItems labels k) (sym e) b.2) b.3))
+    → IsTrue r ↔ (term.IsSound t ws × AreLabels labels (width t) ws × AreItems labels (row_length (hidden-the_row-Act-0 items.list))
+    × AreSound (hidden-the_row-Act-0 items.list) ws × IsSound a ws)
+case_no t labels items a ws r n e h f = (
+  λ x. absurd (cc),
+  λ x. let b = case_back t labels items a ws x in absurd (f (b.0, b.1, subst (λ (k : ℕ). AreItems labels k) (sym e) b.2) b.3),
+)

@@ -1,5 +1,6 @@
+pub mod Limits
 pub mod Operators
-pub mod Runs
+pub mod Stretches
 pub mod Selects
 pub mod Terms
 pub mod Made

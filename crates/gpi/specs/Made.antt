@@ -1,6 +1,7 @@
 -- What the constructors of expressions make: the value, the width and soundness of the new one by those of its parts.
 use Rattle.std.specs.Prelude.{◌≡◌, ℕ, ◌+◌, ◌*◌, ◌≤◌, List, [], ◌∷◌, ◌++◌}
 use Rattle.four_value.specs.declared.Digit.{Digit}
+use Rattle.four_value.specs.Limits.{most_digits}
 use Rattle.four_value.specs.Vector.{resize, number}
 use Rattle.gpi.specs.declared.selects.Words.{Words}
 use Rattle.gpi.specs.declared.selects.Range.{Range}
@@ -25,16 +26,19 @@ abbrev pub MakesWord : Words → Term → ℕ → Term → Type 0
 MakesWord words i w t = Makes t (λ m. word_value (word_at words (number (value i m))) w m) w (λ ws. IsSound i ws × AreWords words w ws)
 
 abbrev pub MakesSelect : Term → Range → Term → ℕ → Term → Type 0
-MakesSelect a range i w t = Makes t (λ m. selected (value a m) range (number (value i m)) w) w (λ ws. IsSound a ws × IsSound i ws × IsWidth w)
+MakesSelect a range i w t = Makes t (λ m. selected (value a m) range (number (value i m)) w) w
+    (λ ws. IsSound a ws × IsSound i ws × IsWidth w)
 
 abbrev pub MakesUnary : Unary → Term → Term → Type 0
 MakesUnary op a t = Makes t (λ m. unary_value op (value a m)) (width a) (IsSound a)
 
 abbrev pub MakesArith : Arith → Term → Term → Term → Type 0
-MakesArith op a b t = Makes t (λ m. arith_value op (value a m) (value b m)) (width a) (λ ws. IsSound a ws × IsSound b ws × (width a ≡ width b))
+MakesArith op a b t = Makes t (λ m. arith_value op (value a m) (value b m)) (width a)
+    (λ ws. IsSound a ws × IsSound b ws × (width a ≡ width b))
 
 abbrev pub MakesCompare : Compare → Term → Term → Term → Type 0
-MakesCompare op a b t = Makes t (λ m. compare_value op (value a m) (value b m) ∷ []) 1 (λ ws. IsSound a ws × IsSound b ws × (width a ≡ width b))
+MakesCompare op a b t = Makes t (λ m. compare_value op (value a m) (value b m) ∷ []) 1
+    (λ ws. IsSound a ws × IsSound b ws × (width a ≡ width b))
 
 abbrev pub MakesLogic : Logic → Term → Term → Term → Type 0
 MakesLogic op a b t = Makes t (λ m. logic_value op (value a m) (value b m) ∷ []) 1 (λ ws. IsSound a ws × IsSound b ws)
@@ -46,13 +50,15 @@ abbrev pub MakesShift : Shift → Term → Term → Term → Type 0
 MakesShift op a b t = Makes t (λ m. shift_value op (value a m) (value b m)) (width a) (λ ws. IsSound a ws × IsSound b ws)
 
 abbrev pub MakesCond : Term → Term → Term → Term → Type 0
-MakesCond c a b t = Makes t (λ m. choose (truth (value c m)) (value a m) (value b m)) (width a) (λ ws. IsSound c ws × IsSound a ws × IsSound b ws × (width a ≡ width b))
+MakesCond c a b t = Makes t (λ m. choose (truth (value c m)) (value a m) (value b m)) (width a)
+    (λ ws. IsSound c ws × IsSound a ws × IsSound b ws × (width a ≡ width b))
 
 abbrev pub MakesConcat : Term → Term → Term → Type 0
-MakesConcat a b t = Makes t (λ m. value b m ++ value a m) (width b + width a) (λ ws. IsSound a ws × IsSound b ws × (width b + width a ≤ 128))
+MakesConcat a b t = Makes t (λ m. value b m ++ value a m) (width b + width a)
+    (λ ws. IsSound a ws × IsSound b ws × (width b + width a ≤ most_digits))
 
 abbrev pub MakesRepeat : ℕ → Term → Term → Type 0
-MakesRepeat n a t = Makes t (λ m. copies n (value a m)) (n * width a) (λ ws. IsSound a ws × (1 ≤ n) × (n * width a ≤ 128))
+MakesRepeat n a t = Makes t (λ m. copies n (value a m)) (n * width a) (λ ws. IsSound a ws × (1 ≤ n) × (n * width a ≤ most_digits))
 
 abbrev pub MakesResize : Term → ℕ → Term → Type 0
 MakesResize a w t = Makes t (λ m. resize (value a m) w) w (λ ws. IsSound a ws × IsWidth w)

@@ -7,6 +7,8 @@ use Rattle.gpi.specs.declared.design.Spot.{Spot}
 use Rattle.gpi.specs.declared.design.Spot.TheVariants.{Inner, Sig, Words}
 use Rattle.gpi.specs.declared.design.Node.{Node}
 use Rattle.gpi.specs.declared.design.Flat.{Flat}
+use Rattle.four_value.specs.Limits.{most_digits}
+use Rattle.gpi.specs.Limits.{most_elements}
 use Rattle.gpi.specs.Terms.{IsWidth}
 use Rattle.gpi.specs.Activation.{IsSound}
 use Rattle.gpi.specs.Design.{widths}
@@ -19,7 +21,7 @@ IsWidthFound None Sound n = Sound → ⊥
 -- each width is 1 to 128
 abbrev pub are_wide : List Signal → Bool
 are_wide [] = true
-are_wide (s ∷ ss) = (nat_le 1 s.width && nat_le s.width 128) && are_wide ss
+are_wide (s ∷ ss) = (nat_le 1 s.width && nat_le s.width most_digits) && are_wide ss
 
 -- each wake is of one of the n signals
 abbrev pub are_wakes : List Wake → ℕ → Bool
@@ -90,9 +92,9 @@ pub record IsTree (ns : List Node) : Type 0 where
 -- no list is too long, each number lies in its list, each width is 1 to 128 and fits its node, the nodes form one tree, and
 -- the step is at least 1
 pub record IsSoundFlat (flat : Flat) : Type 0 where
-  pub signals : length flat.signals ≤ 65536
-  pub nodes : length flat.nodes ≤ 65536
-  pub processes : length flat.processes ≤ 65536
+  pub signals : length flat.signals ≤ most_elements
+  pub nodes : length flat.nodes ≤ most_elements
+  pub processes : length flat.processes ≤ most_elements
   pub wide : IsTrue (are_wide flat.signals)
   pub bodies : AreProcesses flat.processes (widths flat.signals)
   pub spots : IsTrue (are_nodes (length flat.nodes) (length flat.signals) flat.nodes)

@@ -1,6 +1,7 @@
 -- The updates of an assignment (IEEE 1364-2005, clauses 6 and 9.2).
 use Rattle.std.specs.Prelude.{◌≡◌, ℕ, ◌+◌, ◌<◌, ◌≤◌, List, [], ◌∷◌, ◌++◌, length, Option, Some, None, slice_index}
 use Rattle.four_value.specs.declared.Digit.{Digit}
+use Rattle.four_value.specs.Limits.{most_digits}
 use Rattle.four_value.specs.Vector.{slice, number}
 use Rattle.gpi.specs.declared.types.Update.{Update}
 use Rattle.gpi.specs.declared.selects.Overlap.{Overlap}
@@ -53,7 +54,7 @@ IsSoundObject (Word words i w) ws = term.IsSound i ws × AreWords words w ws
 abbrev pub IsSoundTarget : Target → List ℕ → Type 0
 IsSoundTarget (Whole o) ws = IsSoundObject o ws
 IsSoundTarget (Select o range i w) ws = IsSoundObject o ws × term.IsSound i ws × IsWidth w
-IsSoundTarget (Join' p a q b) ws = IsSoundTarget a ws × IsSoundTarget b ws × (target_width a + target_width b ≤ 128)
+IsSoundTarget (Join' p a q b) ws = IsSoundTarget a ws × IsSoundTarget b ws × (target_width a + target_width b ≤ most_digits)
 
 -- the update lies in its signal; ws are the widths of the signals
 abbrev pub IsFitting : Update → List ℕ → Type 0
@@ -70,7 +71,8 @@ pub record IsObjectCopy (a b : Object) : Type 0 where
   pub sound : (ws : List ℕ) → IsSoundObject a ws → IsSoundObject b ws
 
 -- t has these updates, this width and soundness
-pub record MakesTarget (t : Target) (updates : (ℕ → List Digit) → List Digit → List Update) (w : ℕ) (Sound : List ℕ → Type 0) : Type 0 where
+pub record MakesTarget (t : Target) (updates : (ℕ → List Digit) → List Digit → List Update) (w : ℕ)
+    (Sound : List ℕ → Type 0) : Type 0 where
   pub updates_are : (m : ℕ → List Digit) (ds : List Digit) → updates_of t m ds ≡ updates m ds
   pub width_is : target_width t ≡ w
   pub sound : (ws : List ℕ) → Sound ws → IsSoundTarget t ws
@@ -79,7 +81,7 @@ abbrev pub MakesJoin : Target → Target → Target → Type 0
 MakesJoin a b t = MakesTarget t
     (λ m ds. updates_of a m (slice ds (target_width b) (target_width a)) ++ updates_of b m (slice ds 0 (target_width b)))
     (target_width a + target_width b)
-    (λ ws. IsSoundTarget a ws × IsSoundTarget b ws × (target_width a + target_width b ≤ 128))
+    (λ ws. IsSoundTarget a ws × IsSoundTarget b ws × (target_width a + target_width b ≤ most_digits))
 
 -- b means the same as a
 abbrev pub IsTargetCopy : Target → Target → Type 0

@@ -1,6 +1,7 @@
 -- The value of an expression whose widths are settled (IEEE 1364-2005, clause 5).
 use Rattle.std.specs.Prelude.{◌≡◌, ℕ, ◌+◌, ◌*◌, ◌<◌, ◌≤◌, List, [], ◌∷◌, ◌++◌, zero, suc, length, Option, Some, None, slice_index_or, slice_index}
 use Rattle.four_value.specs.declared.Digit.{Digit}
+use Rattle.four_value.specs.Limits.{most_digits}
 use Rattle.four_value.specs.Vector.{all_x, resize, number}
 use Rattle.gpi.specs.declared.selects.Words.{Words}
 use Rattle.gpi.specs.declared.terms.Term.{Term}
@@ -63,7 +64,7 @@ width (Resize' p a w) = w
 
 -- 1 to 128
 abbrev pub IsWidth : ℕ → Type 0
-IsWidth w = (1 ≤ w) × (w ≤ 128)
+IsWidth w = (1 ≤ w) × (w ≤ most_digits)
 
 -- the words lie in the design, and each has this width; ws are the widths of the signals
 pub record AreWords (words : Words) (w : ℕ) (ws : List ℕ) : Type 0 where
@@ -85,6 +86,6 @@ IsSound (Logic' op p a q b) ws = IsSound a ws × IsSound b ws
 IsSound (Reduce' op p a) ws = IsSound a ws
 IsSound (Shift' op p a q b) ws = IsSound a ws × IsSound b ws
 IsSound (Cond' p t q a r b) ws = IsSound t ws × IsSound a ws × IsSound b ws × (width a ≡ width b)
-IsSound (Concat' p a q b) ws = IsSound a ws × IsSound b ws × (width b + width a ≤ 128)
-IsSound (Repeat' n p a) ws = IsSound a ws × (1 ≤ n) × (n * width a ≤ 128)
+IsSound (Concat' p a q b) ws = IsSound a ws × IsSound b ws × (width b + width a ≤ most_digits)
+IsSound (Repeat' n p a) ws = IsSound a ws × (1 ≤ n) × (n * width a ≤ most_digits)
 IsSound (Resize' p a w) ws = IsSound a ws × IsWidth w

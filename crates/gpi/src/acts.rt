@@ -7,7 +7,7 @@ ghost use Rattle.gpi.specs.Cases.{AreLabelCopies};
 ghost use Rattle.gpi.specs.Made.{IsCopy};
 ghost use Rattle.gpi.specs.Targets.{IsTargetCopy};
 
-use crate::both::both;
+use crate::both_ok::both_ok;
 use crate::targets::Target;
 use crate::terms::Term;
 pub use activation::{apply, placed};
@@ -157,14 +157,14 @@ fn copy_act(alloc: Global, act: &Act) -> Result<Act, NoMemory>
         Act::Empty => Ok(Act::Empty),
         Act::Block(list) => Ok(Act::block(copy_acts(alloc, list)?)),
         Act::If(test, a, b) => {
-            let branches = both(copy_boxed(alloc, a), copy_boxed(alloc, b));
-            let (test, (a, b)) = both(test.copy(alloc), branches)?;
+            let branches = both_ok(copy_boxed(alloc, a), copy_boxed(alloc, b));
+            let (test, (a, b)) = both_ok(test.copy(alloc), branches)?;
             Ok(Act::If(test, a, b))
         }
         Act::Case(kind, value, labels, items, other) => {
-            let choice = both(value.copy(alloc), copy_labels(alloc, labels));
-            let branches = both(copy_acts(alloc, items), copy_boxed(alloc, other));
-            let ((value, labels), (items, other)) = both(choice, branches)?;
+            let choice = both_ok(value.copy(alloc), copy_labels(alloc, labels));
+            let branches = both_ok(copy_acts(alloc, items), copy_boxed(alloc, other));
+            let ((value, labels), (items, other)) = both_ok(choice, branches)?;
             Ok(case_of(*kind, value, labels, items, other))
         }
         Act::Blocking(target, value) => {
@@ -190,7 +190,7 @@ fn copy_boxed(alloc: Global, act: &Act) -> Result<Box<Act>, NoMemory>
 fn copy_assignment(alloc: Global, target: &Target, value: &Term) -> Result<(Target, Term), NoMemory>
     ensures { IfOk result (λ made. IsTargetCopy target.now made.0 × IsCopy value.now made.1) }
 {
-    both(target.copy(alloc), value.copy(alloc))
+    both_ok(target.copy(alloc), value.copy(alloc))
 }
 
 /// Copies of statements.

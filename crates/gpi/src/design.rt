@@ -4,6 +4,9 @@ use crate::types::SigId;
 use four_value::Digit;
 use port_io::{Name, Sequence};
 
+/// The most signals, the most nodes and the most processes of a sound design.
+pub const MOST_ELEMENTS: usize = 65_536;
+
 /// A design without hierarchy: its signals and processes, numbered from 0, the tree of names, and the step of time.
 #[derive(Drop)]
 pub struct Flat {

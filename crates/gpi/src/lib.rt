@@ -6,22 +6,22 @@
 #![tactic(auto)]
 
 mod acts;
-mod both;
+mod both_ok;
 mod depths;
 mod design;
 mod interface;
 mod operators;
 mod parents;
-mod run_lengths;
 mod selects;
 mod soundness;
+mod stretches;
 mod targets;
 mod terms;
 mod tree;
 mod types;
 
 pub use acts::{Act, Acts, CaseKind, Label, apply, placed};
-pub use design::{Flat, Kind, Node, Process, Signal, Spot, Wake, WakeEdge};
+pub use design::{Flat, Kind, MOST_ELEMENTS, Node, Process, Signal, Spot, Wake, WakeEdge};
 pub use interface::Gpi;
 pub use operators::{Arith, Compare, Logic, Reduce, Shift, Unary, chosen};
 pub use selects::{Order, Overlap, Range, Words};

@@ -1,20 +1,21 @@
 //! Whether the nodes of a design form one tree: the table of parents, and what follows from it.
 ghost use Rattle.std.specs.Prelude.{◌≡◌, ℕ, ◌+◌, ◌<◌, ◌≤◌, ◌==◌, ◌↔◌, length, IsTrue, true, if◌then◌else◌, slice_get, Some, None};
+ghost use Rattle.gpi.specs.Limits.{most_elements};
 ghost use Rattle.gpi.specs.Soundness.{IsTree, is_child, times_among, times_child};
 ghost use Rattle.gpi.specs.Tables.{held, claimed, AreParents, AreEmpty};
 
 use crate::depths::are_rooted;
-use crate::design::{Node, Spot};
+use crate::design::{MOST_ELEMENTS, Node, Spot};
 use port_io::{Name, Sequence};
 
 /// Whether the nodes form one tree below node 0. It takes no memory: the parents and the depths of the nodes lie in two
 /// tables on the stack, of half a MiB each. Its time grows with the number of nodes and of their children.
 pub fn is_tree(nodes: &Sequence<Node>) -> bool
-    requires { length nodes.now ≤ 65536 }
+    requires { length nodes.now ≤ most_elements }
     ensures { IsTrue result ↔ IsTree nodes.now }
 {
-    let mut parents = [None; 65536];
-    let mut depths = [None; 65536];
+    let mut parents = [None; MOST_ELEMENTS];
+    let mut depths = [None; MOST_ELEMENTS];
     is_tree_in(nodes, &mut parents, &mut depths)
 }
 

@@ -3,7 +3,7 @@ ghost use Rattle.std.specs.Prelude.{◌≡◌, ℕ, ◌<◌, ◌≤◌, List, le
 ghost use Rattle.gpi.specs.Terms.{widths_of, read};
 ghost use Rattle.gpi.specs.Targets.{target_width, IsSoundTarget, IsSoundObject, IsObjectCopy, IsTargetCopy, MakesJoin, object_at, object_width};
 
-use crate::both::both;
+use crate::both_ok::both_ok;
 use crate::selects::{Range, Words};
 use crate::terms::Term;
 use crate::types::SigId;
@@ -90,11 +90,11 @@ impl Target {
         match self {
             Target::Whole(object) => Ok(Target::Whole(object.copy(alloc)?)),
             Target::Select(object, range, index, w) => {
-                let (object, index) = both(object.copy(alloc), index.copy(alloc))?;
+                let (object, index) = both_ok(object.copy(alloc), index.copy(alloc))?;
                 Ok(Target::Select(object, *range, index, *w))
             }
             Target::Join(a, b) => {
-                let (a, b) = both(a.copy_boxed(alloc), b.copy_boxed(alloc))?;
+                let (a, b) = both_ok(a.copy_boxed(alloc), b.copy_boxed(alloc))?;
                 Ok(Target::Join(a, b))
             }
         }

@@ -3,7 +3,7 @@ ghost use Rattle.std.specs.Prelude.{◌≡◌, ℕ, ◌+◌, ◌*◌, ◌<◌, �
 ghost use Rattle.gpi.specs.Terms.{value, width, IsSound, read, widths_of, copies};
 ghost use Rattle.gpi.specs.Made.{MakesWord, MakesSelect, MakesUnary, MakesArith, MakesCompare, MakesLogic, MakesReduce, MakesShift, MakesCond, MakesConcat, MakesRepeat, MakesResize, IsCopy};
 
-use crate::both::both;
+use crate::both_ok::both_ok;
 use crate::operators::{Arith, Compare, Logic, Reduce, Shift, Unary, chosen};
 use crate::selects::{Range, Words};
 use crate::types::SigId;
@@ -150,34 +150,34 @@ impl Term {
             Term::Signal(s, w) => Ok(Term::Signal(*s, *w)),
             Term::Word(words, i, w) => Ok(Term::Word(*words, i.copy_boxed(alloc)?, *w)),
             Term::Select(a, range, i, w) => {
-                let (a, i) = both(a.copy_boxed(alloc), i.copy_boxed(alloc))?;
+                let (a, i) = both_ok(a.copy_boxed(alloc), i.copy_boxed(alloc))?;
                 Ok(Term::Select(a, *range, i, *w))
             }
             Term::Unary(op, a) => Ok(Term::Unary(*op, a.copy_boxed(alloc)?)),
             Term::Arith(op, a, b) => {
-                let (a, b) = both(a.copy_boxed(alloc), b.copy_boxed(alloc))?;
+                let (a, b) = both_ok(a.copy_boxed(alloc), b.copy_boxed(alloc))?;
                 Ok(Term::Arith(*op, a, b))
             }
             Term::Compare(op, a, b) => {
-                let (a, b) = both(a.copy_boxed(alloc), b.copy_boxed(alloc))?;
+                let (a, b) = both_ok(a.copy_boxed(alloc), b.copy_boxed(alloc))?;
                 Ok(Term::Compare(*op, a, b))
             }
             Term::Logic(op, a, b) => {
-                let (a, b) = both(a.copy_boxed(alloc), b.copy_boxed(alloc))?;
+                let (a, b) = both_ok(a.copy_boxed(alloc), b.copy_boxed(alloc))?;
                 Ok(Term::Logic(*op, a, b))
             }
             Term::Reduce(op, a) => Ok(Term::Reduce(*op, a.copy_boxed(alloc)?)),
             Term::Shift(op, a, b) => {
-                let (a, b) = both(a.copy_boxed(alloc), b.copy_boxed(alloc))?;
+                let (a, b) = both_ok(a.copy_boxed(alloc), b.copy_boxed(alloc))?;
                 Ok(Term::Shift(*op, a, b))
             }
             Term::Cond(t, a, b) => {
-                let operands = both(a.copy_boxed(alloc), b.copy_boxed(alloc));
-                let (t, (a, b)) = both(t.copy_boxed(alloc), operands)?;
+                let operands = both_ok(a.copy_boxed(alloc), b.copy_boxed(alloc));
+                let (t, (a, b)) = both_ok(t.copy_boxed(alloc), operands)?;
                 Ok(Term::Cond(t, a, b))
             }
             Term::Concat(a, b) => {
-                let (a, b) = both(a.copy_boxed(alloc), b.copy_boxed(alloc))?;
+                let (a, b) = both_ok(a.copy_boxed(alloc), b.copy_boxed(alloc))?;
                 Ok(Term::Concat(a, b))
             }
             Term::Repeat(n, a) => Ok(Term::Repeat(*n, a.copy_boxed(alloc)?)),

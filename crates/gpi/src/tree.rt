@@ -1,13 +1,15 @@
 //! Whether a design is sound: its lists.
 ghost use Rattle.std.specs.Prelude.{◌≡◌, ◌≤◌, ◌↔◌, length, IsTrue};
+ghost use Rattle.gpi.specs.Limits.{most_elements};
 ghost use Rattle.gpi.specs.Design.{widths};
 ghost use Rattle.gpi.specs.Activation.{IsSound};
 ghost use Rattle.gpi.specs.Soundness.{IsSoundFlat, AreProcesses, are_wide, are_wakes, are_spots, are_nodes, is_spot};
-ghost use Rattle.gpi.specs.Runs.{AreRuns};
+ghost use Rattle.gpi.specs.Stretches.{IsWidthTable};
 
-use crate::design::{Flat, Node, Process, Signal, Spot, Wake};
+use crate::design::{Flat, MOST_ELEMENTS, Node, Process, Signal, Spot, Wake};
 use crate::parents::is_tree;
-use crate::run_lengths::note_runs;
+use crate::stretches::{WidthTable, note_stretches};
+use four_value::MOST_DIGITS;
 use port_io::{Name, Sequence};
 
 impl Flat {
@@ -20,58 +22,57 @@ impl Flat {
     {
         self.are_short()
             && are_wide(&self.signals)
-            && self.are_processes()
+            && self.has_sound_processes()
             && are_nodes(&self.nodes, self.signals.len())
             && is_tree(&self.nodes)
     }
 
     /// Whether no list is too long, and the step is at least 1.
     fn are_short(&self) -> bool
-        ensures { IsTrue result ↔ ((length self.now.signals ≤ 65536) × (length self.now.nodes ≤ 65536) × (length self.now.processes ≤ 65536) × (1 ≤ self.now.step_fs)) }
+        ensures { IsTrue result ↔ ((length self.now.signals ≤ most_elements) × (length self.now.nodes ≤ most_elements) × (length self.now.processes ≤ most_elements) × (1 ≤ self.now.step_fs)) }
     {
-        self.signals.len() <= 65536
-            && self.nodes.len() <= 65536
-            && self.processes.len() <= 65536
+        self.signals.len() <= MOST_ELEMENTS
+            && self.nodes.len() <= MOST_ELEMENTS
+            && self.processes.len() <= MOST_ELEMENTS
             && 1 <= self.step_fs
     }
 
     /// Whether each process is sound.
-    fn are_processes(&self) -> bool
+    fn has_sound_processes(&self) -> bool
         requires wide { IsTrue (are_wide self.now.signals) }
-        requires few { length self.now.signals ≤ 65536 }
+        requires few { length self.now.signals ≤ most_elements }
         ensures { IsTrue result ↔ AreProcesses self.now.processes (widths self.now.signals) }
     {
-        let mut runs = [0; 65536];
-        note_runs(&self.signals, &mut runs);
-        self.are_processes_by(&runs)
+        let mut stretches = [0; MOST_ELEMENTS];
+        note_stretches(&self.signals, &mut stretches);
+        let table = WidthTable {
+            signals: &self.signals,
+            stretches: &stretches,
+        };
+        are_processes(&self.processes, &table)
     }
+}
 
-    /// The same, by the table of how far each width runs on.
-    fn are_processes_by(&self, runs: &[u32]) -> bool
-        requires wide { IsTrue (are_wide self.now.signals) }
-        requires few { length self.now.signals ≤ 65536 }
-        requires runs { AreRuns runs.now (widths self.now.signals) }
-        ensures { IsTrue result ↔ AreProcesses self.now.processes (widths self.now.signals) }
-    {
-        for at in 0..self.processes.len() {
-            let process = self.processes.get(at);
-            if !is_process(process, &self.signals, runs) {
-                return false;
-            }
+/// Whether each process is sound over these signals.
+fn are_processes(processes: &Sequence<Process>, table: &WidthTable<'_>) -> bool
+    requires { IsWidthTable table.now }
+    ensures { IsTrue result ↔ AreProcesses processes.now (widths table.now.signals.now) }
+{
+    for at in 0..processes.len() {
+        if !is_process(processes.get(at), table) {
+            return false;
         }
-        true
     }
+    true
 }
 
 /// Whether the body and the wakes of a process are sound.
 #[tactic(auto, using(crate::proofs::Sound::signals))]
-fn is_process(process: &Process, signals: &Sequence<Signal>, runs: &[u32]) -> bool
-    requires wide { IsTrue (are_wide signals.now) }
-    requires few { length signals.now ≤ 65536 }
-    requires runs { AreRuns runs.now (widths signals.now) }
-    ensures { IsTrue result ↔ (IsSound process.now.body (widths signals.now) × IsTrue (are_wakes process.now.wakes (length (widths signals.now)))) }
+fn is_process(process: &Process, table: &WidthTable<'_>) -> bool
+    requires { IsWidthTable table.now }
+    ensures { IsTrue result ↔ (IsSound process.now.body (widths table.now.signals.now) × IsTrue (are_wakes process.now.wakes (length (widths table.now.signals.now)))) }
 {
-    process.body.is_sound(signals, runs) && are_wakes(&process.wakes, signals.len())
+    process.body.is_sound(table) && are_wakes(&process.wakes, table.signals.len())
 }
 
 /// Whether each width is 1 to 128.
@@ -80,7 +81,7 @@ fn are_wide(signals: &Sequence<Signal>) -> bool
 {
     for at in 0..signals.len() {
         let width = signals.get(at).width;
-        if width < 1 || width > 128 {
+        if width < 1 || width > MOST_DIGITS {
             return false;
         }
     }
@@ -101,7 +102,7 @@ fn are_wakes(wakes: &Sequence<Wake>, signals: usize) -> bool
 
 /// Whether a child is one of so many nodes, or of so many signals.
 fn is_spot(spot: Spot, nodes: usize, signals: usize) -> bool
-    requires { signals ≤ 65536 }
+    requires { signals ≤ most_elements }
     ensures { result ≡ is_spot nodes signals spot }
 {
     match spot {
@@ -116,7 +117,7 @@ fn is_spot(spot: Spot, nodes: usize, signals: usize) -> bool
 
 /// Whether each child is one of so many nodes, or of so many signals.
 fn are_spots(children: &Sequence<(Name, Spot)>, nodes: usize, signals: usize) -> bool
-    requires { signals ≤ 65536 }
+    requires { signals ≤ most_elements }
     ensures { result ≡ are_spots nodes signals children.now }
 {
     for at in 0..children.len() {
@@ -129,7 +130,7 @@ fn are_spots(children: &Sequence<(Name, Spot)>, nodes: usize, signals: usize) ->
 
 /// Whether each child of a node is one of the nodes, or of so many signals.
 fn are_nodes(nodes: &Sequence<Node>, signals: usize) -> bool
-    requires { signals ≤ 65536 }
+    requires { signals ≤ most_elements }
     ensures { result ≡ are_nodes (length nodes.now) signals nodes.now }
 {
     for at in 0..nodes.len() {

@@ -1,5 +1,6 @@
 -- What the plain simulator holds.
 use Rattle.std.specs.Prelude.{◌≡◌, ℕ, ◌<◌, ◌≤◌, List, [], ◌∷◌, ◌++◌, length, vec_capacity, Option, None, Some, if◌then◌else◌}
+use Rattle.gpi.specs.Limits.{most_elements}
 use Rattle.gpi.specs.Terms.{widths_of}
 use Rattle.gpi.specs.declared.types.Moved.{Moved}
 use Rattle.gpi.specs.declared.types.Report.{Report}
@@ -37,8 +38,8 @@ AreOf [] n = Unit {0}
 AreOf (r ∷ rs) n = (r.sig.0 < n) × AreOf rs n
 
 pub record IsLoaded (k : ListKernel) : Type 0 where
-  pub few_signals : length k.signals.items ≤ 65536
-  pub few_processes : length k.processes.items ≤ 65536
+  pub few_signals : length k.signals.items ≤ most_elements
+  pub few_processes : length k.processes.items ≤ most_elements
   pub bodies : AreProcesses k.processes.items (widths_of k.signals.items)
   pub before : length k.before.items ≡ length k.signals.items
   pub watches : length k.book.watches.items ≡ length k.signals.items

@@ -1,8 +1,11 @@
 -- Pieces that were put as far as memory went.
-use Rattle.std.proofs.Common.{ℕ, List, [], ◌∷◌, ◌++◌, Option, refl, ap, sym, append_assoc, ◌∙◌, inl, inr}
+use Rattle.std.proofs.Common.{ℕ, false, List, [], ◌∷◌, ◌++◌, Option, None, Some, refl, ap, sym, append_assoc, ◌∙◌, inl, inr}
 use Rattle.port_io.specs.Ports.{TakesAll, AppendsPart}
 use Rattle.port_io.specs.PutsPart.{PutsPart}
-use Rattle.port_io.specs.PutLaws.{takes_then}
+use Rattle.port_io.specs.Means.{SinkMeans, PutsTo}
+use Rattle.port_io.specs.PutLaws.{takes_then, puts_then}
+use Rattle.port_io.specs.declared.ports.SinkFault.{SinkFault}
+use Rattle.port_io.specs.declared.ports.SinkFault.TheVariants.{Failed, OutOfMemory}
 
 module _ {O : Type 0} (takes : O → List ℕ → O → Type 0) (told : O → Option (List ℕ)) where
   -- nothing was put
@@ -23,3 +26,9 @@ module _ {O : Type 0} (takes : O → List ℕ → O → Type 0) (told : O → Op
     taken = takes_then takes takes a xs b p.front p.mid t p.taken;
     part = p.part;
   }
+
+-- pieces that were taken, and then others
+pub puts_to_then : {O : Type 0} (sink : SinkMeans O) (a : O) (xs : List (List ℕ)) (b : O) (ys : List (List ℕ)) (fault : Option SinkFault) (c : O) → TakesAll sink.takes a xs b → PutsTo sink b ys fault c → PutsTo sink a (xs ++ ys) fault c
+puts_to_then sink a xs b ys None c t p = takes_then sink.takes sink.breaks a xs b ys c t p
+puts_to_then sink a xs b ys (Some Failed) c t p = puts_then sink.takes sink.breaks a xs b ys false c t p
+puts_to_then sink a xs b ys (Some OutOfMemory) c t p = part_then sink.takes sink.told a xs b ys c t p

@@ -2,6 +2,7 @@ pub mod Ports
 pub mod CountLaws
 pub mod PutLaws
 pub mod PutsPart
+pub mod Means
 pub mod ToldLaws
 pub mod Name
 pub mod Memory

@@ -1,9 +1,10 @@
 -- What stands behind the last dot, from one byte to the next.
 use Rattle.std.proofs.Common.{◌≡◌, ℕ, suc, ◌+◌, ◌<◌, Bool, true, false, List, length, drop, get_or, Option, Some, None, refl, add-one, drop-cons}
 use Rattle.std.specs.Prelude.{◌==◌, unwrap_or, if◌then◌else◌}
-use Rattle.py_attribute.specs.Attribute.{first_some, behind_dot}
+use Rattle.std.specs.Option.{option_or}
+use Rattle.py_attribute.specs.Attribute.{behind_dot}
 
-last_by : (o : Option (List ℕ)) (t : Bool) (bs name : List ℕ) → unwrap_or (first_some o (if t then Some bs else None)) name ≡ unwrap_or o (if t then bs else name)
+last_by : (o : Option (List ℕ)) (t : Bool) (bs name : List ℕ) → unwrap_or (option_or o (if t then Some bs else None)) name ≡ unwrap_or o (if t then bs else name)
 last_by (Some x) t bs name = refl
 last_by None true bs name = refl
 last_by None false bs name = refl

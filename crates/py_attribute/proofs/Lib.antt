@@ -4,3 +4,5 @@ pub mod Plain
 pub mod Others
 pub mod Operators
 pub mod Onward
+pub mod Want
+pub mod Numbers

@@ -1,5 +1,6 @@
 -- Attributes of values, words of memories, the text that `str` gives, and the signal whose width `len` tells.
 use Rattle.std.specs.Prelude.{ℕ, ◌+◌, ◌-◌, ◌^◌, ◌==◌, ◌&&◌, nat_lt, nat_le, List, [], ◌∷◌, length, codes, Option, Some, None, is_some, unwrap_or, if◌then◌else◌, Ok, Err, ℤ, pos, negsuc, ◌-ℤ◌}
+use Rattle.std.specs.Option.{option_or}
 use Rattle.std.specs.Str.{bytes_eq}
 use Rattle.four_value.specs.declared.Digit.{Digit}
 use Rattle.four_value.specs.Vector.{number}
@@ -25,11 +26,6 @@ str_value places v = text_value (shown places v)
 
 -- ---- paths
 
--- what the second gives where the first has nothing
-abbrev pub first_some : Option (List ℕ) → Option (List ℕ) → Option (List ℕ)
-first_some (Some bs) other = Some bs
-first_some None other = other
-
 -- the byte `.`
 abbrev pub dot : ℕ
 dot = 46
@@ -37,7 +33,7 @@ dot = 46
 -- what stands behind the last dot
 abbrev pub behind_dot : List ℕ → Option (List ℕ)
 behind_dot [] = None
-behind_dot (b ∷ bs) = first_some (behind_dot bs) (if b == dot then Some bs else None)
+behind_dot (b ∷ bs) = option_or (behind_dot bs) (if b == dot then Some bs else None)
 
 -- the part of a path behind its last dot, or the whole path where it has none
 abbrev pub name_of_path : List ℕ → List ℕ

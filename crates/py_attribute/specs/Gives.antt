@@ -5,7 +5,7 @@ use Rattle.py_attribute.specs.declared.fault.OperationFault.TheVariants as fault
 use Rattle.py_value.specs.Answer.{Answer}
 use Rattle.py_value.specs.Limits.{signal_numbers}
 use Rattle.py_value.specs.declared.value.Value.{Value}
-use Rattle.py_value.specs.declared.value.Value.TheVariants.{Words}
+use Rattle.py_value.specs.declared.value.Value.TheVariants.{Text, Words}
 
 abbrev pub Fails : OperationFault → Answer Value → Type 0
 Fails (faults.Raised kind) answer = answer ≡ Err kind
@@ -14,6 +14,20 @@ Fails faults.OutOfMemory answer = Unit {0}
 abbrev pub Gives : Answer Value → Result Value OperationFault → Type 0
 Gives answer (Ok v) = answer ≡ Ok v
 Gives answer (Err fault) = Fails fault answer
+
+-- what holds where memory ran out
+abbrev pub OnWant : OperationFault → Type 0 → Type 0
+OnWant (faults.Raised kind) P = Unit {0}
+OnWant faults.OutOfMemory P = P
+
+abbrev pub IfWant : {A : Type 0} → Result A OperationFault → Type 0 → Type 0
+IfWant (Ok a) P = Unit {0}
+IfWant (Err fault) P = OnWant fault P
+
+-- an answer that takes memory: a text is made for it
+abbrev pub MakesText : Answer Value → Type 0
+MakesText (Ok (Text bytes)) = Unit {0}
+MakesText _ = ⊥
 
 -- the words of a memory have numbers of signals
 abbrev pub HasNumbers : Value → Type 0

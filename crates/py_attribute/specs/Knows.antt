@@ -1,11 +1,12 @@
--- Which values a view knows: each signal and node in them is of its design, each task, event and lock was made in its test, and each
--- trigger is sound.
-use Rattle.std.specs.Prelude.{ℕ, ◌+◌, ◌<◌, ◌≤◌, length, List, [], ◌∷◌, Option, Some, None}
+-- Which values a view knows: each signal and node in them is of its design, each task, event and lock was made in its test, each trigger
+-- is sound, and each clock can run.
+use Rattle.std.specs.Prelude.{◌≡◌, ℕ, ◌+◌, ◌<◌, ◌≤◌, length, List, [], ◌∷◌, Option, Some, None}
+use Rattle.gpi.specs.declared.types.SigId.{SigId}
 use Rattle.py_value.specs.Limits.{signal_numbers}
-use Rattle.py_value.specs.Trigger.{Trig, Made, Form, Trigs, NoTrig, Then, Rise, Fall, Change, Cycles, Event, Lock, Join, First, Combine, Limit, IsSound}
+use Rattle.py_value.specs.Trigger.{Trig, Made, Form, Trigs, NoTrig, Then, Rise, Fall, Change, Cycles, Event, Lock, Join, First, Combine, Limit, AreSteps, IsSound}
 use Rattle.py_value.specs.declared.value.Value.{Value}
 use Rattle.py_value.specs.declared.value.Value.TheVariants as value
-use Rattle.py_attribute.specs.Look.{View, Names, local}
+use Rattle.py_attribute.specs.Look.{View, Names, width, local}
 
 -- a signal of the design
 abbrev pub KnowsSignal : View → ℕ → Type 0
@@ -20,6 +21,12 @@ pub record KnowsWords (view : View) (first count : ℕ) : Type 0 where
   pub signals : first + count ≤ length view.signals
   pub places : first + count ≤ length view.places.signals
   pub numbers : first + count ≤ signal_numbers
+
+-- a clock writes a signal of one digit, and half its period can be waited for
+pub record KnowsClock (view : View) (sig : SigId) (half : ℕ) : Type 0 where
+  pub signal : KnowsSignal view sig.0
+  pub bit : width view sig ≡ 1
+  pub steps : AreSteps half
 
 -- what the leaves of a trigger wait for
 abbrev mutual
@@ -51,7 +58,7 @@ Knows view (value.Trigger t) = KnowsTrig view t × IsSound t
 Knows view (value.Task t) = t.0 < length view.ended
 Knows view (value.Event e) = e.0 < length view.events
 Knows view (value.Lock l) = l.0 < length view.locks
-Knows view (value.Clock s h) = KnowsSignal view s.0
+Knows view (value.Clock s h) = KnowsClock view s h
 Knows view _ = Unit {0}
 
 abbrev pub KnowsOption : View → Option Value → Type 0

@@ -3,3 +3,4 @@ pub mod Gives
 pub mod Look
 pub mod Knows
 pub mod Outcome
+pub mod Numbers

@@ -1,7 +1,7 @@
 -- What a task sees of the simulation and of the runner, its names, and what values are by it.
 use Rattle.std.specs.Prelude.{ℕ, ◌==◌, Bool, true, false, List, [], ◌∷◌, length, Option, None, Some, Ok, Err, codes, pos, slice_index_or, if◌then◌else◌}
 use Rattle.std.specs.List.{find}
-use Rattle.std.specs.Option.{option_map}
+use Rattle.std.specs.Option.{option_map, option_and_then}
 use Rattle.std.specs.Str.{bytes_eq}
 use Rattle.four_value.specs.declared.Digit.{Digit}
 use Rattle.gpi.specs.declared.design.Spot.{Spot}
@@ -55,9 +55,9 @@ pub record Local : Type 0 where
 abbrev pub Names : Type 0
 Names = List Local
 
+-- the value of a name: the first entry of it counts
 abbrev pub local : Names → List ℕ → Option Value
-local [] n = None
-local (l ∷ ls) n = if bytes_eq l.name n then l.value else local ls n
+local ls n = option_and_then (λ l. l.value) (find (λ l. bytes_eq l.name n) ls)
 
 -- the value of a name that is read
 abbrev pub name_value : Option Value → Answer Value

@@ -7,6 +7,7 @@ use Rattle.py_value.specs.declared.value.Value.{Value}
 use Rattle.py_attribute.specs.declared.fault.OperationFault.{OperationFault}
 use Rattle.py_attribute.specs.declared.fault.OperationFault.TheVariants as faults
 use Rattle.py_attribute.specs.Look.{View, Names}
+use Rattle.py_attribute.specs.Gives.{IfWant}
 use Rattle.py_attribute.specs.Knows.{Knows}
 
 pub record Outcome (A : Type 0) : Type 0 where
@@ -53,8 +54,9 @@ abbrev pub IfKnown : View → Result Value OperationFault → Type 0
 IfKnown view (Ok v) = Knows view v
 IfKnown view (Err fault) = Unit {0}
 
--- an outcome, whose value the view knows; and the next number never falls, after want of memory either
-pub record Evaluates (view : View) (result : Result Value OperationFault) (old k : ℕ) (o : Outcome Value) : Type 0 where
+-- an outcome, whose value the view knows; the next number never falls; and memory runs out only as told
+pub record Evaluates (view : View) (result : Result Value OperationFault) (old k : ℕ) (o : Outcome Value) (Wants : Type 0) : Type 0 where
   pub ends : Ends result k o
   pub known : IfKnown view result
   pub rises : old ≤ k
+  pub want : IfWant result Wants

@@ -1,6 +1,6 @@
 //! Attributes of values, and widths of signals.
 ghost use Rattle.std.specs.Prelude.{◌≡◌, ◌<◌, length, IfOk};
-ghost use Rattle.py_attribute.specs.Gives.{Gives};
+ghost use Rattle.py_attribute.specs.Gives.{Gives, IfWant, MakesText};
 ghost use Rattle.py_attribute.specs.Look as meaning;
 ghost use Rattle.py_attribute.specs.Knows.{Knows, KnowsNode, KnowsSignal};
 ghost use Rattle.py_attribute.specs.Outcome.{AnswerKnown, IfKnown};
@@ -32,6 +32,7 @@ fn place_attribute<V: Look>(
 ) -> Result<Value, OperationFault>
     requires { KnowsNode (V.view view.now) node }
     ensures gives { Gives (meaning.attribute (V.view view.now) (Value.Place node) name.now) result }
+    ensures want { IfWant result (MakesText (meaning.attribute (V.view view.now) (Value.Place node) name.now)) }
     ensures known { IfKnown (V.view view.now) result }
 {
     match view.child(node, name) {
@@ -49,6 +50,7 @@ fn signal_attribute<V: Look>(
 ) -> Result<Value, OperationFault>
     requires { KnowsSignal (V.view view.now) sig.0 }
     ensures gives { Gives (meaning.signal_attribute (V.view view.now) sig name.now) result }
+    ensures want { IfWant result (MakesText (meaning.signal_attribute (V.view view.now) sig name.now)) }
     ensures known { IfKnown (V.view view.now) result }
 {
     if name.bytes() == b"value".as_slice() {
@@ -73,7 +75,8 @@ fn lock_attribute<V: Look>(view: &V, lock: LockNo, name: &Name) -> Result<Value,
 /// `v.name` (the language reference, 6.3.1): of a hierarchy what is declared in it by that name, else `_path` or `_name`; of a signal
 /// `value`, `_path` and `_name`; of a vector `integer`, `signed_integer`, `binstr` and `is_resolvable`; of a lock `locked`. Another name,
 /// or a value of another kind, is an AttributeError. A text of over 65,536 bytes is an OverflowError; `integer` and `signed_integer` are
-/// a ValueError where a digit is x or z, the first an OverflowError over 2^127 - 1. Want of memory for a text is the other error.
+/// a ValueError where a digit is x or z, the first an OverflowError over 2^127 - 1. Want of memory is the other error, where a text is made
+/// for the answer, and nowhere else.
 pub fn attribute<V: Look>(
     alloc: Global,
     view: &V,
@@ -82,6 +85,7 @@ pub fn attribute<V: Look>(
 ) -> Result<Value, OperationFault>
     requires { Knows (V.view view.now) v.now }
     ensures gives { Gives (meaning.attribute (V.view view.now) v.now name.now) result }
+    ensures want { IfWant result (MakesText (meaning.attribute (V.view view.now) v.now name.now)) }
     ensures known { IfKnown (V.view view.now) result }
 {
     match v {

@@ -1,7 +1,7 @@
 //! Attributes of signals and hierarchies that their paths tell.
 ghost use Rattle.std.specs.Prelude.{◌≡◌};
 ghost use Rattle.py_attribute.specs.Attribute as meaning;
-ghost use Rattle.py_attribute.specs.Gives.{Gives};
+ghost use Rattle.py_attribute.specs.Gives.{Gives, IfWant, MakesText};
 
 use crate::OperationFault;
 use crate::text::text_value;
@@ -24,9 +24,10 @@ fn name_of_path(path: &[u8]) -> &[u8]
 
 /// `_path` and `_name` of a signal or a hierarchy (cocotb 1.8, `SimHandleBase`) with this path: the path itself, and the part of it behind
 /// its last dot, or all of it where it has none. A text of over 65,536 bytes is an OverflowError, and another name an AttributeError. Want
-/// of memory for the text is the other error.
+/// of memory for a text that is no longer is the other error.
 pub fn path_attribute(alloc: Global, path: &[u8], name: &[u8]) -> Result<Value, OperationFault>
-    ensures { Gives (meaning.path_attribute path.now name.now) result }
+    ensures gives { Gives (meaning.path_attribute path.now name.now) result }
+    ensures want { IfWant result (MakesText (meaning.path_attribute path.now name.now)) }
 {
     if name == b"_path".as_slice() {
         text_value(alloc, path)

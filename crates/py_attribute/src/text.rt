@@ -1,7 +1,7 @@
 //! Texts as values.
 ghost use Rattle.py_value.specs.Shown.{IsOf};
 ghost use Rattle.py_attribute.specs.Attribute as meaning;
-ghost use Rattle.py_attribute.specs.Gives.{Gives};
+ghost use Rattle.py_attribute.specs.Gives.{Gives, IfWant, MakesText};
 
 use crate::OperationFault;
 use port_io::Name;
@@ -14,7 +14,8 @@ const TEXT_LIMIT: usize = 65536;
 
 /// A text of these bytes. One of over 65,536 bytes is an OverflowError, and else want of memory may be an error.
 pub fn text_value(alloc: Global, bytes: &[u8]) -> Result<Value, OperationFault>
-    ensures { Gives (meaning.text_value bytes.now) result }
+    ensures gives { Gives (meaning.text_value bytes.now) result }
+    ensures want { IfWant result (MakesText (meaning.text_value bytes.now)) }
 {
     if bytes.len() > TEXT_LIMIT {
         return Err(OperationFault::Raised(FaultKind::OverflowError));

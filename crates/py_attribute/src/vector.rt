@@ -4,7 +4,7 @@ ghost use Rattle.four_value.specs.Vector.{number};
 ghost use Rattle.py_integer.specs.Integer.{held};
 ghost use Rattle.py_value.specs.Limits.{width_limit};
 ghost use Rattle.py_attribute.specs.Attribute as meaning;
-ghost use Rattle.py_attribute.specs.Gives.{Gives};
+ghost use Rattle.py_attribute.specs.Gives.{Gives, IfWant, MakesText};
 
 use crate::OperationFault;
 use four_value::Bits;
@@ -41,10 +41,11 @@ fn signed_integer(bits: Bits) -> Result<Value, FaultKind>
 
 /// An attribute of a vector (cocotb 1.8, `BinaryValue`): `integer` is its unsigned number and `signed_integer` its number in two's
 /// complement, both a ValueError where a digit is x or z, the first an OverflowError over 2^127 - 1; `binstr` is the text of its
-/// digits, and `is_resolvable` is True exactly where none is x or z. Another name is an AttributeError. Want of memory for a
-/// text is the other error.
+/// digits, and `is_resolvable` is True exactly where none is x or z. Another name is an AttributeError. Want of memory for the
+/// text of `binstr` is the other error.
 pub fn vector_attribute(alloc: Global, bits: Bits, name: &[u8]) -> Result<Value, OperationFault>
-    ensures { Gives (meaning.vector_attribute bits name.now) result }
+    ensures gives { Gives (meaning.vector_attribute bits name.now) result }
+    ensures want { IfWant result (MakesText (meaning.vector_attribute bits name.now)) }
 {
     if name == b"integer".as_slice() {
         Ok(int(&Value::Vector(bits))?)

@@ -1,14 +1,16 @@
 -- One evaluation after another.
-use Rattle.std.proofs.Common.{◌≡◌, ℕ, ◌≤◌, Ok, Err, ap, sym, subst, arith}
+use Rattle.std.proofs.Common.{◌≡◌, ℕ, ◌≤◌, Ok, Err, ap, sym, subst, inl, inr, ◌⊎◌, arith}
 use Rattle.std.specs.Prelude.{Result}
 use Rattle.py_value.specs.Answer.{Answer}
 use Rattle.py_value.specs.declared.value.Value.{Value}
 use Rattle.py_attribute.specs.declared.fault.OperationFault.{OperationFault}
 use Rattle.py_attribute.specs.declared.fault.OperationFault.TheVariants as faults
-use Rattle.py_attribute.specs.Gives.{Gives}
+use Rattle.py_attribute.specs.Gives.{Gives, IfWant, OnWant}
 use Rattle.py_attribute.specs.Look.{View}
 use Rattle.py_attribute.specs.Outcome.{Outcome, Ends, Evaluates, IfKnown, gives, lift, bind}
+use Rattle.py_attribute.proofs.Want.{want_map, want_on}
 use Rattle.py_evaluate.specs.Rows.{EndsAs}
+use Rattle.py_evaluate.specs.Wants.{Behind}
 
 -- a fault of the first is the fault of both
 pub fault_first : {A B : Type 0} (o : Outcome A) (f : A → ℕ → Outcome B) (fault : OperationFault) (j : ℕ) → Ends {A = A} (Err fault) j o → Ends {A = B} (Err fault) j (bind o f)
@@ -26,17 +28,51 @@ answer_ends answer (Ok v) j e = ap (λ a. lift a j) e
 answer_ends answer (Err (faults.Raised kind)) j e = ap (λ a. lift a j) e
 answer_ends answer (Err faults.OutOfMemory) j e = tt
 
-pub answer_evaluates : (view : View) (answer : Answer Value) (result : Result Value OperationFault) (old j : ℕ)
-    → Gives answer result → IfKnown view result → old ≤ j → Evaluates view result old j (lift answer j)
-answer_evaluates view answer result old j e k h = record { ends = answer_ends answer result j e; known = k; rises = h }
+pub answer_evaluates : (view : View) (answer : Answer Value) (result : Result Value OperationFault) (old j : ℕ) (W : Type 0)
+    → Gives answer result → IfKnown view result → old ≤ j → IfWant result W → Evaluates view result old j (lift answer j) W
+answer_evaluates view answer result old j W e k h w = record { ends = answer_ends answer result j e; known = k; rises = h; want = w }
 
-pub fault_evaluates : {A : Type 0} (view : View) (o : Outcome A) (f : A → ℕ → Outcome Value) (fault : OperationFault) (old j : ℕ)
-    → Ends {A = A} (Err fault) j o → old ≤ j → Evaluates view (Err fault) old j (bind o f)
-fault_evaluates view o f fault old j e h = record { ends = fault_first o f fault j e; known = tt; rises = h }
+-- ---- a fault of the first, or want of memory in it
+
+pub fault_evaluates : {A : Type 0} (view : View) (o : Outcome A) (f : A → ℕ → Outcome Value) (fault : OperationFault) (old j : ℕ) (P Q : Type 0)
+    → Ends {A = A} (Err fault) j o → old ≤ j → OnWant fault P → Evaluates view (Err fault) old j (bind o f) (P ⊎ Q)
+fault_evaluates view o f fault old j P Q e h w = record { ends = fault_first o f fault j e; known = tt; rises = h; want = want_on fault P (P ⊎ Q) inl w }
+
+-- where the second takes no memory
+pub fault_alone : {A : Type 0} (view : View) (o : Outcome A) (f : A → ℕ → Outcome Value) (fault : OperationFault) (old j : ℕ) (P : Type 0)
+    → Ends {A = A} (Err fault) j o → old ≤ j → OnWant fault P → Evaluates view (Err fault) old j (bind o f) P
+fault_alone view o f fault old j P e h w = record { ends = fault_first o f fault j e; known = tt; rises = h; want = want_on fault P P (λ p. p) w }
+
+-- ---- a value of the first
+
+pub behind_at : {A : Type 0} (o : Outcome A) (P : A → ℕ → Type 0) (a : A) (j : ℕ) → o ≡ gives a j → P a j → Behind o P
+behind_at o P a j e h =
+    record { value = a; given = ap (λ (p : Outcome _). p.answer) e; holds = subst (λ i. P a i) (sym (ap (λ (p : Outcome _). p.next) e)) h }
 
 pub value_evaluates : {A : Type 0} (view : View) (o : Outcome A) (f : A → ℕ → Outcome Value) (a : A) (old j : ℕ) (result : Result Value OperationFault) (k : ℕ)
-    → o ≡ gives a j → old ≤ j → Evaluates view result j k (f a j) → Evaluates view result old k (bind o f)
-value_evaluates view o f a old j result k e h r = record { ends = value_first o f a j result k e r.ends; known = r.known; rises = omega (arith, h, r.rises) }
+    (P : Type 0) (Q : A → ℕ → Type 0) → o ≡ gives a j → old ≤ j → Evaluates view result j k (f a j) (Q a j) → Evaluates view result old k (bind o f) (P ⊎ Behind o Q)
+value_evaluates view o f a old j result k P Q e h r =
+    record {
+      ends = value_first o f a j result k e r.ends;
+      known = r.known;
+      rises = omega (arith, h, r.rises);
+      want = want_map result (Q a j) (P ⊎ Behind o Q) (λ q. inr (behind_at o Q a j e q)) r.want;
+    }
+
+pub value_alone : {A : Type 0} (view : View) (o : Outcome A) (f : A → ℕ → Outcome Value) (a : A) (old j : ℕ) (result : Result Value OperationFault) (k : ℕ) (P : Type 0)
+    → o ≡ gives a j → old ≤ j → Evaluates view result j k (f a j) ⊥ → Evaluates view result old k (bind o f) P
+value_alone view o f a old j result k P e h r =
+    record {
+      ends = value_first o f a j result k e r.ends;
+      known = r.known;
+      rises = omega (arith, h, r.rises);
+      want = want_map result ⊥ P (λ q. absurd q) r.want;
+    }
+
+-- no memory for a value that waits
+pub waits_evaluates : {A : Type 0} (view : View) (o : Outcome A) (f : A → ℕ → Outcome Value) (a : A) (old j : ℕ) (P : Type 0) (Q : A → ℕ → Type 0)
+    → o ≡ gives a j → old ≤ j → Q a j → Evaluates view (Err faults.OutOfMemory) old j (bind o f) (P ⊎ Behind o Q)
+waits_evaluates view o f a old j P Q e h q = record { ends = tt; known = tt; rises = h; want = inr (behind_at o Q a j e q) }
 
 -- lists and texts
 pub faults_same : {A B : Type 0} (f : B → A) (fault : OperationFault) (j : ℕ) (o : Outcome A) → EndsAs {A = A} {B = B} (Err fault) f j o → Ends {A = A} (Err fault) j o

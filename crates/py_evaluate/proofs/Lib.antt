@@ -2,3 +2,4 @@ pub mod Plain
 pub mod Chains
 pub mod Steps
 pub mod Onward
+pub mod Numbers

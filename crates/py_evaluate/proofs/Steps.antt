@@ -1,5 +1,5 @@
 -- Arguments, and parts of f-strings, one after the other.
-use Rattle.std.proofs.Common.{◌≡◌, ℕ, suc, ◌+◌, ◌<◌, ◌≤◌, List, [], ◌∷◌, ◌++◌, length, drop, get_or, Ok, Err, refl, ap, sym, ◌∙◌, add-one, append_assoc}
+use Rattle.std.proofs.Common.{◌≡◌, ℕ, suc, ◌+◌, ◌<◌, ◌≤◌, List, [], ◌∷◌, ◌++◌, length, drop, get_or, Ok, Err, refl, ap, sym, subst, inl, inr, ◌⊎◌, ◌∙◌, add-one, append_assoc, arith}
 use Rattle.std.proofs.Math.Seq.{drop-cons}
 use Rattle.std.proofs.lemmas.List.{drop_all}
 use Rattle.py_syntax.specs.ExpressionTrees.{Then, view, view_part, view_row, view_parts}
@@ -16,7 +16,9 @@ use Rattle.py_attribute.specs.Look.{View}
 use Rattle.py_attribute.specs.Knows.{Knows, KnowsAll}
 use Rattle.py_attribute.specs.Outcome.{Outcome, Scope, Ends, gives, bind, after}
 use Rattle.py_evaluate.specs.Eval.{eval, eval_row, eval_parts}
-use Rattle.py_evaluate.specs.Rows.{trees_of, parts_of, part_bytes}
+use Rattle.py_evaluate.specs.Rows.{trees_of, parts_of, part_bytes, PartWants}
+use Rattle.py_evaluate.specs.Wants.{Wants, RowWants, PartsWant, Behind}
+use Rattle.py_evaluate.proofs.Chains.{behind_at}
 
 -- ---- the code's rows as lists
 
@@ -136,3 +138,49 @@ text_end s ps n bs k whole h w =
     append_nil : {A : Type 0} (xs : List A) → xs ++ [] ≡ xs
     append_nil [] = refl
     append_nil (x ∷ xs) = ap (λ (q : List _). x ∷ q) (append_nil xs)
+
+-- ---- want of memory
+
+-- in the argument at a place, or for keeping it, or in those behind it
+pub argument_wants : (s : Scope) (es : List Expression) (n : ℕ) (e : Expression) (k j : ℕ) → n < length es → e ≡ get_or es n e
+    → Wants s (view e) k j ⊎ Behind (eval s (view e) k) (λ v i. (j ≡ i) ⊎ RowWants s (trees_of (drop (n + 1) es)) i j) → RowWants s (trees_of (drop n es)) k j
+argument_wants s es n e k j h is w =
+    subst (λ (l : List Expression). RowWants s (trees_of l) k j) (ap (λ (x : Expression). x ∷ drop (suc n) es) is ∙ sym (drop-cons es n e h)) (rw add-one at w)
+
+-- the others' want is that of all of them
+pub others_want : (s : Scope) (es : List Expression) (n : ℕ) (e : Expression) (k j : ℕ) (v : Value) (i : ℕ) → n < length es → e ≡ get_or es n e
+    → eval s (view e) k ≡ gives v i → (j ≡ i) ⊎ RowWants s (trees_of (drop (n + 1) es)) i j → RowWants s (trees_of (drop n es)) k j
+others_want s es n e k j v i h is g w =
+    argument_wants s es n e k j h is (inr (behind_at (eval s (view e) k) (λ v l. (j ≡ l) ⊎ RowWants s (trees_of (drop (n + 1) es)) l j) v i g w))
+
+part_first : (s : Scope) (p : FormatPart) (ps : List FormatPart) (k j : ℕ) → PartWants s p k j → PartsWant s (view_part p (parts_of ps)) k j
+part_first s (part.Text t) ps k j w = inl w
+part_first s (part.Formatted' q e) ps k j (inl w) = inl w
+part_first s (part.Formatted' q e) ps k j (inr b) = inr (record { value = b.value; given = b.given; holds = inl b.holds })
+
+-- want in one part
+pub part_wants : (s : Scope) (ps : List FormatPart) (n : ℕ) (p : FormatPart) (k j : ℕ) → n < length ps → p ≡ get_or ps n p
+    → PartWants s p k j → PartsWant s (parts_of (drop n ps)) k j
+part_wants s ps n p k j h is w =
+    subst (λ (l : List FormatPart). PartsWant s (parts_of l) k j) (ap (λ (x : FormatPart). x ∷ drop (suc n) ps) is ∙ sym (drop-cons ps n p h))
+    (part_first s p (drop (suc n) ps) k j w)
+
+-- want behind one part
+part_on : (s : Scope) (p : FormatPart) (ps : List FormatPart) (k j : ℕ) (text : List ℕ) (i : ℕ) → part_bytes s p k ≡ gives text i
+    → (j ≡ i) ⊎ PartsWant s (parts_of ps) i j → PartsWant s (view_part p (parts_of ps)) k j
+part_on s (part.Text t) ps k j text i g (inl e) = inl (e ∙ sym (ap (λ (o : Outcome (List ℕ)). o.next) g))
+part_on s (part.Text t) ps k j text i g (inr w) = inr (subst (λ m. PartsWant s (parts_of ps) m j) (sym (ap (λ (o : Outcome (List ℕ)). o.next) g)) w)
+part_on s (part.Formatted' q e) ps k j text i g w = at (eval s (view e) k).answer (eval s (view e) k).next refl g
+  where
+    at : (a : Answer Value) (l : ℕ) → eval s (view e) k ≡ record { answer = a; next = l } → after a l (λ v m. gives (shown s.view.places v) m) ≡ gives text i
+        → Wants s (view e) k j ⊎ Behind (eval s (view e) k) (λ v m. (j ≡ m) ⊎ PartsWant s (parts_of ps) m j)
+    at (Ok v) l is same =
+        inr (behind_at (eval s (view e) k) (λ v m. (j ≡ m) ⊎ PartsWant s (parts_of ps) m j) v l is
+        (subst (λ m. (j ≡ m) ⊎ PartsWant s (parts_of ps) m j) (sym (ap (λ (p : Outcome (List ℕ)). p.next) same)) w))
+    at (Err kind) l is same = absurd (grind arith)
+
+pub parts_want : (s : Scope) (ps : List FormatPart) (n : ℕ) (p : FormatPart) (k j : ℕ) (text : List ℕ) (i : ℕ) → n < length ps → p ≡ get_or ps n p
+    → part_bytes s p k ≡ gives text i → (j ≡ i) ⊎ PartsWant s (parts_of (drop (n + 1) ps)) i j → PartsWant s (parts_of (drop n ps)) k j
+parts_want s ps n p k j text i h is g w =
+    subst (λ (l : List FormatPart). PartsWant s (parts_of l) k j) (ap (λ (x : FormatPart). x ∷ drop (suc n) ps) is ∙ sym (drop-cons ps n p h))
+    (part_on s p (drop (suc n) ps) k j text i g (rw add-one at w))

@@ -4,9 +4,13 @@ use Rattle.py_value.specs.Answer.{raised}
 use Rattle.py_value.specs.declared.trigger.TaskNo.{TaskNo}
 use Rattle.py_value.specs.declared.value.Value.{Value}
 use Rattle.py_value.specs.declared.value.Fault.{Fault}
+use Rattle.py_syntax.specs.ExpressionTrees.{Tree}
+use Rattle.py_attribute.specs.declared.fault.OperationFault.{OperationFault}
 use Rattle.py_attribute.specs.Look.{View, Names}
 use Rattle.py_attribute.specs.Knows.{Knows}
-use Rattle.py_attribute.specs.Outcome.{Outcome, Scope, gives}
+use Rattle.py_attribute.specs.Outcome.{Outcome, Scope, Evaluates, gives}
+use Rattle.py_evaluate.specs.Eval.{eval}
+use Rattle.py_evaluate.specs.Wants.{Wants}
 use Rattle.py_evaluate.specs.declared.evaluation.EvalFault.{EvalFault}
 use Rattle.py_evaluate.specs.declared.evaluation.EvalFault.TheVariants as fault
 
@@ -21,8 +25,12 @@ pub record Ended : Type 0 where
 abbrev pub raised_outcome : Outcome Value → Ended
 raised_outcome o = record { result = raised o.answer; next = o.next }
 
--- the value, which the view knows, or the fault, and the next number
-abbrev pub Gives : View → Result Value EvalFault → ℕ → Outcome Value → Type 0
-Gives view (Ok v) k o = (o ≡ gives v k) × Knows view v
-Gives view (Err (fault.Raised f)) k o = raised_outcome o ≡ record { result = Err f; next = k }
-Gives view (Err fault.OutOfMemory) k o = Unit {0}
+-- the value of an expression, which the view knows, or its fault, and the next number; or memory ran out, where it may
+abbrev pub Gives : Scope → Tree → ℕ → Result Value EvalFault → ℕ → Type 0
+Gives s e old (Ok v) k = (eval s e old ≡ gives v k) × Knows s.view v
+Gives s e old (Err (fault.Raised f)) k = raised_outcome (eval s e old) ≡ record { result = Err f; next = k }
+Gives s e old (Err fault.OutOfMemory) k = Wants s e old k
+
+-- the same within the evaluation, where a fault is known by its kind; and the next number doesn't fall
+abbrev pub Evaluated : Scope → Tree → ℕ → Result Value OperationFault → ℕ → Type 0
+Evaluated s e old result k = Evaluates s.view result old k (eval s e old) (Wants s e old k)

@@ -1,3 +1,4 @@
 pub mod Eval
+pub mod Wants
 pub mod Gives
 pub mod Rows

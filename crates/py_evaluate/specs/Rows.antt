@@ -1,5 +1,5 @@
 -- A means of proof: lists of the code's trees, and what functions of the code returned that go over them.
-use Rattle.std.specs.Prelude.{◌≡◌, ℕ, List, [], ◌∷◌, Result, Ok, Err}
+use Rattle.std.specs.Prelude.{◌≡◌, ◌⊎◌, ℕ, List, [], ◌∷◌, Result, Ok, Err}
 use Rattle.py_syntax.specs.ExpressionTrees.{Trees, NoTree, Then, Parts, NoPart, view, view_part}
 use Rattle.py_syntax.specs.declared.expression.Expression.{Expression}
 use Rattle.py_syntax.specs.declared.expression.FormatPart.{FormatPart}
@@ -9,6 +9,7 @@ use Rattle.py_attribute.specs.declared.fault.OperationFault.{OperationFault}
 use Rattle.py_attribute.specs.declared.fault.OperationFault.TheVariants as faults
 use Rattle.py_attribute.specs.Outcome.{Outcome, Scope, gives, refuses, bind}
 use Rattle.py_evaluate.specs.Eval.{eval}
+use Rattle.py_evaluate.specs.Wants.{Wants, Behind}
 
 abbrev pub trees_of : List Expression → Trees
 trees_of [] = NoTree
@@ -22,6 +23,10 @@ parts_of (p ∷ ps) = view_part p (parts_of ps)
 abbrev pub part_bytes : Scope → FormatPart → ℕ → Outcome (List ℕ)
 part_bytes s (part.Text t) k = gives t k
 part_bytes s (part.Formatted' p e) k = bind (eval s (view e) k) (λ v j. gives (shown s.view.places v) j)
+
+abbrev pub PartWants : Scope → FormatPart → ℕ → ℕ → Type 0
+PartWants s (part.Text t) k j = j ≡ k
+PartWants s (part.Formatted' p e) k j = Wants s (view e) k j ⊎ Behind (eval s (view e) k) (λ v i. j ≡ i)
 
 -- a list or a text, which f reads off
 abbrev pub EndsAs : {A B : Type 0} → Result B OperationFault → (B → A) → ℕ → Outcome A → Type 0

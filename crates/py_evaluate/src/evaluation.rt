@@ -3,14 +3,16 @@ ghost use Rattle.std.specs.Prelude.{◌≡◌, ◌≤◌, IfOk};
 ghost use Rattle.py_syntax.specs.ExpressionTrees as tree;
 ghost use Rattle.py_syntax.specs.declared.expression.Operation.TheVariants as operation;
 ghost use Rattle.py_attribute.specs.Knows.{KnowsNames, KnowsAll};
-ghost use Rattle.py_attribute.specs.Outcome.{Ends, Evaluates};
-ghost use Rattle.py_evaluate.specs.Eval.{eval, eval_row, eval_parts};
+ghost use Rattle.py_attribute.specs.Gives.{IfWant};
+ghost use Rattle.py_attribute.specs.Outcome.{Ends};
+ghost use Rattle.py_evaluate.specs.Eval.{eval_row, eval_parts};
+ghost use Rattle.py_evaluate.specs.Wants.{RowWants, PartsWant};
 ghost use Rattle.py_evaluate.specs.Gives as told;
 ghost use Rattle.py_evaluate.specs.Rows as rows;
 
-use crate::operations::{binary_value, constant_value, name_value, unary_value, word_value};
+use crate::operations::{constant_value, name_value, unary_value, word_value};
 use port_io::{Name, boxed};
-use py_attribute::{Locals, Look, OperationFault, attribute, shown_text, text_value};
+use py_attribute::{Locals, Look, OperationFault, attribute, operated, shown_text, text_value};
 use py_function::{called, method_value};
 use py_syntax::{BinOp, BoolOp, Expression, FormatPart, Function, Method, UnOp};
 use py_value::{Fault, TaskNo, Value, truth};
@@ -36,7 +38,7 @@ fn value_of<N: Locals, V: Look>(
     next: &mut u64,
 ) -> Result<Value, OperationFault>
     requires { KnowsNames (V.view view.now) (N.names names.now) }
-    ensures { Evaluates (V.view view.now) result next.old next.new (eval (told.scope task (N.names names.now) (V.view view.now)) (tree.view e.now) next.old) }
+    ensures { told.Evaluated (told.scope task (N.names names.now) (V.view view.now)) (tree.view e.now) next.old result next.new }
 {
     match e {
         Expression::Constant(constant) => constant_value(alloc, view, constant),
@@ -77,7 +79,7 @@ fn attribute_of<N: Locals, V: Look>(
     next: &mut u64,
 ) -> Result<Value, OperationFault>
     requires { KnowsNames (V.view view.now) (N.names names.now) }
-    ensures { Evaluates (V.view view.now) result next.old next.new (eval (told.scope task (N.names names.now) (V.view view.now)) (tree.Attribute (tree.view base.now) name.now) next.old) }
+    ensures { told.Evaluated (told.scope task (N.names names.now) (V.view view.now)) (tree.Attribute (tree.view base.now) name.now) next.old result next.new }
 {
     let v = value_of(alloc, base, names, view, task, next)?;
     attribute(alloc, view, &v, name)
@@ -95,11 +97,11 @@ fn subscript<N: Locals, V: Look>(
     next: &mut u64,
 ) -> Result<Value, OperationFault>
     requires { KnowsNames (V.view view.now) (N.names names.now) }
-    ensures { Evaluates (V.view view.now) result next.old next.new (eval (told.scope task (N.names names.now) (V.view view.now)) (tree.Subscript (tree.view base.now) (tree.view index.now)) next.old) }
+    ensures { told.Evaluated (told.scope task (N.names names.now) (V.view view.now)) (tree.Subscript (tree.view base.now) (tree.view index.now)) next.old result next.new }
 {
     let v = boxed(alloc, value_of(alloc, base, names, view, task, next)?)?;
     let index = value_of(alloc, index, names, view, task, next)?;
-    word_value(view, &v, &index)
+    Ok(word_value(view, &v, &index)?)
 }
 
 /// `function(arguments)`
@@ -114,7 +116,7 @@ fn call<N: Locals, V: Look>(
     next: &mut u64,
 ) -> Result<Value, OperationFault>
     requires { KnowsNames (V.view view.now) (N.names names.now) }
-    ensures { Evaluates (V.view view.now) result next.old next.new (eval (told.scope task (N.names names.now) (V.view view.now)) (tree.Call function (rows.trees_of arguments.now)) next.old) }
+    ensures { told.Evaluated (told.scope task (N.names names.now) (V.view view.now)) (tree.Call function (rows.trees_of arguments.now)) next.old result next.new }
 {
     let values = values_of(alloc, arguments, names, view, task, next)?;
     called(alloc, view, task, function, &values, next)
@@ -134,6 +136,7 @@ fn values_of<N: Locals, V: Look>(
     ensures ends { rows.EndsAs result (λ values. values.items) next.new (eval_row (told.scope task (N.names names.now) (V.view view.now)) (rows.trees_of arguments.now) next.old) }
     ensures known { IfOk result (λ values. KnowsAll (V.view view.now) values.items) }
     ensures rises { next.old ≤ next.new }
+    ensures want { IfWant result (RowWants (told.scope task (N.names names.now) (V.view view.now)) (rows.trees_of arguments.now) next.old next.new) }
 {
     let mut values = Vec::new(alloc);
     for e in arguments {
@@ -155,7 +158,7 @@ fn method_call<N: Locals, V: Look>(
     next: &mut u64,
 ) -> Result<Value, OperationFault>
     requires { KnowsNames (V.view view.now) (N.names names.now) }
-    ensures { Evaluates (V.view view.now) result next.old next.new (eval (told.scope task (N.names names.now) (V.view view.now)) (tree.MethodCall (tree.view base.now) method) next.old) }
+    ensures { told.Evaluated (told.scope task (N.names names.now) (V.view view.now)) (tree.MethodCall (tree.view base.now) method) next.old result next.new }
 {
     let v = value_of(alloc, base, names, view, task, next)?;
     Ok(method_value(view, task, &v, method, next)?)
@@ -173,10 +176,10 @@ fn unary<N: Locals, V: Look>(
     next: &mut u64,
 ) -> Result<Value, OperationFault>
     requires { KnowsNames (V.view view.now) (N.names names.now) }
-    ensures { Evaluates (V.view view.now) result next.old next.new (eval (told.scope task (N.names names.now) (V.view view.now)) (tree.Unary op (tree.view operand.now)) next.old) }
+    ensures { told.Evaluated (told.scope task (N.names names.now) (V.view view.now)) (tree.Unary op (tree.view operand.now)) next.old result next.new }
 {
     let v = value_of(alloc, operand, names, view, task, next)?;
-    unary_value(view, op, v)
+    Ok(unary_value(view, op, v)?)
 }
 
 /// An operator with two operands, the left of which is evaluated first.
@@ -192,11 +195,11 @@ fn binary<N: Locals, V: Look>(
     next: &mut u64,
 ) -> Result<Value, OperationFault>
     requires { KnowsNames (V.view view.now) (N.names names.now) }
-    ensures { Evaluates (V.view view.now) result next.old next.new (eval (told.scope task (N.names names.now) (V.view view.now)) (tree.Infix (operation.Binary op) (tree.view left.now) (tree.view right.now)) next.old) }
+    ensures { told.Evaluated (told.scope task (N.names names.now) (V.view view.now)) (tree.Infix (operation.Binary op) (tree.view left.now) (tree.view right.now)) next.old result next.new }
 {
     let a = boxed(alloc, value_of(alloc, left, names, view, task, next)?)?;
     let b = value_of(alloc, right, names, view, task, next)?;
-    binary_value(view, op, &a, &b)
+    Ok(operated(view, op, &a, &b)?)
 }
 
 /// `or` or `and`: the first operand where it decides, else the second, which is evaluated only then.
@@ -212,7 +215,7 @@ fn choice<N: Locals, V: Look>(
     next: &mut u64,
 ) -> Result<Value, OperationFault>
     requires { KnowsNames (V.view view.now) (N.names names.now) }
-    ensures { Evaluates (V.view view.now) result next.old next.new (eval (told.scope task (N.names names.now) (V.view view.now)) (tree.Infix (operation.Bool op) (tree.view left.now) (tree.view right.now)) next.old) }
+    ensures { told.Evaluated (told.scope task (N.names names.now) (V.view view.now)) (tree.Infix (operation.Bool op) (tree.view left.now) (tree.view right.now)) next.old result next.new }
 {
     let v = value_of(alloc, left, names, view, task, next)?;
     match (op, truth(&v)) {
@@ -234,7 +237,7 @@ fn format_string<N: Locals, V: Look>(
     next: &mut u64,
 ) -> Result<Value, OperationFault>
     requires { KnowsNames (V.view view.now) (N.names names.now) }
-    ensures { Evaluates (V.view view.now) result next.old next.new (eval (told.scope task (N.names names.now) (V.view view.now)) (tree.FormatString (rows.parts_of parts.now)) next.old) }
+    ensures { told.Evaluated (told.scope task (N.names names.now) (V.view view.now)) (tree.FormatString (rows.parts_of parts.now)) next.old result next.new }
 {
     let text = text_of(alloc, parts, names, view, task, next)?;
     text_value(alloc, &text)
@@ -253,6 +256,7 @@ fn text_of<N: Locals, V: Look>(
     requires { KnowsNames (V.view view.now) (N.names names.now) }
     ensures ends { rows.EndsAs result (λ text. text.items) next.new (eval_parts (told.scope task (N.names names.now) (V.view view.now)) (rows.parts_of parts.now) next.old) }
     ensures rises { next.old ≤ next.new }
+    ensures want { IfWant result (PartsWant (told.scope task (N.names names.now) (V.view view.now)) (rows.parts_of parts.now) next.old next.new) }
 {
     let mut text = Vec::new(alloc);
     for part in parts {
@@ -275,6 +279,7 @@ fn part_text<N: Locals, V: Look>(
     requires { KnowsNames (V.view view.now) (N.names names.now) }
     ensures ends { Ends result next.new (rows.part_bytes (told.scope task (N.names names.now) (V.view view.now)) part.now next.old) }
     ensures rises { next.old ≤ next.new }
+    ensures want { IfWant result (rows.PartWants (told.scope task (N.names names.now) (V.view view.now)) part.now next.old next.new) }
 {
     match part {
         FormatPart::Text(text) => Ok(Name::of(alloc, text.bytes())?),
@@ -295,7 +300,8 @@ fn part_text<N: Locals, V: Look>(
 /// TypeError, ValueError, OverflowError or RuntimeError (`py_function::called`); of a method AttributeError or RuntimeError
 /// (`py_function::method_value`); of a text of over 65,536 bytes, an f-string's among them, OverflowError.
 ///
-/// Each trigger that is made takes the next number, which never falls; after `OutOfMemory` it may have risen.
+/// Each trigger that is made takes the next number, which never falls. `OutOfMemory` may come where a text is made, a name's value is
+/// copied, a value waits for another one, or a call takes memory; the next number is then what the triggers made until there leave.
 pub fn evaluate<N: Locals, V: Look>(
     alloc: Global,
     e: &Expression,
@@ -305,7 +311,7 @@ pub fn evaluate<N: Locals, V: Look>(
     next: &mut u64,
 ) -> Result<Value, EvalFault>
     requires { KnowsNames (V.view view.now) (N.names names.now) }
-    ensures gives { told.Gives (V.view view.now) result next.new (eval (told.scope task (N.names names.now) (V.view view.now)) (tree.view e.now) next.old) }
+    ensures gives { told.Gives (told.scope task (N.names names.now) (V.view view.now)) (tree.view e.now) next.old result next.new }
     ensures rises { next.old ≤ next.new }
 {
     match value_of(alloc, e, names, view, task, next) {

@@ -1,16 +1,17 @@
 //! Expressions without parts, and what is done with the values of parts.
+ghost use Rattle.std.specs.Prelude.{◌≡◌};
 ghost use Rattle.py_operator.specs.Operation as operator;
 ghost use Rattle.py_attribute.specs.Attribute as attribute;
-ghost use Rattle.py_attribute.specs.Gives.{Gives};
+ghost use Rattle.py_attribute.specs.Gives.{Gives, IfWant, MakesText};
 ghost use Rattle.py_attribute.specs.Look as look;
 ghost use Rattle.py_attribute.specs.Knows.{Knows, KnowsNames};
-ghost use Rattle.py_attribute.specs.Outcome.{IfKnown};
+ghost use Rattle.py_attribute.specs.Outcome.{AnswerKnown, IfKnown};
 ghost use Rattle.py_evaluate.specs.Eval as meaning;
 
 use port_io::Name;
-use py_attribute::{Locals, Look, OperationFault, indexed, operated, text_value};
+use py_attribute::{Locals, Look, OperationFault, indexed, text_value};
 use py_operator::unary;
-use py_syntax::{BinOp, Const, FaultKind, UnOp};
+use py_syntax::{Const, FaultKind, UnOp};
 use py_value::{Value, copy};
 use std::alloc::Global;
 
@@ -21,6 +22,7 @@ pub(crate) fn constant_value<V: Look>(
     constant: &Const,
 ) -> Result<Value, OperationFault>
     ensures gives { Gives (meaning.constant_value constant.now) result }
+    ensures want { IfWant result (MakesText (meaning.constant_value constant.now)) }
     ensures known { IfKnown (V.view view.now) result }
 {
     match constant {
@@ -50,40 +52,21 @@ pub(crate) fn name_value<N: Locals, V: Look>(
 }
 
 /// `v[index]`. The faults are those of `indexed`.
-pub(crate) fn word_value<V: Look>(
-    view: &V,
-    v: &Value,
-    index: &Value,
-) -> Result<Value, OperationFault>
+pub(crate) fn word_value<V: Look>(view: &V, v: &Value, index: &Value) -> Result<Value, FaultKind>
     requires { Knows (V.view view.now) v.now }
-    ensures gives { Gives (attribute.indexed v.now index.now) result }
-    ensures known { IfKnown (V.view view.now) result }
+    ensures is { result ≡ attribute.indexed v.now index.now }
+    ensures known { AnswerKnown (V.view view.now) result }
 {
-    Ok(indexed(v, index)?)
+    indexed(v, index)
 }
 
 /// The value of an operator with one operand. The faults are those of `unary`.
-pub(crate) fn unary_value<V: Look>(view: &V, op: UnOp, v: Value) -> Result<Value, OperationFault>
-    ensures gives { Gives (operator.unary_value op v) result }
-    ensures known { IfKnown (V.view view.now) result }
+pub(crate) fn unary_value<V: Look>(view: &V, op: UnOp, v: Value) -> Result<Value, FaultKind>
+    ensures is { result ≡ operator.unary_value op v }
+    ensures known { AnswerKnown (V.view view.now) result }
 {
     match unary(op, v) {
         Ok(v) => Ok(v),
-        Err(fault) => Err(OperationFault::Raised(fault.kind)),
+        Err(fault) => Err(fault.kind),
     }
-}
-
-/// The value of an operator with two operands. The faults are those of `operated`.
-pub(crate) fn binary_value<V: Look>(
-    view: &V,
-    op: BinOp,
-    a: &Value,
-    b: &Value,
-) -> Result<Value, OperationFault>
-    requires left { Knows (V.view view.now) a.now }
-    requires right { Knows (V.view view.now) b.now }
-    ensures gives { Gives (look.operated (V.view view.now) op a.now b.now) result }
-    ensures known { IfKnown (V.view view.now) result }
-{
-    Ok(operated(view, op, a, b)?)
 }

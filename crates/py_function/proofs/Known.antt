@@ -20,7 +20,8 @@ use Rattle.py_value.specs.declared.value.Value.TheVariants as value
 use Rattle.py_operator.specs.Number.{one_number, whole}
 use Rattle.py_attribute.specs.Attribute.{signal_of, str_value}
 use Rattle.py_time.specs.Times.{in_unit, steps_of, half_steps}
-use Rattle.py_time.proofs.Sound.{steps_sound}
+use Rattle.py_time.proofs.Sound.{steps_sound, half_sound}
+use Rattle.std.proofs.lemmas.Bool.Decides.{nat_tests}
 use Rattle.py_attribute.specs.Look.{View, len, one_bit, width}
 use Rattle.py_attribute.specs.Knows.{Knows, KnowsAll, KnowsOption, KnowsSignal, KnowsForm, KnowsTrig, KnowsTrigs}
 use Rattle.py_attribute.specs.Outcome.{Outcome, AnswerKnown, gives, refuses, bind, after}
@@ -107,6 +108,20 @@ unfolding Holds
 bit_known view v h =
     chain (SignalKnown view) (SignalKnown view) (signal_of v) (λ s. if width view s == 1 then Ok s else Err TypeError) (signal_known view v h)
     (λ s k. choice (SignalKnown view) (width view s == 1) (Ok s) (Err TypeError) k tt)
+
+-- such a signal has one digit
+BitKnown : View → SigId → Type 0
+BitKnown view s = KnowsSignal view s.0 × (width view s ≡ 1)
+
+clock_bit : (view : View) (v : Value) → Knows view v → Holds (BitKnown view) (one_bit view v)
+unfolding Holds SignalKnown BitKnown
+clock_bit view v h =
+    chain (SignalKnown view) (BitKnown view) (signal_of v) (λ s. if width view s == 1 then Ok s else Err TypeError) (signal_known view v h)
+    (λ s k. sized s (width view s == 1) refl k)
+  where
+    sized : (s : SigId) (t : Bool) → (width view s == 1) ≡ t → KnowsSignal view s.0 → Holds (BitKnown view) (if t then Ok s else Err TypeError)
+    sized s true e k = let one : width view s ≡ 1 = grind (arith, nat_tests) in (k, one)
+    sized s false e k = tt
 
 -- ---- new triggers
 
@@ -230,15 +245,16 @@ join_known view vs h = chain (Knows view) (FormKnown view) (meaning.argument vs 
     task _ p = tt
 
 clock_known : (view : View) (vs : List Value) → KnowsAll view vs → Holds (Knows view) (meaning.clock view vs)
-unfolding SignalKnown
+unfolding BitKnown
 clock_known view vs h =
     let half : Value → Answer ℕ = λ period. half_steps view.step_fs period (meaning.unit_argument view vs 2) in
     chain (Knows view) (Knows view) (meaning.argument vs 0) (λ sig. and_then (meaning.argument vs 1) (λ period.
     and_then (one_bit view sig) (λ s. answer_map (λ h. value.Clock s h) (half period)))) (argument_known view vs 0 h)
     (λ sig p. chain (λ v. Unit {0}) (Knows view) (meaning.argument vs 1) (λ period. and_then (one_bit view sig) (λ s. answer_map (λ h. value.Clock s h) (half period)))
     (anything (meaning.argument vs 1))
-    (λ period u. chain (SignalKnown view) (Knows view) (one_bit view sig) (λ s. answer_map (λ h. value.Clock s h) (half period)) (bit_known view sig p)
-    (λ s q. mapped (λ n. Unit {0}) (Knows view) (half period) (λ h. value.Clock s h) (anything (half period)) (λ n x. q))))
+    (λ period u. chain (BitKnown view) (Knows view) (one_bit view sig) (λ s. answer_map (λ h. value.Clock s h) (half period)) (clock_bit view sig p)
+    (λ s q. mapped AreSteps (Knows view) (half period) (λ h. value.Clock s h)
+    (held_by AreSteps (half period) (half_sound view.step_fs period (meaning.unit_argument view vs 2))) (λ n x. record { signal = q.0; bit = q.1; steps = x }))))
 
 time_known : (view : View) (vs : List Value) → AnswerKnown view (meaning.sim_time view vs)
 time_known view vs =

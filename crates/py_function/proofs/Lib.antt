@@ -1,3 +1,5 @@
 pub mod Rows
 pub mod Known
 pub mod Onward
+pub mod Memory
+pub mod Numbers

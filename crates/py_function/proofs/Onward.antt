@@ -21,14 +21,14 @@ use Rattle.py_function.specs.Functions as meaning
 same : (k : ℕ) → k ≤ k
 same k = omega arith
 
-new_rises : (task : TaskNo) (form : Form) (k : ℕ) → k ≤ (new_trigger task form k).next
+pub new_rises : (task : TaskNo) (form : Form) (k : ℕ) → k ≤ (new_trigger task form k).next
 new_rises task form k = at (nat_lt k trigger_limit)
   where
     at : (t : Bool) → k ≤ (if t then gives (trigger.Made (record { task = task; number = k }) form) (suc k) else refuses RuntimeError k).next
     at true = omega arith
     at false = same k
 
-tree_rises : (task : TaskNo) (form : Form) (k : ℕ) → k ≤ (new_tree task form k).next
+pub tree_rises : (task : TaskNo) (form : Form) (k : ℕ) → k ≤ (new_tree task form k).next
 tree_rises task form k = at (is_small form)
   where
     at : (t : Bool) → k ≤ (if t then new_trigger task form k else refuses ValueError k).next
@@ -42,18 +42,18 @@ made_rises : (task : TaskNo) (form : Answer Form) (k : ℕ) → k ≤ (new_value
 made_rises task (Ok form) k = value_rises (new_trigger task form k) k (new_rises task form k)
 made_rises task (Err kind) k = same k
 
-one_rises : (task : TaskNo) (v : Value) (k : ℕ) → k ≤ (as_trigger task v k).next
+pub one_rises : (task : TaskNo) (v : Value) (k : ℕ) → k ≤ (as_trigger task v k).next
 one_rises task (value.Trigger t) k = same k
 one_rises task (value.Task t) k = new_rises task (trigger.Join t) k
 one_rises task _ k = same k
 
-all_rise : (task : TaskNo) (vs : List Value) (k : ℕ) → k ≤ (as_triggers task vs k).next
+pub all_rise : (task : TaskNo) (vs : List Value) (k : ℕ) → k ≤ (as_triggers task vs k).next
 all_rise task [] k = same k
 all_rise task (v ∷ vs) k =
     bind_rises (as_trigger task v k) k (λ t j. bind (as_triggers task vs j) (λ ts i. gives (trigger.Then t ts) i)) (one_rises task v k)
     (λ t j. bind_rises (as_triggers task vs j) j (λ ts i. gives (trigger.Then t ts) i) (all_rise task vs j) (λ ts i. same i))
 
-parts_rise : (task : TaskNo) (vs : List Value) (k : ℕ) → k ≤ (parts task vs k).next
+pub parts_rise : (task : TaskNo) (vs : List Value) (k : ℕ) → k ≤ (parts task vs k).next
 parts_rise task vs k = at (list_all is_waitable vs)
   where
     at : (t : Bool) → k ≤ (if t then as_triggers task vs k else refuses TypeError k).next
@@ -64,6 +64,13 @@ several_rises : (task : TaskNo) (form : Trigs → Form) (vs : List Value) (k : �
 several_rises task form vs k =
     value_rises (bind (parts task vs k) (λ ts j. new_tree task (form ts) j)) k
     (bind_rises (parts task vs k) k (λ ts j. new_tree task (form ts) j) (parts_rise task vs k) (λ ts j. tree_rises task (form ts) j))
+
+-- what holds others is numbered behind its parts
+pub several_behind : (task : TaskNo) (form : Trigs → Form) (vs : List Value) (k : ℕ) → (parts task vs k).next ≤ (several task form vs k).next
+several_behind task form vs k =
+    let o = parts task vs k in
+    value_rises (bind o (λ ts j. new_tree task (form ts) j)) o.next
+    (bind_rises o o.next (λ ts j. new_tree task (form ts) j) (same o.next) (λ ts j. tree_rises task (form ts) j))
 
 pub called_rises : (task : TaskNo) (view : View) (f : Function) (vs : List Value) (k : ℕ) → k ≤ (meaning.called task view f vs k).next
 called_rises task view function.Int vs k = same k

@@ -1,5 +1,5 @@
 -- Triggers one after the other.
-use Rattle.std.proofs.Common.{◌≡◌, ℕ, suc, ◌+◌, ◌<◌, ◌≤◌, List, [], ◌∷◌, ◌++◌, length, drop, get_or, Ok, Err, refl, ap, sym, ◌∙◌, add-one}
+use Rattle.std.proofs.Common.{◌≡◌, ℕ, suc, ◌+◌, ◌<◌, ◌≤◌, List, [], ◌∷◌, ◌++◌, length, drop, get_or, Ok, Err, refl, ap, sym, subst, ◌∙◌, add-one, arith}
 use Rattle.std.proofs.Math.Seq.{drop-cons}
 use Rattle.std.proofs.lemmas.List.{drop_all}
 use Rattle.py_syntax.specs.declared.fault_kind.FaultKind.{FaultKind}
@@ -10,8 +10,10 @@ use Rattle.py_value.specs.declared.value.Value.{Value}
 use Rattle.py_attribute.specs.declared.fault.OperationFault.{OperationFault}
 use Rattle.py_attribute.specs.declared.fault.OperationFault.TheVariants as faults
 use Rattle.py_attribute.specs.Outcome.{Outcome, Ends, gives, refuses, bind, after}
+use Rattle.py_attribute.proofs.Onward.{bind_rises}
 use Rattle.py_function.specs.Making.{as_trigger, as_triggers}
 use Rattle.py_function.specs.Rows.{EndsRow}
+use Rattle.py_function.proofs.Onward.{all_rise}
 
 -- triggers in front of others
 pub joined : List Trig → Trigs → Trigs
@@ -87,3 +89,26 @@ pub triggers_end : (task : TaskNo) (ts : List Trig) (vs : List Value) (n k : ℕ
     → length vs ≤ n → behind ts (as_triggers task (drop n vs) k) ≡ whole → whole ≡ gives (row ts) k
 triggers_end task ts vs n k whole h w =
     sym w ∙ (ap (λ (l : List Value). behind ts (as_triggers task l k)) (drop_all n vs h) ∙ behind_none task ts k)
+
+-- ---- the next number on the way is no higher than that of the whole
+
+same : (k : ℕ) → k ≤ k
+same k = omega arith
+
+pub rest_within : (task : TaskNo) (ts : List Trig) (vs : List Value) (k : ℕ) (whole : Outcome Trigs) → behind ts (as_triggers task vs k) ≡ whole → k ≤ whole.next
+unfolding behind
+rest_within task ts vs k whole w =
+    subst (λ (o : Outcome Trigs). k ≤ o.next) w
+    (bind_rises (as_triggers task vs k) k (λ us i. gives (joined ts us) i) (all_rise task vs k) (λ us i. same i))
+
+pub one_within : (task : TaskNo) (ts : List Trig) (vs : List Value) (n : ℕ) (v : Value) (k : ℕ) (whole : Outcome Trigs)
+    → n < length vs → v ≡ get_or vs n v → behind ts (as_triggers task (drop n vs) k) ≡ whole → (as_trigger task v k).next ≤ whole.next
+unfolding behind
+one_within task ts vs n v k whole h is w =
+    let rest = drop (n + 1) vs in
+    let o = as_trigger task v k in
+    let f : Trig → ℕ → Outcome Trigs = λ t j. bind (as_triggers task rest j) (λ us i. gives (Then t us) i) in
+    let one : o.next ≤ (bind o f).next =
+    bind_rises o o.next f (same o.next) (λ t j. bind_rises (as_triggers task rest j) j (λ us i. gives (Then t us) i) (all_rise task rest j) (λ us i. same i)) in
+    let all : o.next ≤ (behind ts (bind o f)).next = bind_rises (bind o f) o.next (λ us i. gives (joined ts us) i) one (λ us i. same i) in
+    subst (λ (p : Outcome Trigs). o.next ≤ p.next) (sym (from_place task ts vs n v k h is) ∙ w) all

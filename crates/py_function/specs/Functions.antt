@@ -1,5 +1,5 @@
 -- What functions and methods give (the library reference, "Built-in Functions"; cocotb 1.8, "Triggers", `Clock` and `get_sim_time`).
-use Rattle.std.specs.Prelude.{ℕ, zero, suc, ◌-◌, ◌^◌, nat_le, Bool, true, false, List, Option, Some, None, Ok, Err, if◌then◌else◌, slice_get, slice_index_or, ℤ, pos, negsuc}
+use Rattle.std.specs.Prelude.{ℕ, zero, suc, ◌-◌, ◌^◌, ◌≤◌, nat_le, Bool, true, false, IsTrue, List, Option, Some, None, Ok, Err, if◌then◌else◌, slice_get, slice_index_or, ℤ, pos, negsuc}
 use Rattle.gpi.specs.declared.types.SigId.{SigId}
 use Rattle.py_syntax.specs.declared.expression.Function.{Function}
 use Rattle.py_syntax.specs.declared.expression.Function.TheVariants as function
@@ -114,6 +114,21 @@ called task view function.Join vs k = new_value task (join vs) k
 called task view function.First vs k = several task trigger.First vs k
 called task view function.Combine vs k = several task trigger.Combine vs k
 called task view function.Clock vs k = lift (clock view vs) k
+
+-- ---- want of memory
+
+-- the functions that take memory: they make a text, or a tree of triggers
+abbrev pub takes_memory : Function → Bool
+takes_memory function.Str = true
+takes_memory function.First = true
+takes_memory function.Combine = true
+takes_memory _ = false
+
+-- memory may run out in a call when the next number, once k, is j: no higher than that of the outcome
+pub record MayWant (f : Function) (k j : ℕ) (o : Outcome Value) : Type 0 where
+  pub takes : IsTrue (takes_memory f)
+  pub from : k ≤ j
+  pub to : j ≤ o.next
 
 -- ---- methods
 

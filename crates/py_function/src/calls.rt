@@ -1,14 +1,12 @@
 //! Calls of functions.
-ghost use Rattle.std.specs.Prelude.{◌≡◌, ◌≤◌, Ok};
-ghost use Rattle.py_value.specs.Answer.{answer_map, and_then};
+ghost use Rattle.std.specs.Prelude.{◌≡◌, ◌≤◌, Ok, false};
+ghost use Rattle.py_value.specs.Answer.{and_then};
 ghost use Rattle.py_value.specs.Truth.{truth};
-ghost use Rattle.py_value.specs.TriggerView.{view_form};
 ghost use Rattle.py_attribute.specs.Attribute.{str_value};
-ghost use Rattle.py_attribute.specs.Gives.{Gives};
+ghost use Rattle.py_attribute.specs.Gives.{Gives, IfWant};
 ghost use Rattle.py_attribute.specs.Look as look;
 ghost use Rattle.py_attribute.specs.Knows.{KnowsAll};
-ghost use Rattle.py_attribute.specs.Outcome.{Ends, Evaluates};
-ghost use Rattle.py_function.specs.Making as making;
+ghost use Rattle.py_attribute.specs.Outcome.{Ends, Evaluates, lift};
 ghost use Rattle.py_function.specs.Functions as meaning;
 
 use crate::argument::{argument, unit_argument};
@@ -60,19 +58,39 @@ fn sim_time<V: Look>(view: &V, values: &[Value]) -> Result<Value, FaultKind>
     time_in(view.step_fs(), view.now(), unit_argument(view, values, 0))
 }
 
-/// A new trigger of this form, or why there is no such form.
-fn made(
+/// A call of a function that takes no memory.
+fn plain_call<V: Look>(
+    view: &V,
     task: TaskNo,
-    form: Result<Form, FaultKind>,
+    function: Function,
+    values: &[Value],
     next: &mut u64,
-) -> Result<Value, OperationFault>
-    ensures ends { Ends result next.new (making.new_value task (answer_map view_form form) next.old) }
+) -> Result<Value, FaultKind>
+    requires known { KnowsAll (V.view view.now) values.now }
+    requires plain { meaning.takes_memory function ≡ false }
+    ensures is { lift result next.new ≡ meaning.called task (V.view view.now) function values.now next.old }
     ensures rises { next.old ≤ next.new }
 {
-    Ok(new_value(task, form, next)?)
+    match function {
+        Function::Int => int_call(values),
+        Function::Bool => bool_call(values),
+        Function::Len => len_call(view, values),
+        Function::GetSimTime => sim_time(view, values),
+        Function::Timer => new_value(task, timer(view, values), next),
+        Function::Edge => new_value(task, change(values), next),
+        Function::RisingEdge => new_value(task, rise(view, values), next),
+        Function::FallingEdge => new_value(task, fall(view, values), next),
+        Function::ReadWrite => new_value(task, Ok(Form::ReadWrite), next),
+        Function::ReadOnly => new_value(task, Ok(Form::ReadOnly), next),
+        Function::NextTimeStep => new_value(task, Ok(Form::NextStep), next),
+        Function::ClockCycles => new_value(task, cycles(view, values), next),
+        Function::Join => new_value(task, join(values), next),
+        Function::Clock => clock(view, values),
+        Function::Str | Function::First | Function::Combine => unreachable!(),
+    }
 }
 
-/// A call that makes no trigger, or one of others.
+/// A call of any function. Want of memory comes only of those that take some.
 fn call<V: Look>(
     alloc: Global,
     view: &V,
@@ -84,25 +102,13 @@ fn call<V: Look>(
     requires { KnowsAll (V.view view.now) values.now }
     ensures ends { Ends result next.new (meaning.called task (V.view view.now) function values.now next.old) }
     ensures rises { next.old ≤ next.new }
+    ensures want { IfWant result (meaning.MayWant function next.old next.new (meaning.called task (V.view view.now) function values.now next.old)) }
 {
     match function {
-        Function::Int => Ok(int_call(values)?),
         Function::Str => str_call(alloc, view, values),
-        Function::Bool => Ok(bool_call(values)?),
-        Function::Len => Ok(len_call(view, values)?),
-        Function::GetSimTime => Ok(sim_time(view, values)?),
-        Function::Timer => made(task, timer(view, values), next),
-        Function::Edge => made(task, change(values), next),
-        Function::RisingEdge => made(task, rise(view, values), next),
-        Function::FallingEdge => made(task, fall(view, values), next),
-        Function::ReadWrite => made(task, Ok(Form::ReadWrite), next),
-        Function::ReadOnly => made(task, Ok(Form::ReadOnly), next),
-        Function::NextTimeStep => made(task, Ok(Form::NextStep), next),
-        Function::ClockCycles => made(task, cycles(view, values), next),
-        Function::Join => made(task, join(values), next),
         Function::First => first(alloc, task, values, next),
         Function::Combine => combine(alloc, task, values, next),
-        Function::Clock => Ok(clock(view, values)?),
+        _ => Ok(plain_call(view, task, function, values, next)?),
     }
 }
 
@@ -121,8 +127,8 @@ fn call<V: Look>(
 /// - RuntimeError: the task has made 2^63 triggers, the most that it may.
 ///
 /// A new trigger takes the next number, and so does the join of a task among the arguments of `First` and `Combine`, before a ValueError
-/// or a RuntimeError of the whole: where that join finds no number left, its RuntimeError comes before the ValueError of the whole. After
-/// want of memory the next number may have risen, and never falls.
+/// or a RuntimeError of the whole: where that join finds no number left, its RuntimeError comes before the ValueError of the whole. Want of
+/// memory is an error of `str`, `First` and `Combine` alone; the next number is then from the old one to that which the call would leave.
 pub fn called<V: Look>(
     alloc: Global,
     view: &V,
@@ -132,7 +138,8 @@ pub fn called<V: Look>(
     next: &mut u64,
 ) -> Result<Value, OperationFault>
     requires { KnowsAll (V.view view.now) values.now }
-    ensures { Evaluates (V.view view.now) result next.old next.new (meaning.called task (V.view view.now) function values.now next.old) }
+    ensures { let o = meaning.called task (V.view view.now) function values.now next.old in
+        Evaluates (V.view view.now) result next.old next.new o (meaning.MayWant function next.old next.new o) }
 {
     call(alloc, view, task, function, values, next)
 }

@@ -2,6 +2,7 @@
 ghost use Rattle.std.specs.Prelude.{◌≡◌, ◌≤◌};
 ghost use Rattle.std.specs.List.{list_all};
 ghost use Rattle.py_value.specs.Trigger as trigger;
+ghost use Rattle.py_attribute.specs.Gives.{IfWant};
 ghost use Rattle.py_attribute.specs.Outcome.{Ends};
 ghost use Rattle.py_function.specs.Making as meaning;
 ghost use Rattle.py_function.specs.Rows.{EndsRow};
@@ -39,6 +40,7 @@ fn as_trigger(
 ) -> Result<Trig, OperationFault>
     ensures ends { Ends result next.new (meaning.as_trigger task v.now next.old) }
     ensures rises { next.old ≤ next.new }
+    ensures want { IfWant result (next.new ≤ (meaning.as_trigger task v.now next.old).next) }
 {
     match v {
         Value::Trigger(trig) => Ok(trig.copy(alloc)?),
@@ -56,6 +58,7 @@ fn as_triggers(
 ) -> Result<Trigs, OperationFault>
     ensures ends { EndsRow result next.new (meaning.as_triggers task values.now next.old) }
     ensures rises { next.old ≤ next.new }
+    ensures want { IfWant result (next.new ≤ (meaning.as_triggers task values.now next.old).next) }
 {
     let mut trigs = Trigs::new(alloc);
     for v in values {
@@ -73,6 +76,7 @@ fn parts(
 ) -> Result<Trigs, OperationFault>
     ensures ends { EndsRow result next.new (meaning.parts task values.now next.old) }
     ensures rises { next.old ≤ next.new }
+    ensures want { IfWant result (next.new ≤ (meaning.parts task values.now next.old).next) }
 {
     if are_waitable(values) {
         as_triggers(alloc, task, values, next)
@@ -90,6 +94,7 @@ pub(crate) fn first(
 ) -> Result<Value, OperationFault>
     ensures ends { Ends result next.new (meaning.several task trigger.First values.now next.old) }
     ensures rises { next.old ≤ next.new }
+    ensures want { IfWant result (next.new ≤ (meaning.several task trigger.First values.now next.old).next) }
 {
     let parts = parts(alloc, task, values, next)?;
     Ok(trigger_value(new_tree(task, Form::First(parts), next))?)
@@ -104,6 +109,7 @@ pub(crate) fn combine(
 ) -> Result<Value, OperationFault>
     ensures ends { Ends result next.new (meaning.several task trigger.Combine values.now next.old) }
     ensures rises { next.old ≤ next.new }
+    ensures want { IfWant result (next.new ≤ (meaning.several task trigger.Combine values.now next.old).next) }
 {
     let parts = parts(alloc, task, values, next)?;
     Ok(trigger_value(new_tree(task, Form::Combine(parts), next))?)

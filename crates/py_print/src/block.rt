@@ -1,64 +1,43 @@
 //! Blocks.
 
-use crate::statement::{push_header, push_statement};
+ghost use Rattle.std.specs.Prelude.{◌≡◌, IfOk};
+ghost use Rattle.std.specs.List.{flat_map};
+ghost use Rattle.py_syntax.specs.BlockTrees.{view_item};
+ghost use Rattle.py_print.specs.ModuleText.{item_text};
+
+use crate::piece::joined;
+use crate::statement::{header_text, statement_text};
 use py_syntax::BlockItem;
 use std::alloc::{AllocError, Global};
 
-/// What is still to be printed: items, or the end of a block.
-#[derive(Clone, Copy)]
-enum Piece<'a> {
-    Items(&'a [BlockItem]),
-    End,
-}
-
-/// What an item begins with; the block of a clause is left.
-fn open<'a>(
-    alloc: Global,
-    out: &mut Vec<u8>,
-    pieces: &mut Vec<Piece<'a>>,
-    item: &'a BlockItem,
-) -> Result<(), AllocError> {
+/// An item of a block, behind a space; nothing of a docstring.
+#[cycle(blocks)]
+fn item_text(alloc: Global, item: &BlockItem) -> Result<Vec<u8>, AllocError>
+    ensures { IfOk result (λ text. text.items ≡ item_text (view_item item.now)) }
+{
     match item {
-        BlockItem::Docstring { .. } => Ok(()),
+        BlockItem::Docstring { .. } => Ok(Vec::new(alloc)),
         BlockItem::Statement { statement, .. } => {
-            out.extend_from_slice(b" ")?;
-            push_statement(alloc, out, statement)
+            let text = statement_text(alloc, statement)?;
+            joined(alloc, &[b" ", &text])
         }
         BlockItem::Clause { header, block, .. } => {
-            out.extend_from_slice(b" ")?;
-            push_header(alloc, out, header)?;
-            pieces.push(Piece::End)?;
-            Ok(pieces.push(Piece::Items(block))?)
+            let header = header_text(alloc, header)?;
+            let block = block_text(alloc, block)?;
+            joined(alloc, &[b" ", &header, &block, b")"])
         }
     }
 }
 
-/// The first of the items, and those that are left.
-fn open_first<'a>(
-    alloc: Global,
-    out: &mut Vec<u8>,
-    pieces: &mut Vec<Piece<'a>>,
-    items: &'a [BlockItem],
-) -> Result<(), AllocError> {
-    match items {
-        [] => Ok(()),
-        [item, rest @ ..] => {
-            pieces.push(Piece::Items(rest))?;
-            open(alloc, out, pieces, item)
-        }
+/// The items of a block, each behind a space. It is read recursively, in as many calls as the block is deep.
+#[cycle(blocks)]
+pub fn block_text(alloc: Global, block: &[BlockItem]) -> Result<Vec<u8>, AllocError>
+    ensures { IfOk result (λ text. text.items ≡ flat_map (λ x. item_text (view_item x)) block.now) }
+{
+    let mut text = Vec::new(alloc);
+    for item in block {
+        let more = item_text(alloc, item)?;
+        text.extend_from_slice(&more)?;
     }
-}
-
-/// The items of a block, each behind a space.
-pub fn push_block(alloc: Global, out: &mut Vec<u8>, block: &[BlockItem]) -> Result<(), AllocError> {
-    let mut pieces = Vec::new(alloc);
-    pieces.push(Piece::Items(block))?;
-    for _ in 0..u64::MAX {
-        match pieces.pop() {
-            None => break,
-            Some(Piece::End) => out.extend_from_slice(b")")?,
-            Some(Piece::Items(items)) => open_first(alloc, out, &mut pieces, items)?,
-        }
-    }
-    Ok(())
+    Ok(text)
 }

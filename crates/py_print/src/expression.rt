@@ -1,36 +1,42 @@
-//! Expressions.
+//! Constants and expressions.
 
-use crate::piece::{push_hex, push_text};
-use port_io::Name;
+ghost use Rattle.std.specs.Prelude.{◌≡◌, ◌∷◌, [], map, IfOk, codes};
+ghost use Rattle.std.specs.Fmt.{signed_decimal};
+ghost use Rattle.std.specs.List.{concat, flat_map};
+ghost use Rattle.py_syntax.specs.ExpressionTrees.{NoPart, view, view_part};
+ghost use Rattle.py_print.specs.TreeText.{choice_mark, constant_text, infix_mark, pair_text, parts_text, prefix_head, tree_text};
+ghost use Rattle.py_print.specs.CallText.{spaced_text};
+
+use crate::piece::{hex_text, joined, quoted_text};
 use py_syntax::{BinOp, BoolOp, Const, Expression, FormatPart, UnOp};
 use std::alloc::{AllocError, Global};
 
-/// What is still to be printed.
-#[derive(Clone, Copy)]
-enum Piece<'a> {
-    Tree(&'a Expression),
-    Arguments(&'a [Expression]),
-    Parts(&'a [FormatPart]),
-    Mark(&'static [u8]),
-    Name(&'a [u8]),
-    Hex(&'a [u8]),
+/// A whole number in decimal digits.
+fn number_text(alloc: Global, number: i128) -> Result<Vec<u8>, AllocError>
+    ensures { IfOk result (λ text. text.items ≡ signed_decimal number) }
+{
+    let digits = format!(in alloc; "{number}")?;
+    Ok(digits.into_bytes())
 }
 
 /// A constant.
-pub fn push_constant(alloc: Global, out: &mut Vec<u8>, constant: &Const) -> Result<(), AllocError> {
+pub fn constant_text(alloc: Global, constant: &Const) -> Result<Vec<u8>, AllocError>
+    ensures { IfOk result (λ text. text.items ≡ constant_text constant.now) }
+{
     match constant {
-        Const::Absent => out.extend_from_slice(b"None")?,
-        Const::Truth(true) => out.extend_from_slice(b"True")?,
-        Const::Truth(false) => out.extend_from_slice(b"False")?,
-        Const::Whole(number) => out.extend_from_slice(format!(in alloc; "{number}")?.as_bytes())?,
-        Const::Text(text) => push_text(alloc, out, text)?,
-        Const::Named(name) => out.extend_from_slice(name.bytes())?,
+        Const::Absent => joined(alloc, &[b"None"]),
+        Const::Truth(true) => joined(alloc, &[b"True"]),
+        Const::Truth(false) => joined(alloc, &[b"False"]),
+        Const::Whole(number) => number_text(alloc, *number),
+        Const::Text(text) => quoted_text(alloc, text),
+        Const::Named(name) => joined(alloc, &[name.bytes()]),
     }
-    Ok(())
 }
 
 /// The bracket and the mark of an operator with one operand.
-fn prefix(op: UnOp) -> &'static [u8] {
+fn prefix(op: UnOp) -> &'static [u8]
+    ensures { result.now ≡ prefix_head op }
+{
     match op {
         UnOp::Not => b"(not ",
         UnOp::Negative => b"(- ",
@@ -39,201 +45,160 @@ fn prefix(op: UnOp) -> &'static [u8] {
     }
 }
 
-/// The bracket and the mark of an operator with two operands.
-pub fn infix(op: BinOp) -> &'static [u8] {
+/// The mark of an operator with two operands.
+pub fn infix(op: BinOp) -> &'static [u8]
+    ensures { result.now ≡ infix_mark op }
+{
     match op {
-        BinOp::Equal => b"(== ",
-        BinOp::NotEqual => b"(!= ",
-        BinOp::Less => b"(< ",
-        BinOp::LessEqual => b"(<= ",
-        BinOp::Greater => b"(> ",
-        BinOp::GreaterEqual => b"(>= ",
-        BinOp::Is => b"(is ",
-        BinOp::IsNot => b"(is-not ",
-        BinOp::BitOr => b"(| ",
-        BinOp::BitXor => b"(^ ",
-        BinOp::BitAnd => b"(& ",
-        BinOp::ShiftLeft => b"(<< ",
-        BinOp::ShiftRight => b"(>> ",
-        BinOp::Add => b"(+ ",
-        BinOp::Subtract => b"(- ",
-        BinOp::Multiply => b"(* ",
-        BinOp::FloorDivide => b"(// ",
-        BinOp::Modulo => b"(% ",
+        BinOp::Equal => b"==",
+        BinOp::NotEqual => b"!=",
+        BinOp::Less => b"<",
+        BinOp::LessEqual => b"<=",
+        BinOp::Greater => b">",
+        BinOp::GreaterEqual => b">=",
+        BinOp::Is => b"is",
+        BinOp::IsNot => b"is-not",
+        BinOp::BitOr => b"|",
+        BinOp::BitXor => b"^",
+        BinOp::BitAnd => b"&",
+        BinOp::ShiftLeft => b"<<",
+        BinOp::ShiftRight => b">>",
+        BinOp::Add => b"+",
+        BinOp::Subtract => b"-",
+        BinOp::Multiply => b"*",
+        BinOp::FloorDivide => b"//",
+        BinOp::Modulo => b"%",
     }
 }
 
-/// The bracket and the word of `or` and `and`.
-fn choice(op: BoolOp) -> &'static [u8] {
+/// The word of `or` and `and`.
+fn choice(op: BoolOp) -> &'static [u8]
+    ensures { result.now ≡ choice_mark op }
+{
     match op {
-        BoolOp::Or => b"(or ",
-        BoolOp::And => b"(and ",
+        BoolOp::Or => b"or",
+        BoolOp::And => b"and",
     }
 }
 
-/// One tree behind the pieces, and a mark behind it.
-fn push_tree<'a>(
-    pieces: &mut Vec<Piece<'a>>,
-    tree: &'a Expression,
-    behind: &'static [u8],
-) -> Result<(), AllocError> {
-    pieces.push(Piece::Mark(behind))?;
-    pieces.push(Piece::Tree(tree))?;
-    Ok(())
+/// A mark and two parts in brackets.
+pub fn pair_text(
+    alloc: Global,
+    mark: &[u8],
+    left: &[u8],
+    right: &[u8],
+) -> Result<Vec<u8>, AllocError>
+    ensures { IfOk result (λ text. text.items ≡ pair_text mark.now left.now right.now) }
+{
+    joined(alloc, &[b"(", mark, b" ", left, b" ", right, b")"])
 }
 
-/// Two trees.
-fn push_pair<'a>(
-    pieces: &mut Vec<Piece<'a>>,
-    left: &'a Expression,
-    right: &'a Expression,
-) -> Result<(), AllocError> {
-    push_tree(pieces, right, b")")?;
-    push_tree(pieces, left, b" ")
+/// A member of what an expression gives.
+#[cycle(expressions)]
+pub fn member_text(alloc: Global, base: &Expression, name: &[u8]) -> Result<Vec<u8>, AllocError>
+    ensures { IfOk result (λ text. text.items ≡ pair_text (codes ".") (tree_text (view base.now)) name.now) }
+{
+    let base = expression_text(alloc, base)?;
+    pair_text(alloc, b".", &base, name)
 }
 
-/// A tree, a name behind it, and the end.
-fn push_member<'a>(
-    pieces: &mut Vec<Piece<'a>>,
-    base: &'a Expression,
-    name: &'a [u8],
-    end: &'static [u8],
-) -> Result<(), AllocError> {
-    pieces.push(Piece::Mark(end))?;
-    pieces.push(Piece::Name(name))?;
-    push_tree(pieces, base, b" ")
-}
-
-/// A tree between two marks.
-fn push_between<'a>(
-    pieces: &mut Vec<Piece<'a>>,
-    before: &'static [u8],
-    tree: &'a Expression,
-    behind: &'static [u8],
-) -> Result<(), AllocError> {
-    push_tree(pieces, tree, behind)?;
-    Ok(pieces.push(Piece::Mark(before))?)
-}
-
-/// The first of the arguments, each behind a space, and those that are left.
-fn push_arguments<'a>(
-    pieces: &mut Vec<Piece<'a>>,
-    arguments: &'a [Expression],
-) -> Result<(), AllocError> {
-    match arguments {
-        [] => Ok(()),
-        [argument, rest @ ..] => {
-            pieces.push(Piece::Arguments(rest))?;
-            push_between(pieces, b" ", argument, b"")
-        }
-    }
+/// An expression behind a head and before a tail.
+#[cycle(expressions)]
+fn enclosed_text(
+    alloc: Global,
+    head: &[u8],
+    tree: &Expression,
+    tail: &[u8],
+) -> Result<Vec<u8>, AllocError>
+    ensures { IfOk result (λ text. text.items ≡ concat (head.now ∷ tree_text (view tree.now) ∷ tail.now ∷ [])) }
+{
+    let text = expression_text(alloc, tree)?;
+    joined(alloc, &[head, &text, tail])
 }
 
 /// A part of an f-string.
-fn push_part<'a>(pieces: &mut Vec<Piece<'a>>, part: &'a FormatPart) -> Result<(), AllocError> {
+#[cycle(expressions)]
+fn part_text(alloc: Global, part: &FormatPart) -> Result<Vec<u8>, AllocError>
+    ensures { IfOk result (λ text. text.items ≡ parts_text (view_part part.now NoPart)) }
+{
     match part {
-        FormatPart::Text(text) => Ok(pieces.push(Piece::Hex(text.bytes()))?),
-        FormatPart::Formatted(tree) => push_between(pieces, b"{", tree, b"}"),
+        FormatPart::Text(text) => hex_text(alloc, text.bytes()),
+        FormatPart::Formatted(tree) => enclosed_text(alloc, b"{", tree, b"}"),
     }
 }
 
-/// The first of the parts, and those that are left.
-fn push_parts<'a>(pieces: &mut Vec<Piece<'a>>, parts: &'a [FormatPart]) -> Result<(), AllocError> {
-    match parts {
-        [] => Ok(()),
-        [part, rest @ ..] => {
-            pieces.push(Piece::Parts(rest))?;
-            push_part(pieces, part)
-        }
+/// The parts of an f-string.
+#[cycle(expressions)]
+fn parts_text(alloc: Global, parts: &[FormatPart]) -> Result<Vec<u8>, AllocError>
+    ensures { IfOk result (λ text. text.items ≡ flat_map (λ p. parts_text (view_part p NoPart)) parts.now) }
+{
+    let mut text = Vec::new(alloc);
+    for part in parts {
+        let more = part_text(alloc, part)?;
+        text.extend_from_slice(&more)?;
     }
-}
-
-/// What a tree begins with; its parts are left.
-fn open<'a>(
-    alloc: Global,
-    out: &mut Vec<u8>,
-    pieces: &mut Vec<Piece<'a>>,
-    tree: &'a Expression,
-) -> Result<(), AllocError> {
-    match tree {
-        Expression::Constant(constant) => push_constant(alloc, out, constant),
-        Expression::Name(name) => Ok(out.extend_from_slice(name.bytes())?),
-        Expression::Bracketed(inner) => push_tree(pieces, inner, b""),
-        Expression::FormatString(parts) => {
-            out.extend_from_slice(b"(f ")?;
-            pieces.push(Piece::Mark(b")"))?;
-            Ok(pieces.push(Piece::Parts(parts))?)
-        }
-        Expression::Attribute(base, name) => {
-            out.extend_from_slice(b"(. ")?;
-            push_member(pieces, base, name.bytes(), b")")
-        }
-        Expression::Subscript(base, index) => {
-            out.extend_from_slice(b"([] ")?;
-            push_pair(pieces, base, index)
-        }
-        Expression::Call(function, arguments) => {
-            out.extend_from_slice(b"(call ")?;
-            out.extend_from_slice(function.name())?;
-            pieces.push(Piece::Mark(b")"))?;
-            Ok(pieces.push(Piece::Arguments(arguments))?)
-        }
-        Expression::MethodCall(base, method) => {
-            out.extend_from_slice(b"(call (. ")?;
-            push_member(pieces, base, method.name(), b"))")
-        }
-        Expression::Unary(op, operand) => {
-            out.extend_from_slice(prefix(*op))?;
-            push_tree(pieces, operand, b")")
-        }
-        Expression::Binary(op, left, right) => {
-            out.extend_from_slice(infix(*op))?;
-            push_pair(pieces, left, right)
-        }
-        Expression::Bool(op, left, right) => {
-            out.extend_from_slice(choice(*op))?;
-            push_pair(pieces, left, right)
-        }
-    }
-}
-
-/// An expression.
-pub fn push_expression(
-    alloc: Global,
-    out: &mut Vec<u8>,
-    tree: &Expression,
-) -> Result<(), AllocError> {
-    let mut pieces = Vec::new(alloc);
-    pieces.push(Piece::Tree(tree))?;
-    for _ in 0..u64::MAX {
-        match pieces.pop() {
-            None => break,
-            Some(Piece::Mark(mark)) => out.extend_from_slice(mark)?,
-            Some(Piece::Name(name)) => out.extend_from_slice(name)?,
-            Some(Piece::Hex(bytes)) => push_hex(alloc, out, bytes)?,
-            Some(Piece::Arguments(arguments)) => push_arguments(&mut pieces, arguments)?,
-            Some(Piece::Parts(parts)) => push_parts(&mut pieces, parts)?,
-            Some(Piece::Tree(tree)) => open(alloc, out, &mut pieces, tree)?,
-        }
-    }
-    Ok(())
+    Ok(text)
 }
 
 /// Expressions, each behind a space.
-pub fn push_expressions(
-    alloc: Global,
-    out: &mut Vec<u8>,
-    trees: &[Expression],
-) -> Result<(), AllocError> {
+#[cycle(expressions)]
+pub fn spaced_texts(alloc: Global, trees: &[Expression]) -> Result<Vec<u8>, AllocError>
+    ensures { IfOk result (λ text. text.items ≡ flat_map spaced_text (map view trees.now)) }
+{
+    let mut text = Vec::new(alloc);
     for tree in trees {
-        out.extend_from_slice(b" ")?;
-        push_expression(alloc, out, tree)?;
+        let more = expression_text(alloc, tree)?;
+        text.extend_from_slice(b" ")?;
+        text.extend_from_slice(&more)?;
     }
-    Ok(())
+    Ok(text)
 }
 
-/// A name between brackets and parts.
-pub fn push_named(out: &mut Vec<u8>, before: &[u8], name: &Name) -> Result<(), AllocError> {
-    out.extend_from_slice(before)?;
-    Ok(out.extend_from_slice(name.bytes())?)
+/// An expression. It is read recursively, in as many calls as the expression is high.
+#[cycle(expressions)]
+pub fn expression_text(alloc: Global, tree: &Expression) -> Result<Vec<u8>, AllocError>
+    ensures { IfOk result (λ text. text.items ≡ tree_text (view tree.now)) }
+{
+    match tree {
+        Expression::Constant(constant) => constant_text(alloc, constant),
+        Expression::Name(name) => joined(alloc, &[name.bytes()]),
+        Expression::Bracketed(inner) => expression_text(alloc, inner),
+        Expression::FormatString(parts) => {
+            let parts = parts_text(alloc, parts)?;
+            joined(alloc, &[b"(f ", &parts, b")"])
+        }
+        Expression::Attribute(base, name) => member_text(alloc, base, name.bytes()),
+        Expression::Subscript(base, index) => {
+            let base = expression_text(alloc, base)?;
+            let index = expression_text(alloc, index)?;
+            pair_text(alloc, b"[]", &base, &index)
+        }
+        Expression::Call(function, arguments) => {
+            let arguments = spaced_texts(alloc, arguments)?;
+            joined(alloc, &[b"(call ", function.name(), &arguments, b")"])
+        }
+        Expression::MethodCall(base, method) => {
+            let member = member_text(alloc, base, method.name())?;
+            joined(alloc, &[b"(call ", &member, b")"])
+        }
+        Expression::Unary(op, operand) => enclosed_text(alloc, prefix(*op), operand, b")"),
+        Expression::Binary(op, left, right) => {
+            let left = expression_text(alloc, left)?;
+            let right = expression_text(alloc, right)?;
+            pair_text(alloc, infix(*op), &left, &right)
+        }
+        Expression::Bool(op, left, right) => {
+            let left = expression_text(alloc, left)?;
+            let right = expression_text(alloc, right)?;
+            pair_text(alloc, choice(*op), &left, &right)
+        }
+    }
+}
+
+/// An expression behind a space.
+pub fn spaced_text(alloc: Global, tree: &Expression) -> Result<Vec<u8>, AllocError>
+    ensures { IfOk result (λ text. text.items ≡ spaced_text (view tree.now)) }
+{
+    let text = expression_text(alloc, tree)?;
+    joined(alloc, &[b" ", &text])
 }

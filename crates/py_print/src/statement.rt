@@ -1,271 +1,377 @@
 //! Statements and headers.
 
-use crate::call::{push_await, push_right, push_start};
-use crate::expression::{infix, push_constant, push_expression, push_expressions, push_named};
+ghost use Rattle.std.specs.Prelude.{◌≡◌, ◌++◌, ◌∷◌, [], IfOk, codes, map};
+ghost use Rattle.std.specs.List.{concat, flat_map};
+ghost use Rattle.py_syntax.specs.ExpressionTrees.{view};
+ghost use Rattle.py_syntax.specs.StatementTables.{action_name, level_name};
+ghost use Rattle.py_syntax.specs.StatementTrees as node;
+ghost use Rattle.py_syntax.specs.StatementTrees.{optional, view_awaited, view_caught, view_header, view_logger, view_right, view_span, view_statement};
+ghost use Rattle.py_print.specs.CallText.{spaced_text};
+ghost use Rattle.py_print.specs.StatementText.{alone, caught_text, constants_text, header_text, logger_text, member_call, raised_text, returned_text, span_text, spaced_constant, spaced_kind, statement_text};
+
+use crate::call::{await_text, optional_text, right_text, start_text};
+use crate::expression::{
+    constant_text, expression_text, infix, member_text, pair_text, spaced_text, spaced_texts,
+};
+use crate::piece::joined;
 use py_syntax::{
-    Action, Awaited, BinOp, Caught, Const, Expression, FaultKind, Header, LogLevel, Logger,
-    RightSide, Span, Statement,
+    Action, BinOp, Caught, Const, Expression, FaultKind, Header, LogLevel, Logger, RightSide, Span,
+    Statement,
 };
 use std::alloc::{AllocError, Global};
 
-/// The end of a call of an action.
-fn action(action: Action) -> &'static [u8] {
+/// The name of an action.
+fn action_name(action: Action) -> &'static [u8]
+    ensures { result.now ≡ action_name action }
+{
     match action {
-        Action::Set => b" set)))",
-        Action::Clear => b" clear)))",
-        Action::Release => b" release)))",
-        Action::Kill => b" kill)))",
+        Action::Set => b"set",
+        Action::Clear => b"clear",
+        Action::Release => b"release",
+        Action::Kill => b"kill",
     }
 }
 
-/// The name of a level, and a bracket.
-fn level(level: LogLevel) -> &'static [u8] {
+/// The name of a level.
+fn level_name(level: LogLevel) -> &'static [u8]
+    ensures { result.now ≡ level_name level }
+{
     match level {
-        LogLevel::Info => b" info)",
-        LogLevel::Warning => b" warning)",
-        LogLevel::Error => b" error)",
+        LogLevel::Info => b"info",
+        LogLevel::Warning => b"warning",
+        LogLevel::Error => b"error",
     }
 }
 
-/// What stands between a head and a tail.
-fn push_between(
-    alloc: Global,
-    out: &mut Vec<u8>,
-    head: &[u8],
-    tree: &Expression,
-    tail: &[u8],
-) -> Result<(), AllocError> {
-    out.extend_from_slice(head)?;
-    push_expression(alloc, out, tree)?;
-    out.extend_from_slice(tail)?;
-    Ok(())
-}
-
-/// Another one, if there is one, and the end.
-fn push_option(
-    alloc: Global,
-    out: &mut Vec<u8>,
-    tree: Option<&Expression>,
-) -> Result<(), AllocError> {
-    match tree {
-        Some(tree) => push_between(alloc, out, b" ", tree, b")"),
-        None => Ok(out.extend_from_slice(b")")?),
+/// What is returned, behind a space, if anything is.
+fn returned_text(alloc: Global, right: &Option<RightSide>) -> Result<Vec<u8>, AllocError>
+    ensures { IfOk result (λ text. text.items ≡ returned_text (optional view_right right.now)) }
+{
+    match right {
+        Some(right) => {
+            let right = right_text(alloc, right)?;
+            joined(alloc, &[b" ", &right])
+        }
+        None => Ok(Vec::new(alloc)),
     }
 }
 
-/// A `raise` of a kind, with its text if there is one.
-fn push_raise(
+/// A `return`.
+fn return_text(alloc: Global, right: &Option<RightSide>) -> Result<Vec<u8>, AllocError>
+    ensures { IfOk result (λ text. text.items ≡ statement_text (node.Return (optional view_right right.now))) }
+{
+    let returned = returned_text(alloc, right)?;
+    joined(alloc, &[b"(return", &returned, b")"])
+}
+
+/// A kind, or a call of it with its value.
+fn raised_text(
     alloc: Global,
-    out: &mut Vec<u8>,
     kind: FaultKind,
-    value: Option<&Expression>,
-) -> Result<(), AllocError> {
+    value: &Option<Expression>,
+) -> Result<Vec<u8>, AllocError>
+    ensures { IfOk result (λ text. text.items ≡ raised_text kind (optional view value.now)) }
+{
     match value {
-        None => {
-            out.extend_from_slice(b"(raise ")?;
-            out.extend_from_slice(kind.name())?;
-        }
+        None => joined(alloc, &[kind.name()]),
         Some(value) => {
-            out.extend_from_slice(b"(raise (call ")?;
-            out.extend_from_slice(kind.name())?;
-            push_between(alloc, out, b" ", value, b")")?;
+            let value = spaced_text(alloc, value)?;
+            joined(alloc, &[b"(call ", kind.name(), &value, b")"])
         }
     }
-    out.extend_from_slice(b")")?;
-    Ok(())
 }
 
-/// A call of a logger.
-fn push_log(
+/// A `raise`.
+fn raise_text(
     alloc: Global,
-    out: &mut Vec<u8>,
-    logger: &Logger,
-    at: LogLevel,
-    values: (&Expression, &[Expression]),
-) -> Result<(), AllocError> {
-    out.extend_from_slice(b"(expr (call (. ")?;
-    match logger {
-        Logger::Cocotb => out.extend_from_slice(b"(. cocotb log)")?,
-        Logger::Hierarchy(base) => push_between(alloc, out, b"(. ", base, b" _log)")?,
-    }
-    out.extend_from_slice(level(at))?;
-    push_between(alloc, out, b" ", values.0, b"")?;
-    push_expressions(alloc, out, values.1)?;
-    out.extend_from_slice(b"))")?;
-    Ok(())
+    kind: FaultKind,
+    value: &Option<Expression>,
+) -> Result<Vec<u8>, AllocError>
+    ensures { IfOk result (λ text. text.items ≡ statement_text (node.Raise kind (optional view value.now))) }
+{
+    let raised = raised_text(alloc, kind, value)?;
+    joined(alloc, &[b"(raise ", &raised, b")"])
 }
 
-/// A right side behind a space, and the end.
-fn push_assigned(alloc: Global, out: &mut Vec<u8>, right: &RightSide) -> Result<(), AllocError> {
-    out.extend_from_slice(b" ")?;
-    push_right(alloc, out, right)?;
-    out.extend_from_slice(b")")?;
-    Ok(())
+/// An `assert`.
+fn assert_text(
+    alloc: Global,
+    condition: &Expression,
+    value: &Option<Expression>,
+) -> Result<Vec<u8>, AllocError>
+    ensures { IfOk result (λ text. text.items ≡ statement_text (node.Assert (view condition.now) (optional view value.now))) }
+{
+    let condition = spaced_text(alloc, condition)?;
+    let value = optional_text(alloc, value)?;
+    joined(alloc, &[b"(assert", &condition, &value, b")"])
+}
+
+/// An assignment to a name.
+fn assign_text(alloc: Global, name: &[u8], right: &RightSide) -> Result<Vec<u8>, AllocError>
+    ensures { IfOk result (λ text. text.items ≡ statement_text (node.Assign name.now (view_right right.now))) }
+{
+    let right = right_text(alloc, right)?;
+    pair_text(alloc, b"=", name, &right)
 }
 
 /// An assignment with an operator.
-fn push_augmented(
+fn augmented_text(
     alloc: Global,
-    out: &mut Vec<u8>,
     name: &[u8],
     op: BinOp,
     value: &Expression,
-) -> Result<(), AllocError> {
-    out.extend_from_slice(b"(augment ")?;
-    out.extend_from_slice(name)?;
-    out.extend_from_slice(b" ")?;
-    push_between(alloc, out, infix(op), value, b"))")
+) -> Result<Vec<u8>, AllocError>
+    ensures { IfOk result (λ text. text.items ≡ statement_text (node.AugmentedAssign name.now op (view value.now))) }
+{
+    let value = expression_text(alloc, value)?;
+    let operation = joined(alloc, &[b"(", infix(op), b" ", &value, b")"])?;
+    pair_text(alloc, b"augment", name, &operation)
 }
 
-/// A `return`, with what is returned if there is anything.
-fn push_return(
+/// An assignment to the value of a signal.
+fn assign_value_text(
     alloc: Global,
-    out: &mut Vec<u8>,
-    right: Option<&RightSide>,
-) -> Result<(), AllocError> {
-    out.extend_from_slice(b"(return")?;
-    match right {
-        Some(right) => push_assigned(alloc, out, right),
-        None => Ok(out.extend_from_slice(b")")?),
-    }
+    base: &Expression,
+    right: &RightSide,
+) -> Result<Vec<u8>, AllocError>
+    ensures { IfOk result (λ text. text.items ≡ statement_text (node.AssignValue (view base.now) (view_right right.now))) }
+{
+    let member = member_text(alloc, base, b"value")?;
+    let right = right_text(alloc, right)?;
+    pair_text(alloc, b"=", &member, &right)
+}
+
+/// A statement that is a call of a member with these arguments, each behind a space.
+pub fn member_call_text(
+    alloc: Global,
+    base: &[u8],
+    name: &[u8],
+    arguments: &[u8],
+) -> Result<Vec<u8>, AllocError>
+    ensures { IfOk result (λ text. text.items ≡ alone (member_call base.now name.now arguments.now)) }
+{
+    let member = pair_text(alloc, b".", base, name)?;
+    joined(alloc, &[b"(expr (call ", &member, arguments, b"))"])
 }
 
 /// A value that is set at once.
-fn push_immediate(
+fn immediate_text(
     alloc: Global,
-    out: &mut Vec<u8>,
     base: &Expression,
     value: &Expression,
-) -> Result<(), AllocError> {
-    push_between(alloc, out, b"(expr (call (. ", base, b" setimmediatevalue)")?;
-    push_between(alloc, out, b" ", value, b"))")
+) -> Result<Vec<u8>, AllocError>
+    ensures { IfOk result (λ text. text.items ≡ statement_text (node.SetImmediateValue (view base.now) (view value.now))) }
+{
+    let base = expression_text(alloc, base)?;
+    let value = spaced_text(alloc, value)?;
+    member_call_text(alloc, &base, b"setimmediatevalue", &value)
 }
 
-/// A `Timer` or another trigger, a task or a call that is waited for.
-fn push_waiting(alloc: Global, out: &mut Vec<u8>, awaited: &Awaited) -> Result<(), AllocError> {
-    out.extend_from_slice(b"(expr ")?;
-    push_await(alloc, out, awaited)?;
-    Ok(out.extend_from_slice(b")")?)
+/// A method without arguments that is called.
+fn act_text(alloc: Global, base: &Expression, action: Action) -> Result<Vec<u8>, AllocError>
+    ensures { IfOk result (λ text. text.items ≡ statement_text (node.Act (view base.now) action)) }
+{
+    let base = expression_text(alloc, base)?;
+    member_call_text(alloc, &base, action_name(action), b"")
+}
+
+/// What a line is logged for.
+fn logger_text(alloc: Global, logger: &Logger) -> Result<Vec<u8>, AllocError>
+    ensures { IfOk result (λ text. text.items ≡ logger_text (view_logger logger.now)) }
+{
+    match logger {
+        Logger::Cocotb => pair_text(alloc, b".", b"cocotb", b"log"),
+        Logger::Hierarchy(base) => member_text(alloc, base, b"_log"),
+    }
+}
+
+/// Values, each behind a space.
+fn values_text(
+    alloc: Global,
+    first: &Expression,
+    others: &[Expression],
+) -> Result<Vec<u8>, AllocError>
+    ensures { IfOk result (λ text. text.items ≡ spaced_text (view first.now) ++ flat_map spaced_text (map view others.now)) }
+{
+    let first = spaced_text(alloc, first)?;
+    let others = spaced_texts(alloc, others)?;
+    joined(alloc, &[&first, &others])
+}
+
+/// A call of a logger.
+fn log_text(
+    alloc: Global,
+    logger: &Logger,
+    level: LogLevel,
+    first: &Expression,
+    others: &[Expression],
+) -> Result<Vec<u8>, AllocError>
+    ensures { IfOk result (λ text. text.items ≡ statement_text (node.Log (view_logger logger.now) level (view first.now) (map view others.now))) }
+{
+    let logger = logger_text(alloc, logger)?;
+    let values = values_text(alloc, first, others)?;
+    member_call_text(alloc, &logger, level_name(level), &values)
+}
+
+/// A statement that is an expression alone.
+fn alone_text(alloc: Global, text: &[u8]) -> Result<Vec<u8>, AllocError>
+    ensures { IfOk result (λ whole. whole.items ≡ alone text.now) }
+{
+    joined(alloc, &[b"(expr ", text, b")"])
 }
 
 /// A statement.
-pub fn push_statement(
-    alloc: Global,
-    out: &mut Vec<u8>,
-    statement: &Statement,
-) -> Result<(), AllocError> {
+pub fn statement_text(alloc: Global, statement: &Statement) -> Result<Vec<u8>, AllocError>
+    ensures { IfOk result (λ text. text.items ≡ statement_text (view_statement statement.now)) }
+{
     match statement {
-        Statement::Pass => out.extend_from_slice(b"(pass)")?,
-        Statement::Break => out.extend_from_slice(b"(break)")?,
-        Statement::Continue => out.extend_from_slice(b"(continue)")?,
-        Statement::Return(right) => push_return(alloc, out, right.as_ref())?,
-        Statement::Raise(kind, value) => push_raise(alloc, out, *kind, value.as_ref())?,
-        Statement::Assert(condition, value) => {
-            push_between(alloc, out, b"(assert ", condition, b"")?;
-            push_option(alloc, out, value.as_ref())?;
-        }
-        Statement::Assign(name, right) => {
-            push_named(out, b"(= ", name)?;
-            push_assigned(alloc, out, right)?;
-        }
+        Statement::Pass => joined(alloc, &[b"(pass)"]),
+        Statement::Break => joined(alloc, &[b"(break)"]),
+        Statement::Continue => joined(alloc, &[b"(continue)"]),
+        Statement::Return(right) => return_text(alloc, right),
+        Statement::Raise(kind, value) => raise_text(alloc, *kind, value),
+        Statement::Assert(condition, value) => assert_text(alloc, condition, value),
+        Statement::Assign(name, right) => assign_text(alloc, name.bytes(), right),
         Statement::AugmentedAssign(name, op, value) => {
-            push_augmented(alloc, out, name.bytes(), *op, value)?
+            augmented_text(alloc, name.bytes(), *op, value)
         }
-        Statement::AssignValue(base, right) => {
-            push_between(alloc, out, b"(= (. ", base, b" value)")?;
-            push_assigned(alloc, out, right)?;
+        Statement::AssignValue(base, right) => assign_value_text(alloc, base, right),
+        Statement::SetImmediateValue(base, value) => immediate_text(alloc, base, value),
+        Statement::Await(awaited) => {
+            let awaited = await_text(alloc, awaited)?;
+            alone_text(alloc, &awaited)
         }
-        Statement::SetImmediateValue(base, value) => {
-            push_immediate(alloc, out, base, value)?;
-        }
-        Statement::Await(awaited) => push_waiting(alloc, out, awaited)?,
-        Statement::Act(base, what) => {
-            push_between(alloc, out, b"(expr (call (. ", base, action(*what))?
-        }
-        Statement::Log(logger, at, first, others) => {
-            push_log(alloc, out, logger, *at, (first, others.as_slice()))?
+        Statement::Act(base, action) => act_text(alloc, base, *action),
+        Statement::Log(logger, level, first, others) => {
+            log_text(alloc, logger, *level, first, others)
         }
         Statement::StartSoon(call) => {
-            push_start(alloc, out, b"(expr (call (. cocotb start_soon) ", call)?;
-            out.extend_from_slice(b")")?;
+            let start = start_text(alloc, b"start_soon", call)?;
+            alone_text(alloc, &start)
         }
     }
-    Ok(())
+}
+
+/// Constants, each behind a space.
+fn spaced_constants(alloc: Global, constants: &[Const]) -> Result<Vec<u8>, AllocError>
+    ensures { IfOk result (λ text. text.items ≡ flat_map spaced_constant constants.now) }
+{
+    let mut text = Vec::new(alloc);
+    for constant in constants {
+        let more = constant_text(alloc, constant)?;
+        text.extend_from_slice(b" ")?;
+        text.extend_from_slice(&more)?;
+    }
+    Ok(text)
 }
 
 /// A list of constants.
-fn push_constants(alloc: Global, out: &mut Vec<u8>, constants: &[Const]) -> Result<(), AllocError> {
-    out.extend_from_slice(b"(list")?;
-    for constant in constants {
-        out.extend_from_slice(b" ")?;
-        push_constant(alloc, out, constant)?;
-    }
-    out.extend_from_slice(b")")?;
-    Ok(())
+pub fn constants_text(alloc: Global, constants: &[Const]) -> Result<Vec<u8>, AllocError>
+    ensures { IfOk result (λ text. text.items ≡ constants_text constants.now) }
+{
+    let constants = spaced_constants(alloc, constants)?;
+    joined(alloc, &[b"(list", &constants, b")"])
+}
+
+/// A range from a start to a stop.
+fn range_text(alloc: Global, start: &Expression, stop: &Expression) -> Result<Vec<u8>, AllocError>
+    ensures { IfOk result (λ text. text.items ≡ span_text (node.StartStop (view start.now) (view stop.now))) }
+{
+    let start = spaced_text(alloc, start)?;
+    let stop = spaced_text(alloc, stop)?;
+    joined(alloc, &[b"(call range", &start, &stop, b")"])
+}
+
+/// A range from a start to a stop in steps.
+fn stepped_text(
+    alloc: Global,
+    start: &Expression,
+    stop: &Expression,
+    step: &Expression,
+) -> Result<Vec<u8>, AllocError>
+    ensures { IfOk result (λ text. text.items ≡ span_text (node.StartStopStep (view start.now) (view stop.now) (view step.now))) }
+{
+    let start = spaced_text(alloc, start)?;
+    let stop = spaced_text(alloc, stop)?;
+    let step = spaced_text(alloc, step)?;
+    joined(alloc, &[b"(call range", &start, &stop, &step, b")"])
 }
 
 /// What a loop goes over.
-fn push_span(alloc: Global, out: &mut Vec<u8>, span: &Span) -> Result<(), AllocError> {
+fn span_text(alloc: Global, span: &Span) -> Result<Vec<u8>, AllocError>
+    ensures { IfOk result (λ text. text.items ≡ span_text (view_span span.now)) }
+{
     match span {
-        Span::Stop(stop) => push_between(alloc, out, b"(call range ", stop, b")"),
-        Span::StartStop(start, stop) => {
-            push_between(alloc, out, b"(call range ", start, b" ")?;
-            push_between(alloc, out, b"", stop, b")")
+        Span::Stop(stop) => {
+            let stop = spaced_text(alloc, stop)?;
+            joined(alloc, &[b"(call range", &stop, b")"])
         }
-        Span::StartStopStep(start, stop, step) => {
-            push_between(alloc, out, b"(call range ", start, b" ")?;
-            push_between(alloc, out, b"", stop, b" ")?;
-            push_between(alloc, out, b"", step, b")")
-        }
-        Span::Constants(constants) => push_constants(alloc, out, constants),
+        Span::StartStop(start, stop) => range_text(alloc, start, stop),
+        Span::StartStopStep(start, stop, step) => stepped_text(alloc, start, stop, step),
+        Span::Constants(constants) => constants_text(alloc, constants),
     }
 }
 
-/// Several kinds of faults.
-fn push_kinds(out: &mut Vec<u8>, kinds: &[FaultKind]) -> Result<(), AllocError> {
-    out.extend_from_slice(b" (tuple")?;
+/// Kinds of faults, each behind a space.
+fn spaced_kinds(alloc: Global, kinds: &[FaultKind]) -> Result<Vec<u8>, AllocError>
+    ensures { IfOk result (λ text. text.items ≡ flat_map spaced_kind kinds.now) }
+{
+    let mut text = Vec::new(alloc);
     for kind in kinds {
-        out.extend_from_slice(b" ")?;
-        out.extend_from_slice(kind.name())?;
+        text.extend_from_slice(b" ")?;
+        text.extend_from_slice(kind.name())?;
     }
-    out.extend_from_slice(b")")?;
-    Ok(())
+    Ok(text)
+}
+
+/// A kind and the name that is given to what is caught.
+fn named_kind(alloc: Global, kind: &[u8], name: &[u8]) -> Result<Vec<u8>, AllocError>
+    ensures { IfOk result (λ text. text.items ≡ concat (codes " " ∷ kind.now ∷ codes " as " ∷ name.now ∷ [])) }
+{
+    joined(alloc, &[b" ", kind, b" as ", name])
 }
 
 /// What an `except` catches.
-fn push_caught(out: &mut Vec<u8>, caught: &Caught) -> Result<(), AllocError> {
+fn caught_text(alloc: Global, caught: &Caught) -> Result<Vec<u8>, AllocError>
+    ensures { IfOk result (λ text. text.items ≡ caught_text (view_caught caught.now)) }
+{
     match caught {
-        Caught::All => Ok(()),
-        Caught::Kind(kind) => {
-            out.extend_from_slice(b" ")?;
-            out.extend_from_slice(kind.name())
+        Caught::All => Ok(Vec::new(alloc)),
+        Caught::Kind(kind) => joined(alloc, &[b" ", kind.name()]),
+        Caught::Kinds(kinds) => {
+            let kinds = spaced_kinds(alloc, kinds)?;
+            joined(alloc, &[b" (tuple", &kinds, b")"])
         }
-        Caught::Kinds(kinds) => push_kinds(out, kinds),
-        Caught::As(kind, name) => {
-            out.extend_from_slice(b" ")?;
-            out.extend_from_slice(kind.name())?;
-            push_named(out, b" as ", name)
-        }
+        Caught::As(kind, name) => named_kind(alloc, kind.name(), name.bytes()),
     }
 }
 
+/// A word, and an expression behind a space.
+fn test_text(alloc: Global, word: &[u8], tree: &Expression) -> Result<Vec<u8>, AllocError>
+    ensures { IfOk result (λ text. text.items ≡ word.now ++ spaced_text (view tree.now)) }
+{
+    let tree = spaced_text(alloc, tree)?;
+    joined(alloc, &[word, &tree])
+}
+
 /// A header, whose bracket stays open.
-pub fn push_header(alloc: Global, out: &mut Vec<u8>, header: &Header) -> Result<(), AllocError> {
+pub fn header_text(alloc: Global, header: &Header) -> Result<Vec<u8>, AllocError>
+    ensures { IfOk result (λ text. text.items ≡ header_text (view_header header.now)) }
+{
     match header {
-        Header::If(condition) => push_between(alloc, out, b"(if ", condition, b""),
-        Header::Elif(condition) => push_between(alloc, out, b"(elif ", condition, b""),
-        Header::Else => Ok(out.extend_from_slice(b"(else")?),
-        Header::While(condition) => push_between(alloc, out, b"(while ", condition, b""),
+        Header::If(condition) => test_text(alloc, b"(if", condition),
+        Header::Elif(condition) => test_text(alloc, b"(elif", condition),
+        Header::Else => joined(alloc, &[b"(else"]),
+        Header::While(condition) => test_text(alloc, b"(while", condition),
         Header::For(name, span) => {
-            push_named(out, b"(for ", name)?;
-            out.extend_from_slice(b" ")?;
-            push_span(alloc, out, span)
+            let span = span_text(alloc, span)?;
+            joined(alloc, &[b"(for ", name.bytes(), b" ", &span])
         }
-        Header::Try => Ok(out.extend_from_slice(b"(try")?),
+        Header::Try => joined(alloc, &[b"(try"]),
         Header::Except(caught) => {
-            out.extend_from_slice(b"(except")?;
-            push_caught(out, caught)
+            let caught = caught_text(alloc, caught)?;
+            joined(alloc, &[b"(except", &caught])
         }
-        Header::With(lock) => push_between(alloc, out, b"(with ", lock, b""),
+        Header::With(lock) => test_text(alloc, b"(with", lock),
     }
 }

@@ -1,1 +1,1 @@
-mod Repeats
+mod Faults

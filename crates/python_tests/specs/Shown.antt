@@ -1,6 +1,6 @@
 -- How logical lines and their tokens are shown.
-use Rattle.std.specs.Prelude.{ℕ, Bool, true, false, List, [], ◌∷◌, ◌++◌, codes}
-use Rattle.std.specs.List.{flat_map}
+use Rattle.std.specs.Prelude.{ℕ, Bool, true, false, List, [], ◌++◌, codes}
+use Rattle.std.specs.List.{flat_map, join_by}
 use Rattle.std.specs.Fmt.{decimal}
 use Rattle.py_syntax.specs.Keywords.{keyword_bytes}
 use Rattle.py_syntax.specs.Line.{Line}
@@ -81,13 +81,17 @@ docstring_mark false = []
 
 -- A line is its number, `:`, its indentation, ` doc` for a docstring, and its tokens, each behind a blank.
 abbrev pub line_text : Line → List ℕ
-line_text line = decimal line.number ++ codes ":" ++ decimal line.indentation ++ docstring_mark line.is_docstring ++ flat_map next_token line.tokens
+line_text line =
+    decimal line.number ++ codes ":" ++ decimal line.indentation ++ docstring_mark line.is_docstring ++ flat_map next_token line.tokens
 
--- behind another one
+-- what stands between two lines
+abbrev pub between_lines : List ℕ
+between_lines = codes "; "
+
+-- a line behind another one
 abbrev pub next_line : Line → List ℕ
-next_line line = codes "; " ++ line_text line
+next_line line = between_lines ++ line_text line
 
 -- the lines, with `; ` between them
 abbrev pub lines_text : List Line → List ℕ
-lines_text [] = []
-lines_text (line ∷ lines) = line_text line ++ flat_map next_line lines
+lines_text lines = join_by line_text between_lines lines

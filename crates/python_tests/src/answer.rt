@@ -1,6 +1,11 @@
 //! The answer for a row.
-ghost use Rattle.std.specs.Prelude.{◌≡◌, IfOk};
-ghost use Rattle.python_tests.specs.Answers.{ShowsLines, ShowsModule, ShowsParsed, ShowsRow, ShowsSource, asked_by, at_line, line_fault_text, py_fault_text, source_of};
+ghost use Rattle.std.specs.Prelude.{◌≡◌, ℕ, List, IfOk};
+ghost use Rattle.py_syntax.specs.BlockTrees.{view_module};
+ghost use Rattle.py_syntax.specs.Line.{Line};
+ghost use Rattle.py_lex.specs.Answer.{IsAnswered};
+ghost use Rattle.py_parse.specs.Found.{IsBroken};
+ghost use Rattle.table_rows.specs.Rows.{part_at};
+ghost use Rattle.python_tests.specs.Answers.{ShowsAsked, ShowsBroken, ShowsLines, ShowsParsed, ShowsRefusal, ShowsRow, ShowsSource, asked_by, at_line, shown_module, source_of};
 
 use crate::lines::lines_text;
 use crate::row::repeated;
@@ -9,7 +14,7 @@ use py_parse::{PyFault, parse};
 use py_print::module_text;
 use py_syntax::{Lines, Module};
 use std::alloc::{AllocError, Global};
-use table_rows::{cut, text_of};
+use table_rows::Row;
 
 /// What is asked.
 #[derive(Clone, Copy, Debug, PartialEq, Eq)]
@@ -20,60 +25,58 @@ enum Asked {
     Repeat,
 }
 
-/// What a word asks.
-fn asked_by(word: &[u8]) -> Asked
+/// What a word asks, if anything.
+fn asked_by(word: &[u8]) -> Option<Asked>
     ensures { result ≡ asked_by word.now }
 {
     if word == b"lines".as_slice() {
-        Asked::Lines
+        Some(Asked::Lines)
     } else if word == b"tree".as_slice() {
-        Asked::Tree
+        Some(Asked::Tree)
+    } else if word == b"read".as_slice() {
+        Some(Asked::Read)
     } else if word == b"repeat".as_slice() {
-        Asked::Repeat
+        Some(Asked::Repeat)
     } else {
-        Asked::Read
+        None
     }
 }
 
-/// A fault's name, with its line in brackets. Only want of memory is an error, here and below.
-fn at_line(alloc: Global, name: &[u8], line: u32) -> Result<Vec<u8>, AllocError>
+/// A rule's name, with the number of a line in brackets. Only want of memory is an error, here and below.
+fn at_line(alloc: Global, name: &str, line: u32) -> Result<Vec<u8>, AllocError>
     ensures { IfOk result (λ text. text.items ≡ at_line name.now line) }
 {
-    let mut text = name.to_vec(alloc)?;
-    text.extend_from_slice(b"(")?;
-    text.extend_from_slice(line.to_string(alloc)?.as_bytes())?;
-    text.extend_from_slice(b")")?;
-    Ok(text)
+    Ok(format!(in alloc; "{name}({line})")?.into_bytes())
 }
 
-/// Why a text has no logical lines.
+/// The rule that a text breaks which has no logical lines.
 fn of_line_fault(alloc: Global, fault: LineFault) -> Result<Vec<u8>, AllocError>
-    ensures { IfOk result (λ text. text.items ≡ line_fault_text fault) }
+    ensures { IfOk result (λ text. (source : List ℕ) → IsAnswered source (Err fault) → ShowsBroken source text.items) }
 {
     match fault {
-        LineFault::Tab(line) => at_line(alloc, b"Tab", line),
-        LineFault::Dedent(line) => at_line(alloc, b"Dedent", line),
-        LineFault::UnclosedText(line) => at_line(alloc, b"UnclosedText", line),
-        LineFault::BadByte(line) => at_line(alloc, b"BadByte", line),
-        LineFault::OutOfMemory => b"OutOfMemory".to_vec(alloc),
+        LineFault::Tab(line) => at_line(alloc, "Tab", line),
+        LineFault::Dedent(line) => at_line(alloc, "Dedent", line),
+        LineFault::UnclosedText(line) => at_line(alloc, "UnclosedText", line),
+        LineFault::BadByte(line) => at_line(alloc, "BadByte", line),
+        LineFault::OutOfMemory => Err(AllocError),
     }
 }
 
-/// Why lines are no module.
+/// The rule that lines break which are no module.
 fn of_fault(alloc: Global, fault: PyFault) -> Result<Vec<u8>, AllocError>
-    ensures { IfOk result (λ text. text.items ≡ py_fault_text fault) }
+    ensures { IfOk result (λ text. (lines : List Line) → IsBroken lines fault → ShowsRefusal lines text.items) }
 {
     match fault {
-        PyFault::BadLine(line) => at_line(alloc, b"BadLine", line),
-        PyFault::NoBlock(line) => at_line(alloc, b"NoBlock", line),
-        PyFault::TooDeep(line) => at_line(alloc, b"TooDeep", line),
-        PyFault::OutOfMemory => b"OutOfMemory".to_vec(alloc),
+        PyFault::BadLine(line) => at_line(alloc, "BadLine", line),
+        PyFault::NoBlock(line) => at_line(alloc, "NoBlock", line),
+        PyFault::TooDeep(line) => at_line(alloc, "TooDeep", line),
+        PyFault::OutOfMemory => Err(AllocError),
     }
 }
 
 /// The tree of a module, or that there is one.
 fn of_module(alloc: Global, asked: Asked, module: &Module) -> Result<Vec<u8>, AllocError>
-    ensures { IfOk result (λ text. ShowsModule asked text.items) }
+    ensures { IfOk result (λ text. text.items ≡ shown_module asked (view_module module.now)) }
 {
     match asked {
         Asked::Tree => module_text(alloc, module),
@@ -81,7 +84,7 @@ fn of_module(alloc: Global, asked: Asked, module: &Module) -> Result<Vec<u8>, Al
     }
 }
 
-/// What is read of logical lines, or the fault.
+/// What is read of logical lines, or the rule that they break.
 fn of_parsed(alloc: Global, asked: Asked, lines: &Lines) -> Result<Vec<u8>, AllocError>
     ensures { IfOk result (λ text. ShowsParsed asked lines.now text.items) }
 {
@@ -101,7 +104,7 @@ fn of_lines(alloc: Global, asked: Asked, lines: &Lines) -> Result<Vec<u8>, Alloc
     }
 }
 
-/// What is read of a text, or the fault.
+/// What is read of a text, or the rule that it breaks.
 fn of_text(alloc: Global, asked: Asked, text: &[u8]) -> Result<Vec<u8>, AllocError>
     ensures { IfOk result (λ shown. ShowsSource asked text.now shown.items) }
 {
@@ -114,26 +117,33 @@ fn of_text(alloc: Global, asked: Asked, text: &[u8]) -> Result<Vec<u8>, AllocErr
     }
 }
 
-/// The text that is asked about.
-fn text_in(alloc: Global, asked: Asked, part: &[u8]) -> Result<Vec<u8>, AllocError>
-    ensures { IfOk result (λ text. text.items ≡ source_of asked part.now) }
+/// The text that a row asks about.
+fn source_of(alloc: Global, asked: Asked, row: &Row<'_>) -> Result<Vec<u8>, AllocError>
+    ensures { IfOk result (λ text. text.items ≡ source_of asked row.now) }
 {
     match asked {
-        Asked::Repeat => repeated(alloc, part),
-        Asked::Lines | Asked::Tree | Asked::Read => text_of(alloc, part),
+        Asked::Repeat => repeated(alloc, row),
+        Asked::Lines | Asked::Tree | Asked::Read => row.text(alloc, 2),
     }
 }
 
-/// The rule of a row, and the answer for it.
+/// What is shown of a row's text.
+fn shown(alloc: Global, row: &Row<'_>) -> Result<Vec<u8>, AllocError>
+    ensures { IfOk result (λ shown. ShowsAsked (asked_by (part_at 0 row.now)) row.now shown.items) }
+{
+    match asked_by(row.part(0)) {
+        Some(asked) => of_text(alloc, asked, &source_of(alloc, asked, row)?),
+        None => b"not asked".to_vec(alloc),
+    }
+}
+
+/// The rule of a row, and what is shown of its text.
 pub fn answer(alloc: Global, line: &[u8]) -> Result<Vec<u8>, AllocError>
     ensures { IfOk result (λ out. ShowsRow line.now out.items) }
 {
-    let (word, row) = cut(line, b'\t');
-    let (rule, part) = cut(row, b'\t');
-    let asked = asked_by(word);
-    let text = text_in(alloc, asked, part)?;
-    let mut out = rule.to_vec(alloc)?;
+    let row = Row::of(line);
+    let mut out = row.part(1).to_vec(alloc)?;
     out.extend_from_slice(b": ")?;
-    out.extend_from_slice(&of_text(alloc, asked, &text)?)?;
+    out.extend_from_slice(&shown(alloc, &row)?)?;
     Ok(out)
 }

@@ -2,7 +2,8 @@
 //!
 //! A row is parted by tabs: what is asked, the rule that the row shows, and a text. Asked is `lines` (the logical lines and their
 //! tokens), `tree` (the module), `read` (whether there is one), or `repeat` (the same of a text that is put together of repeated
-//! parts). In a text `\` stands before two hexadecimal digits of a byte. The gate compares what is printed with `stdout`.
+//! parts: behind the rule stand how many times, a front, a part, a middle, another part and a back); where it is another word, the
+//! answer is `not asked`. In a text `\` stands before two hexadecimal digits of a byte. The gate compares what is printed with `stdout`.
 #![tactic(auto)]
 
 mod answer;

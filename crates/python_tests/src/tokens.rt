@@ -2,7 +2,7 @@
 //!
 //! Names and brackets stand as they are, reserved words behind `!`, numbers behind `#`, texts between quotes, operators by name,
 //! an f-string from `f"` to `"f` with its own text between `'`, and `?` is what no form takes.
-ghost use Rattle.std.specs.Prelude.{◌≡◌, ◌∷◌, [], ◌++◌, OnOk};
+ghost use Rattle.std.specs.Prelude.{◌≡◌, ◌++◌, IfOk};
 ghost use Rattle.python_tests.specs.Shown.{closing_text, opening_text, operator_name, token_text};
 
 use py_syntax::{Bracket, Operator, Token};
@@ -69,42 +69,41 @@ fn name_of(operator: Operator) -> &'static [u8]
 }
 
 /// A text between two quotes. Only want of memory is an error, here and below.
-fn push_quoted(out: &mut Vec<u8>, quote: u8, text: &[u8]) -> Result<(), AllocError>
-    ensures { OnOk result (out.new.items ≡ out.old.items ++ (quote ∷ []) ++ text.now ++ (quote ∷ [])) }
+fn quoted(alloc: Global, quote: &[u8], text: &[u8]) -> Result<Vec<u8>, AllocError>
+    ensures { IfOk result (λ shown. shown.items ≡ quote.now ++ text.now ++ quote.now) }
 {
-    out.push(quote)?;
-    out.extend_from_slice(text)?;
-    out.push(quote)?;
-    Ok(())
+    let mut shown = quote.to_vec(alloc)?;
+    shown.extend_from_slice(text)?;
+    shown.extend_from_slice(quote)?;
+    Ok(shown)
 }
 
 /// A text behind a mark.
-fn push_marked(out: &mut Vec<u8>, mark: u8, text: &[u8]) -> Result<(), AllocError>
-    ensures { OnOk result (out.new.items ≡ out.old.items ++ (mark ∷ []) ++ text.now) }
+fn marked(alloc: Global, mark: &[u8], text: &[u8]) -> Result<Vec<u8>, AllocError>
+    ensures { IfOk result (λ shown. shown.items ≡ mark.now ++ text.now) }
 {
-    out.push(mark)?;
-    out.extend_from_slice(text)?;
-    Ok(())
+    let mut shown = mark.to_vec(alloc)?;
+    shown.extend_from_slice(text)?;
+    Ok(shown)
 }
 
 /// A token.
-pub fn push_token(alloc: Global, out: &mut Vec<u8>, token: &Token) -> Result<(), AllocError>
-    ensures { OnOk result (out.new.items ≡ out.old.items ++ token_text token.now) }
+pub fn token_text(alloc: Global, token: &Token) -> Result<Vec<u8>, AllocError>
+    ensures { IfOk result (λ text. text.items ≡ token_text token.now) }
 {
     match token {
-        Token::Name(name) => out.extend_from_slice(name.bytes())?,
-        Token::Keyword(keyword) => push_marked(out, b'!', keyword.bytes())?,
-        Token::Number(number) => push_marked(out, b'#', number.to_string(alloc)?.as_bytes())?,
-        Token::Text(text) => push_quoted(out, b'"', text.bytes())?,
-        Token::Open(bracket) => out.extend_from_slice(opening(*bracket))?,
-        Token::Close(bracket) => out.extend_from_slice(closing(*bracket))?,
-        Token::Operator(operator) => out.extend_from_slice(name_of(*operator))?,
-        Token::FormatStart => out.extend_from_slice(b"f\"")?,
-        Token::FormatText(text) => push_quoted(out, b'\'', text.bytes())?,
-        Token::FormatOpen => out.extend_from_slice(b"{")?,
-        Token::FormatClose => out.extend_from_slice(b"}")?,
-        Token::FormatEnd => out.extend_from_slice(b"\"f")?,
-        Token::Invalid => out.extend_from_slice(b"?")?,
+        Token::Name(name) => name.bytes().to_vec(alloc),
+        Token::Keyword(keyword) => marked(alloc, b"!", keyword.bytes()),
+        Token::Number(number) => Ok(format!(in alloc; "#{number}")?.into_bytes()),
+        Token::Text(text) => quoted(alloc, b"\"", text.bytes()),
+        Token::Open(bracket) => opening(*bracket).to_vec(alloc),
+        Token::Close(bracket) => closing(*bracket).to_vec(alloc),
+        Token::Operator(operator) => name_of(*operator).to_vec(alloc),
+        Token::FormatStart => b"f\"".to_vec(alloc),
+        Token::FormatText(text) => quoted(alloc, b"'", text.bytes()),
+        Token::FormatOpen => b"{".to_vec(alloc),
+        Token::FormatClose => b"}".to_vec(alloc),
+        Token::FormatEnd => b"\"f".to_vec(alloc),
+        Token::Invalid => b"?".to_vec(alloc),
     }
-    Ok(())
 }

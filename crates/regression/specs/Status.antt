@@ -1,5 +1,7 @@
--- The numbers of the statuses.
-use Rattle.std.specs.Prelude.{ℕ}
+-- The statuses: their numbers, and the one after puts.
+use Rattle.std.specs.Prelude.{ℕ, Option, None, Some}
+use Rattle.port_io.specs.declared.ports.SinkFault.{SinkFault}
+use Rattle.port_io.specs.declared.ports.SinkFault.TheVariants as fault
 use Rattle.regression.specs.declared.status.Status.{Status}
 use Rattle.regression.specs.declared.status.Status.TheVariants.{Passed, Failed, Usage, DesignRefused, TestsRefused, ReadFault, WriteFault, NoMemory, Budget}
 
@@ -13,3 +15,9 @@ code_of ReadFault = 5
 code_of WriteFault = 6
 code_of NoMemory = 7
 code_of Budget = 8
+
+-- the status after puts that were to end in this one: so it is where all were taken, and else it says why one failed
+abbrev pub put_status : Status → Option SinkFault → Status
+put_status own None = own
+put_status own (Some fault.Failed) = WriteFault
+put_status own (Some fault.OutOfMemory) = NoMemory

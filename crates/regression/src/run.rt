@@ -1,13 +1,15 @@
 //! A whole run.
-ghost use Rattle.std.specs.Prelude.{◌≡◌, ◌≢◌, ◌<◌, [], ◌∷◌, length, IfOk, Ok, true};
+ghost use Rattle.std.specs.Prelude.{◌≡◌, ◌≢◌, ◌<◌, [], ◌∷◌, length, IfOk, OnOk, Ok, true};
+ghost use Rattle.std.specs.Result.{result_err};
+ghost use Rattle.port_io.specs.Means.{PutsTo, sink_means};
 ghost use Rattle.gpi.specs.Content.{no_counts};
 ghost use Rattle.rig_model.specs.FitSteps.{FitSteps, anywhere};
-ghost use Rattle.rig_model.specs.Line.{verdict_line, budget_line};
-ghost use Rattle.rig_model.specs.Run.{emptied, opening_sim, report_of, passes};
+ghost use Rattle.rig_model.specs.Line.{passes, verdict_line, budget_line};
+ghost use Rattle.rig_model.specs.Run.{emptied, opening_sim, report_of};
 ghost use Rattle.scheduler.specs.Engine.{rig_of, runs_test, setup_of};
-ghost use Rattle.scheduler.specs.Fits.{FitsKernel, FitsAfter};
+ghost use Rattle.scheduler.specs.Fits.{FitsKernel};
 ghost use Rattle.scheduler.specs.Turns.{Turning};
-ghost use Rattle.regression.specs.Runs.{RunsTo, PutsLine, PutsLines, EndsTo, status_in, verdict_status, ended_status, short_status};
+ghost use Rattle.regression.specs.Runs.{RunsTo, EndsTo, status_in, verdict_status};
 
 use crate::status::Status;
 use gpi::{Flat, Gpi};
@@ -16,28 +18,6 @@ use rig_model::{Awaits, FlowMaker, Outcome, Steps, TestCase};
 use scheduler::{Engine, Tally, Turn, budget_text, report_text, verdict_text};
 use std::alloc::Global;
 use std::sync::ledger::Ledger;
-
-/// Puts a line, and tells whether it was taken.
-fn take_line<O: Sink>(alloc: Global, out: &mut O, line: &[u8]) -> Result<bool, NoMemory>
-    ensures { PutsLine O.takes O.breaks O.told line.now result out.old out.new }
-{
-    match out.put(alloc, line) {
-        Ok(()) => Ok(true),
-        Err(SinkFault::Failed) => Ok(false),
-        Err(SinkFault::OutOfMemory) => Err(NoMemory),
-    }
-}
-
-fn has_passed(outcome: &Outcome) -> bool
-    ensures { result ≡ passes outcome.now }
-{
-    match outcome {
-        Outcome::Normal => true,
-        Outcome::Raised(_) => false,
-        Outcome::ReadOnlyWrite(_) => false,
-        Outcome::Stalled => false,
-    }
-}
 
 /// The report on one test.
 fn report_one(alloc: Global, passed: bool, time: u64) -> Result<Vec<u8>, NoMemory>
@@ -71,19 +51,18 @@ fn verdict_of(passed: bool) -> Status
     }
 }
 
-/// Puts two lines, and tells whether both were taken.
+/// Puts two lines, the second where the first was taken.
 fn put_two<O: Sink>(
     alloc: Global,
     out: &mut O,
     first: &[u8],
     second: &[u8],
-) -> Result<bool, NoMemory>
-    ensures { PutsLines O.takes O.breaks O.told (first.now ∷ second.now ∷ []) result out.old out.new }
+) -> Result<(), SinkFault>
+    ensures { PutsTo (sink_means O.Sink) out.old (first.now ∷ second.now ∷ []) (result_err result) out.new }
 {
-    if take_line(alloc, out, first)? {
-        take_line(alloc, out, second)
-    } else {
-        Ok(false)
+    match out.put(alloc, first) {
+        Ok(()) => out.put(alloc, second),
+        Err(fault) => Err(fault),
     }
 }
 
@@ -96,16 +75,14 @@ fn end_run<O: Sink>(
     flat: &Flat,
     out: &mut O,
 ) -> Result<Status, NoMemory>
-    ensures { EndsTo O.takes O.breaks O.told (verdict_line flat.now time case.now.name outcome.now ∷ report_of (passes outcome.now ∷ []) time ∷ []) (ended_status outcome.now) (status_in result) out.old out.new }
+    ensures { EndsTo (sink_means O.Sink) (verdict_line flat.now time case.now.name outcome.now ∷ report_of (passes outcome.now ∷ []) time ∷ [])
+        (verdict_status (passes outcome.now)) (status_in result) out.old out.new }
 {
-    let passed = has_passed(outcome);
+    let passed = outcome.passes();
     let verdict = verdict_text(alloc, time, case.name.bytes(), outcome, flat)?;
     let report = report_one(alloc, passed, time)?;
-    if put_two(alloc, out, verdict.as_slice(), report.as_slice())? {
-        Ok(verdict_of(passed))
-    } else {
-        Ok(Status::WriteFault)
-    }
+    let put = put_two(alloc, out, verdict.as_slice(), report.as_slice());
+    Ok(verdict_of(passed).after(put))
 }
 
 /// Turns of a test that runs, until one does anything but go.
@@ -120,11 +97,11 @@ fn run_turns<O: Sink, K: Gpi, M: FlowMaker + Drop, W: Awaits, L: Ledger>(
     requires loaded { K.is_loaded kernel.old }
     requires fits { FitsKernel M.functions W.waiting W.held engine.old (K.content kernel.old) }
     requires runs { runs_test engine.old ≡ true }
-    ensures turning { Turning O.takes O.breaks O.told (FitSteps anywhere (setup_of M.functions engine.old)) (setup_of M.functions engine.old)
+    ensures turning { Turning (sink_means O.Sink) (FitSteps anywhere (setup_of M.functions engine.old)) (setup_of M.functions engine.old)
         fuel.old (rig_of W.waiting engine.old (K.content kernel.old)) out.old result fuel.new (rig_of W.waiting engine.new (K.content kernel.new)) out.new }
     ensures stops { result ≢ Ok Turn.Went }
     ensures setup { setup_of M.functions engine.new ≡ setup_of M.functions engine.old }
-    ensures fits { IfOk result (λ turn. FitsAfter M.functions W.waiting W.held turn engine.new (K.content kernel.new)) }
+    ensures fits { OnOk result (FitsKernel M.functions W.waiting W.held engine.new (K.content kernel.new)) }
     ensures loaded { K.is_loaded kernel.new }
 {
     'turns: loop {
@@ -138,14 +115,11 @@ fn run_turns<O: Sink, K: Gpi, M: FlowMaker + Drop, W: Awaits, L: Ledger>(
 
 /// Puts the line that says that the budget was reached.
 fn end_short<O: Sink>(alloc: Global, budget: u64, out: &mut O) -> Result<Status, NoMemory>
-    ensures { EndsTo O.takes O.breaks O.told (budget_line budget ∷ []) short_status (status_in result) out.old out.new }
+    ensures { EndsTo (sink_means O.Sink) (budget_line budget ∷ []) Status.Budget (status_in result) out.old out.new }
 {
     let line = budget_text(alloc, budget)?;
-    if take_line(alloc, out, line.as_slice())? {
-        Ok(Status::Budget)
-    } else {
-        Ok(Status::WriteFault)
-    }
+    let put = out.put(alloc, line.as_slice());
+    Ok(Status::Budget.after(put))
 }
 
 /// Runs the test within a budget.
@@ -162,7 +136,7 @@ fn run_test<O: Sink, K: Gpi, M: FlowMaker + Drop, W: Awaits, L: Ledger>(
     requires func { case.now.func < length (setup_of M.functions engine.old).functions }
     requires fits { FitsKernel M.functions W.waiting W.held engine.old (K.content kernel.old) }
     requires new { rig_of W.waiting engine.old (K.content kernel.old) ≡ emptied (opening_sim (setup_of M.functions engine.old)) no_counts }
-    ensures runs { RunsTo O.takes O.breaks O.told (setup_of M.functions engine.old) case.now budget (status_in result)
+    ensures runs { RunsTo (sink_means O.Sink) (setup_of M.functions engine.old) case.now budget (status_in result)
         (rig_of W.waiting engine.new (K.content kernel.new)) (K.content kernel.new) out.old out.new }
     ensures loaded { K.is_loaded kernel.new }
 {
@@ -202,7 +176,7 @@ pub fn run_all<O: Sink, K: Gpi, M: FlowMaker + Drop, W: Awaits, L: Ledger>(
     requires func { case.now.func < length (setup_of M.functions engine.old).functions }
     requires fits { FitsKernel M.functions W.waiting W.held engine.old (K.content kernel.old) }
     requires new { rig_of W.waiting engine.old (K.content kernel.old) ≡ emptied (opening_sim (setup_of M.functions engine.old)) no_counts }
-    ensures runs { RunsTo O.takes O.breaks O.told (setup_of M.functions engine.old) case.now budget result
+    ensures runs { RunsTo (sink_means O.Sink) (setup_of M.functions engine.old) case.now budget result
         (rig_of W.waiting engine.new (K.content kernel.new)) (K.content kernel.new) out.old out.new }
     ensures loaded { K.is_loaded kernel.new }
 {

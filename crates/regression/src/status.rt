@@ -1,6 +1,9 @@
 //! How a run of the program ends.
 ghost use Rattle.std.specs.Prelude.{◌≡◌};
-ghost use Rattle.regression.specs.Status.{code_of};
+ghost use Rattle.std.specs.Result.{result_err};
+ghost use Rattle.regression.specs.Status.{code_of, put_status};
+
+use port_io::SinkFault;
 
 /// How a run of the program ends.
 #[derive(Clone, Copy, Debug, PartialEq, Eq)]
@@ -40,6 +43,17 @@ impl Status {
             Status::WriteFault => 6,
             Status::NoMemory => 7,
             Status::Budget => 8,
+        }
+    }
+
+    /// The status after puts that were to end in this one: `WriteFault` where one failed, and `NoMemory` where memory was short.
+    pub fn after(self, put: Result<(), SinkFault>) -> Status
+        ensures { result ≡ put_status self (result_err put) }
+    {
+        match put {
+            Ok(()) => self,
+            Err(SinkFault::Failed) => Status::WriteFault,
+            Err(SinkFault::OutOfMemory) => Status::NoMemory,
         }
     }
 }

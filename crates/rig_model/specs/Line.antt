@@ -1,5 +1,5 @@
 -- The lines of a run.
-use Rattle.std.specs.Prelude.{ℕ, List, [], ◌∷◌, ◌++◌, Option, None, Some, codes, map, reverse, slice_get}
+use Rattle.std.specs.Prelude.{ℕ, Bool, true, false, List, [], ◌∷◌, ◌++◌, Option, None, Some, if◌then◌else◌, codes, map, reverse, slice_get}
 use Rattle.std.specs.Fmt.{decimal}
 use Rattle.four_value.specs.declared.Digit.{Digit}
 use Rattle.four_value.specs.declared.Digit.TheVariants.{Zero, One, X, Z}
@@ -50,11 +50,15 @@ pass_line time name = decimal time ++ codes " PASS " ++ name ++ 10 ∷ []
 abbrev pub fail_line : ℕ → List ℕ → List ℕ → List ℕ
 fail_line time name reason = decimal time ++ codes " FAIL " ++ name ++ codes " (" ++ reason ++ codes ")" ++ 10 ∷ []
 
+-- a test that ended so passed: its own task returned
+abbrev pub passes : Outcome → Bool
+passes Normal = true
+passes (Raised fault) = false
+passes (ReadOnlyWrite sig) = false
+passes Stalled = false
+
 abbrev pub verdict_line : Flat → ℕ → List ℕ → Outcome → List ℕ
-verdict_line flat time name Normal = pass_line time name
-verdict_line flat time name (Raised fault) = fail_line time name (reason_of flat (Raised fault))
-verdict_line flat time name (ReadOnlyWrite sig) = fail_line time name (reason_of flat (ReadOnlyWrite sig))
-verdict_line flat time name Stalled = fail_line time name (reason_of flat Stalled)
+verdict_line flat time name outcome = if passes outcome then pass_line time name else fail_line time name (reason_of flat outcome)
 
 -- the closing line, with how many tests there were and how many of them passed, failed and were skipped
 abbrev pub report_line : ℕ → ℕ → ℕ → ℕ → ℕ → List ℕ

@@ -4,10 +4,9 @@ use Rattle.gpi.specs.State.{State}
 use Rattle.gpi.specs.Content.{no_counts}
 use Rattle.gpi.specs.Content as content
 use Rattle.gpi.specs.declared.types.Counts.{Counts}
-use Rattle.rig_model.specs.Line.{test_line, verdict_line, report_line, budget_line}
+use Rattle.rig_model.specs.Line.{test_line, passes, verdict_line, report_line, budget_line}
 use Rattle.rig_model.specs.declared.file.TestCase.{TestCase}
 use Rattle.rig_model.specs.declared.task.Outcome.{Outcome}
-use Rattle.rig_model.specs.declared.task.Outcome.TheVariants.{Normal, Raised, ReadOnlyWrite, Stalled}
 use Rattle.rig_model.specs.Rig.{Rig, Setup}
 use Rattle.rig_model.specs.Counts.{counted}
 use Rattle.rig_model.specs.Effect.{with_new_task, function_at}
@@ -48,12 +47,6 @@ opening setup case = record { rig = emptied (opening_sim setup) no_counts; place
 -- a test begins: its own task, number 0, is ready
 abbrev pub test_begun : Setup → TestCase → Rig → Rig
 test_begun setup case c = with_new_task (function_at setup.functions case.func) c
-
-abbrev pub passes : Outcome → Bool
-passes Normal = true
-passes (Raised fault) = false
-passes (ReadOnlyWrite sig) = false
-passes Stalled = false
 
 abbrev pub report_of : List Bool → ℕ → List ℕ
 report_of verdicts time = report_line (length verdicts) (count_by (λ b. b) verdicts) (count_by not verdicts) 0 time

@@ -98,6 +98,18 @@ pub enum Outcome {
     Stalled,
 }
 
+impl Outcome {
+    ghost use Rattle.std.specs.Prelude.{◌≡◌};
+    ghost use Rattle.rig_model.specs.Line.{passes};
+
+    /// Whether a test that ended so passed: its own task returned.
+    pub fn passes(&self) -> bool
+        ensures { result ≡ passes self.now }
+    {
+        matches!(self, Outcome::Normal)
+    }
+}
+
 /// A write that is staged: it goes out in the read-write phase (cocotb 1.8, "Triggers", `ReadWrite`).
 #[derive(Clone, Copy, Debug, PartialEq, Eq)]
 pub struct Staged {

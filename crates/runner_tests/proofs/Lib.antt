@@ -1,1 +1,3 @@
 mod FirstPath
+pub mod Texts
+pub mod Left

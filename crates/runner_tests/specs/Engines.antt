@@ -1,5 +1,6 @@
 -- The first turn of a test, and how it is shown.
-use Rattle.std.specs.Prelude.{◌≡◌, ℕ, List, [], ◌∷◌, ◌++◌, Option, Some, Ok, slice_get, codes}
+use Rattle.std.specs.Prelude.{◌≡◌, ℕ, List, [], ◌∷◌, ◌++◌, Some, Ok, slice_get, codes}
+use Rattle.port_io.specs.Means.{SinkMeans}
 use Rattle.port_io.specs.Memory.{Lines}
 use Rattle.port_io.specs.Steps.{SinkTakes, SinkBreaks}
 use Rattle.gpi.specs.Content.{opening}
@@ -24,8 +25,9 @@ use Rattle.runner_tests.specs.Words.{status_word}
 abbrev pub no_lines : Lines
 no_lines = record { bytes = []; calls = 0; failing = []; faults = 0 }
 
-abbrev pub told : Lines → Option (List ℕ)
-told sink = Some sink.bytes
+-- what a sink in memory means
+abbrev pub line_means : SinkMeans Lines
+line_means = record { takes = SinkTakes; breaks = SinkBreaks; told = λ sink. Some sink.bytes }
 
 -- no test has begun, and the simulator has just loaded the design of these ports
 abbrev pub unbegun : List ℕ → Rig
@@ -36,7 +38,7 @@ pub record TakesTurn (setup : Setup) (begun : Rig) (out : Lines) (turn : Turn) :
   pub left : ℕ
   pub last : Rig
   pub after : Lines
-  pub turning : Turning SinkTakes SinkBreaks told (TurnSteps setup) setup 3 begun out (Ok turn) left last after
+  pub turning : Turning line_means (TurnSteps setup) setup 3 begun out (Ok turn) left last after
 
 -- A turn follows where the test was begun.
 abbrev pub Follows : Setup → Turn → Rig → Lines → Turn → Type 0
@@ -52,7 +54,7 @@ pub record FirstTurn (ports : List ℕ) (file : TestFile) (turn : Turn) : Type 0
   pub first : Turn
   pub begun : Rig
   pub out : Lines
-  pub begins : BeginsTo SinkTakes SinkBreaks told (setup_with ports file) case (unbegun ports) (Ok first) begun no_lines out
+  pub begins : BeginsTo line_means (setup_with ports file) case (unbegun ports) (Ok first) begun no_lines out
   pub follows : Follows (setup_with ports file) first begun out turn
 
 -- what a turn on a design came to: a test that has ended shows the line of its verdict, at time 0 and under the name `t`

@@ -8,7 +8,9 @@ use Rattle.table_rows.specs.Rows.{written}
 
 -- a part is the text of a file, or `-` where there is none
 abbrev pub with_file : List ℕ → List ℕ → Files → Files
-with_file name part store = if bytes_eq part (codes "-") then store else record store { files = record { name = name; bytes = written part } ∷ store.files }
+with_file name part store =
+    if bytes_eq part (codes "-") then store
+    else record store { files = record { name = name; bytes = written part } ∷ store.files }
 
 abbrev pub no_files : Files
 no_files = record { files = []; calls = 0; failing = []; faults = 0 }

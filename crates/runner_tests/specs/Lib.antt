@@ -3,4 +3,7 @@ pub mod Lines
 pub mod Words
 pub mod Engines
 pub mod Designs
+pub mod Tests
 pub mod Runs
+pub mod Releases
+pub mod Commands

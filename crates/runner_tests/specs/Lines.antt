@@ -15,21 +15,22 @@ use Rattle.table_rows.specs.Rows.{decimal, part_at}
 abbrev pub some_digits : List Digit
 some_digits = slice_set (vector 4 8) 1 X
 
--- a part of a row as a number
-abbrev pub number_of : List ℕ → ℕ → ℕ
-number_of row i = decimal (part_at i row)
+-- part i of a row, as a number
+abbrev pub decimal_at : ℕ → List ℕ → ℕ
+decimal_at i row = decimal (part_at i row)
 
 -- the line of a verdict on a test of a design with the one net `a`
 abbrev pub told_outcome : List ℕ → Outcome → List ℕ
-told_outcome row outcome = verdict_line (flat_of (codes "a")) (number_of row 2) (part_at 3 row) outcome
+told_outcome row outcome = verdict_line (flat_of (codes "a")) (decimal_at 2 row) (part_at 3 row) outcome
 
 -- a change to `10x0`, a verdict on a test that stalled, one on a write to `a` in the read-only phase, one on a ValueError that says
 -- something, or the closing line
 abbrev pub line_of : List ℕ → List ℕ
 line_of row =
-    if bytes_eq (part_at 0 row) (codes "sig") then sig_line (number_of row 2) (part_at 3 row) some_digits
+    if bytes_eq (part_at 0 row) (codes "sig") then sig_line (decimal_at 2 row) (part_at 3 row) some_digits
     else (if bytes_eq (part_at 0 row) (codes "stalled") then told_outcome row Stalled
     else (if bytes_eq (part_at 0 row) (codes "read_only") then told_outcome row (ReadOnlyWrite (record { 0 = 0 }))
     else (if bytes_eq (part_at 0 row) (codes "fault") then told_outcome row (Raised (record { kind = ValueError; text = part_at 4 row }))
-    else (if bytes_eq (part_at 0 row) (codes "closing") then report_line (number_of row 2) (number_of row 3) (number_of row 4) (number_of row 5) (number_of row 6)
+    else (if bytes_eq (part_at 0 row) (codes "closing")
+    then report_line (decimal_at 2 row) (decimal_at 3 row) (decimal_at 4 row) (decimal_at 5 row) (decimal_at 6 row)
     else []))))

@@ -1,19 +1,18 @@
 -- What a run puts, and how it is shown.
-use Rattle.std.specs.Prelude.{◌≡◌, ℕ, true, List, [], ◌∷◌, ◌++◌, codes}
+use Rattle.std.specs.Prelude.{◌≡◌, ℕ, true, List, [], ◌∷◌}
 use Rattle.port_io.specs.Memory.{Lines}
-use Rattle.port_io.specs.Steps.{SinkTakes, SinkBreaks}
-use Rattle.gpi.specs.Content.{Content}
+use Rattle.gpi.specs.Content.{Content, no_design}
 use Rattle.rig_model.specs.Rig.{Rig, Setup}
 use Rattle.rig_model.specs.declared.file.TestCase.{TestCase}
 use Rattle.rig_model.specs.declared.file.TestFile.{TestFile}
 use Rattle.regression.specs.Runs.{RunsTo}
 use Rattle.regression.specs.declared.status.Status.{Status}
 use Rattle.text_forms.specs.DesignForm.{flat_of}
+use Rattle.command.specs.Answer.{Answers, LeavesKernel}
 use Rattle.command.specs.Reading.{Reading, refused, runs}
-use Rattle.table_rows.specs.Shown.{in_quotes}
 use Rattle.runner_tests.specs.Files.{ComesTo}
-use Rattle.runner_tests.specs.Words.{status_word}
-use Rattle.runner_tests.specs.Engines.{no_lines, told}
+use Rattle.runner_tests.specs.Words.{counted_word, ended_word}
+use Rattle.runner_tests.specs.Engines.{no_lines, line_means}
 
 -- told changes are written
 abbrev pub traced_with : List ℕ → TestFile → Setup
@@ -25,7 +24,7 @@ pub record Traces (ports : List ℕ) (file : TestFile) (own : Status) (out out' 
   pub is_case : file.cases ≡ case ∷ []
   pub last : Rig
   pub content : Content
-  pub runs : RunsTo SinkTakes SinkBreaks told (traced_with ports file) case 100 own last content out out'
+  pub runs : RunsTo line_means (traced_with ports file) case 100 own last content out out'
 
 -- A refusal puts nothing.
 abbrev pub TracesReading : Reading → Status → Lines → Lines → Type 0
@@ -42,4 +41,16 @@ pub record ShowsTrace (design tests text : List ℕ) : Type 0 where
   pub own : Status
   pub out : Lines
   pub traces : TracesFiles design tests own no_lines out
-  pub shows : text ≡ status_word own ++ codes " " ++ in_quotes out.bytes
+  pub shows : text ≡ ended_word own out.bytes
+
+-- What the texts of a design and of tests come to within a budget, at a new simulator: the status, the counts of keys, and what was put.
+-- A refusal leaves the simulator as it is.
+pub record ShowsRun (budget : ℕ) (design tests text : List ℕ) : Type 0 where
+  pub reading : Reading
+  pub comes : ComesTo design tests reading
+  pub own : Status
+  pub content : Content
+  pub out : Lines
+  pub answers : Answers line_means budget reading own content no_lines out
+  pub leaves : LeavesKernel (λ (c : Content). Unit {0}) own no_design content
+  pub shows : text ≡ counted_word own content.counts out.bytes

@@ -1,9 +1,12 @@
--- How a status and counts are shown.
+-- How a status, counts and digits are shown.
 use Rattle.std.specs.Prelude.{ℕ, List, ◌++◌, codes}
 use Rattle.std.specs.Fmt.{decimal}
+use Rattle.four_value.specs.declared.Digit.{Digit}
+use Rattle.four_value.specs.declared.Digit.TheVariants as digit
 use Rattle.gpi.specs.declared.types.Counts.{Counts}
 use Rattle.regression.specs.declared.status.Status.{Status}
 use Rattle.regression.specs.declared.status.Status.TheVariants as status
+use Rattle.table_rows.specs.Shown.{in_quotes}
 
 -- a status by its name
 abbrev pub status_word : Status → List ℕ
@@ -17,6 +20,22 @@ status_word status.WriteFault = codes "WriteFault"
 status_word status.NoMemory = codes "NoMemory"
 status_word status.Budget = codes "Budget"
 
+-- a digit by its name
+abbrev pub digit_word : Digit → List ℕ
+digit_word digit.Zero = codes "Zero"
+digit_word digit.One = codes "One"
+digit_word digit.X = codes "X"
+digit_word digit.Z = codes "Z"
+
 -- how many keys a simulator registered, removed and fired since it was loaded
 abbrev pub counts_word : Counts → List ℕ
-counts_word counts = codes "primed=" ++ decimal counts.primed ++ codes " removed=" ++ decimal counts.removed ++ codes " fired=" ++ decimal counts.fired
+counts_word counts =
+    codes "primed=" ++ decimal counts.primed ++ codes " removed=" ++ decimal counts.removed ++ codes " fired=" ++ decimal counts.fired
+
+-- a status, and the lines that were put
+abbrev pub ended_word : Status → List ℕ → List ℕ
+ended_word own lines = status_word own ++ codes " " ++ in_quotes lines
+
+-- a status, counts, and the lines that were put
+abbrev pub counted_word : Status → Counts → List ℕ → List ℕ
+counted_word own counts lines = status_word own ++ (codes " " ++ (counts_word counts ++ (codes " " ++ in_quotes lines)))

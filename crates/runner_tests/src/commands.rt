@@ -1,17 +1,22 @@
 //! The command with its words, over files and lines in memory.
-ghost use Rattle.std.specs.Prelude.{◌≡◌, ◌<◌, IfOk, OnOk};
+ghost use Rattle.std.specs.Prelude.{◌≡◌, ◌<◌, ◌++◌, IfOk, OnOk, map, string_bytes};
+ghost use Rattle.std.specs.List.{slice_split};
+ghost use Rattle.command.specs.Answer.{LeavesKernel};
+ghost use Rattle.list_kernel.specs.Kernel.{IsLoaded, content_of};
+ghost use Rattle.table_rows.specs.Rows.{is_byte};
+ghost use Rattle.runner_tests.specs.Commands.{RowEnds, CommandEnds, ShowsCommand, ShowsKept, word_in, words_of};
 ghost use Rattle.runner_tests.specs.Files.{store_with, with_file};
 
-use crate::words::counts_text;
+use crate::words::{counted_text, ended_text, latin_text};
 use command::cocorun;
 use list_kernel::ListKernel;
 use port_io::{MemSink, MemStore, NoMemory};
 use regression::Status;
 use rig_model::Steps;
-use std::alloc::Global;
+use std::alloc::{AllocError, Global};
 use std::marker::Brand;
 use std::sync::ledger::{Blank, Ledger};
-use table_rows::{Row, push_bytes, quoted, text_of};
+use table_rows::{Row, text_of};
 
 /// Adds the file of that name whose text a part is, unless that is `-`. Only want of memory is an error, here and below.
 fn add_file(alloc: Global, store: &mut MemStore, name: &str, part: &[u8]) -> Result<(), NoMemory>
@@ -33,15 +38,31 @@ pub fn store_of(alloc: Global, design: &[u8], tests: &[u8]) -> Result<MemStore, 
     Ok(store)
 }
 
+/// What stands between the spaces of a text.
+fn parts_of(alloc: Global, text: &[u8]) -> Result<Vec<&[u8]>, AllocError>
+    ensures { IfOk result (λ parts. map (λ part. part.now) parts.items ≡ slice_split (is_byte 32) text.now) }
+{
+    text.split(|byte| *byte == b' ').collect(alloc)
+}
+
+/// A word behind others, unless it is empty.
+fn push_word(alloc: Global, words: &mut Vec<String>, word: &[u8]) -> Result<(), AllocError>
+    ensures { OnOk result (map string_bytes words.new.items ≡ map string_bytes words.old.items ++ word_in word.now) }
+{
+    if !word.is_empty() {
+        words.push(latin_text(alloc, word)?)?;
+    }
+    Ok(())
+}
+
 /// The words of a command, between spaces.
-fn words_of(alloc: Global, row: &Row<'_>) -> Result<Vec<String>, NoMemory> {
+fn words_of(alloc: Global, text: &[u8]) -> Result<Vec<String>, AllocError>
+    ensures { IfOk result (λ words. map string_bytes words.items ≡ words_of text.now) }
+{
+    let parts = parts_of(alloc, text)?;
     let mut words = Vec::new(alloc);
-    for bytes in row.part(2).split(|byte| *byte == b' ') {
-        if !bytes.is_empty() {
-            let mut word = String::new(alloc);
-            push_bytes(&mut word, bytes)?;
-            words.push(word)?;
-        }
+    for part in &parts {
+        push_word(alloc, &mut words, part)?;
     }
     Ok(words)
 }
@@ -58,6 +79,8 @@ fn run<L: Ledger>(
     requires name { blank.name ≡ L.name }
     requires parts { blank.parts ≡ L.parts }
     requires some { 0 < blank.parts }
+    ensures answer { CommandEnds (map string_bytes words.now) store.old sink.old result store.new (content_of kernel.new) sink.new }
+    ensures leaves { LeavesKernel IsLoaded result kernel.old kernel.new }
 {
     let mut steps = Steps::<L>::new(blank);
     cocorun(alloc, words, store, sink, kernel, &mut steps)
@@ -68,8 +91,11 @@ fn outcome(
     alloc: Global,
     row: &Row<'_>,
     kernel: &mut ListKernel,
-) -> Result<(Status, MemSink), NoMemory> {
-    let words = words_of(alloc, row)?;
+) -> Result<(Status, MemSink), NoMemory>
+    ensures comes { IfOk result (λ ended. RowEnds row.now (content_of kernel.new) ended.0 ended.1) }
+    ensures leaves { IfOk result (λ ended. LeavesKernel IsLoaded ended.0 kernel.old kernel.new) }
+{
+    let words = words_of(alloc, row.part(2))?;
     let mut store = store_of(alloc, row.part(3), row.part(4))?;
     let mut sink = MemSink::new(alloc);
     store.fail_at(row.number(5))?;
@@ -79,21 +105,18 @@ fn outcome(
 }
 
 /// The status of a command, and what it put.
-pub fn command_text(alloc: Global, row: &Row<'_>) -> Result<String, NoMemory> {
+pub fn command_text(alloc: Global, row: &Row<'_>) -> Result<String, NoMemory>
+    ensures { IfOk result (λ text. ShowsCommand row.now (string_bytes text)) }
+{
     let mut kernel = ListKernel::new(alloc);
     let (status, sink) = outcome(alloc, row, &mut kernel)?;
-    let lines = quoted(alloc, sink.bytes())?;
-    Ok(format!(in alloc; "{status:?} {lines}")?)
+    ended_text(alloc, status, sink.bytes())
 }
 
-/// The same on a simulator that other commands had before, and its counts.
-pub fn kept_text(
-    alloc: Global,
-    row: &Row<'_>,
-    kernel: &mut ListKernel,
-) -> Result<String, NoMemory> {
+/// The same on a simulator that other commands had before, and its counts. After an Err nothing is said of the simulator.
+pub fn kept_text(alloc: Global, row: &Row<'_>, kernel: &mut ListKernel) -> Result<String, NoMemory>
+    ensures { IfOk result (λ text. ShowsKept row.now kernel.old kernel.new (string_bytes text)) }
+{
     let (status, sink) = outcome(alloc, row, kernel)?;
-    let counts = counts_text(alloc, kernel)?;
-    let lines = quoted(alloc, sink.bytes())?;
-    Ok(format!(in alloc; "{status:?} {counts} {lines}")?)
+    counted_text(alloc, status, kernel, sink.bytes())
 }

@@ -7,7 +7,7 @@ ghost use Rattle.table_rows.specs.Shown.{latin};
 ghost use Rattle.runner_tests.specs.Engines.{FirstTurn, ShowsEngine, ShowsFiles, first_path, turn_word};
 
 use crate::runs::decision;
-use crate::words::status_name;
+use crate::words::{latin_text, status_name};
 use command::Decision;
 use gpi::{Flat, Gpi, SigId};
 use list_kernel::ListKernel;
@@ -18,20 +18,12 @@ use scheduler::{Engine, Turn, verdict_text};
 use std::alloc::Global;
 use std::marker::Brand;
 use std::sync::ledger::{Blank, Ledger};
-use table_rows::{Row, push_bytes, quoted};
+use table_rows::{Row, quoted};
 use text_forms::flat_of_ports;
 
-/// Bytes as characters. Only want of memory is an error, here and below.
-fn text_of(alloc: Global, bytes: &[u8]) -> Result<String, NoMemory>
-    ensures { IfOk result (λ text. string_bytes text ≡ latin bytes.now) }
-{
-    let mut text = String::new(alloc);
-    push_bytes(&mut text, bytes)?;
-    Ok(text)
-}
-
-/// The path of the first signal, as an engine tells it; an empty one where there is none.
-#[tactic(auto, using(crate::proofs::FirstPath::path_none, crate::proofs::FirstPath::path_some))]
+/// The path of the first signal, as an engine tells it; an empty one where there is none. Only want of memory is an error, here and
+/// below.
+#[tactic(auto, using(crate::proofs::FirstPath::path_none))]
 fn path_text(alloc: Global, ports: &[u8], file: &TestFile) -> Result<String, NoMemory>
     requires { ArePorts ports.now }
     ensures { IfOk result (λ text. string_bytes text ≡ latin (first_path ports.now)) }
@@ -42,7 +34,7 @@ fn path_text(alloc: Global, ports: &[u8], file: &TestFile) -> Result<String, NoM
         return Ok(String::new(alloc));
     }
     let engine = Engine::new(alloc, maker, WaitList::new(alloc), &flat, false)?;
-    text_of(alloc, engine.path(SigId(0)).bytes())
+    Ok(latin_text(alloc, engine.path(SigId(0)).bytes())?)
 }
 
 /// What a turn on a design came to.

@@ -1,12 +1,15 @@
 //! What texts are read as.
-ghost use Rattle.std.specs.Prelude.{IfOk, string_bytes};
-ghost use Rattle.text_forms.specs.DesignForm.{ArePorts};
-ghost use Rattle.runner_tests.specs.Designs.{ShowsDesign};
+ghost use Rattle.std.specs.Prelude.{◌≡◌, IfOk, string_bytes};
+ghost use Rattle.std.specs.List.{flat_map};
+ghost use Rattle.text_forms.specs.DesignForm.{ArePorts, flat_of};
 ghost use Rattle.table_rows.specs.Rows.{part_at, written};
+ghost use Rattle.runner_tests.specs.Designs.{ShowsDesign, ShowsFlat, flat_word, signal_word};
+ghost use Rattle.runner_tests.specs.Tests.{ShowsFile, ShowsTests, case_word, file_word, function_word, statement_word};
 
-use gpi::Signal;
-use port_io::NoMemory;
-use rig_model::{Statement, TestFile};
+use crate::words::{digit_name, latin_text};
+use gpi::{Flat, Signal};
+use port_io::{NoMemory, Sequence};
+use rig_model::{Function, Statement, TestCase, TestFile};
 use std::alloc::{AllocError, Global};
 use table_rows::{Row, push_bytes};
 use text_forms::{flat_of_ports, read_design, read_tests};
@@ -27,30 +30,46 @@ pub fn design_text(alloc: Global, row: &Row<'_>) -> Result<String, NoMemory>
 }
 
 /// A signal: its path, its width and each of its digits before the first event.
-fn signal_text(alloc: Global, signal: &Signal) -> Result<String, AllocError> {
-    let mut shown = String::new(alloc);
-    push_bytes(&mut shown, signal.path.bytes())?;
-    let rest = format!(in alloc; " width={} start={:?}, ", signal.width, signal.start)?;
-    shown.push_str(&rest)?;
-    Ok(shown)
+fn signal_shown(alloc: Global, signal: &Signal) -> Result<String, AllocError>
+    ensures { IfOk result (λ text. string_bytes text ≡ signal_word signal.now) }
+{
+    let path = latin_text(alloc, signal.path.bytes())?;
+    let start = digit_name(signal.start);
+    format!(in alloc; "{path} width={} start={start}, ", signal.width)
 }
 
-/// The signals of the design with these ports, and the length of a step.
+/// The signals, one after the other.
+fn signals_shown(alloc: Global, signals: &Sequence<Signal>) -> Result<String, AllocError>
+    ensures { IfOk result (λ text. string_bytes text ≡ flat_map signal_word signals.now) }
+{
+    let mut text = String::new(alloc);
+    for at in 0..signals.len() {
+        text.push_str(&signal_shown(alloc, signals.get(at))?)?;
+    }
+    Ok(text)
+}
+
+/// The signals of a design, and the length of a step.
+fn flat_shown(alloc: Global, flat: &Flat) -> Result<String, AllocError>
+    ensures { IfOk result (λ text. string_bytes text ≡ flat_word flat.now) }
+{
+    let signals = signals_shown(alloc, &flat.signals)?;
+    format!(in alloc; "{signals}step_fs={}", flat.step_fs)
+}
+
+/// What is simulated for the design with these ports.
 fn ports_text(alloc: Global, ports: &[u8]) -> Result<String, NoMemory>
     requires { ArePorts ports.now }
+    ensures { IfOk result (λ text. string_bytes text ≡ flat_word (flat_of ports.now)) }
 {
     let flat = flat_of_ports(alloc, ports)?;
-    let mut shown = String::new(alloc);
-    for at in 0..flat.signals.len() {
-        shown.push_str(&signal_text(alloc, flat.signals.get(at))?)?;
-    }
-    let step = format!(in alloc; "step_fs={}", flat.step_fs)?;
-    shown.push_str(&step)?;
-    Ok(shown)
+    Ok(flat_shown(alloc, &flat)?)
 }
 
 /// What is simulated for a design.
-pub fn flat_text(alloc: Global, row: &Row<'_>) -> Result<String, NoMemory> {
+pub fn flat_text(alloc: Global, row: &Row<'_>) -> Result<String, NoMemory>
+    ensures { IfOk result (λ text. ShowsFlat (written (part_at 2 row.now)) (string_bytes text)) }
+{
     let text = row.text(alloc, 2)?;
     match read_design(alloc, &text)? {
         Some(ports) => ports_text(alloc, &ports),
@@ -60,7 +79,9 @@ pub fn flat_text(alloc: Global, row: &Row<'_>) -> Result<String, NoMemory> {
 
 /// A statement: `0=5` for a write, `+2` for a Timer, `0?5` for an assertion, `>0` and `^0` for starts, and a log line by its
 /// length in quotes.
-fn statement_shown(alloc: Global, statement: &Statement) -> Result<String, AllocError> {
+fn statement_shown(alloc: Global, statement: &Statement) -> Result<String, AllocError>
+    ensures { IfOk result (λ text. string_bytes text ≡ statement_word statement.now) }
+{
     match statement {
         Statement::Write { sig, number } => format!(in alloc; "{}={number} ", sig.0),
         Statement::Timer { steps } => format!(in alloc; "+{steps} "),
@@ -71,33 +92,60 @@ fn statement_shown(alloc: Global, statement: &Statement) -> Result<String, Alloc
     }
 }
 
-/// The functions' statements, each function's up to a semicolon.
-fn functions_shown(alloc: Global, file: &TestFile) -> Result<String, AllocError> {
+/// A function's statements, up to a semicolon.
+fn function_shown(alloc: Global, function: &Function) -> Result<String, AllocError>
+    ensures { IfOk result (λ text. string_bytes text ≡ function_word function.now) }
+{
     let mut text = String::new(alloc);
-    for at in 0..file.functions.len() {
-        let body = &file.functions.get(at).body;
-        for place in 0..body.len() {
-            text.push_str(&statement_shown(alloc, body.get(place))?)?;
-        }
-        text.push_str("; ")?;
+    for at in 0..function.body.len() {
+        text.push_str(&statement_shown(alloc, function.body.get(at))?)?;
+    }
+    text.push_str("; ")?;
+    Ok(text)
+}
+
+/// The functions, one after the other.
+fn functions_shown(alloc: Global, functions: &Sequence<Function>) -> Result<String, AllocError>
+    ensures { IfOk result (λ text. string_bytes text ≡ flat_map function_word functions.now) }
+{
+    let mut text = String::new(alloc);
+    for at in 0..functions.len() {
+        text.push_str(&function_shown(alloc, functions.get(at))?)?;
     }
     Ok(text)
 }
 
-/// A file: its functions, and for each case its name's length and its function.
-fn file_shown(alloc: Global, file: &TestFile) -> Result<String, AllocError> {
-    let mut text = functions_shown(alloc, file)?;
-    for at in 0..file.cases.len() {
-        let case = file.cases.get(at);
-        let named = format!(in alloc; "{} by {}", case.name.bytes().len(), case.func)?;
-        text.push_str(&named)?;
+/// A test: its name's length and its function.
+fn case_shown(alloc: Global, case: &TestCase) -> Result<String, AllocError>
+    ensures { IfOk result (λ text. string_bytes text ≡ case_word case.now) }
+{
+    format!(in alloc; "{} by {}", case.name.bytes().len(), case.func)
+}
+
+/// The tests, one after the other.
+fn cases_shown(alloc: Global, cases: &Sequence<TestCase>) -> Result<String, AllocError>
+    ensures { IfOk result (λ text. string_bytes text ≡ flat_map case_word cases.now) }
+{
+    let mut text = String::new(alloc);
+    for at in 0..cases.len() {
+        text.push_str(&case_shown(alloc, cases.get(at))?)?;
     }
+    Ok(text)
+}
+
+/// A file: its functions, and its tests.
+fn file_shown(alloc: Global, file: &TestFile) -> Result<String, AllocError>
+    ensures { IfOk result (λ text. string_bytes text ≡ file_word file.now) }
+{
+    let mut text = functions_shown(alloc, &file.functions)?;
+    text.push_str(&cases_shown(alloc, &file.cases)?)?;
     Ok(text)
 }
 
 /// What a text is read as, for a design with these ports.
 fn tests_text(alloc: Global, ports: &[u8], text: &[u8]) -> Result<String, NoMemory>
     requires { ArePorts ports.now }
+    ensures { IfOk result (λ shown. ShowsTests ports.now text.now (string_bytes shown)) }
 {
     match read_tests(alloc, ports, text)? {
         Some(file) => Ok(file_shown(alloc, &file)?),
@@ -106,7 +154,9 @@ fn tests_text(alloc: Global, ports: &[u8], text: &[u8]) -> Result<String, NoMemo
 }
 
 /// What a row's tests are read as beside its design.
-pub fn file_text(alloc: Global, row: &Row<'_>) -> Result<String, NoMemory> {
+pub fn file_text(alloc: Global, row: &Row<'_>) -> Result<String, NoMemory>
+    ensures { IfOk result (λ text. ShowsFile (written (part_at 2 row.now)) (written (part_at 3 row.now)) (string_bytes text)) }
+{
     let design = row.text(alloc, 2)?;
     match read_design(alloc, &design)? {
         Some(ports) => tests_text(alloc, &ports, &row.text(alloc, 3)?),

@@ -5,7 +5,7 @@ ghost use Rattle.rig_model.specs.declared.task.Outcome.TheVariants.{Raised};
 ghost use Rattle.py_syntax.specs.declared.fault_kind.FaultKind.TheVariants.{ValueError};
 ghost use Rattle.table_rows.specs.Rows.{part_at};
 ghost use Rattle.table_rows.specs.Shown.{in_quotes};
-ghost use Rattle.runner_tests.specs.Lines.{line_of, number_of, some_digits, told_outcome};
+ghost use Rattle.runner_tests.specs.Lines.{line_of, decimal_at, some_digits, told_outcome};
 
 use four_value::{Bits, Digit};
 use gpi::SigId;
@@ -19,7 +19,7 @@ use text_forms::flat_of_ports;
 
 /// The line of a change to `10x0`. Only want of memory is an error, here and below.
 fn change_line(alloc: Global, row: &Row<'_>) -> Result<Vec<u8>, NoMemory>
-    ensures { IfOk result (λ line. line.items ≡ sig_line (number_of row.now 2) (part_at 3 row.now) some_digits) }
+    ensures { IfOk result (λ line. line.items ≡ sig_line (decimal_at 2 row.now) (part_at 3 row.now) some_digits) }
 {
     let value = Bits::from_number(4, 8).with_digit(1, Digit::X);
     sig_text(alloc, row.number(2), row.part(3), value)
@@ -46,7 +46,7 @@ fn fault_line(alloc: Global, row: &Row<'_>) -> Result<Vec<u8>, NoMemory>
 
 /// The closing line.
 fn closing_line(alloc: Global, row: &Row<'_>) -> Result<Vec<u8>, NoMemory>
-    ensures { IfOk result (λ line. line.items ≡ report_line (number_of row.now 2) (number_of row.now 3) (number_of row.now 4) (number_of row.now 5) (number_of row.now 6)) }
+    ensures { IfOk result (λ line. line.items ≡ report_line (decimal_at 2 row.now) (decimal_at 3 row.now) (decimal_at 4 row.now) (decimal_at 5 row.now) (decimal_at 6 row.now)) }
 {
     let tally = Tally {
         tests: row.number(2),

@@ -1,6 +1,8 @@
 //! A key that the runner holds and lets go.
-ghost use Rattle.std.specs.Prelude.{◌≡◌, ◌<◌, length};
+ghost use Rattle.std.specs.Prelude.{◌≡◌, ◌<◌, IfOk, string_bytes};
 ghost use Rattle.text_forms.specs.DesignForm.{ArePorts};
+ghost use Rattle.table_rows.specs.Rows.{part_at};
+ghost use Rattle.runner_tests.specs.Releases.{LetsGo, ShowsLetGo, ShowsRelease, resting_word};
 
 use crate::runs::decision;
 use crate::words::{counts_text, status_name};
@@ -10,7 +12,7 @@ use list_kernel::ListKernel;
 use plain_task::WaitList;
 use port_io::NoMemory;
 use rig_model::{Awaits, Steps};
-use std::alloc::Global;
+use std::alloc::{AllocError, Global};
 use std::marker::Brand;
 use std::sync::ledger::{Blank, Ledger};
 use table_rows::Row;
@@ -27,6 +29,7 @@ fn release<K: Gpi, L: Ledger>(
     requires name { blank.name ≡ L.name }
     requires parts { blank.parts ≡ L.parts }
     requires some { 0 < blank.parts }
+    ensures { IfOk result (λ resting. LetsGo ports.now resting (K.content kernel.new)) }
 {
     let flat = flat_of_ports(alloc, ports)?;
     kernel.load(alloc, &flat)?;
@@ -37,15 +40,30 @@ fn release<K: Gpi, L: Ledger>(
     Ok(kernel.idle())
 }
 
-/// The same of a row, where its design runs, with the counts of keys.
-pub fn release_text(alloc: Global, row: &Row<'_>) -> Result<String, NoMemory> {
+/// Counts, and whether the simulator has nothing to do.
+fn resting_text(alloc: Global, counts: &str, resting: bool) -> Result<String, AllocError>
+    ensures { IfOk result (λ text. string_bytes text ≡ resting_word counts.now resting) }
+{
+    format!(in alloc; "{counts}, idle {resting}")
+}
+
+/// The same of a design, with the counts of keys.
+fn let_go_text(alloc: Global, ports: &[u8]) -> Result<String, NoMemory>
+    requires { ArePorts ports.now }
+    ensures { IfOk result (λ text. ShowsLetGo ports.now (string_bytes text)) }
+{
+    let mut kernel = ListKernel::new(alloc);
+    let resting = release::<ListKernel, Brand>(alloc, ports, &mut kernel, Blank::new(1))?;
+    let counts = counts_text(alloc, &kernel)?;
+    Ok(resting_text(alloc, &counts, resting)?)
+}
+
+/// The same of a row, where its texts run; else the status of the refusal.
+pub fn release_text(alloc: Global, row: &Row<'_>) -> Result<String, NoMemory>
+    ensures { IfOk result (λ text. ShowsRelease (part_at 2 row.now) (part_at 3 row.now) (string_bytes text)) }
+{
     match decision(alloc, row.part(2), row.part(3))? {
         Decision::Refused(own, _) => Ok(String::from_str(alloc, status_name(own))?),
-        Decision::Runs(ports, _) => {
-            let mut kernel = ListKernel::new(alloc);
-            let idle = release::<ListKernel, Brand>(alloc, &ports, &mut kernel, Blank::new(1))?;
-            let counts = counts_text(alloc, &kernel)?;
-            Ok(format!(in alloc; "{counts}, idle {idle}")?)
-        }
+        Decision::Runs(ports, _) => let_go_text(alloc, &ports),
     }
 }

@@ -1,14 +1,15 @@
 //! Runs within a budget.
-ghost use Rattle.std.specs.Prelude.{◌≡◌, ◌<◌, IfOk};
+ghost use Rattle.std.specs.Prelude.{◌≡◌, ◌<◌, IfOk, string_bytes};
 ghost use Rattle.command.specs.Reading.{CanRun, reading_of};
-ghost use Rattle.port_io.specs.Steps.{SinkBreaks, SinkTakes};
-ghost use Rattle.command.specs.Answer.{Answers};
-ghost use Rattle.command.specs.Means.{sink_means};
-ghost use Rattle.runner_tests.specs.Engines.{told};
+ghost use Rattle.command.specs.Answer.{Answers, LeavesKernel};
+ghost use Rattle.table_rows.specs.Rows.{part_at};
+ghost use Rattle.runner_tests.specs.Engines.{line_means};
 ghost use Rattle.runner_tests.specs.Files.{ComesTo};
+ghost use Rattle.runner_tests.specs.Lines.{decimal_at};
+ghost use Rattle.runner_tests.specs.Runs.{ShowsRun};
 
 use crate::commands::store_of;
-use crate::words::{counts_text, status_name};
+use crate::words::counted_text;
 use command::{Decision, answer, decide};
 use gpi::Gpi;
 use list_kernel::ListKernel;
@@ -18,7 +19,7 @@ use rig_model::Steps;
 use std::alloc::Global;
 use std::marker::Brand;
 use std::sync::ledger::{Blank, Ledger};
-use table_rows::{Row, quoted};
+use table_rows::Row;
 
 /// What a design and tests come to. Only want of memory is an error.
 pub fn decision(alloc: Global, design: &[u8], tests: &[u8]) -> Result<Decision, NoMemory>
@@ -42,14 +43,17 @@ fn run<K: Gpi, L: Ledger>(
     requires name { blank.name ≡ L.name }
     requires parts { blank.parts ≡ L.parts }
     requires some { 0 < blank.parts }
-    ensures { Answers (sink_means SinkTakes SinkBreaks told) budget (reading_of decision.now) result (K.content kernel.new) sink.old sink.new }
+    ensures answers { Answers line_means budget (reading_of decision.now) result (K.content kernel.new) sink.old sink.new }
+    ensures leaves { LeavesKernel K.is_loaded result kernel.old kernel.new }
 {
     let mut steps = Steps::<L>::new(blank);
     answer(alloc, decision, budget, kernel, sink, &mut steps)
 }
 
 /// The status of a run, the counts of keys after it, and what it put.
-pub fn run_text(alloc: Global, row: &Row<'_>) -> Result<String, NoMemory> {
+pub fn run_text(alloc: Global, row: &Row<'_>) -> Result<String, NoMemory>
+    ensures { IfOk result (λ text. ShowsRun (decimal_at 2 row.now) (part_at 3 row.now) (part_at 4 row.now) (string_bytes text)) }
+{
     let decision = decision(alloc, row.part(3), row.part(4))?;
     let mut sink = MemSink::new(alloc);
     let mut kernel = ListKernel::new(alloc);
@@ -62,8 +66,5 @@ pub fn run_text(alloc: Global, row: &Row<'_>) -> Result<String, NoMemory> {
         &mut kernel,
         Blank::new(1),
     );
-    let counts = counts_text(alloc, &kernel)?;
-    let lines = quoted(alloc, sink.bytes())?;
-    let name = status_name(status);
-    Ok(format!(in alloc; "{name} {counts} {lines}")?)
+    counted_text(alloc, status, &kernel, sink.bytes())
 }

@@ -6,7 +6,7 @@ ghost use Rattle.table_rows.specs.Rows.{part_at};
 ghost use Rattle.runner_tests.specs.Runs.{ShowsTrace, Traces, TracesFiles};
 
 use crate::runs::decision;
-use crate::words::status_name;
+use crate::words::ended_text;
 use command::Decision;
 use gpi::Gpi;
 use list_kernel::ListKernel;
@@ -18,7 +18,7 @@ use scheduler::Engine;
 use std::alloc::Global;
 use std::marker::Brand;
 use std::sync::ledger::{Blank, Ledger};
-use table_rows::{Row, quoted};
+use table_rows::Row;
 use text_forms::flat_of_ports;
 
 /// The status of a run whose told changes are written.
@@ -65,7 +65,5 @@ pub fn trace_text(alloc: Global, row: &Row<'_>) -> Result<String, NoMemory>
 {
     let mut sink = MemSink::new(alloc);
     let status = traced(alloc, row, &mut sink)?;
-    let lines = quoted(alloc, sink.bytes())?;
-    let name = status_name(status);
-    Ok(format!(in alloc; "{name} {lines}")?)
+    ended_text(alloc, status, sink.bytes())
 }

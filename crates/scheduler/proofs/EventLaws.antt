@@ -1,6 +1,7 @@
 -- An event, as a turn.
 use Rattle.std.specs.Prelude.{is_none}
 use Rattle.std.proofs.Common.{◌≡◌, ℕ, ◌||◌, ◌&&◌, Bool, true, false, not, if◌then◌else◌, List, [], ◌∷◌, ◌++◌, length, Option, None, Some, refl, sym, ap, subst, ◌∙◌, arith}
+use Rattle.port_io.specs.Means.{SinkMeans}
 use Rattle.four_value.specs.declared.Digit.{Digit}
 use Rattle.four_value.specs.Vector.{same_digits}
 use Rattle.gpi.specs.Content.{Content, Does, Answers}
@@ -195,11 +196,11 @@ module _ (setup : Setup) (p : Parts) (k k1 k2 : Content) (write : Staged) (bits 
     put_is h = put_stands ahead setup k c s write.sig bits ∙ ap (put (procs setup) k.state (set_of (awaited c)) write.sig) h
 
     -- the write is done, its change is told, and its keys are served
-    pub put_serves : {O : Type 0} (takes breaks : O → List ℕ → O → Type 0) (told : O → Option (List ℕ)) (fault : Option SinkFault) (out : O) (fault' : Option SinkFault) (out' : O)
-        → bits ≡ written_digits k.state write → PutsOn takes breaks told fault out (told_lines setup k.state.time e.told) fault' out'
-        → Serves takes breaks told setup ahead (after_put setup (put_of setup c write) c) p' k2 fault out fault' out'
-    put_serves takes breaks told fault out fault' out' h q =
-        subst (λ (x : Event). Serves takes breaks told setup ahead (after_put setup x c) p' k2 fault out fault' out') (put_is h)
+    pub put_serves : {O : Type 0} (sink : SinkMeans O) (fault : Option SinkFault) (out : O) (fault' : Option SinkFault) (out' : O)
+        → bits ≡ written_digits k.state write → PutsOn sink fault out (told_lines setup k.state.time e.told) fault' out'
+        → Serves sink setup ahead (after_put setup (put_of setup c write) c) p' k2 fault out fault' out'
+    put_serves sink fault out fault' out' h q =
+        subst (λ (x : Event). Serves sink setup ahead (after_put setup x c) p' k2 fault out fault' out') (put_is h)
         (record { rig_is = rig_is; stands = stands; puts = q })
 
 -- what the waiting part asks before the keys of a change are served
@@ -222,19 +223,19 @@ module _ (k k1 : Content) (sig : SigId) (bits : List Digit) (fired : Fired) (fir
 
 -- ---- the staged writes go out
 
-module _ {O : Type 0} (takes breaks : O → List ℕ → O → Type 0) (told : O → Option (List ℕ)) (setup : Setup) where
+module _ {O : Type 0} (sink : SinkMeans O) (setup : Setup) where
   -- an effect, and then another
   pub serves_then : (fired : List Key) (a : After) (p : Parts) (k : Content) (f : Option SinkFault) (o : O) (g : Option SinkFault) (q : O) (next : Rig → After) (p' : Parts) (k' : Content) (h : Option SinkFault) (r : O)
-      → Serves takes breaks told setup fired a p k f o g q → Serves takes breaks told setup fired (next (rig_amid p k.state fired a.rig.counts)) p' k' g q h r
-      → Serves takes breaks told setup fired (and_then a next) p' k' f o h r
+      → Serves sink setup fired a p k f o g q → Serves sink setup fired (next (rig_amid p k.state fired a.rig.counts)) p' k' g q h r
+      → Serves sink setup fired (and_then a next) p' k' f o h r
   serves_then fired a p k f o g q next p' k' h r s t =
-      let t' : Serves takes breaks told setup fired (next a.rig) p' k' g q h r = subst (λ (c : Rig). Serves takes breaks told setup fired (next c) p' k' g q h r) (sym s.rig_is) t in
-      record { rig_is = t'.rig_is; stands = t'.stands; puts = puts_on_then takes breaks told f o a.lines g q (next a.rig).lines h r s.puts t'.puts }
+      let t' : Serves sink setup fired (next a.rig) p' k' g q h r = subst (λ (c : Rig). Serves sink setup fired (next c) p' k' g q h r) (sym s.rig_is) t in
+      record { rig_is = t'.rig_is; stands = t'.stands; puts = puts_on_then sink f o a.lines g q (next a.rig).lines h r s.puts t'.puts }
 
   -- nothing is done
   pub serves_none : (fired : List Key) (p : Parts) (k : Content) (counts : Counts) (f : Option SinkFault) (o : O) → StandsAhead fired setup k (rig_amid p k.state fired counts)
-      → Serves takes breaks told setup fired (quiet (rig_amid p k.state fired counts)) p k f o f o
-  serves_none fired p k counts f o s = record { rig_is = refl; stands = s; puts = puts_on_none takes breaks told f o }
+      → Serves sink setup fired (quiet (rig_amid p k.state fired counts)) p k f o f o
+  serves_none fired p k counts f o s = record { rig_is = refl; stands = s; puts = puts_on_none sink f o }
 
   abbrev rw_key : List Key
   rw_key = ReadWrite ∷ []
@@ -243,17 +244,17 @@ module _ {O : Type 0} (takes breaks : O → List ℕ → O → Type 0) (told : O
   pub record Flushing (start : After) (f0 : Option SinkFault) (o0 : O) (p : Parts) (k : Content) (f : Option SinkFault) (o : O) : Type 0 where
     pub counts : Counts
     pub stands : StandsAhead rw_key setup k (rig_amid p k.state rw_key counts)
-    pub rest : (p' : Parts) (k' : Content) (h : Option SinkFault) (r : O) → Serves takes breaks told setup rw_key (flushed setup p.staged (rig_amid p k.state rw_key counts)) p' k' f o h r
-        → Serves takes breaks told setup rw_key start p' k' f0 o0 h r
+    pub rest : (p' : Parts) (k' : Content) (h : Option SinkFault) (r : O) → Serves sink setup rw_key (flushed setup p.staged (rig_amid p k.state rw_key counts)) p' k' f o h r
+        → Serves sink setup rw_key start p' k' f0 o0 h r
 
   pub flushing_begins : (p : Parts) (k : Content) (f : Option SinkFault) (o : O) (counts : Counts) → StandsAhead rw_key setup k (rig_amid p k.state rw_key counts)
       → Flushing (flushed setup p.staged (rig_amid p k.state rw_key counts)) f o p k f o
   flushing_begins p k f o counts s = record { counts = counts; stands = s; rest = λ p' k' h r t. t }
 
   pub flushing_ends : (start : After) (f0 : Option SinkFault) (o0 : O) (p : Parts) (k : Content) (f : Option SinkFault) (o : O) → Flushing start f0 o0 p k f o → p.staged ≡ []
-      → Serves takes breaks told setup rw_key start p k f0 o0 f o
+      → Serves sink setup rw_key start p k f0 o0 f o
   flushing_ends start f0 o0 p k f o m e =
-      m.rest p k f o (subst (λ (ws : List Staged). Serves takes breaks told setup rw_key (flushed setup ws (rig_amid p k.state rw_key m.counts)) p k f o f o) (sym e) (serves_none rw_key p k m.counts f o m.stands))
+      m.rest p k f o (subst (λ (ws : List Staged). Serves sink setup rw_key (flushed setup ws (rig_amid p k.state rw_key m.counts)) p k f o f o) (sym e) (serves_none rw_key p k m.counts f o m.stands))
 
   same_anyway : (a g h s : Bool) → (s ≡ false → g ≡ h) → ((a || g) && not s) ≡ ((a || h) && not s)
   same_anyway true g h s e = refl
@@ -286,34 +287,34 @@ module _ {O : Type 0} (takes breaks : O → List ℕ → O → Type 0) (told : O
   pub flushing_more : (setup' : Setup) (same : setup' ≡ setup) (start : After) (f0 : Option SinkFault) (o0 : O) (p : Parts) (k : Content) (f : Option SinkFault) (o : O) → Flushing start f0 o0 p k f o
       → (write : Staged) (writes : List Staged) → p.staged ≡ write ∷ writes → (p' : Parts) (k' : Content) (f' : Option SinkFault) (o' : O) → p'.staged ≡ writes
       → ((fired : List Key) (counts : Counts) → (let c = rig_amid (record p { staged = writes }) k.state fired counts in
-      StandsAhead fired setup' k c → Serves takes breaks told setup' fired (after_put setup' (put_of setup' c write) c) p' k' f o f' o'))
+      StandsAhead fired setup' k c → Serves sink setup' fired (after_put setup' (put_of setup' c write) c) p' k' f o f' o'))
       → Flushing start f0 o0 p' k' f' o'
   flushing_more setup' same start f0 o0 p k f o m write writes e p' k' f' o' e' put =
       let c : Rig = rig_amid (record p { staged = writes }) k.state rw_key m.counts in
       let a : After = after_put setup (put_of setup c write) c in
-      let s : Serves takes breaks told setup rw_key a p' k' f o f' o'
-      = subst (λ (st : Setup). StandsAhead rw_key st k c → Serves takes breaks told st rw_key (after_put st (put_of st c write) c) p' k' f o f' o') same (put rw_key m.counts) (unstaged p k m.counts writes m.stands) in
+      let s : Serves sink setup rw_key a p' k' f o f' o'
+      = subst (λ (st : Setup). StandsAhead rw_key st k c → Serves sink st rw_key (after_put st (put_of st c write) c) p' k' f o f' o') same (put rw_key m.counts) (unstaged p k m.counts writes m.stands) in
       record {
         counts = a.rig.counts;
         stands = subst (λ (d : Rig). StandsAhead rw_key setup k' d) s.rig_is s.stands;
         rest = λ p'' k'' h r t. m.rest p'' k'' h r
-            (subst (λ (ws : List Staged). Serves takes breaks told setup rw_key (flushed setup ws (rig_amid p k.state rw_key m.counts)) p'' k'' f o h r) (sym e)
+            (subst (λ (ws : List Staged). Serves sink setup rw_key (flushed setup ws (rig_amid p k.state rw_key m.counts)) p'' k'' f o h r) (sym e)
             (serves_then rw_key a p' k' f o f' o' (flushed setup writes) p'' k'' h r s
-            (subst (λ (ws : List Staged). Serves takes breaks told setup rw_key (flushed setup ws (rig_amid p' k'.state rw_key a.rig.counts)) p'' k'' f' o' h r) e' t)));
+            (subst (λ (ws : List Staged). Serves sink setup rw_key (flushed setup ws (rig_amid p' k'.state rw_key a.rig.counts)) p'' k'' f' o' h r) e' t)));
       }
 
   -- the staged writes go out where the read-write phase is among the keys that fired
   pub flushed_then : (fired : List Key) (p : Parts) (k : Content) (counts : Counts) (p' : Parts) (k' : Content) (f : Option SinkFault) (o : O) (g : Option SinkFault) (q : O) → fired ≡ rw_key
-      → (StandsAhead rw_key setup k (rig_amid p k.state rw_key counts) → Serves takes breaks told setup rw_key (flushed setup p.staged (rig_amid p k.state rw_key counts)) p' k' f o g q)
-      → StandsAhead fired setup k (rig_amid p k.state fired counts) → Serves takes breaks told setup fired (flushed_if setup (among ReadWrite fired) (rig_amid p k.state fired counts)) p' k' f o g q
+      → (StandsAhead rw_key setup k (rig_amid p k.state rw_key counts) → Serves sink setup rw_key (flushed setup p.staged (rig_amid p k.state rw_key counts)) p' k' f o g q)
+      → StandsAhead fired setup k (rig_amid p k.state fired counts) → Serves sink setup fired (flushed_if setup (among ReadWrite fired) (rig_amid p k.state fired counts)) p' k' f o g q
   flushed_then fired p k counts p' k' f o g q e h =
-      subst (λ (ks : List Key). StandsAhead ks setup k (rig_amid p k.state ks counts) → Serves takes breaks told setup ks (flushed_if setup (among ReadWrite ks) (rig_amid p k.state ks counts)) p' k' f o g q)
+      subst (λ (ks : List Key). StandsAhead ks setup k (rig_amid p k.state ks counts) → Serves sink setup ks (flushed_if setup (among ReadWrite ks) (rig_amid p k.state ks counts)) p' k' f o g q)
       (sym e) h
 
   pub flushed_else : (fired : List Key) (p : Parts) (k : Content) (counts : Counts) (f : Option SinkFault) (o : O) → among ReadWrite fired ≡ false
-      → StandsAhead fired setup k (rig_amid p k.state fired counts) → Serves takes breaks told setup fired (flushed_if setup (among ReadWrite fired) (rig_amid p k.state fired counts)) p k f o f o
+      → StandsAhead fired setup k (rig_amid p k.state fired counts) → Serves sink setup fired (flushed_if setup (among ReadWrite fired) (rig_amid p k.state fired counts)) p k f o f o
   flushed_else fired p k counts f o e s =
-      subst (λ (b : Bool). Serves takes breaks told setup fired (flushed_if setup b (rig_amid p k.state fired counts)) p k f o f o) (sym e) (serves_none fired p k counts f o s)
+      subst (λ (b : Bool). Serves sink setup fired (flushed_if setup b (rig_amid p k.state fired counts)) p k f o f o) (sym e) (serves_none fired p k counts f o s)
 
 pub nothing_staged : (ws : List Staged) (fired : List Key) → ws ≡ [] → (x : Key) → among x (staged_key ws) ≡ true → among x fired ≡ false
 nothing_staged [] fired h x e = cc
@@ -400,8 +401,8 @@ module _ (setup : Setup) (p : Parts) (k k1 : Content) (held : List Key) (f : Fit
   own_keys = keys_in m.fired
 
   -- the staged writes have gone out if they were to, and then the keys are served
-  module _ {O : Type 0} (takes breaks : O → List ℕ → O → Type 0) (told : O → Option (List ℕ)) (p2 : Parts) (k2 k3 : Content) (f1 : Option SinkFault) (o1 : O) (f2 : Option SinkFault) (o2 : O)
-      (fl : Serves takes breaks told setup own_keys (flushed_if setup (among ReadWrite own_keys) (rig_amid p k1.state own_keys k.counts)) p2 k2 f1 o1 f2 o2)
+  module _ {O : Type 0} (sink : SinkMeans O) (p2 : Parts) (k2 k3 : Content) (f1 : Option SinkFault) (o1 : O) (f2 : Option SinkFault) (o2 : O)
+      (fl : Serves sink setup own_keys (flushed_if setup (among ReadWrite own_keys) (rig_amid p k1.state own_keys k.counts)) p2 k2 f1 o1 f2 o2)
       (free : (x : Key) → among x (staged_key p2.staged) ≡ true → among x own_keys ≡ false) (held2 held3 : List Key) (goes : AreOnce (without_all own_keys held2) (staged_key p2.staged))
       (s2 : length k2.state.signals ≡ length setup.flat.signals) (ready3 : List Entry) (waiting3 : List Waiting) (waiting_is : waiting3 ≡ all_waiting own_keys p2.waiting) (held_is : AreAlike held3 (without_all own_keys held2))
       (ready_is : ready3 ≡ p2.ready ++ all_woken own_keys p2.waiting) (b : AreKeysBut k2.keys own_keys (named p2.waiting held2)) (out_is : AreOut k2.keys own_keys)
@@ -462,18 +463,18 @@ module _ (setup : Setup) (p : Parts) (k k1 : Content) (held : List Key) (f : Fit
         ∙ ap (λ (d : Rig). (served own_keys [] d).rig) fl.rig_is
         ∙ after_is
 
-    pub event_evented : (out : O) (time : ℕ) → time ≡ k.state.time → PutsOn takes breaks told None out (told_lines setup time m.change) f1 o1
-        → IsEvented takes breaks told setup (rig_between p k) (rig_between p3 k3) out o2 f2
+    pub event_evented : (out : O) (time : ℕ) → time ≡ k.state.time → PutsOn sink None out (told_lines setup time m.change) f1 o1
+        → IsEvented sink setup (rig_between p k) (rig_between p3 k3) out o2 f2
     event_evented out time t q =
         let told_are : told_lines setup time m.change ≡ told_lines setup k.state.time a.event.told = ap (λ (n : ℕ). told_lines setup n m.change) t ∙ ap (told_lines setup k.state.time) a.change_is in
-        let flushing : PutsOn takes breaks told f1 o1 ((flush_of own_keys k1.state).lines ++ []) f2 o2
-        = puts_on_then takes breaks told f1 o1 (flush_of own_keys k1.state).lines f2 o2 [] f2 o2 fl.puts (puts_on_none takes breaks told f2 o2) in
-        let flushed_to : PutsOn takes breaks told f1 o1 ((flush_of a.event.fired a.event.state).lines ++ []) f2 o2
-        = subst (λ (x : After). PutsOn takes breaks told f1 o1 (x.lines ++ []) f2 o2) (sym same_flush) flushing in
-        let first : PutsOn takes breaks told None out (told_lines setup k.state.time a.event.told) f1 o1 = subst (λ (ls : List (List ℕ)). PutsOn takes breaks told None out ls f1 o1) told_are q in
+        let flushing : PutsOn sink f1 o1 ((flush_of own_keys k1.state).lines ++ []) f2 o2
+        = puts_on_then sink f1 o1 (flush_of own_keys k1.state).lines f2 o2 [] f2 o2 fl.puts (puts_on_none sink f2 o2) in
+        let flushed_to : PutsOn sink f1 o1 ((flush_of a.event.fired a.event.state).lines ++ []) f2 o2
+        = subst (λ (x : After). PutsOn sink f1 o1 (x.lines ++ []) f2 o2) (sym same_flush) flushing in
+        let first : PutsOn sink None out (told_lines setup k.state.time a.event.told) f1 o1 = subst (λ (ls : List (List ℕ)). PutsOn sink None out ls f1 o1) told_are q in
         record {
           event = a.event;
           is = sym (event_stands [] setup k (rig_between p k) f.stands) ∙ a.next;
           rig_is = evented_is;
-          puts = puts_on_then takes breaks told None out (told_lines setup k.state.time a.event.told) f1 o1 ((flush_of a.event.fired a.event.state).lines ++ []) f2 o2 first flushed_to;
+          puts = puts_on_then sink None out (told_lines setup k.state.time a.event.told) f1 o1 ((flush_of a.event.fired a.event.state).lines ++ []) f2 o2 first flushed_to;
         }

@@ -1,6 +1,7 @@
 -- An event, as a turn.
 use Rattle.std.specs.Prelude.{is_none}
 use Rattle.std.proofs.Common.{◌≡◌, ℕ, zero, suc, ◌-◌, ◌<◌, true, false, List, [], Option, None, Some, Result, Ok, Err, IsErr, refl, ap, sym, subst, arith, ◌∙◌}
+use Rattle.port_io.specs.Means.{SinkMeans}
 use Rattle.gpi.specs.Content.{Content}
 use Rattle.gpi.specs.Events.{Event, event, idle}
 use Rattle.port_io.proofs.PartLaws.{part_none}
@@ -30,7 +31,7 @@ some_event : (o : Option Event) → is_none o ≡ false → (e : Event) × (o �
 some_event None h = cc
 some_event (Some e) h = (e, refl)
 
-module _ {O : Type 0} (takes breaks : O → List ℕ → O → Type 0) (told : O → Option (List ℕ)) (setup : Setup) (p : Parts) (k : Content) (none : p.ready ≡ []) where
+module _ {O : Type 0} (sink : SinkMeans O) (setup : Setup) (p : Parts) (k : Content) (none : p.ready ≡ []) where
   abbrev c : Rig
   c = rig_between p k
 
@@ -47,7 +48,7 @@ module _ {O : Type 0} (takes breaks : O → List ℕ → O → Type 0) (told : O
   module _ (s : StandsFor setup k c) where
     -- nothing is left that could happen
     pub stalled_turning : (fuel : ℕ) (out : O) → idle k.procs k.state k.keys ≡ true
-        → Turning takes breaks told (TurnSteps setup) setup fuel c out (Ok (Over outcome.Stalled)) fuel c out
+        → Turning sink (TurnSteps setup) setup fuel c out (Ok (Over outcome.Stalled)) fuel c out
     stalled_turning fuel out h =
         let is : event_of setup c ≡ None = sym (event_stands [] setup k c s) ∙ no_event (event k.procs k.state k.keys) h in
         let z : fuel - 0 ≡ fuel = omega arith in
@@ -59,28 +60,28 @@ module _ {O : Type 0} (takes breaks : O → List ℕ → O → Type 0) (told : O
         }
 
     -- no fuel is left for the event
-    pub spent_turning : (fuel : ℕ) (out : O) → idle k.procs k.state k.keys ≡ false → fuel ≡ 0 → Turning takes breaks told (TurnSteps setup) setup fuel c out (Ok Spent) fuel c out
+    pub spent_turning : (fuel : ℕ) (out : O) → idle k.procs k.state k.keys ≡ false → fuel ≡ 0 → Turning sink (TurnSteps setup) setup fuel c out (Ok Spent) fuel c out
     spent_turning fuel out h f =
         let some : (e : Event) × (event k.procs k.state k.keys ≡ Some e) = some_event (event k.procs k.state k.keys) h in
         let is : event_of setup c ≡ Some some.0 = sym (event_stands [] setup k c s) ∙ some.1 in
         record { lines = []; turns = turn_none setup fuel c (evented setup some.0 c) refl (step_is (Some some.0) is) (omega arith); puts = refl }
 
   -- memory was short before the event
-  pub short_turning : (fuel : ℕ) (out : O) (r : Result Turn NoMemory) (fuel' : ℕ) (e : Rig) (out' : O) → IsErr r → out' ≡ out → Turning takes breaks told (TurnSteps setup) setup fuel c out r fuel' e out'
+  pub short_turning : (fuel : ℕ) (out : O) (r : Result Turn NoMemory) (fuel' : ℕ) (e : Rig) (out' : O) → IsErr r → out' ≡ out → Turning sink (TurnSteps setup) setup fuel c out r fuel' e out'
   unfolding TurnSteps
   short_turning fuel out (Ok t) fuel' e out' h same = cc
-  short_turning fuel out (Err x) fuel' e out' h same = rw same (record { lines = []; turns = record { count = zero; left = fuel; last = c; steps = (refl, refl, refl) }; puts = part_none takes told out [] })
+  short_turning fuel out (Err x) fuel' e out' h same = rw same (record { lines = []; turns = record { count = zero; left = fuel; last = c; steps = (refl, refl, refl) }; puts = part_none sink.takes sink.told out [] })
 
   module _ (fuel : ℕ) (some : 0 < fuel) (out : O) (d : Rig) (out' : O) where
-    went_moves : (fault : Option SinkFault) (e : IsEvented takes breaks told setup c d out out' fault) → Moves (TurnSteps setup) fuel c (evented setup e.event c).lines (fuel - 1) d
+    went_moves : (fault : Option SinkFault) (e : IsEvented sink setup c d out out' fault) → Moves (TurnSteps setup) fuel c (evented setup e.event c).lines (fuel - 1) d
     went_moves fault e = subst (λ (x : Rig). Moves (TurnSteps setup) fuel c (evented setup e.event c).lines (fuel - 1) x) e.rig_is (one_moves fuel e.event e.is some)
 
     -- the event was done, and its lines were taken, or one broke, or memory was short
-    pub went_turning : IsEvented takes breaks told setup c d out out' None → Turning takes breaks told (TurnSteps setup) setup fuel c out (Ok Went) (fuel - 1) d out'
+    pub went_turning : IsEvented sink setup c d out out' None → Turning sink (TurnSteps setup) setup fuel c out (Ok Went) (fuel - 1) d out'
     went_turning e = record { lines = (evented setup e.event c).lines; turns = went_moves None e; puts = e.puts }
 
-    pub broken_turning : IsEvented takes breaks told setup c d out out' (Some Failed) → Turning takes breaks told (TurnSteps setup) setup fuel c out (Ok WriteFault) (fuel - 1) d out'
+    pub broken_turning : IsEvented sink setup c d out out' (Some Failed) → Turning sink (TurnSteps setup) setup fuel c out (Ok WriteFault) (fuel - 1) d out'
     broken_turning e = record { lines = (evented setup e.event c).lines; turns = begins_of fuel (evented setup e.event c).lines (fuel - 1) d (went_moves (Some Failed) e); puts = e.puts }
 
-    pub cut_turning : (x : NoMemory) → IsEvented takes breaks told setup c d out out' (Some OutOfMemory) → Turning takes breaks told (TurnSteps setup) setup fuel c out (Err x) (fuel - 1) d out'
+    pub cut_turning : (x : NoMemory) → IsEvented sink setup c d out out' (Some OutOfMemory) → Turning sink (TurnSteps setup) setup fuel c out (Err x) (fuel - 1) d out'
     cut_turning x e = record { lines = (evented setup e.event c).lines; turns = begins_of fuel (evented setup e.event c).lines (fuel - 1) d (went_moves (Some OutOfMemory) e); puts = e.puts }

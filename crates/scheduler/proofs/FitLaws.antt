@@ -1,6 +1,6 @@
 -- What holds of the engine's own parts is kept.
 use Rattle.std.proofs.Common.{◌≡◌, ℕ, ◌+◌, ◌≤◌, ◌<◌, Bool, true, false, List, [], ◌∷◌, ◌++◌, length, Option, None, Some, IsSome, refl, ap, sym, subst, arith, rules, ◌∙◌, length-append, get_or, zero, suc}
-use Rattle.std.specs.Prelude.{nat_le, ◌||◌, not, filter, ◌==◌, IfOk, Result, Ok, Err}
+use Rattle.std.specs.Prelude.{nat_le, ◌||◌, not, filter, ◌==◌, IfOk, OnOk, Result, Ok, Err}
 use Rattle.gpi.specs.Content.{Content}
 use Rattle.port_io.specs.declared.ports.NoMemory.{NoMemory}
 use Rattle.rig_model.specs.declared.file.Function.{Function}
@@ -25,11 +25,13 @@ use Rattle.rig_model.specs.declared.task.Staged.{Staged}
 use Rattle.rig_model.specs.declared.task.Turned.{Turned}
 use Rattle.rig_model.specs.declared.tree.Waiting.{Waiting}
 use Rattle.scheduler.specs.Tasks.{PollsTask}
-use Rattle.scheduler.specs.Fits.{FitsAfter, FitsKernel}
+use Rattle.scheduler.specs.Fits.{FitsAt, FitsKernel, FitsNext}
+use Rattle.scheduler.specs.Engine.{setup_of, parts_of}
 use Rattle.scheduler.specs.Parts.{Parts, Fits, bounds_of, AreSoundWrites}
 use Rattle.scheduler.specs.declared.engine.Engine.{Engine}
 use Rattle.scheduler.specs.declared.turn.Turn.{Turn}
-use Rattle.scheduler.specs.declared.turn.Turn.TheVariants.{Went, Over, Spent, WriteFault}
+use Rattle.scheduler.specs.declared.turn.Next.{Next}
+use Rattle.scheduler.specs.declared.turn.Next.TheVariants.{GoesOn, Ends}
 
 length-stored : (t : Task) (ts : List Task) → length (stored t ts) ≡ length ts
 length-stored t [] = refl
@@ -223,13 +225,13 @@ module _ {M W F : Type 0} (functions : M → List Function) (waiting : W → Lis
   fits_anyhow : (e : Engine M W F) (runs : Bool) (content : Content) → FitsKernel functions waiting held e content → FitsKernel functions waiting held (record e { runs_test = runs }) content
   fits_anyhow e runs content f = record { own = f.own; kernel = f.kernel }
 
-  fits_after : (turn : Turn) (e : Engine M W F) (runs : Bool) (content : Content) → FitsAfter functions waiting held turn e content → FitsAfter functions waiting held turn (record e { runs_test = runs }) content
-  fits_after Went e runs content f = fits_anyhow e runs content f
-  fits_after (Over outcome) e runs content f = fits_anyhow e runs content f
-  fits_after Spent e runs content f = fits_anyhow e runs content f
-  fits_after WriteFault e runs content f = tt
-
-  pub fits_result : (r : Result Turn NoMemory) (e : Engine M W F) (runs : Bool) (content : Content) → IfOk r (λ turn. FitsAfter functions waiting held turn e content)
-      → IfOk r (λ turn. FitsAfter functions waiting held turn (record e { runs_test = runs }) content)
-  fits_result (Ok turn) e runs content f = fits_after turn e runs content f
+  pub fits_result : (r : Result Turn NoMemory) (e : Engine M W F) (runs : Bool) (content : Content) → OnOk r (FitsKernel functions waiting held e content)
+      → OnOk r (FitsKernel functions waiting held (record e { runs_test = runs }) content)
+  fits_result (Ok turn) e runs content f = fits_anyhow e runs content f
   fits_result (Err x) e runs content f = tt
+
+  -- a task that wrote a log line goes on, or its turn ends
+  pub fits_logged : (task : TaskNo) (r : Result Next NoMemory) (e : Engine M W F) (content : Content) → FitsAt (Some task) functions waiting held e content → IfOk r (λ next. FitsNext functions waiting held task next e content)
+  fits_logged task (Ok (GoesOn given)) e content f = f
+  fits_logged task (Ok (Ends turn)) e content f = record { own = fits_less (setup_of functions e) e.ready.room (parts_of waiting e) task f.own; kernel = f.kernel }
+  fits_logged task (Err x) e content f = tt

@@ -1,5 +1,6 @@
 -- Turns one after another.
 use Rattle.std.proofs.Common.{◌≡◌, ℕ, suc, List, Option, Some, Result, Ok, Err, IsErr, subst}
+use Rattle.port_io.specs.Means.{SinkMeans}
 use Rattle.port_io.specs.declared.ports.NoMemory.{NoMemory}
 use Rattle.rig_model.specs.Rig.{Rig, Setup}
 use Rattle.rig_model.specs.FitSteps.{FitSteps, TurnSteps, anywhere, Moves, Begins}
@@ -23,27 +24,27 @@ module _ (setup : Setup) where
   turns_anywhere fuel c lines (Ok WriteFault) fuel' e h = begins_anywhere fuel c lines h
   turns_anywhere fuel c lines (Err x) fuel' e h = begins_anywhere fuel c lines h
 
-module _ {O : Type 0} (takes breaks : O → List ℕ → O → Type 0) (told : O → Option (List ℕ)) (setup : Setup) where
+module _ {O : Type 0} (sink : SinkMeans O) (setup : Setup) where
   -- a turn is one of many
   pub turning_anywhere : (setup' : Setup) (fuel : ℕ) (c : Rig) (out : O) (r : Result Turn NoMemory) (fuel' : ℕ) (e : Rig) (out' : O) → setup' ≡ setup
-      → Turning takes breaks told (TurnSteps setup') setup' fuel c out r fuel' e out' → Turning takes breaks told (FitSteps anywhere setup) setup fuel c out r fuel' e out'
+      → Turning sink (TurnSteps setup') setup' fuel c out r fuel' e out' → Turning sink (FitSteps anywhere setup) setup fuel c out r fuel' e out'
   turning_anywhere setup' fuel c out r fuel' e out' s t =
-      subst (λ (x : Setup). Turning takes breaks told (FitSteps anywhere x) x fuel c out r fuel' e out') s
+      subst (λ (x : Setup). Turning sink (FitSteps anywhere x) x fuel c out r fuel' e out') s
       (record { lines = t.lines; turns = turns_anywhere setup' fuel c t.lines r fuel' e t.turns; puts = t.puts })
 
   -- a turn that went, and then others
   pub went_then : (setup' : Setup) (fuel : ℕ) (c : Rig) (out : O) (a : Result Turn NoMemory) (f : ℕ) (d : Rig) (mid : O) (r : Result Turn NoMemory) (fuel' : ℕ) (e : Rig) (out' : O)
-      → setup' ≡ setup → a ≡ Ok Went → Turning takes breaks told (TurnSteps setup') setup' fuel c out a f d mid
-      → Turning takes breaks told (FitSteps anywhere setup) setup f d mid r fuel' e out' → Turning takes breaks told (FitSteps anywhere setup) setup fuel c out r fuel' e out'
+      → setup' ≡ setup → a ≡ Ok Went → Turning sink (TurnSteps setup') setup' fuel c out a f d mid
+      → Turning sink (FitSteps anywhere setup) setup f d mid r fuel' e out' → Turning sink (FitSteps anywhere setup) setup fuel c out r fuel' e out'
   went_then setup' fuel c out a f d mid r fuel' e out' s h t more =
-      let first : Turning takes breaks told (FitSteps anywhere setup) setup fuel c out (Ok Went) f d mid
-      = subst (λ (x : Result Turn NoMemory). Turning takes breaks told (FitSteps anywhere setup) setup fuel c out x f d mid) h (turning_anywhere setup' fuel c out a f d mid s t) in
-      turning_then takes breaks told anywhere setup fuel c out first.lines f d mid r fuel' e out' first.turns first.puts more
+      let first : Turning sink (FitSteps anywhere setup) setup fuel c out (Ok Went) f d mid
+      = subst (λ (x : Result Turn NoMemory). Turning sink (FitSteps anywhere setup) setup fuel c out x f d mid) h (turning_anywhere setup' fuel c out a f d mid s t) in
+      turning_then sink anywhere setup fuel c out first.lines f d mid r fuel' e out' first.turns first.puts more
 
   -- want of memory is one, however it is told
   pub turning_err : (setup' : Setup) (fuel : ℕ) (c : Rig) (out : O) (x : NoMemory) (r : Result Turn NoMemory) (fuel' : ℕ) (e : Rig) (out' : O) → setup' ≡ setup → IsErr r
-      → Turning takes breaks told (TurnSteps setup') setup' fuel c out (Err x) fuel' e out' → Turning takes breaks told (FitSteps anywhere setup) setup fuel c out r fuel' e out'
+      → Turning sink (TurnSteps setup') setup' fuel c out (Err x) fuel' e out' → Turning sink (FitSteps anywhere setup) setup fuel c out r fuel' e out'
   turning_err setup' fuel c out x (Ok t) fuel' e out' s h p = cc
   turning_err setup' fuel c out x (Err y) fuel' e out' s h p =
-      let q : Turning takes breaks told (FitSteps anywhere setup) setup fuel c out (Err x) fuel' e out' = turning_anywhere setup' fuel c out (Err x) fuel' e out' s p in
+      let q : Turning sink (FitSteps anywhere setup) setup fuel c out (Err x) fuel' e out' = turning_anywhere setup' fuel c out (Err x) fuel' e out' s p in
       record { lines = q.lines; turns = q.turns; puts = q.puts }

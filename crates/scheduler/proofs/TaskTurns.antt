@@ -1,6 +1,7 @@
 -- A step of a turn's loop: a task is polled, and what it wanted is done.
 use Rattle.std.proofs.Common.{◌≡◌, ◌≢◌, ℕ, ◌≤◌, ◌<◌, ◌⊎◌, true, List, Option, Some, IsSome, Result, Ok, IsErr, subst, arith, length, inl, inr}
 use Rattle.port_io.specs.PutsPart.{PutsPart}
+use Rattle.port_io.specs.Means.{SinkMeans, PutsTo}
 use Rattle.port_io.specs.declared.ports.NoMemory.{NoMemory}
 use Rattle.gpi.specs.Content.{Content}
 use Rattle.rig_model.specs.Task.{Task}
@@ -17,7 +18,7 @@ use Rattle.rig_model.specs.declared.task.Turned.{Turned}
 use Rattle.rig_model.specs.declared.task.Turned.TheVariants as turned
 use Rattle.scheduler.specs.Tasks.{PollsTask}
 use Rattle.scheduler.specs.Parts.{Parts, Fits, bounds_of}
-use Rattle.scheduler.specs.Turns.{Turning, LeadsTo, PutsNext}
+use Rattle.scheduler.specs.Turns.{Turning, LeadsTo, next_fault}
 use Rattle.scheduler.proofs.StandLaws.{rig_between}
 use Rattle.scheduler.proofs.FitLaws.{fits_polled}
 use Rattle.scheduler.proofs.TurnLaws.{turning_spent, turning_cut, turning_ends, turning_goes_on, poll_moves, poll_short}
@@ -31,11 +32,11 @@ abbrev pub Polling : Content → List Task → ℕ → TaskNo → ℕ → Given 
 Polling k tasks started number fuel g t fuel' tasks' started' =
     PollsTask (record { signals = k.state.signals }) fuel tasks number g t fuel' tasks' × (started' ≡ started)
 
-module _ {O : Type 0} (takes breaks : O → List ℕ → O → Type 0) (told : O → Option (List ℕ)) (setup' setup : Setup) (same : setup' ≡ setup) (number : TaskNo)
+module _ {O : Type 0} (sink : SinkMeans O) (setup' setup : Setup) (same : setup' ≡ setup) (number : TaskNo)
     (p : Parts) (k : Content) (fuel : ℕ) (g : Given) (out : O) where
   abbrev Comes : Result Turn NoMemory → ℕ → Rig → O → Type 0
   Comes r fuel' e out' =
-      Turning takes breaks told (FitSteps in_turn setup) setup fuel (goes_on number (Some g) (rig_between p k)) out r fuel' e out'
+      Turning sink (FitSteps in_turn setup) setup fuel (goes_on number (Some g) (rig_between p k)) out r fuel' e out'
 
   module _ (t : Turned) (f : ℕ) (tasks' : List Task) (started' : ℕ) (q : Polling k p.tasks p.started number fuel g t f tasks' started') where
     abbrev after : Rig
@@ -62,31 +63,31 @@ module _ {O : Type 0} (takes breaks : O → List ℕ → O → Type 0) (told : O
     -- no fuel was left
     pub spends : t ≡ turned.Spent → Comes (Ok turn.Spent) f after out
     spends e =
-        turning_spent takes breaks told in_turn setup fuel (goes_on number (Some g) (rig_between p k)) out f after
+        turning_spent sink in_turn setup fuel (goes_on number (Some g) (rig_between p k)) out f after
         (poll_short setup number p k fuel g t f tasks' started' q.0 q.1 e)
 
     module _ (n : t ≢ turned.Spent) where
       -- memory was short
-      pub cut : (r : Result Turn NoMemory) (e : Rig) (out' : O) → IsErr r → PutsPart takes told out (effect setup' number t after).lines out' → Comes r f e out'
+      pub cut : (r : Result Turn NoMemory) (e : Rig) (out' : O) → IsErr r → PutsPart sink.takes sink.told out (effect setup' number t after).lines out' → Comes r f e out'
       cut r e out' h w =
-          turning_cut takes breaks told in_turn setup fuel (goes_on number (Some g) (rig_between p k)) out (effect setup number t after).lines f (effect setup number t after).rig out' r f e h
-          (moves n) (subst (λ (s : Setup). PutsPart takes told out (effect s number t after).lines out') same w)
+          turning_cut sink in_turn setup fuel (goes_on number (Some g) (rig_between p k)) out (effect setup number t after).lines f (effect setup number t after).rig out' r f e h
+          (moves n) (subst (λ (s : Setup). PutsPart sink.takes sink.told out (effect s number t after).lines out') same w)
 
       -- the turn ends
-      pub ends : (end : Turn) (e : Rig) (out' : O) → LeadsTo setup' number t after (Ends end) e → PutsNext takes breaks out (effect setup' number t after).lines (Ends end) out' → Comes (Ok end) f e out'
+      pub ends : (end : Turn) (e : Rig) (out' : O) → LeadsTo setup' number t after (Ends end) e → PutsTo sink out (effect setup' number t after).lines (next_fault (Ok (Ends end))) out' → Comes (Ok end) f e out'
       ends end e out' l w =
-          turning_ends takes breaks told in_turn setup number t fuel (goes_on number (Some g) (rig_between p k)) out after f end e out' (moves n)
+          turning_ends sink in_turn setup number t fuel (goes_on number (Some g) (rig_between p k)) out after f end e out' (moves n)
           (subst (λ (s : Setup). LeadsTo s number t after (Ends end) e) same l)
-          (subst (λ (s : Setup). PutsNext takes breaks out (effect s number t after).lines (Ends end) out') same w)
+          (subst (λ (s : Setup). PutsTo sink out (effect s number t after).lines (next_fault (Ok (Ends end))) out') same w)
 
       -- the task goes on
       pub goes : (g' : Given) (d : Rig) (mid : O) (r : Result Turn NoMemory) (fuel' : ℕ) (e : Rig) (out' : O) → LeadsTo setup' number t after (GoesOn g') d
-          → PutsNext takes breaks out (effect setup' number t after).lines (GoesOn g') mid
-          → Turning takes breaks told (FitSteps in_turn setup) setup f (goes_on number (Some g') d) mid r fuel' e out' → Comes r fuel' e out'
+          → PutsTo sink out (effect setup' number t after).lines (next_fault (Ok (GoesOn g'))) mid
+          → Turning sink (FitSteps in_turn setup) setup f (goes_on number (Some g') d) mid r fuel' e out' → Comes r fuel' e out'
       goes g' d mid r fuel' e out' l w h =
-          turning_goes_on takes breaks told in_turn setup number t fuel (goes_on number (Some g) (rig_between p k)) out after f g' d mid r fuel' e out' (moves n)
+          turning_goes_on sink in_turn setup number t fuel (goes_on number (Some g) (rig_between p k)) out after f g' d mid r fuel' e out' (moves n)
           (subst (λ (s : Setup). LeadsTo s number t after (GoesOn g') d) same l)
-          (subst (λ (s : Setup). PutsNext takes breaks out (effect s number t after).lines (GoesOn g') mid) same w) h
+          (subst (λ (s : Setup). PutsTo sink out (effect s number t after).lines (next_fault (Ok (GoesOn g'))) mid) same w) h
 
       -- a turn that went costs something or leaves fewer tasks ready
       pub ends_fall : (first r0 : ℕ) → (fuel < first) ⊎ ((fuel ≡ first) × (length p.ready ≤ r0)) → (end : Turn) (e : Rig) → LeadsTo setup' number t after (Ends end) e → end ≡ turn.Went
@@ -123,5 +124,5 @@ ok_same a b h = cc
 pub leads_of : (setup : Setup) (number : TaskNo) (t : Turned) (c : Rig) (n m : Next) (e : Rig) → n ≡ m → LeadsTo setup number t c n e → LeadsTo setup number t c m e
 leads_of setup number t c n m e h l = subst (λ (x : Next). LeadsTo setup number t c x e) h l
 
-pub puts_of : {O : Type 0} (takes breaks : O → List ℕ → O → Type 0) (out : O) (lines : List (List ℕ)) (n m : Next) (out' : O) → n ≡ m → PutsNext takes breaks out lines n out' → PutsNext takes breaks out lines m out'
-puts_of takes breaks out lines n m out' h p = subst (λ (x : Next). PutsNext takes breaks out lines x out') h p
+pub puts_of : {O : Type 0} (sink : SinkMeans O) (out : O) (lines : List (List ℕ)) (n m : Next) (out' : O) → n ≡ m → PutsTo sink out lines (next_fault (Ok n)) out' → PutsTo sink out lines (next_fault (Ok m)) out'
+puts_of sink out lines n m out' h p = subst (λ (x : Next). PutsTo sink out lines (next_fault (Ok x)) out') h p

@@ -1,31 +1,59 @@
 -- Turns, from the steps that they are made of.
-use Rattle.std.proofs.Common.{◌≡◌, ℕ, zero, suc, ◌+◌, Bool, false, List, [], ◌∷◌, ◌++◌, Option, None, Some, Result, Ok, Err, IsErr, refl, ap, sym, subst, ◌∙◌, inl, inr}
+use Rattle.std.proofs.Common.{◌≡◌, ℕ, zero, suc, ◌+◌, Bool, true, false, List, [], ◌∷◌, ◌++◌, Option, None, Some, Result, Ok, Err, IsErr, IfOk, refl, ap, sym, subst, ◌∙◌, inl, inr}
 use Rattle.port_io.specs.Ports.{TakesAll}
 use Rattle.port_io.specs.PutsPart.{PutsPart}
-use Rattle.port_io.specs.PutLaws.{takes_then, puts_then}
-use Rattle.port_io.proofs.PartLaws.{part_none, part_then}
+use Rattle.port_io.specs.Means.{SinkMeans, PutsTo}
+use Rattle.port_io.proofs.PartLaws.{part_none, puts_to_then}
 use Rattle.port_io.specs.declared.ports.NoMemory.{NoMemory}
+use Rattle.port_io.specs.declared.ports.SinkFault.{SinkFault}
 use Rattle.rig_model.specs.Task.{Task}
 use Rattle.rig_model.specs.Rig.{Rig, Setup, view_of}
-use Rattle.rig_model.specs.Effect.{effect, goes_on}
+use Rattle.rig_model.specs.Effect.{effect, goes_on, awaits, refusal, write_by, stages, starts, is_full, function_at}
 use Rattle.rig_model.specs.Step.{kept, resumed}
 use Rattle.rig_model.specs.FitSteps.{FitSteps, TurnSteps, in_turn, Moves, Short, Begins, NoFit}
 use Rattle.rig_model.proofs.StepLaws.{fit_then, moves_then, moves_short, resumed_steps, resumed_moves, resumed_short}
 use Rattle.rig_model.proofs.TaskLaws.{PollSteps, polled_steps}
 use Rattle.rig_model.specs.declared.task.TaskNo.{TaskNo}
 use Rattle.rig_model.specs.declared.task.Entry.{Entry}
+use Rattle.rig_model.specs.declared.task.Fault.{Fault}
 use Rattle.rig_model.specs.declared.task.Given.{Given}
+use Rattle.rig_model.specs.declared.task.Trig.{Trig}
 use Rattle.rig_model.specs.declared.task.Turned.{Turned}
 use Rattle.rig_model.specs.declared.task.Turned.TheVariants as turned
 use Rattle.gpi.specs.Content.{Content}
+use Rattle.gpi.specs.State.{is_end}
+use Rattle.gpi.specs.declared.types.SigId.{SigId}
 use Rattle.scheduler.specs.Parts.{Parts}
 use Rattle.scheduler.specs.Tasks.{PollsTask}
 use Rattle.scheduler.proofs.StandLaws.{rig_between}
-use Rattle.scheduler.specs.Turns.{TurnsTo, PutsFor, Turning, LeadsTo, PutsNext}
+use Rattle.scheduler.specs.Turns.{TurnsTo, Turning, LeadsTo, turn_fault, next_fault}
 use Rattle.scheduler.specs.declared.turn.Turn.{Turn}
 use Rattle.scheduler.specs.declared.turn.Turn.TheVariants.{Went, Over, WriteFault}
 use Rattle.scheduler.specs.declared.turn.Turn.TheVariants as turn
+use Rattle.scheduler.specs.declared.turn.Next.{Next}
 use Rattle.scheduler.specs.declared.turn.Next.TheVariants.{GoesOn, Ends}
+
+-- a task that waits, stages a write or starts another writes no line
+pub await_quiet : (setup : Setup) (task : TaskNo) (trig : Trig) (c : Rig) → (effect setup task (turned.Await trig) c).lines ≡ []
+await_quiet setup task trig c = by_fault (refusal trig.form c.sim.time)
+  where
+    by_fault : (refused : Option Fault) → (awaits task trig refused c).lines ≡ []
+    by_fault None = refl
+    by_fault (Some fault) = refl
+
+pub stage_quiet : (setup : Setup) (task : TaskNo) (sig : SigId) (number : ℕ) (c : Rig) → (effect setup task (turned.Stage sig number) c).lines ≡ []
+stage_quiet setup task sig number c = by_region (is_end c.sim.region)
+  where
+    by_region : (over : Bool) → (write_by over sig (stages task sig number c) c).lines ≡ []
+    by_region true = refl
+    by_region false = refl
+
+pub start_quiet : (setup : Setup) (task : TaskNo) (func : ℕ) (give_way : Bool) (c : Rig) → (effect setup task (turned.Start func give_way) c).lines ≡ []
+start_quiet setup task func give_way c = by_limit (is_full c)
+  where
+    by_limit : (full : Bool) → (starts full task (function_at setup.functions func) give_way c).lines ≡ []
+    by_limit true = refl
+    by_limit false = refl
 
 module _ (from : Rig → Bool) (setup : Setup) where
   begins_then : (fuel : ℕ) (c : Rig) (xs : List (List ℕ)) (f : ℕ) (d : Rig) (ys : List (List ℕ))
@@ -48,44 +76,47 @@ module _ (from : Rig → Bool) (setup : Setup) where
   turns_then fuel c xs f d ys (Ok WriteFault) fuel' e w h = begins_then fuel c xs f d ys w h
   turns_then fuel c xs f d ys (Err x) fuel' e w h = begins_then fuel c xs f d ys w h
 
-module _ {O : Type 0} (takes breaks : O → List ℕ → O → Type 0) (told : O → Option (List ℕ)) where
-  puts_for_then : (a : O) (xs : List (List ℕ)) (b : O) (ys : List (List ℕ)) (r : Result Turn NoMemory) (c : O) → TakesAll takes a xs b → PutsFor takes breaks told b ys r c → PutsFor takes breaks told a (xs ++ ys) r c
-  puts_for_then a xs b ys (Ok Went) c p q = takes_then takes breaks a xs b ys c p q
-  puts_for_then a xs b ys (Ok (Over o)) c p q = takes_then takes breaks a xs b ys c p q
-  puts_for_then a xs b ys (Ok turn.Spent) c p q = takes_then takes breaks a xs b ys c p q
-  puts_for_then a xs b ys (Ok WriteFault) c p q = puts_then takes breaks a xs b ys false c p q
-  puts_for_then a xs b ys (Err x) c p q = part_then takes told a xs b ys c p q
+module _ {O : Type 0} (sink : SinkMeans O) where
+  -- there is no line, and no put failed
+  pub next_quiet : (out : O) (lines : List (List ℕ)) (r : Result Next NoMemory) → lines ≡ [] → IfOk r (λ next. next_fault (Ok next) ≡ None) → PutsTo sink out lines (next_fault r) out
+  next_quiet out lines (Ok next) e h = rw e (subst (λ (fault : Option SinkFault). PutsTo sink out [] fault out) (sym h) refl)
+  next_quiet out lines (Err x) e h = part_none sink.takes sink.told out lines
+
+  -- memory was short before its lines were put
+  pub next_short : (out : O) (lines : List (List ℕ)) (r : Result Next NoMemory) → IsErr r → PutsTo sink out lines (next_fault r) out
+  next_short out lines (Ok next) h = cc
+  next_short out lines (Err x) h = part_none sink.takes sink.told out lines
 
   module _ (from : Rig → Bool) (setup : Setup) where
     -- steps whose lines were taken, and then others
     pub turning_then : (fuel : ℕ) (c : Rig) (out : O) (lines : List (List ℕ)) (f : ℕ) (d : Rig) (mid : O) (r : Result Turn NoMemory) (fuel' : ℕ) (e : Rig) (out' : O)
-        → Moves (FitSteps from setup) fuel c lines f d → TakesAll takes out lines mid → Turning takes breaks told (FitSteps from setup) setup f d mid r fuel' e out'
-        → Turning takes breaks told (FitSteps from setup) setup fuel c out r fuel' e out'
+        → Moves (FitSteps from setup) fuel c lines f d → TakesAll sink.takes out lines mid → Turning sink (FitSteps from setup) setup f d mid r fuel' e out'
+        → Turning sink (FitSteps from setup) setup fuel c out r fuel' e out'
     turning_then fuel c out lines f d mid r fuel' e out' w p t = record {
       lines = lines ++ t.lines;
       turns = turns_then from setup fuel c lines f d t.lines r fuel' e w t.turns;
-      puts = puts_for_then out lines mid t.lines r out' p t.puts;
+      puts = puts_to_then sink out lines mid t.lines (turn_fault r) out' p t.puts;
     }
 
     -- memory was short before a further step
-    pub turning_short_of_memory : (fuel : ℕ) (c : Rig) (out : O) (r : Result Turn NoMemory) (fuel' : ℕ) (e : Rig) → IsErr r → Turning takes breaks told (FitSteps from setup) setup fuel c out r fuel' e out
+    pub turning_short_of_memory : (fuel : ℕ) (c : Rig) (out : O) (r : Result Turn NoMemory) (fuel' : ℕ) (e : Rig) → IsErr r → Turning sink (FitSteps from setup) setup fuel c out r fuel' e out
     turning_short_of_memory fuel c out (Ok t) fuel' e h = cc
-    turning_short_of_memory fuel c out (Err x) fuel' e h = record { lines = []; turns = begins_none from setup fuel c; puts = part_none takes told out [] }
+    turning_short_of_memory fuel c out (Err x) fuel' e h = record { lines = []; turns = begins_none from setup fuel c; puts = part_none sink.takes sink.told out [] }
 
     -- memory was short while the lines of the last steps were put
     pub turning_cut : (fuel : ℕ) (c : Rig) (out : O) (lines : List (List ℕ)) (f : ℕ) (d : Rig) (out' : O) (r : Result Turn NoMemory) (fuel' : ℕ) (e : Rig) → IsErr r
-        → Moves (FitSteps from setup) fuel c lines f d → PutsPart takes told out lines out' → Turning takes breaks told (FitSteps from setup) setup fuel c out r fuel' e out'
+        → Moves (FitSteps from setup) fuel c lines f d → PutsPart sink.takes sink.told out lines out' → Turning sink (FitSteps from setup) setup fuel c out r fuel' e out'
     turning_cut fuel c out lines f d out' (Ok t) fuel' e h w p = cc
     turning_cut fuel c out lines f d out' (Err x) fuel' e h w p = record { lines = lines; turns = begins_moves from setup fuel c lines f d w; puts = p }
 
     -- the next step doesn't fit
-    pub turning_spent : (fuel : ℕ) (c : Rig) (out : O) (fuel' : ℕ) (e : Rig) → Short (FitSteps from setup) setup fuel c [] fuel' e → Turning takes breaks told (FitSteps from setup) setup fuel c out (Ok turn.Spent) fuel' e out
+    pub turning_spent : (fuel : ℕ) (c : Rig) (out : O) (fuel' : ℕ) (e : Rig) → Short (FitSteps from setup) setup fuel c [] fuel' e → Turning sink (FitSteps from setup) setup fuel c out (Ok turn.Spent) fuel' e out
     turning_spent fuel c out fuel' e s = record { lines = []; turns = s; puts = refl }
 
     -- the turn ends with something that the task wanted
     pub turning_ends : (task : TaskNo) (t : Turned) (fuel : ℕ) (c : Rig) (out : O) (b : Rig) (fuel' : ℕ) (end : Turn) (e : Rig) (out' : O)
         → Moves (FitSteps from setup) fuel c (effect setup task t b).lines fuel' (effect setup task t b).rig → LeadsTo setup task t b (Ends end) e
-        → PutsNext takes breaks out (effect setup task t b).lines (Ends end) out' → Turning takes breaks told (FitSteps from setup) setup fuel c out (Ok end) fuel' e out'
+        → PutsTo sink out (effect setup task t b).lines (next_fault (Ok (Ends end))) out' → Turning sink (FitSteps from setup) setup fuel c out (Ok end) fuel' e out'
     turning_ends task t fuel c out b fuel' Went e out' w l p = record {
       lines = (effect setup task t b).lines;
       turns = subst (λ (d : Rig). Moves (FitSteps from setup) fuel c (effect setup task t b).lines fuel' d) l.1 w;
@@ -106,8 +137,8 @@ module _ {O : Type 0} (takes breaks : O → List ℕ → O → Type 0) (told : O
     -- the task goes on after something that it wanted
     pub turning_goes_on : (task : TaskNo) (t : Turned) (fuel : ℕ) (c : Rig) (out : O) (b : Rig) (f : ℕ) (g : Given) (d : Rig) (mid : O) (r : Result Turn NoMemory) (fuel' : ℕ) (e : Rig) (out' : O)
         → Moves (FitSteps from setup) fuel c (effect setup task t b).lines f (effect setup task t b).rig → LeadsTo setup task t b (GoesOn g) d
-        → PutsNext takes breaks out (effect setup task t b).lines (GoesOn g) mid
-        → Turning takes breaks told (FitSteps from setup) setup f (goes_on task (Some g) d) mid r fuel' e out' → Turning takes breaks told (FitSteps from setup) setup fuel c out r fuel' e out'
+        → PutsTo sink out (effect setup task t b).lines (next_fault (Ok (GoesOn g))) mid
+        → Turning sink (FitSteps from setup) setup f (goes_on task (Some g) d) mid r fuel' e out' → Turning sink (FitSteps from setup) setup fuel c out r fuel' e out'
     turning_goes_on task t fuel c out b f g d mid r fuel' e out' w l p h =
         turning_then fuel c out (effect setup task t b).lines f (goes_on task (Some g) d) mid r fuel' e out'
         (subst (λ (x : Rig). Moves (FitSteps from setup) fuel c (effect setup task t b).lines f x) l.1 w) p h
@@ -131,7 +162,7 @@ module _ {O : Type 0} (takes breaks : O → List ℕ → O → Type 0) (told : O
     resumed_turns fuel lines (Err n) fuel' e h = resumed_begins fuel lines h
 
     pub turning_resumed : (fuel : ℕ) (out : O) (r : Result Turn NoMemory) (fuel' : ℕ) (e : Rig) (out' : O)
-        → Turning takes breaks told (FitSteps in_turn setup) setup fuel (resumed x xs c) out r fuel' e out' → Turning takes breaks told (TurnSteps setup) setup fuel c out r fuel' e out'
+        → Turning sink (FitSteps in_turn setup) setup fuel (resumed x xs c) out r fuel' e out' → Turning sink (TurnSteps setup) setup fuel c out r fuel' e out'
     turning_resumed fuel out r fuel' e out' t = record { lines = t.lines; turns = resumed_turns fuel t.lines r fuel' e t.turns; puts = t.puts }
 
 -- what a poll of a live task makes of its turn

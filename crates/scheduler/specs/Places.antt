@@ -19,7 +19,8 @@ pub record StandsAt (number : TaskNo) (tasks : List Task) (at : ℕ) : Type 0 wh
   pub here : (d : Task) → (get_or tasks at d).number ≡ number
 
 -- A poll of the task at this place left these tasks.
-pub record PolledAt (view : View) (tasks : List Task) (at : ℕ) (fuel : ℕ) (given : Given) (turned : Turned) (fuel' : ℕ) (tasks' : List Task) : Type 0 where
+pub record PolledAt (view : View) (tasks : List Task) (at : ℕ)
+    (fuel : ℕ) (given : Given) (turned : Turned) (fuel' : ℕ) (tasks' : List Task) : Type 0 where
   pub task : Task
   pub rest : Task
   pub stored_at : tasks' ≡ set tasks at rest

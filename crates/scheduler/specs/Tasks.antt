@@ -13,7 +13,8 @@ pub record Tasks : Type 0 where
   pub started : ℕ
 
 -- The task of that number was polled, and what is left of it is stored.
-pub record PollsTask (view : View) (fuel : ℕ) (old : List Task) (number : TaskNo) (given : Given) (turned : Turned) (fuel' : ℕ) (new : List Task) : Type 0 where
+pub record PollsTask (view : View) (fuel : ℕ) (old : List Task) (number : TaskNo) (given : Given)
+    (turned : Turned) (fuel' : ℕ) (new : List Task) : Type 0 where
   pub task : Task
   pub rest : Task
   pub found : task_at number old ≡ Some task
@@ -23,7 +24,8 @@ pub record PollsTask (view : View) (fuel : ℕ) (old : List Task) (number : Task
 
 -- the same, where how many were started stays
 abbrev pub PollsOf : View → ℕ → Tasks → TaskNo → Given → Turned → ℕ → Tasks → Type 0
-PollsOf view fuel old number given turned fuel' new = PollsTask view fuel old.tasks number given turned fuel' new.tasks × (new.started ≡ old.started)
+PollsOf view fuel old number given turned fuel' new =
+    PollsTask view fuel old.tasks number given turned fuel' new.tasks × (new.started ≡ old.started)
 
 -- the view knows the signals that these tasks name
 pub record KnowsAll (view : View) (tasks : List Task) : Type 0 where

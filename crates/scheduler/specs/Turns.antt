@@ -1,8 +1,10 @@
 -- What the answers to a turn say of its steps and of what was put.
 use Rattle.std.specs.Prelude.{◌≡◌, ◌⊎◌, ℕ, ◌≤◌, Bool, true, false, List, [], ◌∷◌, length, Option, None, Some, Result, Ok, Err}
-use Rattle.port_io.specs.Ports.{TakesAll, Puts}
 use Rattle.port_io.specs.PutsPart.{PutsPart}
+use Rattle.port_io.specs.Means.{SinkMeans, PutsTo}
 use Rattle.port_io.specs.declared.ports.NoMemory.{NoMemory}
+use Rattle.port_io.specs.declared.ports.SinkFault.{SinkFault}
+use Rattle.port_io.specs.declared.ports.SinkFault.TheVariants.{Failed, OutOfMemory}
 use Rattle.rig_model.specs.Rig.{Rig, Setup}
 use Rattle.rig_model.specs.Effect.{effect, goes_on}
 use Rattle.rig_model.specs.FitSteps.{Moves, Short, Begins}
@@ -28,44 +30,45 @@ has_gone (Ok Spent) = false
 has_gone (Ok WriteFault) = false
 has_gone (Err no_memory) = false
 
--- From c, steps of this kind write these lines and lead to e. After a failed put, and where memory was short, they are those whose lines were being put.
-abbrev pub TurnsTo : (ℕ → ℕ → Rig → List (List ℕ) → ℕ → Rig → Type 0) → Setup → ℕ → Rig → List (List ℕ) → Result Turn NoMemory → ℕ → Rig → Type 0
+-- From c, steps of this kind write these lines and lead to e. After a failed put, and where memory was short, they are those whose lines
+-- were being put.
+abbrev pub TurnsTo : (ℕ → ℕ → Rig → List (List ℕ) → ℕ → Rig → Type 0) → Setup
+    → ℕ → Rig → List (List ℕ) → Result Turn NoMemory → ℕ → Rig → Type 0
 TurnsTo kind setup fuel c lines (Ok Went) fuel' e = Moves kind fuel c lines fuel' e
 TurnsTo kind setup fuel c lines (Ok (Over outcome)) fuel' e = Moves kind fuel c lines fuel' (record e { outcome = Some outcome })
 TurnsTo kind setup fuel c lines (Ok Spent) fuel' e = Short kind setup fuel c lines fuel' e
 TurnsTo kind setup fuel c lines (Ok WriteFault) fuel' e = Begins kind fuel c lines
 TurnsTo kind setup fuel c lines (Err no_memory) fuel' e = Begins kind fuel c lines
 
--- The lines were put in order, one put each: all were taken, or one broke, or memory was short.
-abbrev pub PutsFor : {O : Type 0} → (O → List ℕ → O → Type 0) → (O → List ℕ → O → Type 0) → (O → Option (List ℕ)) → O → List (List ℕ) → Result Turn NoMemory → O → Type 0
-PutsFor takes breaks told out lines (Ok Went) out' = TakesAll takes out lines out'
-PutsFor takes breaks told out lines (Ok (Over outcome)) out' = TakesAll takes out lines out'
-PutsFor takes breaks told out lines (Ok Spent) out' = TakesAll takes out lines out'
-PutsFor takes breaks told out lines (Ok WriteFault) out' = Puts takes breaks out lines false out'
-PutsFor takes breaks told out lines (Err no_memory) out' = PutsPart takes told out lines out'
+-- why a put failed, by the answer to a turn
+abbrev pub turn_fault : Result Turn NoMemory → Option SinkFault
+turn_fault (Ok Went) = None
+turn_fault (Ok (Over outcome)) = None
+turn_fault (Ok Spent) = None
+turn_fault (Ok WriteFault) = Some Failed
+turn_fault (Err no_memory) = Some OutOfMemory
 
 -- From c and out, steps of this kind and the puts of their lines come to this answer, to e and out'.
-pub record Turning {O : Type 0} (takes breaks : O → List ℕ → O → Type 0) (told : O → Option (List ℕ)) (kind : ℕ → ℕ → Rig → List (List ℕ) → ℕ → Rig → Type 0) (setup : Setup)
+pub record Turning {O : Type 0} (sink : SinkMeans O) (kind : ℕ → ℕ → Rig → List (List ℕ) → ℕ → Rig → Type 0) (setup : Setup)
     (fuel : ℕ) (c : Rig) (out : O) (r : Result Turn NoMemory) (fuel' : ℕ) (e : Rig) (out' : O) : Type 0 where
   pub lines : List (List ℕ)
   pub turns : TurnsTo kind setup fuel c lines r fuel' e
-  pub puts : PutsFor takes breaks told out lines r out'
+  pub puts : PutsTo sink out lines (turn_fault r) out'
 
 -- What a task wanted leads here: its effect, once the turn is taken from the task.
 abbrev pub LeadsTo : Setup → TaskNo → Turned → Rig → Next → Rig → Type 0
 LeadsTo setup task turned c (GoesOn given) e = (asks turned ≡ true) × ((effect setup task turned c).rig ≡ goes_on task (Some given) e)
-LeadsTo setup task turned c (Ends Went) e = ((asks turned ≡ true) ⊎ (length e.ready ≤ length c.ready)) × ((effect setup task turned c).rig ≡ e)
+LeadsTo setup task turned c (Ends Went) e =
+    ((asks turned ≡ true) ⊎ (length e.ready ≤ length c.ready)) × ((effect setup task turned c).rig ≡ e)
 LeadsTo setup task turned c (Ends (Over outcome)) e = (effect setup task turned c).rig ≡ record e { outcome = Some outcome }
 LeadsTo setup task turned c (Ends Spent) e = ⊥
 LeadsTo setup task turned c (Ends WriteFault) e = Unit {0}
 
--- the lines of that effect were put
-abbrev pub PutsNext : {O : Type 0} → (O → List ℕ → O → Type 0) → (O → List ℕ → O → Type 0) → O → List (List ℕ) → Next → O → Type 0
-PutsNext takes breaks out lines (GoesOn given) out' = TakesAll takes out lines out'
-PutsNext takes breaks out lines (Ends Went) out' = TakesAll takes out lines out'
-PutsNext takes breaks out lines (Ends (Over outcome)) out' = TakesAll takes out lines out'
-PutsNext takes breaks out lines (Ends Spent) out' = TakesAll takes out lines out'
-PutsNext takes breaks out lines (Ends WriteFault) out' = Puts takes breaks out lines false out'
+-- why a put failed, by what becomes of the turn after something that its task wanted
+abbrev pub next_fault : Result Next NoMemory → Option SinkFault
+next_fault (Ok (GoesOn given)) = None
+next_fault (Ok (Ends turn)) = turn_fault (Ok turn)
+next_fault (Err no_memory) = Some OutOfMemory
 
 -- a log line was put: the task goes on, or the put broke
 abbrev pub IsLogged : Next → Type 0
@@ -75,23 +78,16 @@ IsLogged (Ends (Over outcome)) = ⊥
 IsLogged (Ends Spent) = ⊥
 IsLogged (Ends WriteFault) = Unit {0}
 
--- no put broke
-abbrev pub is_fine : Next → Bool
-is_fine (GoesOn given) = true
-is_fine (Ends Went) = true
-is_fine (Ends (Over outcome)) = true
-is_fine (Ends Spent) = true
-is_fine (Ends WriteFault) = false
-
 -- what holds of the engine's own parts after something that a task wanted
 abbrev pub FitsOwn : Setup → TaskNo → ℕ → Next → Parts → Type 0
 FitsOwn setup task room (GoesOn given) p = Fits setup (Some task) room p
 FitsOwn setup task room (Ends turn) p = Fits setup None room p
 
--- From c a test begins: its line is put, and its own task is ready.
-abbrev pub BeginsTo : {O : Type 0} → (O → List ℕ → O → Type 0) → (O → List ℕ → O → Type 0) → (O → Option (List ℕ)) → Setup → TestCase → Rig → Result Turn NoMemory → Rig → O → O → Type 0
-BeginsTo takes breaks told setup case c (Ok Went) e out out' = (e ≡ test_begun setup case c) × takes out (test_line c.sim.time case.name) out'
-BeginsTo takes breaks told setup case c (Ok (Over outcome)) e out out' = ⊥
-BeginsTo takes breaks told setup case c (Ok Spent) e out out' = ⊥
-BeginsTo takes breaks told setup case c (Ok WriteFault) e out out' = breaks out (test_line c.sim.time case.name) out'
-BeginsTo takes breaks told setup case c (Err no_memory) e out out' = PutsPart takes told out (test_line c.sim.time case.name ∷ []) out'
+-- From c a test begins: its own task is ready, and its line is put or breaks.
+abbrev pub BeginsTo : {O : Type 0} → SinkMeans O → Setup → TestCase → Rig → Result Turn NoMemory → Rig → O → O → Type 0
+BeginsTo sink setup case c (Ok Went) e out out' = (e ≡ test_begun setup case c) × sink.takes out (test_line c.sim.time case.name) out'
+BeginsTo sink setup case c (Ok (Over outcome)) e out out' = ⊥
+BeginsTo sink setup case c (Ok Spent) e out out' = ⊥
+BeginsTo sink setup case c (Ok WriteFault) e out out' =
+    (e ≡ test_begun setup case c) × sink.breaks out (test_line c.sim.time case.name) out'
+BeginsTo sink setup case c (Err no_memory) e out out' = PutsPart sink.takes sink.told out (test_line c.sim.time case.name ∷ []) out'

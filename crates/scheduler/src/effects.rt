@@ -1,5 +1,5 @@
 //! What each thing that a task wants does.
-ghost use Rattle.std.specs.Prelude.{◌≡◌, ◌≢◌, ℕ, ◌<◌, ◌∷◌, [], length, ◌≤◌, IfOk, OnErr, IsOk, Some, None, IsSome, MatchOption, true};
+ghost use Rattle.std.specs.Prelude.{◌≡◌, ◌≢◌, ℕ, ◌<◌, ◌∷◌, [], length, ◌≤◌, IfOk, OnErr, IsOk, Ok, Some, None, IsSome, MatchOption, true};
 ghost use Rattle.gpi.specs.Content.{Content};
 ghost use Rattle.gpi.specs.State.{is_end};
 ghost use Rattle.gpi.specs.declared.types.Key.TheVariants.{At};
@@ -12,7 +12,7 @@ ghost use Rattle.py_syntax.specs.declared.fault_kind.FaultKind.TheVariants.{Over
 ghost use Rattle.rig_model.specs.declared.task.Trig.{Trig};
 ghost use Rattle.rig_model.specs.declared.task.Value.{Value};
 ghost use Rattle.rig_model.specs.declared.tree.Tree.TheVariants.{Leaf};
-ghost use Rattle.port_io.specs.PutsPart.{PutsPart};
+ghost use Rattle.port_io.specs.Means.{PutsTo, sink_means};
 
 use crate::Engine;
 use crate::line::log_text;
@@ -57,7 +57,7 @@ impl<'a, M: FlowMaker + Drop, W: Awaits> Engine<'a, M, W> {
     ghost use Rattle.scheduler.specs.Engine.{parts_of, rig_of, setup_of};
     ghost use Rattle.scheduler.specs.Parts.{Fits, FitsContent, bounds_of};
     ghost use Rattle.scheduler.specs.Fits.{FitsAt, FitsNext, Keeps};
-    ghost use Rattle.scheduler.specs.Turns.{LeadsTo, PutsNext, IsLogged, FitsOwn, is_fine};
+    ghost use Rattle.scheduler.specs.Turns.{LeadsTo, IsLogged, FitsOwn, next_fault};
 
     /// The task waits, or is given the fault of a trigger that is due too late.
     fn wait<K: Gpi, L: Ledger>(
@@ -73,7 +73,7 @@ impl<'a, M: FlowMaker + Drop, W: Awaits> Engine<'a, M, W> {
         ensures leads { IfOk result (λ next. LeadsTo (setup_of M.functions self.old) task (Turned.Await trig)
             (rig_of W.waiting self.old (K.content kernel.old)) next (rig_of W.waiting self.new (K.content kernel.new))) }
         ensures fits { IfOk result (λ next. FitsNext M.functions W.waiting W.held task next self.new (K.content kernel.new)) }
-        ensures fine { IfOk result (λ next. is_fine next ≡ true) }
+        ensures fine { IfOk result (λ next. next_fault (Ok next) ≡ None) }
         ensures staged { self.new.staged ≡ self.old.staged }
         ensures keeps { Keeps M.functions W.waiting W.held K.is_loaded K.content self.old self.new kernel.new }
     {
@@ -106,7 +106,7 @@ impl<'a, M: FlowMaker + Drop, W: Awaits> Engine<'a, M, W> {
             (rig_of W.waiting self.old (K.content kernel.old)) next (rig_of W.waiting self.new (K.content kernel.new))) }
         ensures fits { IfOk result (λ next. (task : TaskNo) → Fits (setup_of M.functions self.old) (Some task) self.old.ready.room (parts_of W.waiting self.old)
             → FitsNext M.functions W.waiting W.held task next self.new (K.content kernel.new)) }
-        ensures fine { IfOk result (λ next. is_fine next ≡ true) }
+        ensures fine { IfOk result (λ next. next_fault (Ok next) ≡ None) }
         ensures staged { OnErr result (self.new.staged.items ≡ self.old.staged.items) }
         ensures closed { is_end (K.content kernel.old).state.region ≡ true → IsOk result }
         ensures keeps { Keeps M.functions W.waiting W.held K.is_loaded K.content self.old self.new kernel.new }
@@ -130,8 +130,8 @@ impl<'a, M: FlowMaker + Drop, W: Awaits> Engine<'a, M, W> {
         text: &Name,
         out: &mut O,
     ) -> Result<Next, NoMemory>
-        ensures next { IfOk result (λ next. PutsNext O.takes O.breaks out.old (log_line time level text.now ∷ []) next out.new × IsLogged next) }
-        ensures part { OnErr result (PutsPart O.takes O.told out.old (log_line time level text.now ∷ []) out.new) }
+        ensures next { IfOk result (λ next. IsLogged next) }
+        ensures puts { PutsTo (sink_means O.Sink) out.old (log_line time level text.now ∷ []) (next_fault result) out.new }
     {
         let line = log_text(alloc, time, level, text.bytes())?;
         match out.put(alloc, line.as_slice()) {
@@ -148,7 +148,7 @@ impl<'a, M: FlowMaker + Drop, W: Awaits> Engine<'a, M, W> {
         ensures leads { (content : Content) (value : Value)
             → LeadsTo (setup_of M.functions self.old) task (Turned.Done value) (rig_of W.waiting self.old content) result (rig_of W.waiting self.new content) }
         ensures own { FitsOwn (setup_of M.functions self.new) task self.new.ready.room result (parts_of W.waiting self.new) }
-        ensures fine { is_fine result ≡ true }
+        ensures fine { next_fault (Ok result) ≡ None }
         ensures setup { setup_of M.functions self.new ≡ setup_of M.functions self.old }
         ensures awaits { self.new.awaits ≡ self.old.awaits }
         ensures staged { self.new.staged ≡ self.old.staged }
@@ -163,7 +163,7 @@ impl<'a, M: FlowMaker + Drop, W: Awaits> Engine<'a, M, W> {
 
     /// What the task wanted is done, once the turn is taken from it. After `NoMemory` the same writes are staged. A write in the read-only
     /// phase takes no memory.
-    pub fn apply<O: Sink, K: Gpi, L: Ledger>(
+    pub(crate) fn apply<O: Sink, K: Gpi, L: Ledger>(
         &mut self,
         alloc: Global,
         kernel: &mut K,
@@ -179,10 +179,8 @@ impl<'a, M: FlowMaker + Drop, W: Awaits> Engine<'a, M, W> {
         requires wanted { turned ≢ Turned.Spent }
         ensures leads { IfOk result (λ next. LeadsTo (setup_of M.functions self.old) task turned
             (rig_of W.waiting self.old (K.content kernel.old)) next (rig_of W.waiting self.new (K.content kernel.new))) }
-        ensures puts { IfOk result (λ next. PutsNext O.takes O.breaks out.old
-            (effect (setup_of M.functions self.old) task turned (rig_of W.waiting self.old (K.content kernel.old))).lines next out.new) }
-        ensures part { OnErr result (PutsPart O.takes O.told out.old
-            (effect (setup_of M.functions self.old) task turned (rig_of W.waiting self.old (K.content kernel.old))).lines out.new) }
+        ensures puts { PutsTo (sink_means O.Sink) out.old
+            (effect (setup_of M.functions self.old) task turned (rig_of W.waiting self.old (K.content kernel.old))).lines (next_fault result) out.new }
         ensures fits { IfOk result (λ next. FitsNext M.functions W.waiting W.held task next self.new (K.content kernel.new)) }
         ensures staged { OnErr result (self.new.staged.items ≡ self.old.staged.items) }
         ensures closed { (sig : SigId) (number : ℕ) → turned ≡ Turned.Stage sig number

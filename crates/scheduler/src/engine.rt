@@ -1,13 +1,15 @@
 //! The engine, and its public calls.
-ghost use Rattle.std.specs.Prelude.{◌≡◌, ◌≤◌, ◌<◌, ◌⊎◌, [], List, length, IfOk, OnOk, Ok, IsSomeAnd, slice_get, true, false};
+ghost use Rattle.std.specs.Prelude.{◌≡◌, ◌≤◌, ◌<◌, ◌⊎◌, [], List, length, IfOk, OnOk, Ok, true, false};
+ghost use Rattle.port_io.specs.Means.{sink_means};
 ghost use Rattle.gpi.specs.Content.{Content, opening};
 ghost use Rattle.rig_model.specs.Keys.{AreKeys};
 ghost use Rattle.rig_model.specs.Rig.{named};
 ghost use Rattle.rig_model.specs.Sound.{AreSoundFunctions};
 ghost use Rattle.rig_model.specs.FitSteps.{TurnSteps};
+ghost use Rattle.rig_model.specs.Line.{path_of};
 ghost use Rattle.rig_model.specs.Run.{emptied, ended};
 
-use crate::line::test_text;
+use crate::line::{path_of, test_text};
 use crate::tasks::LiveTasks;
 use crate::turn::{Turn, has_gone};
 use gpi::{Flat, Gpi, SigId};
@@ -22,8 +24,8 @@ use std::sync::ledger::Ledger;
 ///
 /// An engine and its simulator fit where the two stand together for a configuration of the design: the registered keys are
 /// those of the waiting tasks, and the read-write phase where a write is staged. A new engine and a simulator that has just
-/// loaded the design fit. Each call that finds them fitting leaves them so, unless it answers `WriteFault` or `NoMemory`;
-/// after these two the registered keys are still those that the engine's waiting part names, and `end_test` asks no more.
+/// loaded the design fit. Each call that finds them fitting leaves them so, unless it answers `NoMemory`; then the registered
+/// keys are still those that the engine's waiting part names, and `end_test` asks no more.
 #[derive(Drop)]
 pub struct Engine<'a, M: FlowMaker + Drop, W: Awaits> {
     pub(crate) flat: &'a Flat,
@@ -40,7 +42,7 @@ pub struct Engine<'a, M: FlowMaker + Drop, W: Awaits> {
 impl<'a, M: FlowMaker + Drop, W: Awaits> Engine<'a, M, W> {
     ghost use Rattle.scheduler.specs.Engine.{rig_of, runs_test, setup_of};
     ghost use Rattle.scheduler.specs.Parts.{bounds_of};
-    ghost use Rattle.scheduler.specs.Fits.{FitsKernel, FitsAfter, Keeps};
+    ghost use Rattle.scheduler.specs.Fits.{FitsKernel, Keeps};
     ghost use Rattle.scheduler.specs.Turns.{Turning, BeginsTo, has_gone};
 
     /// An engine for the design, in which no test runs. With `trace` it writes a line for each told change of a signal. No
@@ -75,9 +77,9 @@ impl<'a, M: FlowMaker + Drop, W: Awaits> Engine<'a, M, W> {
     /// The path of a signal of the design, as `top.a` (IEEE 1364-2005, 12.5). It takes no memory.
     pub fn path(&self, sig: SigId) -> &Name
         requires { sig.0 < length self.now.flat.now.signals }
-        ensures { IsSomeAnd (slice_get self.now.flat.now.signals sig.0) (λ signal. result.now ≡ signal.path) }
+        ensures { result.now ≡ path_of self.now.flat.now sig }
     {
-        &self.flat.signals.get(sig.0 as usize).path
+        path_of(self.flat, sig)
     }
 
     /// The design that its tests run on.
@@ -87,7 +89,7 @@ impl<'a, M: FlowMaker + Drop, W: Awaits> Engine<'a, M, W> {
         self.flat
     }
 
-    /// Begins a test: its line is put, and its own task is ready. Before, no test runs. `Went` where that was done,
+    /// Begins a test: its own task is ready, and its line is put. Before, no test runs. `Went` where that was done,
     /// `WriteFault` where the put failed, and `NoMemory` where memory is short: after these two only `end_test` is called.
     /// What the simulator holds stays. Each call is handed a counter of steps of work.
     pub fn begin_test<O: Sink, K: Gpi, L: Ledger>(
@@ -102,9 +104,9 @@ impl<'a, M: FlowMaker + Drop, W: Awaits> Engine<'a, M, W> {
         requires fits { FitsKernel M.functions W.waiting W.held self.old (K.content kernel.old) }
         requires empty { rig_of W.waiting self.old (K.content kernel.old) ≡ emptied (K.content kernel.old).state (K.content kernel.old).counts }
         requires func { case.now.func < length (M.functions self.old.maker) }
-        ensures begins { BeginsTo O.takes O.breaks O.told (setup_of M.functions self.old) case.now
+        ensures begins { BeginsTo (sink_means O.Sink) (setup_of M.functions self.old) case.now
             (rig_of W.waiting self.old (K.content kernel.old)) result (rig_of W.waiting self.new (K.content kernel.new)) out.old out.new }
-        ensures fits { IfOk result (λ turn. FitsAfter M.functions W.waiting W.held turn self.new (K.content kernel.new)) }
+        ensures fits { OnOk result (FitsKernel M.functions W.waiting W.held self.new (K.content kernel.new)) }
         ensures setup { setup_of M.functions self.new ≡ setup_of M.functions self.old }
         ensures kernel { kernel.new ≡ kernel.old }
         ensures keys { AreKeys (K.content kernel.new).keys (named (W.waiting self.new.awaits) (W.held self.new.awaits)) }
@@ -134,10 +136,10 @@ impl<'a, M: FlowMaker + Drop, W: Awaits> Engine<'a, M, W> {
     ) -> Result<Turn, NoMemory>
         requires loaded { K.is_loaded kernel.old }
         requires fits { FitsKernel M.functions W.waiting W.held self.old (K.content kernel.old) }
-        ensures turning { Turning O.takes O.breaks O.told (TurnSteps (setup_of M.functions self.old)) (setup_of M.functions self.old)
+        ensures turning { Turning (sink_means O.Sink) (TurnSteps (setup_of M.functions self.old)) (setup_of M.functions self.old)
             fuel.old (rig_of W.waiting self.old (K.content kernel.old)) out.old result fuel.new (rig_of W.waiting self.new (K.content kernel.new)) out.new }
         ensures falls { result ≡ Ok Turn.Went → (fuel.new < fuel.old) ⊎ ((fuel.new ≤ fuel.old) × (length self.new.ready.entries < length self.old.ready.entries)) }
-        ensures fits { IfOk result (λ turn. FitsAfter M.functions W.waiting W.held turn self.new (K.content kernel.new)) }
+        ensures fits { OnOk result (FitsKernel M.functions W.waiting W.held self.new (K.content kernel.new)) }
         ensures keeps { Keeps M.functions W.waiting W.held K.is_loaded K.content self.old self.new kernel.new }
     {
         let first = self.ready.first();
@@ -169,10 +171,10 @@ impl<'a, M: FlowMaker + Drop, W: Awaits> Engine<'a, M, W> {
         requires loaded { K.is_loaded kernel.old }
         requires fits { FitsKernel M.functions W.waiting W.held self.old (K.content kernel.old) }
         requires runs { runs_test self.old ≡ true }
-        ensures turning { Turning O.takes O.breaks O.told (TurnSteps (setup_of M.functions self.old)) (setup_of M.functions self.old)
+        ensures turning { Turning (sink_means O.Sink) (TurnSteps (setup_of M.functions self.old)) (setup_of M.functions self.old)
             fuel.old (rig_of W.waiting self.old (K.content kernel.old)) out.old result fuel.new (rig_of W.waiting self.new (K.content kernel.new)) out.new }
         ensures falls { result ≡ Ok Turn.Went → (fuel.new < fuel.old) ⊎ ((fuel.new ≤ fuel.old) × (length self.new.ready.entries < length self.old.ready.entries)) }
-        ensures fits { IfOk result (λ turn. FitsAfter M.functions W.waiting W.held turn self.new (K.content kernel.new)) }
+        ensures fits { OnOk result (FitsKernel M.functions W.waiting W.held self.new (K.content kernel.new)) }
         ensures keeps { Keeps M.functions W.waiting W.held K.is_loaded K.content self.old self.new kernel.new }
         ensures runs { runs_test self.new ≡ has_gone result }
     {

@@ -1,5 +1,6 @@
 //! Events of the simulator.
 ghost use Rattle.std.specs.Prelude.{◌≡◌, ◌≤◌, ◌<◌, ◌∷◌, [], List, length, IfOk, OnOk, OnErr, Ok, None, true, false};
+ghost use Rattle.port_io.specs.Means.{sink_means};
 ghost use Rattle.gpi.specs.Content.{IsChangeOf};
 ghost use Rattle.gpi.specs.Events.{idle};
 ghost use Rattle.gpi.specs.Keys.{among};
@@ -42,7 +43,7 @@ impl<'a, M: FlowMaker + Drop, W: Awaits> Engine<'a, M, W> {
     ghost use Rattle.scheduler.specs.Parts.{rig_amid};
     ghost use Rattle.scheduler.specs.Puts.{PutsOn};
     ghost use Rattle.scheduler.specs.Serves.{Serves, Stays, IsEvented};
-    ghost use Rattle.scheduler.specs.Fits.{FitsAmid, FitsKernel, FitsAfter, Keeps};
+    ghost use Rattle.scheduler.specs.Fits.{FitsAmid, FitsKernel, Keeps};
     ghost use Rattle.scheduler.specs.Turns.{Turning};
 
     /// Puts the line of a told change, where changes are written and no put has failed.
@@ -55,7 +56,7 @@ impl<'a, M: FlowMaker + Drop, W: Awaits> Engine<'a, M, W> {
         fault: Option<SinkFault>,
     ) -> Option<SinkFault>
         requires { IsChangeOf (length self.now.flat.now.signals) change }
-        ensures { PutsOn O.takes O.breaks O.told fault out.old (told_lines (setup_of M.functions self.now) time change) result out.new }
+        ensures { PutsOn (sink_means O.Sink) fault out.old (told_lines (setup_of M.functions self.now) time change) result out.new }
     {
         if fault.is_some() || !self.trace {
             return fault;
@@ -87,7 +88,7 @@ impl<'a, M: FlowMaker + Drop, W: Awaits> Engine<'a, M, W> {
         ensures serves { (fired : List Key) (counts : Counts)
             → let setup = setup_of M.functions self.old in let before = K.content kernel.old in
             let c = rig_amid (parts_of W.waiting self.old) before.state fired counts in
-            StandsAhead fired setup before c → Serves O.takes O.breaks O.told setup fired (after_put setup (put_of setup c write) c)
+            StandsAhead fired setup before c → Serves (sink_means O.Sink) setup fired (after_put setup (put_of setup c write) c)
             (parts_of W.waiting self.new) (K.content kernel.new) fault out.old result out.new }
         ensures loaded { K.is_loaded kernel.new }
         ensures setup { setup_of M.functions self.new ≡ setup_of M.functions self.old }
@@ -121,7 +122,7 @@ impl<'a, M: FlowMaker + Drop, W: Awaits> Engine<'a, M, W> {
         ensures serves { (counts : Counts)
             → let fired = ReadWrite ∷ [] in let setup = setup_of M.functions self.old in let before = K.content kernel.old in
             let c = rig_amid (parts_of W.waiting self.old) before.state fired counts in
-            StandsAhead fired setup before c → Serves O.takes O.breaks O.told setup fired (flushed setup self.old.staged.items c)
+            StandsAhead fired setup before c → Serves (sink_means O.Sink) setup fired (flushed setup self.old.staged.items c)
             (parts_of W.waiting self.new) (K.content kernel.new) fault out.old result out.new }
         ensures loaded { K.is_loaded kernel.new }
         ensures setup { setup_of M.functions self.new ≡ setup_of M.functions self.old }
@@ -156,7 +157,7 @@ impl<'a, M: FlowMaker + Drop, W: Awaits> Engine<'a, M, W> {
         ensures serves { (counts : Counts)
             → let fired = keys_in keys in let setup = setup_of M.functions self.old in let before = K.content kernel.old in
             let c = rig_amid (parts_of W.waiting self.old) before.state fired counts in
-            StandsAhead fired setup before c → Serves O.takes O.breaks O.told setup fired (flushed_if setup (among ReadWrite fired) c)
+            StandsAhead fired setup before c → Serves (sink_means O.Sink) setup fired (flushed_if setup (among ReadWrite fired) c)
             (parts_of W.waiting self.new) (K.content kernel.new) fault out.old result out.new }
         ensures loaded { K.is_loaded kernel.new }
         ensures setup { setup_of M.functions self.new ≡ setup_of M.functions self.old }
@@ -180,7 +181,7 @@ impl<'a, M: FlowMaker + Drop, W: Awaits> Engine<'a, M, W> {
         requires fits { FitsKernel M.functions W.waiting W.held self.old (K.content kernel.old) }
         requires none { self.old.ready.entries ≡ [] }
         requires some { idle (K.content kernel.old).procs (K.content kernel.old).state (K.content kernel.old).keys ≡ false }
-        ensures done { IfOk result (IsEvented O.takes O.breaks O.told (setup_of M.functions self.old)
+        ensures done { IfOk result (IsEvented (sink_means O.Sink) (setup_of M.functions self.old)
             (rig_of W.waiting self.old (K.content kernel.old)) (rig_of W.waiting self.new (K.content kernel.new)) out.old out.new) }
         ensures fits { OnOk result (FitsKernel M.functions W.waiting W.held self.new (K.content kernel.new)) }
         ensures none { OnErr result (out.new ≡ out.old) }
@@ -199,7 +200,7 @@ impl<'a, M: FlowMaker + Drop, W: Awaits> Engine<'a, M, W> {
     }
 
     /// The simulator does an event, where no task is ready. Where nothing is left that could happen the test has stalled.
-    pub fn advance<O: Sink, K: Gpi, L: Ledger>(
+    pub(crate) fn advance<O: Sink, K: Gpi, L: Ledger>(
         &mut self,
         alloc: Global,
         kernel: &mut K,
@@ -210,10 +211,10 @@ impl<'a, M: FlowMaker + Drop, W: Awaits> Engine<'a, M, W> {
         requires loaded { K.is_loaded kernel.old }
         requires fits { FitsKernel M.functions W.waiting W.held self.old (K.content kernel.old) }
         requires none { self.old.ready.entries ≡ [] }
-        ensures turning { Turning O.takes O.breaks O.told (TurnSteps (setup_of M.functions self.old)) (setup_of M.functions self.old)
+        ensures turning { Turning (sink_means O.Sink) (TurnSteps (setup_of M.functions self.old)) (setup_of M.functions self.old)
             fuel.old (rig_of W.waiting self.old (K.content kernel.old)) out.old result fuel.new (rig_of W.waiting self.new (K.content kernel.new)) out.new }
         ensures falls { result ≡ Ok Turn.Went → fuel.new < fuel.old }
-        ensures fits { IfOk result (λ turn. FitsAfter M.functions W.waiting W.held turn self.new (K.content kernel.new)) }
+        ensures fits { OnOk result (FitsKernel M.functions W.waiting W.held self.new (K.content kernel.new)) }
         ensures keeps { Keeps M.functions W.waiting W.held K.is_loaded K.content self.old self.new kernel.new }
     {
         if kernel.idle() {

@@ -1,18 +1,20 @@
 //! The texts of the lines of a run, each with its line feed.
-ghost use Rattle.std.specs.Prelude.{◌≡◌, ◌++◌, IfOk, OnOk};
+ghost use Rattle.std.specs.Prelude.{◌≡◌, ◌<◌, ◌++◌, length, Some, IfOk, OnOk, OnErr};
 ghost use Rattle.std.specs.Fmt.{decimal};
+ghost use Rattle.port_io.specs.Ports.{AppendsPart};
 ghost use Rattle.rig_model.specs.Line.{test_line, log_line, sig_line, verdict_line, report_line, budget_line, level_word, path_of, reason_of, digit_letters};
 
 use four_value::Bits;
 use gpi::{Flat, SigId};
-use port_io::NoMemory;
+use port_io::{Name, NoMemory};
 use py_syntax::LogLevel;
 use rig_model::Outcome;
 use std::alloc::{AllocError, Global};
 
-/// Adds a number as its decimal digits.
+/// Adds a number as its decimal digits. After an error the line is as it was.
 fn add_number(alloc: Global, line: &mut Vec<u8>, number: u64) -> Result<(), AllocError>
-    ensures { OnOk result (line.new.items ≡ line.old.items ++ decimal number) }
+    ensures ok { OnOk result (line.new.items ≡ line.old.items ++ decimal number) }
+    ensures err { OnErr result (line.new.items ≡ line.old.items) }
 {
     let text = number.to_string(alloc)?;
     line.extend_from_slice(text.as_bytes())?;
@@ -56,9 +58,10 @@ pub fn log_text(alloc: Global, time: u64, level: LogLevel, text: &[u8]) -> Resul
     Ok(line)
 }
 
-/// The digits of a value, the highest first.
+/// Adds the digits of a value, the highest first. After an error the line is as it was.
 fn add_digits(line: &mut Vec<u8>, bits: Bits) -> Result<(), AllocError>
-    ensures { OnOk result (line.new.items ≡ line.old.items ++ digit_letters bits) }
+    ensures ok { OnOk result (line.new.items ≡ line.old.items ++ digit_letters bits) }
+    ensures err { OnErr result (line.new.items ≡ line.old.items) }
 {
     let text = bits.text();
     let count = bits.width() as usize;
@@ -81,21 +84,29 @@ pub fn sig_text(alloc: Global, time: u64, path: &[u8], bits: Bits) -> Result<Vec
     Ok(line)
 }
 
-/// The path of a signal, or nothing where the design has no such signal.
-fn path_of(flat: &Flat, sig: SigId) -> &[u8]
+/// The path of a signal of the design, as `top.a` (IEEE 1364-2005, 12.5).
+pub fn path_of(flat: &Flat, sig: SigId) -> &Name
+    requires { sig.0 < length flat.now.signals }
     ensures { result.now ≡ path_of flat.now sig }
 {
-    let at = sig.0 as usize;
-    if at < flat.signals.len() {
-        flat.signals.get(at).path.bytes()
-    } else {
-        &[]
-    }
+    &flat.signals.get(sig.0 as usize).path
 }
 
-/// Adds the reason why a test on that design failed.
+/// Adds the path of a signal, or nothing where the design has no such signal. After an error the line is as it was.
+fn add_path(line: &mut Vec<u8>, flat: &Flat, sig: SigId) -> Result<(), AllocError>
+    ensures ok { OnOk result (line.new.items ≡ line.old.items ++ path_of flat.now sig) }
+    ensures err { OnErr result (line.new.items ≡ line.old.items) }
+{
+    if (sig.0 as usize) < flat.signals.len() {
+        line.extend_from_slice(path_of(flat, sig).bytes())?;
+    }
+    Ok(())
+}
+
+/// Adds the reason why a test on that design failed. After an error the line has grown by a front of it.
 fn add_reason(line: &mut Vec<u8>, outcome: &Outcome, flat: &Flat) -> Result<(), AllocError>
-    ensures { OnOk result (line.new.items ≡ line.old.items ++ reason_of flat.now outcome.now) }
+    ensures ok { OnOk result (line.new.items ≡ line.old.items ++ reason_of flat.now outcome.now) }
+    ensures err { OnErr result (AppendsPart (Some line.old.items) (Some line.new.items) (reason_of flat.now outcome.now)) }
 {
     match outcome {
         Outcome::Normal => {}
@@ -109,7 +120,7 @@ fn add_reason(line: &mut Vec<u8>, outcome: &Outcome, flat: &Flat) -> Result<(), 
         }
         Outcome::ReadOnlyWrite(sig) => {
             line.extend_from_slice(b"ReadOnlyWrite: ")?;
-            line.extend_from_slice(path_of(flat, *sig))?;
+            add_path(line, flat, *sig)?;
         }
         Outcome::Stalled => {
             line.extend_from_slice(b"Stalled")?;
@@ -132,7 +143,7 @@ pub fn verdict_text(
 {
     let mut line = Vec::new(alloc);
     add_number(alloc, &mut line, time)?;
-    if let Outcome::Normal = outcome {
+    if outcome.passes() {
         line.extend_from_slice(b" PASS ")?;
         line.extend_from_slice(name)?;
     } else {

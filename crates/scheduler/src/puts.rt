@@ -1,5 +1,6 @@
 //! Lines that are put one after the other, until a put fails.
 ghost use Rattle.std.specs.Prelude.{◌≡◌, ◌∷◌, [], length, Some, None, if◌then◌else◌};
+ghost use Rattle.port_io.specs.Means.{sink_means};
 ghost use Rattle.four_value.specs.Vector.{same_digits};
 ghost use Rattle.rig_model.specs.Line.{sig_line};
 ghost use Rattle.scheduler.specs.Puts.{PutsOn};
@@ -12,7 +13,7 @@ use std::alloc::Global;
 
 /// Puts a line: why it wasn't taken, if it wasn't.
 pub fn put_line<O: Sink>(alloc: Global, out: &mut O, line: &[u8]) -> Option<SinkFault>
-    ensures { PutsOn O.takes O.breaks O.told None out.old (line.now ∷ []) result out.new }
+    ensures { PutsOn (sink_means O.Sink) None out.old (line.now ∷ []) result out.new }
 {
     match out.put(alloc, line) {
         Ok(()) => None,
@@ -28,7 +29,7 @@ pub fn put_change<O: Sink>(
     path: &[u8],
     bits: Bits,
 ) -> Option<SinkFault>
-    ensures { PutsOn O.takes O.breaks O.told None out.old (sig_line time path.now bits ∷ []) result out.new }
+    ensures { PutsOn (sink_means O.Sink) None out.old (sig_line time path.now bits ∷ []) result out.new }
 {
     match sig_text(alloc, time, path, bits) {
         Ok(line) => put_line(alloc, out, line.as_slice()),

@@ -1,5 +1,5 @@
 //! Tasks that are started.
-ghost use Rattle.std.specs.Prelude.{◌≡◌, ◌≤◌, ◌<◌, ◌+◌, length, IfOk, OnOk, Some, true};
+ghost use Rattle.std.specs.Prelude.{◌≡◌, ◌≤◌, ◌<◌, ◌+◌, length, IfOk, OnOk, Ok, Some, None};
 ghost use Rattle.gpi.specs.Content.{Content};
 ghost use Rattle.rig_model.specs.Effect.{function_at, is_full, live_limit, start_limit, with_new_task};
 ghost use Rattle.rig_model.specs.declared.task.Turned.TheVariants.{Start};
@@ -21,7 +21,7 @@ pub const START_LIMIT: u32 = 16_777_216;
 impl<'a, M: FlowMaker + Drop, W: Awaits> Engine<'a, M, W> {
     ghost use Rattle.scheduler.specs.Engine.{parts_of, rig_of, setup_of};
     ghost use Rattle.scheduler.specs.Parts.{Fits};
-    ghost use Rattle.scheduler.specs.Turns.{LeadsTo, FitsOwn, is_fine};
+    ghost use Rattle.scheduler.specs.Turns.{LeadsTo, FitsOwn, next_fault};
 
     /// Whether a limit on tasks is reached.
     fn is_full(&self) -> bool
@@ -31,7 +31,7 @@ impl<'a, M: FlowMaker + Drop, W: Awaits> Engine<'a, M, W> {
     }
 
     /// A task of that function is live and ready: its number.
-    pub fn add_task(&mut self, alloc: Global, func: u32) -> Result<TaskNo, NoMemory>
+    pub(crate) fn add_task(&mut self, alloc: Global, func: u32) -> Result<TaskNo, NoMemory>
         requires func { func < length (M.functions self.old.maker) }
         requires few { length self.old.ready.entries + length (W.waiting self.old.awaits) ≤ length self.old.live.tasks }
         requires live { length self.old.live.tasks < live_limit }
@@ -55,7 +55,7 @@ impl<'a, M: FlowMaker + Drop, W: Awaits> Engine<'a, M, W> {
     }
 
     /// A task starts another, and goes on or gives way to it.
-    pub fn start_task(
+    pub(crate) fn start_task(
         &mut self,
         alloc: Global,
         task: TaskNo,
@@ -67,7 +67,7 @@ impl<'a, M: FlowMaker + Drop, W: Awaits> Engine<'a, M, W> {
         ensures leads { (content : Content) → IfOk result (λ next. LeadsTo (setup_of M.functions self.old) task (Start func give_way)
             (rig_of W.waiting self.old content) next (rig_of W.waiting self.new content)) }
         ensures own { IfOk result (λ next. FitsOwn (setup_of M.functions self.new) task self.new.ready.room next (parts_of W.waiting self.new)) }
-        ensures fine { IfOk result (λ next. is_fine next ≡ true) }
+        ensures fine { IfOk result (λ next. next_fault (Ok next) ≡ None) }
         ensures setup { setup_of M.functions self.new ≡ setup_of M.functions self.old }
         ensures awaits { self.new.awaits ≡ self.old.awaits }
         ensures staged { self.new.staged ≡ self.old.staged }

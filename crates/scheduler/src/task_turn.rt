@@ -1,5 +1,6 @@
 //! The turn of a task.
-ghost use Rattle.std.specs.Prelude.{◌≡◌, ◌≤◌, ◌<◌, ◌⊎◌, length, IfOk, Ok, Some};
+ghost use Rattle.std.specs.Prelude.{◌≡◌, ◌≤◌, ◌<◌, ◌⊎◌, length, OnOk, Ok, Some};
+ghost use Rattle.port_io.specs.Means.{sink_means};
 ghost use Rattle.rig_model.specs.Effect.{goes_on};
 ghost use Rattle.rig_model.specs.FitSteps.{FitSteps, in_turn};
 
@@ -14,11 +15,11 @@ use std::sync::ledger::Ledger;
 
 impl<'a, M: FlowMaker + Drop, W: Awaits> Engine<'a, M, W> {
     ghost use Rattle.scheduler.specs.Engine.{rig_of, setup_of};
-    ghost use Rattle.scheduler.specs.Fits.{FitsAt, FitsAfter, Keeps};
+    ghost use Rattle.scheduler.specs.Fits.{FitsAt, FitsKernel, Keeps};
     ghost use Rattle.scheduler.specs.Turns.{Turning};
 
     /// The task runs until its turn ends.
-    pub fn run_task<O: Sink, K: Gpi, L: Ledger>(
+    pub(crate) fn run_task<O: Sink, K: Gpi, L: Ledger>(
         &mut self,
         alloc: Global,
         kernel: &mut K,
@@ -30,11 +31,11 @@ impl<'a, M: FlowMaker + Drop, W: Awaits> Engine<'a, M, W> {
     ) -> Result<Turn, NoMemory>
         requires loaded { K.is_loaded kernel.old }
         requires fits { FitsAt (Some task) M.functions W.waiting W.held self.old (K.content kernel.old) }
-        ensures turning { Turning O.takes O.breaks O.told (FitSteps in_turn (setup_of M.functions self.old)) (setup_of M.functions self.old)
+        ensures turning { Turning (sink_means O.Sink) (FitSteps in_turn (setup_of M.functions self.old)) (setup_of M.functions self.old)
             fuel.old (goes_on task (Some given) (rig_of W.waiting self.old (K.content kernel.old))) out.old result
             fuel.new (rig_of W.waiting self.new (K.content kernel.new)) out.new }
         ensures falls { result ≡ Ok Turn.Went → (fuel.new < fuel.old) ⊎ ((fuel.new ≤ fuel.old) × (length self.new.ready.entries ≤ length self.old.ready.entries)) }
-        ensures fits { IfOk result (λ turn. FitsAfter M.functions W.waiting W.held turn self.new (K.content kernel.new)) }
+        ensures fits { OnOk result (FitsKernel M.functions W.waiting W.held self.new (K.content kernel.new)) }
         ensures keeps { Keeps M.functions W.waiting W.held K.is_loaded K.content self.old self.new kernel.new }
     {
         let mut given = given;

@@ -1,1 +1,3 @@
 mod Registered
+mod DigitLaws
+mod EventLaws

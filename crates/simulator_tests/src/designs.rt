@@ -2,7 +2,11 @@
 //!
 //! In Verilog: `reg [7:0] a, b; reg [3:0] c; reg go; reg [7:0] m [1:4]; reg [7:0] y, z;`, where `y` may have another width,
 //! and `a`, `y` and the words another range.
-ghost use Rattle.std.specs.Prelude.{◌≤◌, ◌+◌};
+ghost use Rattle.std.specs.Prelude.{◌≡◌, ◌≤◌, ◌∷◌, ◌++◌, length, map, reverse, IfOk, OnOk, OnErr, option_map, option_to_list, string_bytes};
+ghost use Rattle.std.specs.List.{flat_map};
+ghost use Rattle.simulator_tests.specs.Digits.{digit_of, digits_text, short_vector, vector_of};
+ghost use Rattle.simulator_tests.specs.Rests.{ComesTo, Settles};
+ghost use Rattle.simulator_tests.specs.Designs.{AreProcesses, IsAsked, IsDesign, IsGiven, ShowsDesign, bare_top, change_of, last_told, last_value, other_text, register, registers, sets, values_text, wakes_of};
 
 use crate::parts::Parts;
 use four_value::{Bits, Digit};
@@ -37,24 +41,43 @@ pub const MEMORY: Words = Words {
     count: 4,
 };
 
-/// The widths of the signals but `y`.
-const WIDTHS: [u8; 10] = [8, 8, 4, 1, 8, 8, 8, 8, 8, 8];
+/// How many digits a vector has at most.
+const MOST_DIGITS: usize = 128;
 
-/// The vector of these digits, highest first; x where there is none.
-pub fn vector(text: &[u8]) -> Bits {
-    let mut bits: Option<Bits> = None;
-    for byte in text {
-        let digit = Bits::all(1, digit(*byte));
-        bits = match bits {
-            Some(high) if high.width() < 128 => Some(high.concat(digit)),
-            _ => Some(digit),
-        };
+/// The vector of these digits, highest first: of more than 128 the first 128, and one x where there is none. It takes no memory.
+pub fn vector(text: &[u8]) -> Bits
+    ensures { result ≡ vector_of text.now }
+{
+    short_vector(&text[..MOST_DIGITS.min(text.len())])
+}
+
+/// The vector of at most 128 digits.
+fn short_vector(text: &[u8]) -> Bits
+    requires { length text.now ≤ 128 }
+    ensures { result ≡ short_vector text.now }
+{
+    match text {
+        [] => Bits::all(1, Digit::X),
+        [highest, rest @ ..] => joined(*highest, rest),
     }
-    bits.unwrap_or(Bits::all(1, Digit::X))
+}
+
+/// The vector of a digit and those below it.
+fn joined(highest: u8, rest: &[u8]) -> Bits
+    requires { length rest.now ≤ 127 }
+    ensures { result ≡ reverse (map digit_of (highest ∷ rest.now)) }
+{
+    let mut bits = Bits::all(1, digit(highest));
+    for byte in rest {
+        bits = bits.concat(Bits::all(1, digit(*byte)));
+    }
+    bits
 }
 
 /// The digit that a byte stands for.
-fn digit(byte: u8) -> Digit {
+fn digit(byte: u8) -> Digit
+    ensures { result ≡ digit_of byte }
+{
     match byte {
         b'0' => Digit::Zero,
         b'1' => Digit::One,
@@ -63,33 +86,35 @@ fn digit(byte: u8) -> Digit {
     }
 }
 
-/// Adds the digits of a vector, highest first.
-pub fn push_digits(out: &mut String, bits: Bits) -> Result<(), NoMemory> {
+/// The digits of a vector, highest first. Only want of memory is an error, here and below.
+#[tactic(auto, using(crate::proofs::DigitLaws::digits_shown))]
+pub fn digits(alloc: Global, bits: Bits) -> Result<String, NoMemory>
+    ensures { IfOk result (λ text. string_bytes text ≡ digits_text bits) }
+{
+    let mut out = String::new(alloc);
     let text = bits.text();
     let width = bits.width() as usize;
-    push_bytes(out, &text[..width])?;
-    Ok(())
-}
-
-/// The digits of a vector, highest first.
-pub fn digits(alloc: Global, bits: Bits) -> Result<String, NoMemory> {
-    let mut out = String::new(alloc);
-    push_digits(&mut out, bits)?;
+    push_bytes(&mut out, &text[..width])?;
     Ok(out)
 }
 
 /// A blocking assignment of a constant.
-fn sets(sig: SigId, bits: Bits) -> Act {
+fn sets(sig: SigId, bits: Bits) -> Act
+    ensures { result ≡ sets sig.0 bits }
+{
     let target = Target::Whole(Object::Signal(sig, bits.width()));
     Act::Blocking(target, Term::Const(bits))
 }
 
 /// `initial begin a = ..; b = ..; m[2] = ..; c = ..; go = 1; end`
-fn given(alloc: Global, row: &Row<'_>) -> Result<Process, NoMemory> {
+fn given(alloc: Global, row: &Row<'_>) -> Result<Process, NoMemory>
+    ensures { IfOk result (λ given. IsGiven row.now given) }
+{
     let mut acts = Acts::new(alloc);
-    for (sig, part) in [(A, 3), (B, 4), (SECOND_WORD, 4), (C, 5)] {
-        acts.push(sets(sig, vector(row.part(part))))?;
-    }
+    acts.push(sets(A, vector(row.part(3))))?;
+    acts.push(sets(B, vector(row.part(4))))?;
+    acts.push(sets(SECOND_WORD, vector(row.part(4))))?;
+    acts.push(sets(C, vector(row.part(5))))?;
     acts.push(sets(GO, Bits::all(1, Digit::One)))?;
     Ok(Process {
         kind: Kind::Initial,
@@ -98,27 +123,36 @@ fn given(alloc: Global, row: &Row<'_>) -> Result<Process, NoMemory> {
     })
 }
 
-/// The signals, with so many digits for `y`.
-fn signals(alloc: Global, width: u8) -> Result<Sequence<Signal>, NoMemory> {
+/// Registers of these widths.
+fn registers(alloc: Global, widths: &[u8]) -> Result<Sequence<Signal>, NoMemory>
+    ensures { IfOk result (λ signals. signals ≡ map register widths.now) }
+{
     let mut signals = Sequence::new(alloc);
-    for at in 0..WIDTHS.len() {
+    for width in widths {
         signals.push(Signal {
             path: Name::empty(),
-            width: if at == 8 { width } else { WIDTHS[at] },
+            width: *width,
             start: Digit::X,
         })?;
     }
     Ok(signals)
 }
 
-/// The wakes of each change of a signal of so many, from one on.
-fn wakes(alloc: Global, first: u32, count: u32) -> Result<Sequence<Wake>, NoMemory>
-    requires { first + count ≤ 100 }
+/// The signals, with so many digits for `y`.
+fn signals(alloc: Global, width: u8) -> Result<Sequence<Signal>, NoMemory>
+    ensures { IfOk result (λ signals. signals ≡ registers width) }
+{
+    registers(alloc, &[8, 8, 4, 1, 8, 8, 8, 8, width, 8])
+}
+
+/// The wakes of each change of these signals.
+fn wakes(alloc: Global, signals: &[u32]) -> Result<Sequence<Wake>, NoMemory>
+    ensures { IfOk result (λ wakes. wakes ≡ map change_of signals.now) }
 {
     let mut wakes = Sequence::new(alloc);
-    for sig in first..first + count {
+    for sig in signals {
         wakes.push(Wake {
-            sig: SigId(sig),
+            sig: SigId(*sig),
             edge: WakeEdge::Any,
         })?;
     }
@@ -126,10 +160,12 @@ fn wakes(alloc: Global, first: u32, count: u32) -> Result<Sequence<Wake>, NoMemo
 }
 
 /// What wakes `assign y = ..`, or `always @(go) ..`.
-fn wakes_of(alloc: Global, kind: Kind) -> Result<Sequence<Wake>, NoMemory> {
+fn wakes_of(alloc: Global, kind: Kind) -> Result<Sequence<Wake>, NoMemory>
+    ensures { IfOk result (λ wakes. wakes ≡ wakes_of kind) }
+{
     match kind {
-        Kind::Assign => wakes(alloc, 0, 8),
-        _ => wakes(alloc, 3, 1),
+        Kind::Assign => wakes(alloc, &[0, 1, 2, 3, 4, 5, 6, 7]),
+        _ => wakes(alloc, &[3]),
     }
 }
 
@@ -161,7 +197,9 @@ fn act_of(alloc: Global, row: &Row<'_>, width: u8) -> Result<Act, NoMemory> {
 }
 
 /// The process of a row, where `y` has so many digits.
-fn asked(alloc: Global, row: &Row<'_>, kind: Kind, width: u8) -> Result<Process, NoMemory> {
+fn asked(alloc: Global, row: &Row<'_>, kind: Kind, width: u8) -> Result<Process, NoMemory>
+    ensures { IfOk result (λ asked. IsAsked kind asked) }
+{
     let wakes = wakes_of(alloc, kind)?;
     let body = act_of(alloc, row, width)?;
     Ok(Process { kind, wakes, body })
@@ -173,7 +211,9 @@ fn processes(
     row: &Row<'_>,
     kind: Kind,
     width: u8,
-) -> Result<Sequence<Process>, NoMemory> {
+) -> Result<Sequence<Process>, NoMemory>
+    ensures { IfOk result (λ processes. AreProcesses row.now kind processes) }
+{
     let mut processes = Sequence::new(alloc);
     processes.push(asked(alloc, row, kind, width)?)?;
     processes.push(given(alloc, row)?)?;
@@ -181,7 +221,9 @@ fn processes(
 }
 
 /// The top, in which nothing is declared.
-fn top(alloc: Global) -> Result<Sequence<Node>, NoMemory> {
+fn top(alloc: Global) -> Result<Sequence<Node>, NoMemory>
+    ensures { IfOk result (λ nodes. nodes ≡ bare_top) }
+{
     let mut nodes = Sequence::new(alloc);
     nodes.push(Node {
         path: Name::empty(),
@@ -191,7 +233,9 @@ fn top(alloc: Global) -> Result<Sequence<Node>, NoMemory> {
 }
 
 /// The design of a row's process and its inputs, where `y` has so many digits.
-fn design(alloc: Global, row: &Row<'_>, kind: Kind, width: u8) -> Result<Flat, NoMemory> {
+fn design(alloc: Global, row: &Row<'_>, kind: Kind, width: u8) -> Result<Flat, NoMemory>
+    ensures { IfOk result (λ flat. IsDesign row.now kind width flat) }
+{
     let signals = signals(alloc, width)?;
     let nodes = top(alloc)?;
     Ok(Flat {
@@ -202,92 +246,99 @@ fn design(alloc: Global, row: &Row<'_>, kind: Kind, width: u8) -> Result<Flat, N
     })
 }
 
-/// The last values that were told, by the signals' numbers.
-#[derive(Drop)]
-struct Seen {
-    values: Vec<Option<Bits>>,
-}
-
-impl Seen {
-    /// Nothing was told of so many signals.
-    fn new(alloc: Global, count: usize) -> Result<Seen, NoMemory> {
-        let mut values = Vec::new(alloc);
-        for _ in 0..count {
-            values.push(None)?;
-        }
-        Ok(Seen { values })
-    }
-
-    /// Notes what was told.
-    fn note(&mut self, told: Told) {
-        let at = told.sig.0 as usize;
-        if at < self.values.len() {
-            self.values[at] = Some(told.bits);
-        }
-    }
-
-    /// Adds the digits of a signal with so many: all x where nothing was told.
-    fn push(&self, out: &mut String, sig: SigId, width: u8) -> Result<(), NoMemory> {
-        match self.values.get(sig.0 as usize) {
-            Some(Some(bits)) => push_digits(out, *bits),
-            _ => {
-                for _ in 0..width {
-                    out.push('x')?;
-                }
-                Ok(())
-            }
-        }
-    }
-}
-
-/// Runs a simulator until nothing is left, for 99 events at most, and notes what is told. Whether it came to rest.
-fn settle<K: Gpi>(kernel: &mut K, seen: &mut Seen) -> Result<bool, NoMemory>
-    requires { K.is_loaded kernel.old }
+/// Adds a change, if there is one.
+fn push_told(told: &mut Vec<Told>, change: Option<Told>) -> Result<(), NoMemory>
+    ensures ok { OnOk result (told.new.items ≡ told.old.items ++ option_to_list change) }
+    ensures err { OnErr result (told.new.items ≡ told.old.items) }
 {
+    if let Some(change) = change {
+        told.push(change)?;
+    }
+    Ok(())
+}
+
+/// The changes that a simulator tells until nothing is left, in order; none where 99 events come.
+fn settle<K: Gpi>(alloc: Global, kernel: &mut K) -> Result<Option<Vec<Told>>, NoMemory>
+    requires { K.is_loaded kernel.old }
+    ensures { IfOk result (λ told. Settles (K.content kernel.old) (option_map (λ t. t.items) told)) }
+{
+    let mut told = Vec::new(alloc);
     for _ in 0..99u8 {
         match kernel.advance()? {
-            Advance::Idle => return Ok(true),
-            Advance::Moved(moved) => {
-                if let Some(told) = moved.change {
-                    seen.note(told);
-                }
-            }
+            Advance::Idle => return Ok(Some(told)),
+            Advance::Moved(moved) => push_told(&mut told, moved.change)?,
         }
     }
-    Ok(false)
+    Ok(None)
 }
 
-/// What a design comes to; none where it isn't sound or doesn't come to rest.
-fn rest(alloc: Global, flat: &Flat) -> Result<Option<Seen>, NoMemory> {
+/// The changes that a design tells until nothing is left; none where it isn't sound or 99 events come.
+fn rest(alloc: Global, flat: &Flat) -> Result<Option<Vec<Told>>, NoMemory>
+    ensures { IfOk result (λ told. ComesTo flat.now (option_map (λ t. t.items) told)) }
+{
     if !flat.is_sound() {
         return Ok(None);
     }
     let mut kernel = ListKernel::new(alloc);
     kernel.load(alloc, flat)?;
-    let mut seen = Seen::new(alloc, flat.signals.len())?;
-    let rests = settle(&mut kernel, &mut seen)?;
-    Ok(if rests { Some(seen) } else { None })
+    settle(alloc, &mut kernel)
 }
 
-/// The values that a kind of row shows: `y`, or that and `z` and the words of the memory.
-fn values_text(alloc: Global, kind: Kind, seen: &Seen, width: u8) -> Result<String, NoMemory> {
+/// The last change that was told of a signal.
+fn last_told(told: &[Told], sig: SigId) -> Option<Told>
+    ensures { result ≡ last_told told.now sig.0 }
+{
+    told.iter().rev().copied().find(|told| told.sig.0 == sig.0)
+}
+
+/// The last value that was told of a signal with so many digits; all x where none was told.
+fn last_value(told: &[Told], sig: SigId, width: u8) -> Bits
+    requires low { 1 ≤ width }
+    requires high { width ≤ 128 }
+    ensures { result ≡ last_value told.now sig.0 width }
+{
+    match last_told(told, sig) {
+        Some(told) => told.bits,
+        None => Bits::all(width, Digit::X),
+    }
+}
+
+/// The last values of these signals of eight digits, each behind a space.
+fn other_texts(alloc: Global, told: &[Told], signals: &[u32]) -> Result<String, NoMemory>
+    ensures { IfOk result (λ text. string_bytes text ≡ flat_map (other_text told.now) signals.now) }
+{
     let mut out = String::new(alloc);
-    seen.push(&mut out, Y, width)?;
-    if kind == Kind::Always {
-        for sig in [9, 4, 5, 6, 7] {
-            out.push(' ')?;
-            seen.push(&mut out, SigId(sig), 8)?;
-        }
+    for sig in signals {
+        let value = digits(alloc, last_value(told, SigId(*sig), 8))?;
+        out.push(' ')?;
+        out.push_str(&value)?;
     }
     Ok(out)
 }
 
-/// What the design of a row comes to, whose process has this kind.
-pub fn design_text(alloc: Global, row: &Row<'_>, kind: Kind) -> Result<String, NoMemory> {
+/// The values that a kind of row shows: `y`, or that and `z` and the words of the memory.
+fn values_text(alloc: Global, kind: Kind, told: &[Told], width: u8) -> Result<String, NoMemory>
+    requires low { 1 ≤ width }
+    requires high { width ≤ 128 }
+    ensures { IfOk result (λ text. string_bytes text ≡ values_text kind told.now width) }
+{
+    let mut out = digits(alloc, last_value(told, Y, width))?;
+    if let Kind::Always = kind {
+        let others = other_texts(alloc, told, &[9, 4, 5, 6, 7])?;
+        out.push_str(&others)?;
+    }
+    Ok(out)
+}
+
+/// What the design of a row comes to, whose process has this kind: the last values of `y`, or of it, `z` and the words of the memory,
+/// that its simulator told until nothing was left; `no rest` where the design isn't sound or 99 events come.
+pub fn design_text(alloc: Global, row: &Row<'_>, kind: Kind) -> Result<String, NoMemory>
+    ensures { IfOk result (λ text. ShowsDesign row.now kind (string_bytes text)) }
+{
     let width = row.number(6).clamp(1, 128) as u8;
     let flat = design(alloc, row, kind, width)?;
     match rest(alloc, &flat)? {
-        Some(seen) => values_text(alloc, kind, &seen, width),
-        None => Ok(format!(in alloc; "no rest")?),
+        Some(told) => values_text(alloc, kind, &told, width),
+        None => Ok(String::from_str(alloc, "no rest")?),
     }
 }

@@ -1,7 +1,7 @@
 //! The examples that the standard gives for its operators (IEEE 1364-2005, clause 5.1).
 ghost use Rattle.std.specs.Prelude.{◌≡◌, length};
 
-use crate::designs::{digits, push_digits, vector};
+use crate::designs::{digits, vector};
 use four_value::{Bits, Digit};
 use port_io::NoMemory;
 use std::alloc::Global;
@@ -14,13 +14,10 @@ fn single(digit: Digit) -> Bits {
 
 /// The reductions by `&`, `|` and `^`.
 fn reductions(alloc: Global, bits: Bits) -> Result<String, NoMemory> {
-    let mut out = String::new(alloc);
-    push_digits(&mut out, single(bits.reduce_and()))?;
-    out.push(' ')?;
-    push_digits(&mut out, single(bits.reduce_or()))?;
-    out.push(' ')?;
-    push_digits(&mut out, single(bits.reduce_xor()))?;
-    Ok(out)
+    let all = digits(alloc, single(bits.reduce_and()))?;
+    let any = digits(alloc, single(bits.reduce_or()))?;
+    let parity = digits(alloc, single(bits.reduce_xor()))?;
+    Ok(format!(in alloc; "{all} {any} {parity}")?)
 }
 
 /// An operator on two vectors of one width.

@@ -1,10 +1,14 @@
 -- How bytes are shown.
-use Rattle.std.specs.Prelude.{ℕ, ◌==◌, List, [], ◌∷◌, ◌++◌, if◌then◌else◌}
+use Rattle.std.specs.Prelude.{◌≡◌, ℕ, ◌==◌, List, [], ◌∷◌, ◌++◌, if◌then◌else◌}
 use Rattle.std.specs.Str.{encode_utf8_all}
 
 -- bytes as characters of Latin-1, in UTF-8
 abbrev pub latin : List ℕ → List ℕ
 latin bytes = encode_utf8_all bytes
+
+-- a text grew by a front of these bytes, as characters
+abbrev pub ShowsFront : List ℕ → List ℕ → List ℕ → Type 0
+ShowsFront old new bytes = (front : List ℕ) × (rest : List ℕ) × (bytes ≡ front ++ rest) × (new ≡ old ++ latin front)
 
 -- bytes as characters, where a line feed is shown as `\0a`
 unfoldable pub shown_bytes : List ℕ → List ℕ

@@ -1,13 +1,14 @@
 //! How bytes are shown.
 
-ghost use Rattle.std.specs.Prelude.{◌≡◌, ◌++◌, ◌∷◌, [], IfOk, OnOk, string_bytes};
-ghost use Rattle.table_rows.specs.Shown.{latin, in_quotes};
+ghost use Rattle.std.specs.Prelude.{◌≡◌, ◌++◌, ◌∷◌, [], IfOk, OnOk, OnErr, string_bytes};
+ghost use Rattle.table_rows.specs.Shown.{latin, in_quotes, ShowsFront};
 
 use std::alloc::{AllocError, Global};
 
-/// Bytes as characters, those of Latin-1, behind a text. Only want of memory is an error.
+/// Bytes as characters, those of Latin-1, behind a text. Only want of memory is an error, and after it a front of them stands there.
 pub fn push_bytes(out: &mut String, bytes: &[u8]) -> Result<(), AllocError>
-    ensures { OnOk result (string_bytes out.new ≡ string_bytes out.old ++ latin bytes.now) }
+    ensures ok { OnOk result (string_bytes out.new ≡ string_bytes out.old ++ latin bytes.now) }
+    ensures err { OnErr result (ShowsFront (string_bytes out.old) (string_bytes out.new) bytes.now) }
 {
     for byte in bytes {
         out.push(char::from(*byte))?;

@@ -1,6 +1,7 @@
 -- Concatenations of many parts (IEEE 1364-2005, clause 5.1.14), the lowest part first.
 use Rattle.std.specs.Prelude.{ℕ, ◌+◌, ◌≤◌, List, [], ◌∷◌, ◌++◌}
 use Rattle.four_value.specs.declared.Digit.{Digit}
+use Rattle.four_value.specs.Limits.{most_digits}
 use Rattle.gpi.specs.declared.terms.Term.{Term}
 use Rattle.gpi.specs.Terms.{value, width, IsSound}
 use Rattle.gpi.specs.Made.{Makes}
@@ -20,4 +21,4 @@ AreSound (t ∷ ts) ws = IsSound t ws × AreSound ts ws
 
 -- t is the concatenation of these
 abbrev pub MakesConcatenation : List Term → Term → Type 0
-MakesConcatenation ts t = Makes t (values ts) (widths ts) (λ ws. AreSound ts ws × (widths ts ≤ 128))
+MakesConcatenation ts t = Makes t (values ts) (widths ts) (λ ws. AreSound ts ws × (widths ts ≤ most_digits))

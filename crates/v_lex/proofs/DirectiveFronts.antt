@@ -1,5 +1,7 @@
 -- Directives, as they stand and as the code finds them.
-use Rattle.std.proofs.Common.{◌≡◌, ℕ, zero, suc, ◌+◌, ◌*◌, ◌<◌, ◌≤◌, Bool, true, false, ◌&&◌, ◌||◌, cond, eqb, leb, is_none, List, [], ◌∷◌, ◌++◌, length, get_or, take, drop, Option, Some, None, ap, ◌∙◌, sym, refl, subst, ⊎_elim, inl, inr, ◌⊎◌, append_assoc, append-nil, eq-eqb, ne_eqb, eqb-true, arith}
+use Rattle.std.proofs.Common.{◌≡◌, ℕ, zero, suc, ◌+◌, ◌*◌, ◌<◌, ◌≤◌, Bool, true, false, ◌&&◌, ◌||◌, cond, eqb, leb, is_none, List, []}
+use Rattle.std.proofs.Common.{◌∷◌, ◌++◌, length, get_or, take, drop, Option, Some, None, ap, ◌∙◌, sym, refl, subst, ⊎_elim, inl, inr, ◌⊎◌}
+use Rattle.std.proofs.Common.{append_assoc, append-nil, eq-eqb, ne_eqb, eqb-true, arith}
 use Rattle.std.specs.Prelude.{option_map}
 use Rattle.std.specs.List.{list_all}
 use Rattle.std.specs.Str.{bytes_eq}
@@ -23,10 +25,13 @@ use Rattle.v_lex.specs.DirectiveWords.{directive_of, directive_spelling, directi
 use Rattle.v_lex.specs.Numbers.{◌>>=◌}
 use Rattle.v_lex.specs.Times.{magnitude_of, unit_of}
 use Rattle.v_lex.specs.Comments.{begins, comment_at, directive_of_parts}
-use Rattle.v_lex.specs.DirectiveScan.{word_behind, word_after, is_name, name_after, gap_size, is_blank, time_of, time_after, slash_after, scale_after, scale_or_broken, with_name, named_or_broken, define_or_broken, net_type_or_broken, directive_with, directive_at, is_conditional}
+use Rattle.v_lex.specs.DirectiveScan.{word_behind, word_after, is_name, name_after, gap_size, is_blank, time_of, time_after, slash_after}
+use Rattle.v_lex.specs.DirectiveScan.{scale_after, scale_or_broken, with_name, named_or_broken, define_or_broken, net_type_or_broken}
+use Rattle.v_lex.specs.DirectiveScan.{directive_with, directive_at, is_conditional}
 use Rattle.v_lex.specs.Spelling.{AllIn, IsWord, IsName}
 use Rattle.v_lex.specs.Gaps.{Stops, IsSeparator, IsComment, IsOpenComment, IsGap}
-use Rattle.v_lex.specs.Directives.{IsBlankLine, Ends, Feeds, Goes, Passes, NamePart, NetTypePart, TimePart, ScalePart, Parts, IsWhole, IsBare, IsUnnamed, IsDirective, IsOfConditional, BeginsConditional}
+use Rattle.v_lex.specs.Directives.{IsBlankLine, Ends, Feeds, Goes, Passes, NamePart, NetTypePart, TimePart, ScalePart, Parts, IsWhole}
+use Rattle.v_lex.specs.Directives.{IsBare, IsUnnamed, IsDirective, IsOfConditional, BeginsConditional}
 use Rattle.v_lex.specs.Row.{CommentStands}
 use Rattle.v_lex.proofs.Splits.{split, run_is}
 use Rattle.v_lex.proofs.FormKinds.{starts_range, between, below}
@@ -58,7 +63,8 @@ no_separator b h =
     let other : (n : ℕ) → n < 33 → eqb b n ≡ false = λ n k. ne_eqb b n (λ e. omega (arith, h, k, e)) in
     or_from (eqb b 32 || eqb b 9 || eqb b 10 || eqb b 13) (eqb b 12)
     (or_from (eqb b 32 || eqb b 9 || eqb b 10) (eqb b 13)
-    (or_from (eqb b 32 || eqb b 9) (eqb b 10) (or_from (eqb b 32) (eqb b 9) (other 32 (omega arith)) (other 9 (omega arith))) (other 10 (omega arith)))
+    (or_from (eqb b 32 || eqb b 9) (eqb b 10) (or_from (eqb b 32) (eqb b 9) (other 32 (omega arith)) (other 9 (omega arith)))
+    (other 10 (omega arith)))
     (other 13 (omega arith)))
     (other 12 (omega arith))
 
@@ -121,7 +127,8 @@ after_step : (text : List ℕ) → word_after text ≡ word_behind (run class.Se
 unfolding word_after
 after_step text = refl
 
-after_is : (gap name rest : List ℕ) → AllIn class.Separator gap → Stops class.Separator (name ++ rest) → AllIn class.Name name → Stops class.Name rest → word_after (gap ++ (name ++ rest)) ≡ (length gap + length name, name)
+after_is : (gap name rest : List ℕ) → AllIn class.Separator gap → Stops class.Separator (name ++ rest) → AllIn class.Name name
+    → Stops class.Name rest → word_after (gap ++ (name ++ rest)) ≡ (length gap + length name, name)
 after_is gap name rest g s n t =
     let k = run_is class.Separator gap (name ++ rest) g s in
     let m = run_is class.Name name rest n t in
@@ -173,8 +180,11 @@ name_of : (name : List ℕ) → AllIn class.Name name → is_name name ≡ true 
 name_of [] a e = absurd (false≢true e)
 name_of (b ∷ bs) a e =
     let p = and_parts (is_name_start b && is_none (keyword_of (b ∷ bs))) (is_none (reserved_of (b ∷ bs))) e in
-    let q = and_parts (is_name_start b) (is_none (keyword_of (b ∷ bs))) p.0 in
-    ((q.0, (and_parts (is_in class.Name b) (list_all (is_in class.Name) bs) a).1), is_none_of (keyword_of (b ∷ bs)) q.1, is_none_of (reserved_of (b ∷ bs)) p.1)
+    let q = and_parts (is_name_start b) (is_none (keyword_of (b ∷ bs))) p.0 in (
+      (q.0, (and_parts (is_in class.Name b) (list_all (is_in class.Name) bs) a).1),
+      is_none_of (keyword_of (b ∷ bs)) q.1,
+      is_none_of (reserved_of (b ∷ bs)) p.1,
+    )
 
 start_name : (b : ℕ) → is_name_start b ≡ true → is_in class.Name b ≡ true
 start_name b h = ⊎_elim
@@ -217,10 +227,17 @@ name_view text a e =
     let v = view_word text in
     ⊎_elim
     (λ (t : is_name (word_after text).1 ≡ true).
-    let w : (length v.gap + length v.name, v.name) ≡ a = sym v.found ∙ some_is (word_after text) a (sym (name_step text ∙ cond-true _ _ _ t) ∙ e) in
+    let w : (length v.gap + length v.name, v.name) ≡ a =
+    sym v.found ∙ some_is (word_after text) a (sym (name_step text ∙ cond-true _ _ _ t) ∙ e) in
     let n : IsName v.name = name_of v.name v.named (sym (ap (λ (x : ℕ × List ℕ). is_name x.1) v.found) ∙ t) in
     subst (NameView text) w
-    (record { parts = v.gap ++ v.name; behind = v.rest; is = v.is ∙ sym (append_assoc v.gap v.name v.rest); has = (v.gap, refl, v.separated, n, v.ends); size = sym (length-append v.gap v.name) }))
+    (record {
+      parts = v.gap ++ v.name;
+      behind = v.rest;
+      is = v.is ∙ sym (append_assoc v.gap v.name v.rest);
+      has = (v.gap, refl, v.separated, n, v.ends);
+      size = sym (length-append v.gap v.name);
+    }))
     (λ (t : is_name (word_after text).1 ≡ false). absurd (none_some a (sym (name_step text ∙ cond-false _ _ _ t) ∙ e)))
     (cases_Bool (is_name (word_after text).1))
 
@@ -234,16 +251,20 @@ gap_nil : gap_size [] ≡ None
 unfolding gap_size
 gap_nil = refl
 
-gap_comment : (c : Content) (bytes behind : List ℕ) → CommentStands c bytes behind → (rest : List ℕ) × (bytes ++ behind ≡ 47 ∷ rest) → gap_size (bytes ++ behind) ≡ Some (length bytes)
+gap_comment : (c : Content) (bytes behind : List ℕ) → CommentStands c bytes behind → (rest : List ℕ) × (bytes ++ behind ≡ 47 ∷ rest)
+    → gap_size (bytes ++ behind) ≡ Some (length bytes)
 gap_comment c bytes behind h f =
-    ap gap_size f.1 ∙ gap_step 47 f.0 ∙ ap (option_map (λ (p : Piece). p.size)) (sym (ap comment_at f.1) ∙ comments.comment_is c bytes behind h)
+    ap gap_size f.1 ∙ gap_step 47 f.0
+    ∙ ap (option_map (λ (p : Piece). p.size)) (sym (ap comment_at f.1) ∙ comments.comment_is c bytes behind h)
 
 gap_is : (gap rest : List ℕ) → IsGap gap rest → gap_size (gap ++ rest) ≡ Some (length gap)
 gap_is gap rest h = ⊎_elim
-    (λ (k : IsSeparator gap). ap (λ (xs : List ℕ). gap_size (xs ++ rest)) k.1 ∙ gap_step k.0 rest ∙ cond-true (is_separator k.0) _ _ k.2 ∙ ap (λ (xs : List ℕ). Some (length xs)) (sym k.1))
+    (λ (k : IsSeparator gap). ap (λ (xs : List ℕ). gap_size (xs ++ rest)) k.1 ∙ gap_step k.0 rest ∙ cond-true (is_separator k.0) _ _ k.2
+    ∙ ap (λ (xs : List ℕ). Some (length xs)) (sym k.1))
     (λ (k : IsComment gap rest ⊎ IsOpenComment gap rest). ⊎_elim
     (λ (l : IsComment gap rest). gap_comment content.Gap gap rest l (comments.comment_first content.Gap gap rest l))
-    (λ (l : IsOpenComment gap rest). gap_comment (content.Broken rule.UnclosedText) gap rest l (comments.comment_first (content.Broken rule.UnclosedText) gap rest l))
+    (λ (l : IsOpenComment gap rest). gap_comment (content.Broken rule.UnclosedText) gap rest l
+    (comments.comment_first (content.Broken rule.UnclosedText) gap rest l))
     k)
     h
 
@@ -272,7 +293,8 @@ gap_view (b ∷ bs) n e = ⊎_elim
     record { gap = b ∷ []; rest = bs; is = refl; has = inl (b, refl, s); size = sym k; some = omega arith })
     (λ (s : is_separator b ≡ false). ⊎_elim
     (λ (f : comments.Found (b ∷ bs) × _). commented f.0 (sym (gap_step b bs ∙ cond-false (is_separator b) _ _ s) ∙ e))
-    (λ (k : (comment_at (b ∷ bs) ≡ None) × _). absurd (none_some n (sym (gap_step b bs ∙ cond-false (is_separator b) _ _ s ∙ ap (option_map (λ (p : Piece). p.size)) k.0) ∙ e)))
+    (λ (k : (comment_at (b ∷ bs) ≡ None) × _).
+    absurd (none_some n (sym (gap_step b bs ∙ cond-false (is_separator b) _ _ s ∙ ap (option_map (λ (p : Piece). p.size)) k.0) ∙ e)))
     (comments.found_or_none (b ∷ bs)))
     (cases_Bool (is_separator b))
   where
@@ -280,7 +302,14 @@ gap_view (b ∷ bs) n e = ⊎_elim
     commented f q =
         let s = f.standing in
         let k : f.piece.size ≡ n = some_is f.piece.size n (sym (ap (option_map (λ (p : Piece). p.size)) f.is) ∙ q) in
-        record { gap = s.bytes; rest = s.behind; is = s.is; has = comment_gap f.piece.content s.bytes s.behind s.stands; size = sym k ∙ s.size; some = comments.comment_some f.piece.content s.bytes s.behind s.stands }
+        record {
+          gap = s.bytes;
+          rest = s.behind;
+          is = s.is;
+          has = comment_gap f.piece.content s.bytes s.behind s.stands;
+          size = sym k ∙ s.size;
+          some = comments.comment_some f.piece.content s.bytes s.behind s.stands;
+        }
 
 gap_some : (gap rest : List ℕ) → IsGap gap rest → 1 ≤ length gap
 gap_some gap rest h = ⊎_elim
@@ -301,7 +330,8 @@ line_run gap rest h = ap (run class.Line) (take-append_seam gap rest ∙ sym (ap
 line_all : (gap rest : List ℕ) → run class.Line (take (length gap) (gap ++ rest)) ≡ length gap → AllIn class.Line gap
 line_all gap rest e =
     let s = split class.Line gap in
-    let k : length s.front ≡ length gap = sym (run_is class.Line s.front s.rest s.all s.stops) ∙ ap (run class.Line) (sym s.is ∙ sym (take-append_seam gap rest)) ∙ e in
+    let k : length s.front ≡ length gap =
+    sym (run_is class.Line s.front s.rest s.all s.stops) ∙ ap (run class.Line) (sym s.is ∙ sym (take-append_seam gap rest)) ∙ e in
     let l = ap (λ (xs : List ℕ). length xs) s.is in
     let z : s.rest ≡ [] = none_left s.rest (omega (arith, k, l, length-append s.front s.rest)) in
     subst (AllIn class.Line) (sym (s.is ∙ ap (λ (xs : List ℕ). s.front ++ xs) z ∙ append-nil s.front)) s.all
@@ -312,7 +342,8 @@ line_all gap rest e =
 
 blank_is : (text : List ℕ) → IsBlankLine text → (n : ℕ) → length text ≤ n → is_blank n text ≡ true
 blank_is text Ends n h = blank_nil n
-blank_is text (Feeds rest) n h = let p = pred_of n (suc (length rest)) h (omega arith) in blank_at_end n p.0 (10 ∷ rest) p.1 (omega arith) refl
+blank_is text (Feeds rest) n h =
+    let p = pred_of n (suc (length rest)) h (omega arith) in blank_at_end n p.0 (10 ∷ rest) p.1 (omega arith) refl
 blank_is text (Goes gap rest g l k) n h =
     let some = gap_some gap rest g in
     let len = length-append gap rest in
@@ -320,7 +351,8 @@ blank_is text (Goes gap rest g l k) n h =
     ⊎_elim
     (λ (t : eqb (get_or (gap ++ rest) 0 0) 10 ≡ true). blank_at_end n p.0 (gap ++ rest) p.1 (omega (arith, some, len)) (eqb-true _ 10 t))
     (λ (t : eqb (get_or (gap ++ rest) 0 0) 10 ≡ false).
-    blank_goes_on n p.0 (length gap) (gap ++ rest) p.1 (omega (arith, some, len)) (λ q. false≢true (sym t ∙ eq-eqb _ 10 q)) (gap_is gap rest g) (line_run gap rest l)
+    blank_goes_on n p.0 (length gap) (gap ++ rest) p.1 (omega (arith, some, len)) (λ q. false≢true (sym t ∙ eq-eqb _ 10 q))
+    (gap_is gap rest g) (line_run gap rest l)
     ∙ ap (is_blank p.0) (drop-append_seam gap rest) ∙ blank_is rest k p.0 (omega (arith, some, len, h, p.1)))
     (cases_Bool (eqb (get_or (gap ++ rest) 0 0) 10))
 blank_is text (Passes gap rest g l) n h =
@@ -330,7 +362,8 @@ blank_is text (Passes gap rest g l) n h =
     ⊎_elim
     (λ (t : eqb (get_or (gap ++ rest) 0 0) 10 ≡ true). blank_at_end n p.0 (gap ++ rest) p.1 (omega (arith, some, len)) (eqb-true _ 10 t))
     (λ (t : eqb (get_or (gap ++ rest) 0 0) 10 ≡ false).
-    blank_past n p.0 (length gap) (gap ++ rest) p.1 (omega (arith, some, len)) (λ q. false≢true (sym t ∙ eq-eqb _ 10 q)) (gap_is gap rest g) (λ q. l (line_all gap rest q)))
+    blank_past n p.0 (length gap) (gap ++ rest) p.1 (omega (arith, some, len)) (λ q. false≢true (sym t ∙ eq-eqb _ 10 q))
+    (gap_is gap rest g) (λ q. l (line_all gap rest q)))
     (cases_Bool (eqb (get_or (gap ++ rest) 0 0) 10))
 
 first_ten : (text : List ℕ) → 1 ≤ length text → get_or text 0 0 ≡ 10 → IsBlankLine text
@@ -345,7 +378,8 @@ blank_of (suc n) (b ∷ bs) h e = ⊎_elim
     (λ (t : eqb b 10 ≡ false). gapped (λ q. false≢true (sym t ∙ eq-eqb b 10 q)) (gap_size (b ∷ bs)) refl (blank_of n))
     (cases_Bool (eqb b 10))
   where
-    gapped : (b ≡ 10 → ⊥) → (o : Option ℕ) → gap_size (b ∷ bs) ≡ o → ((rest : List ℕ) → length rest ≤ n → is_blank n rest ≡ true → IsBlankLine rest) → IsBlankLine (b ∷ bs)
+    gapped : (b ≡ 10 → ⊥) → (o : Option ℕ) → gap_size (b ∷ bs) ≡ o
+        → ((rest : List ℕ) → length rest ≤ n → is_blank n rest ≡ true → IsBlankLine rest) → IsBlankLine (b ∷ bs)
     gapped t None q next = absurd (false≢true (sym (blank_wrong (suc n) n (b ∷ bs) refl (omega arith) t q) ∙ e))
     gapped t (Some k) q next =
         let v = gap_view (b ∷ bs) k q in
@@ -353,12 +387,19 @@ blank_of (suc n) (b ∷ bs) h e = ⊎_elim
         subst IsBlankLine (sym v.is) (⊎_elim
         (λ (r : eqb (run class.Line (take k (b ∷ bs))) k ≡ true).
         let r_is : run class.Line (take k (b ∷ bs)) ≡ k = eqb-true _ k r in
-        let l : AllIn class.Line v.gap = line_all v.gap v.rest (ap (λ (i : ℕ). run class.Line (take i (v.gap ++ v.rest))) (sym v.size) ∙ ap (λ (xs : List ℕ). run class.Line (take k xs)) (sym v.is) ∙ r_is ∙ v.size) in
-        let d : drop k (b ∷ bs) ≡ v.rest = ap (λ (i : ℕ). drop i (b ∷ bs)) v.size ∙ ap (drop (length v.gap)) v.is ∙ drop-append_seam v.gap v.rest in
-        let blank : is_blank n v.rest ≡ true = sym (ap (is_blank n) d) ∙ sym (blank_goes_on (suc n) n k (b ∷ bs) refl (omega arith) t q r_is) ∙ e in
+        let l : AllIn class.Line v.gap =
+        line_all v.gap v.rest (ap (λ (i : ℕ). run class.Line (take i (v.gap ++ v.rest))) (sym v.size)
+        ∙ ap (λ (xs : List ℕ). run class.Line (take k xs)) (sym v.is) ∙ r_is ∙ v.size) in
+        let d : drop k (b ∷ bs) ≡ v.rest =
+        ap (λ (i : ℕ). drop i (b ∷ bs)) v.size ∙ ap (drop (length v.gap)) v.is ∙ drop-append_seam v.gap v.rest in
+        let blank : is_blank n v.rest ≡ true =
+        sym (ap (is_blank n) d) ∙ sym (blank_goes_on (suc n) n k (b ∷ bs) refl (omega arith) t q r_is) ∙ e in
         Goes v.gap v.rest v.has l (next v.rest (omega (arith, h, len, v.some, length-append v.gap v.rest)) blank))
         (λ (r : eqb (run class.Line (take k (b ∷ bs))) k ≡ false).
-        Passes v.gap v.rest v.has (λ l. false≢true (sym r ∙ eq-eqb _ k (ap (λ (i : ℕ). run class.Line (take i (b ∷ bs))) v.size ∙ ap (λ (xs : List ℕ). run class.Line (take (length v.gap) xs)) v.is ∙ line_run v.gap v.rest l ∙ sym v.size))))
+        Passes v.gap v.rest v.has
+        (λ l. false≢true (sym r
+        ∙ eq-eqb _ k (ap (λ (i : ℕ). run class.Line (take i (b ∷ bs))) v.size
+        ∙ ap (λ (xs : List ℕ). run class.Line (take (length v.gap) xs)) v.is ∙ line_run v.gap v.rest l ∙ sym v.size))))
         (cases_Bool (eqb (run class.Line (take k (b ∷ bs))) k)))
 
 -- ---- times
@@ -374,12 +415,16 @@ record DigitsOf (digits : List ℕ) : Type 0 where
 magnitude_digits : (digits : List ℕ) (m : ℕ) → magnitude_of digits ≡ Some m → DigitsOf digits
 magnitude_digits digits m e =
     (⊎_elim
-    (λ (t : bytes_eq digits (codes "1") ≡ true). taken_for (codes "1") (same_bytes digits (codes "1") t) (record { all = refl; starts = λ rest. refl }))
+    (λ (t : bytes_eq digits (codes "1") ≡ true). taken_for (codes "1") (same_bytes digits (codes "1") t)
+    (record { all = refl; starts = λ rest. refl }))
     (λ (f0 : bytes_eq digits (codes "1") ≡ false). (⊎_elim
-    (λ (t : bytes_eq digits (codes "10") ≡ true). taken_for (codes "10") (same_bytes digits (codes "10") t) (record { all = refl; starts = λ rest. refl }))
+    (λ (t : bytes_eq digits (codes "10") ≡ true). taken_for (codes "10") (same_bytes digits (codes "10") t)
+    (record { all = refl; starts = λ rest. refl }))
     (λ (f1 : bytes_eq digits (codes "10") ≡ false). (⊎_elim
-    (λ (t : bytes_eq digits (codes "100") ≡ true). taken_for (codes "100") (same_bytes digits (codes "100") t) (record { all = refl; starts = λ rest. refl }))
-    (λ (f2 : bytes_eq digits (codes "100") ≡ false). (let n : magnitude_of digits ≡ None = cond-false _ _ _ f0 ∙ cond-false _ _ _ f1 ∙ cond-false _ _ _ f2 in absurd (none_some m (sym n ∙ e))))
+    (λ (t : bytes_eq digits (codes "100") ≡ true). taken_for (codes "100") (same_bytes digits (codes "100") t)
+    (record { all = refl; starts = λ rest. refl }))
+    (λ (f2 : bytes_eq digits (codes "100") ≡ false). (let n : magnitude_of digits ≡ None = cond-false _ _ _ f0 ∙ cond-false _ _ _ f1
+    ∙ cond-false _ _ _ f2 in absurd (none_some m (sym n ∙ e))))
     (cases_Bool (bytes_eq digits (codes "100")))))
     (cases_Bool (bytes_eq digits (codes "10")))))
     (cases_Bool (bytes_eq digits (codes "1"))))
@@ -395,18 +440,25 @@ record UnitOf (unit : List ℕ) : Type 0 where
 unit_name : (unit : List ℕ) (f : ℕ) → unit_of unit ≡ Some f → UnitOf unit
 unit_name unit f e =
     (⊎_elim
-    (λ (t : bytes_eq unit (codes "s") ≡ true). taken_for (codes "s") (same_bytes unit (codes "s") t) (record { all = refl; starts = λ rest. refl; no_digit = λ rest. refl }))
+    (λ (t : bytes_eq unit (codes "s") ≡ true). taken_for (codes "s") (same_bytes unit (codes "s") t)
+    (record { all = refl; starts = λ rest. refl; no_digit = λ rest. refl }))
     (λ (f0 : bytes_eq unit (codes "s") ≡ false). (⊎_elim
-    (λ (t : bytes_eq unit (codes "ms") ≡ true). taken_for (codes "ms") (same_bytes unit (codes "ms") t) (record { all = refl; starts = λ rest. refl; no_digit = λ rest. refl }))
+    (λ (t : bytes_eq unit (codes "ms") ≡ true). taken_for (codes "ms") (same_bytes unit (codes "ms") t)
+    (record { all = refl; starts = λ rest. refl; no_digit = λ rest. refl }))
     (λ (f1 : bytes_eq unit (codes "ms") ≡ false). (⊎_elim
-    (λ (t : bytes_eq unit (codes "us") ≡ true). taken_for (codes "us") (same_bytes unit (codes "us") t) (record { all = refl; starts = λ rest. refl; no_digit = λ rest. refl }))
+    (λ (t : bytes_eq unit (codes "us") ≡ true). taken_for (codes "us") (same_bytes unit (codes "us") t)
+    (record { all = refl; starts = λ rest. refl; no_digit = λ rest. refl }))
     (λ (f2 : bytes_eq unit (codes "us") ≡ false). (⊎_elim
-    (λ (t : bytes_eq unit (codes "ns") ≡ true). taken_for (codes "ns") (same_bytes unit (codes "ns") t) (record { all = refl; starts = λ rest. refl; no_digit = λ rest. refl }))
+    (λ (t : bytes_eq unit (codes "ns") ≡ true). taken_for (codes "ns") (same_bytes unit (codes "ns") t)
+    (record { all = refl; starts = λ rest. refl; no_digit = λ rest. refl }))
     (λ (f3 : bytes_eq unit (codes "ns") ≡ false). (⊎_elim
-    (λ (t : bytes_eq unit (codes "ps") ≡ true). taken_for (codes "ps") (same_bytes unit (codes "ps") t) (record { all = refl; starts = λ rest. refl; no_digit = λ rest. refl }))
+    (λ (t : bytes_eq unit (codes "ps") ≡ true). taken_for (codes "ps") (same_bytes unit (codes "ps") t)
+    (record { all = refl; starts = λ rest. refl; no_digit = λ rest. refl }))
     (λ (f4 : bytes_eq unit (codes "ps") ≡ false). (⊎_elim
-    (λ (t : bytes_eq unit (codes "fs") ≡ true). taken_for (codes "fs") (same_bytes unit (codes "fs") t) (record { all = refl; starts = λ rest. refl; no_digit = λ rest. refl }))
-    (λ (f5 : bytes_eq unit (codes "fs") ≡ false). (let n : unit_of unit ≡ None = cond-false _ _ _ f0 ∙ cond-false _ _ _ f1 ∙ cond-false _ _ _ f2 ∙ cond-false _ _ _ f3 ∙ cond-false _ _ _ f4 ∙ cond-false _ _ _ f5 in absurd (none_some f (sym n ∙ e))))
+    (λ (t : bytes_eq unit (codes "fs") ≡ true). taken_for (codes "fs") (same_bytes unit (codes "fs") t)
+    (record { all = refl; starts = λ rest. refl; no_digit = λ rest. refl }))
+    (λ (f5 : bytes_eq unit (codes "fs") ≡ false). (let n : unit_of unit ≡ None = cond-false _ _ _ f0 ∙ cond-false _ _ _ f1
+    ∙ cond-false _ _ _ f2 ∙ cond-false _ _ _ f3 ∙ cond-false _ _ _ f4 ∙ cond-false _ _ _ f5 in absurd (none_some f (sym n ∙ e))))
     (cases_Bool (bytes_eq unit (codes "fs")))))
     (cases_Bool (bytes_eq unit (codes "ps")))))
     (cases_Bool (bytes_eq unit (codes "ns")))))
@@ -417,39 +469,54 @@ unit_name unit f e =
     taken_for : (u : List ℕ) → unit ≡ u → UnitOf u → UnitOf unit
     taken_for u q h = subst UnitOf (sym q) h
 
-time_step : (text : List ℕ) → time_after text ≡ time_of (run class.Separator text + run class.Digit (drop (run class.Separator text) text)) (take (run class.Digit (drop (run class.Separator text) text)) (drop (run class.Separator text) text)) (word_after (drop (run class.Digit (drop (run class.Separator text) text)) (drop (run class.Separator text) text)))
+time_step : (text : List ℕ)
+    → time_after text ≡ time_of (run class.Separator text + run class.Digit (drop (run class.Separator text) text))
+    (take (run class.Digit (drop (run class.Separator text) text)) (drop (run class.Separator text) text))
+    (word_after (drop (run class.Digit (drop (run class.Separator text) text)) (drop (run class.Separator text) text)))
 unfolding time_after
 time_step text = refl
 
 -- what the code finds in a time's text
-time_split : (before digits rest : List ℕ) → AllIn class.Separator before → Stops class.Separator (digits ++ rest) → AllIn class.Digit digits → Stops class.Digit rest → time_after (before ++ (digits ++ rest)) ≡ time_of (length before + length digits) digits (word_after rest)
+time_split : (before digits rest : List ℕ) → AllIn class.Separator before → Stops class.Separator (digits ++ rest)
+    → AllIn class.Digit digits → Stops class.Digit rest → time_after (before ++ (digits ++ rest))
+    ≡ time_of (length before + length digits) digits (word_after rest)
 time_split before digits rest b s d t =
     let k = run_is class.Separator before (digits ++ rest) b s in
     let m = run_is class.Digit digits rest d t in
     time_step (before ++ (digits ++ rest))
-    ∙ ap (λ (i : ℕ). time_of (i + run class.Digit (drop i (before ++ (digits ++ rest)))) (take (run class.Digit (drop i (before ++ (digits ++ rest)))) (drop i (before ++ (digits ++ rest)))) (word_after (drop (run class.Digit (drop i (before ++ (digits ++ rest)))) (drop i (before ++ (digits ++ rest)))))) k
-    ∙ ap (λ (xs : List ℕ). time_of (length before + run class.Digit xs) (take (run class.Digit xs) xs) (word_after (drop (run class.Digit xs) xs))) (drop-append_seam before (digits ++ rest))
+    ∙ ap (λ (i : ℕ). time_of (i + run class.Digit (drop i (before ++ (digits ++ rest))))
+    (take (run class.Digit (drop i (before ++ (digits ++ rest)))) (drop i (before ++ (digits ++ rest))))
+    (word_after (drop (run class.Digit (drop i (before ++ (digits ++ rest)))) (drop i (before ++ (digits ++ rest)))))) k
+    ∙ ap (λ (xs : List ℕ). time_of (length before + run class.Digit xs) (take (run class.Digit xs) xs)
+    (word_after (drop (run class.Digit xs) xs))) (drop-append_seam before (digits ++ rest))
     ∙ ap (λ (i : ℕ). time_of (length before + i) (take i (digits ++ rest)) (word_after (drop i (digits ++ rest)))) m
-    ∙ ap (λ (xs : List ℕ). time_of (length before + length digits) xs (word_after (drop (length digits) (digits ++ rest)))) (take-append_seam digits rest)
+    ∙ ap (λ (xs : List ℕ). time_of (length before + length digits) xs (word_after (drop (length digits) (digits ++ rest))))
+    (take-append_seam digits rest)
     ∙ ap (λ (xs : List ℕ). time_of (length before + length digits) digits (word_after xs)) (drop-append_seam digits rest)
 
-of_is : (size m f : ℕ) (digits : List ℕ) (unit : ℕ × List ℕ) → magnitude_of digits ≡ Some m → unit_of unit.1 ≡ Some f → time_of size digits unit ≡ Some (size + unit.0, m * f)
+of_is : (size m f : ℕ) (digits : List ℕ) (unit : ℕ × List ℕ) → magnitude_of digits ≡ Some m → unit_of unit.1 ≡ Some f
+    → time_of size digits unit ≡ Some (size + unit.0, m * f)
 of_is size m f digits unit a b =
     ap (λ o. o >>= λ magnitude. unit_of unit.1 >>= λ femtoseconds. Some (size + unit.0, magnitude * femtoseconds)) a
     ∙ ap (λ o. o >>= λ femtoseconds. Some (size + unit.0, m * femtoseconds)) b
 
-time_is : (time : ℕ) (parts behind : List ℕ) → TimePart time parts → Stops class.Name behind → time_after (parts ++ behind) ≡ Some (length parts, time)
+time_is : (time : ℕ) (parts behind : List ℕ) → TimePart time parts → Stops class.Name behind
+    → time_after (parts ++ behind) ≡ Some (length parts, time)
 time_is time parts behind h s =
     let d = magnitude_digits h.digits h.magnitude h.counted in
     let u = unit_name h.unit h.femtoseconds h.measured in
     let rest = h.between ++ (h.unit ++ behind) in
-    let e : parts ++ behind ≡ h.before ++ (h.digits ++ rest) = ap (λ (xs : List ℕ). xs ++ behind) h.is ∙ append_five h.before h.digits h.between h.unit behind in
+    let e : parts ++ behind ≡ h.before ++ (h.digits ++ rest) =
+    ap (λ (xs : List ℕ). xs ++ behind) h.is ∙ append_five h.before h.digits h.between h.unit behind in
     let w = after_is h.between h.unit behind h.parted (u.starts behind) u.all s in
-    let n : length h.before + length h.digits + (length h.between + length h.unit) ≡ length parts = omega (arith, length_four h.before h.digits h.between h.unit, ap (λ (xs : List ℕ). length xs) h.is) in
+    let n : length h.before + length h.digits + (length h.between + length h.unit) ≡ length parts =
+    omega (arith, length_four h.before h.digits h.between h.unit, ap (λ (xs : List ℕ). length xs) h.is) in
     ap time_after e
-    ∙ time_split h.before h.digits rest h.separated (d.starts rest) d.all (gap_stops_digit h.between (h.unit ++ behind) h.parted (u.no_digit behind))
+    ∙ time_split h.before h.digits rest h.separated (d.starts rest) d.all
+    (gap_stops_digit h.between (h.unit ++ behind) h.parted (u.no_digit behind))
     ∙ ap (time_of (length h.before + length h.digits) h.digits) w
-    ∙ of_is (length h.before + length h.digits) h.magnitude h.femtoseconds h.digits (length h.between + length h.unit, h.unit) h.counted h.measured
+    ∙ of_is (length h.before + length h.digits) h.magnitude h.femtoseconds h.digits (length h.between + length h.unit, h.unit) h.counted
+    h.measured
     ∙ ap (λ (k : ℕ). Some (k, h.magnitude * h.femtoseconds)) n ∙ ap (λ (k : ℕ). Some (length parts, k)) (sym h.total)
 
 record TimeView (text : List ℕ) (t : ℕ × ℕ) : Type 0 where
@@ -467,9 +534,11 @@ time_view text t e =
     let v = view_word b.rest in
     let whole : text ≡ a.front ++ (b.front ++ b.rest) = a.is ∙ ap (λ (xs : List ℕ). a.front ++ xs) b.is in
     let q : time_of (length a.front + length b.front) b.front (length v.gap + length v.name, v.name) ≡ Some t =
-    sym (ap time_after whole ∙ time_split a.front b.front b.rest a.all (subst (Stops class.Separator) b.is a.stops) b.all b.stops ∙ ap (time_of (length a.front + length b.front) b.front) v.found) ∙ e in
+    sym (ap time_after whole ∙ time_split a.front b.front b.rest a.all (subst (Stops class.Separator) b.is a.stops) b.all b.stops
+    ∙ ap (time_of (length a.front + length b.front) b.front) v.found) ∙ e in
     let size = length a.front + length b.front in
-    let m = bind_some (magnitude_of b.front) (λ magnitude. unit_of v.name >>= λ femtoseconds. Some (size + (length v.gap + length v.name), magnitude * femtoseconds)) t q in
+    let m = bind_some (magnitude_of b.front)
+    (λ magnitude. unit_of v.name >>= λ femtoseconds. Some (size + (length v.gap + length v.name), magnitude * femtoseconds)) t q in
     let f = bind_some (unit_of v.name) (λ femtoseconds. Some (size + (length v.gap + length v.name), m.0 * femtoseconds)) t m.2 in
     let is : (size + (length v.gap + length v.name), m.0 * f.0) ≡ t = some_is (size + (length v.gap + length v.name), m.0 * f.0) t f.2 in
     subst (TimeView text) is
@@ -477,18 +546,33 @@ time_view text t e =
       parts = a.front ++ (b.front ++ (v.gap ++ v.name));
       behind = v.rest;
       is = whole ∙ ap (λ (xs : List ℕ). a.front ++ (b.front ++ xs)) v.is ∙ sym (append_five a.front b.front v.gap v.name v.rest);
-      has = record { before = a.front; digits = b.front; between = v.gap; unit = v.name; magnitude = m.0; femtoseconds = f.0; is = refl; separated = a.all; parted = v.separated; counted = m.1; measured = f.1; total = refl };
+      has = record {
+        before = a.front;
+        digits = b.front;
+        between = v.gap;
+        unit = v.name;
+        magnitude = m.0;
+        femtoseconds = f.0;
+        is = refl;
+        separated = a.all;
+        parted = v.separated;
+        counted = m.1;
+        measured = f.1;
+        total = refl;
+      };
       ends = v.ends;
       size = omega (arith, length_four a.front b.front v.gap v.name);
     })
 
 -- ---- a unit and a precision
 
-slash_step : (text : List ℕ) → slash_after text ≡ cond (begins (drop (run class.Separator text) text) (codes "/")) (Some (run class.Separator text + 1)) None
+slash_step : (text : List ℕ)
+    → slash_after text ≡ cond (begins (drop (run class.Separator text) text) (codes "/")) (Some (run class.Separator text + 1)) None
 unfolding slash_after
 slash_step text = refl
 
-slash_split : (gap rest : List ℕ) → AllIn class.Separator gap → Stops class.Separator rest → slash_after (gap ++ rest) ≡ cond (begins rest (codes "/")) (Some (length gap + 1)) None
+slash_split : (gap rest : List ℕ) → AllIn class.Separator gap → Stops class.Separator rest
+    → slash_after (gap ++ rest) ≡ cond (begins rest (codes "/")) (Some (length gap + 1)) None
 slash_split gap rest g s =
     slash_step (gap ++ rest)
     ∙ ap (λ (i : ℕ). cond (begins (drop i (gap ++ rest)) (codes "/")) (Some (i + 1)) None) (run_is class.Separator gap rest g s)
@@ -507,14 +591,22 @@ slash_view text n e =
     let q = ap slash_after s.is ∙ slash_split s.front s.rest s.all s.stops in
     ⊎_elim
     (λ (t : begins s.rest (codes "/") ≡ true).
-    record { gap = s.front; rest = drop 1 s.rest; is = s.is ∙ ap (λ (xs : List ℕ). s.front ++ xs) (begins_of s.rest (codes "/") t); separated = s.all; size = sym (some_is (length s.front + 1) n (sym (q ∙ cond-true _ _ _ t) ∙ e)) })
+    record {
+      gap = s.front;
+      rest = drop 1 s.rest;
+      is = s.is ∙ ap (λ (xs : List ℕ). s.front ++ xs) (begins_of s.rest (codes "/") t);
+      separated = s.all;
+      size = sym (some_is (length s.front + 1) n (sym (q ∙ cond-true _ _ _ t) ∙ e));
+    })
     (λ (t : begins s.rest (codes "/") ≡ false). absurd (none_some n (sym (q ∙ cond-false _ _ _ t) ∙ e)))
     (cases_Bool (begins s.rest (codes "/")))
 
 abbrev third : ℕ → ℕ → ℕ → List ℕ → Option (ℕ × Directive)
-third size unit slash text = time_after (drop (size + slash) text) >>= λ precision. Some (size + slash + precision.0, directive.TimeScale unit precision.1)
+third size unit slash text =
+    time_after (drop (size + slash) text) >>= λ precision. Some (size + slash + precision.0, directive.TimeScale unit precision.1)
 
-scale_step : (text : List ℕ) → scale_after text ≡ (time_after text >>= λ unit. slash_after (drop unit.0 text) >>= λ slash. third unit.0 unit.1 slash text)
+scale_step : (text : List ℕ)
+    → scale_after text ≡ (time_after text >>= λ unit. slash_after (drop unit.0 text) >>= λ slash. third unit.0 unit.1 slash text)
 unfolding scale_after
 scale_step text = refl
 
@@ -522,19 +614,31 @@ scale_step text = refl
 left_of : (first gap rest : List ℕ) → drop (length first + (length gap + 1)) (first ++ (gap ++ (47 ∷ rest))) ≡ rest
 left_of first gap rest =
     let a : first ++ (gap ++ (47 ∷ rest)) ≡ (first ++ (gap ++ (47 ∷ []))) ++ rest = sym (append_four first gap (47 ∷ []) rest) in
-    let n : length first + (length gap + 1) ≡ length (first ++ (gap ++ (47 ∷ []))) = omega (arith, length-append first (gap ++ (47 ∷ [])), length-append gap (47 ∷ [])) in
-    ap (drop (length first + (length gap + 1))) a ∙ ap (λ (k : ℕ). drop k ((first ++ (gap ++ (47 ∷ []))) ++ rest)) n ∙ drop-append_seam (first ++ (gap ++ (47 ∷ []))) rest
+    let n : length first + (length gap + 1) ≡ length (first ++ (gap ++ (47 ∷ []))) =
+    omega (arith, length-append first (gap ++ (47 ∷ [])), length-append gap (47 ∷ [])) in
+    ap (drop (length first + (length gap + 1))) a ∙ ap (λ (k : ℕ). drop k ((first ++ (gap ++ (47 ∷ []))) ++ rest)) n
+    ∙ drop-append_seam (first ++ (gap ++ (47 ∷ []))) rest
 
-scale_is : (u p : ℕ) (parts behind : List ℕ) → ScalePart u p parts behind → scale_after (parts ++ behind) ≡ Some (length parts, directive.TimeScale u p)
+scale_is : (u p : ℕ) (parts behind : List ℕ) → ScalePart u p parts behind
+    → scale_after (parts ++ behind) ≡ Some (length parts, directive.TimeScale u p)
 scale_is u p parts behind h =
     let rest = h.second ++ behind in
     let tail = h.gap ++ (47 ∷ rest) in
     let text = h.first ++ tail in
     let e : parts ++ behind ≡ text = ap (λ (xs : List ℕ). xs ++ behind) h.is ∙ append_four h.first h.gap (47 ∷ h.second) behind in
-    let a : time_after text ≡ Some (length h.first, u) = time_is u h.first tail h.unit_time (gap_stops_name h.gap (47 ∷ rest) h.separated refl) in
-    let b : slash_after (drop (length h.first) text) ≡ Some (length h.gap + 1) = ap slash_after (drop-append_seam h.first tail) ∙ slash_split h.gap (47 ∷ rest) h.separated refl in
-    let c : time_after (drop (length h.first + (length h.gap + 1)) text) ≡ Some (length h.second, p) = ap time_after (left_of h.first h.gap rest) ∙ time_is p h.second behind h.precision_time h.ends in
-    let n : length h.first + (length h.gap + 1) + length h.second ≡ length parts = omega (arith, length-append h.first (h.gap ++ (47 ∷ h.second)), length-append h.gap (47 ∷ h.second), ap (λ (xs : List ℕ). length xs) h.is) in
+    let a : time_after text ≡ Some (length h.first, u) =
+    time_is u h.first tail h.unit_time (gap_stops_name h.gap (47 ∷ rest) h.separated refl) in
+    let b : slash_after (drop (length h.first) text) ≡ Some (length h.gap + 1) =
+    ap slash_after (drop-append_seam h.first tail) ∙ slash_split h.gap (47 ∷ rest) h.separated refl in
+    let c : time_after (drop (length h.first + (length h.gap + 1)) text) ≡ Some (length h.second, p) =
+    ap time_after (left_of h.first h.gap rest) ∙ time_is p h.second behind h.precision_time h.ends in
+    let n : length h.first + (length h.gap + 1) + length h.second ≡ length parts =
+    omega (
+      arith,
+      length-append h.first (h.gap ++ (47 ∷ h.second)),
+      length-append h.gap (47 ∷ h.second),
+      ap (λ (xs : List ℕ). length xs) h.is,
+    ) in
     ap scale_after e ∙ scale_step text
     ∙ ap (λ o. o >>= λ unit. slash_after (drop unit.0 text) >>= λ slash. third unit.0 unit.1 slash text) a
     ∙ ap (λ o. o >>= λ slash. third (length h.first) u slash text) b
@@ -553,16 +657,22 @@ record ScaleView (text : List ℕ) (d : ℕ × Directive) : Type 0 where
 
 scale_view : (text : List ℕ) (d : ℕ × Directive) → scale_after text ≡ Some d → ScaleView text d
 scale_view text d e =
-    let u = bind_some (time_after text) (λ unit. slash_after (drop unit.0 text) >>= λ slash. third unit.0 unit.1 slash text) d (sym (scale_step text) ∙ e) in
+    let u = bind_some (time_after text) (λ unit. slash_after (drop unit.0 text) >>= λ slash. third unit.0 unit.1 slash text) d
+    (sym (scale_step text) ∙ e) in
     let s = bind_some (slash_after (drop u.0.0 text)) (λ slash. third u.0.0 u.0.1 slash text) d u.2 in
-    let p = bind_some (time_after (drop (u.0.0 + s.0) text)) (λ precision. Some (u.0.0 + s.0 + precision.0, directive.TimeScale u.0.1 precision.1)) d s.2 in
+    let p = bind_some (time_after (drop (u.0.0 + s.0) text))
+    (λ precision. Some (u.0.0 + s.0 + precision.0, directive.TimeScale u.0.1 precision.1)) d s.2 in
     let a = time_view text u.0 u.1 in
-    let left : drop u.0.0 text ≡ a.behind = ap (λ (k : ℕ). drop k text) a.size ∙ ap (drop (length a.parts)) a.is ∙ drop-append_seam a.parts a.behind in
+    let left : drop u.0.0 text ≡ a.behind =
+    ap (λ (k : ℕ). drop k text) a.size ∙ ap (drop (length a.parts)) a.is ∙ drop-append_seam a.parts a.behind in
     let b = slash_view a.behind s.0 (sym (ap slash_after left) ∙ s.1) in
     let whole : text ≡ a.parts ++ (b.gap ++ (47 ∷ b.rest)) = a.is ∙ ap (λ (xs : List ℕ). a.parts ++ xs) b.is in
-    let rest : drop (u.0.0 + s.0) text ≡ b.rest = ap (λ (k : ℕ). drop (k + s.0) text) a.size ∙ ap (λ (k : ℕ). drop (length a.parts + k) text) b.size ∙ ap (drop (length a.parts + (length b.gap + 1))) whole ∙ left_of a.parts b.gap b.rest in
+    let rest : drop (u.0.0 + s.0) text ≡ b.rest =
+    ap (λ (k : ℕ). drop (k + s.0) text) a.size ∙ ap (λ (k : ℕ). drop (length a.parts + k) text) b.size
+    ∙ ap (drop (length a.parts + (length b.gap + 1))) whole ∙ left_of a.parts b.gap b.rest in
     let c = time_view b.rest p.0 (sym (ap time_after rest) ∙ p.1) in
-    let is : (u.0.0 + s.0 + p.0.0, directive.TimeScale u.0.1 p.0.1) ≡ d = some_is (u.0.0 + s.0 + p.0.0, directive.TimeScale u.0.1 p.0.1) d p.2 in
+    let is : (u.0.0 + s.0 + p.0.0, directive.TimeScale u.0.1 p.0.1) ≡ d =
+    some_is (u.0.0 + s.0 + p.0.0, directive.TimeScale u.0.1 p.0.1) d p.2 in
     subst (ScaleView text) is
     (record {
       unit = u.0.1;
@@ -571,19 +681,36 @@ scale_view text d e =
       behind = c.behind;
       is = whole ∙ ap (λ (xs : List ℕ). a.parts ++ (b.gap ++ (47 ∷ xs))) c.is ∙ sym (append_four a.parts b.gap (47 ∷ c.parts) c.behind);
       kind = refl;
-      has = record { first = a.parts; gap = b.gap; second = c.parts; is = refl; unit_time = a.has; separated = b.separated; precision_time = c.has; ends = c.ends };
+      has = record {
+        first = a.parts;
+        gap = b.gap;
+        second = c.parts;
+        is = refl;
+        unit_time = a.has;
+        separated = b.separated;
+        precision_time = c.has;
+        ends = c.ends;
+      };
       size = omega (arith, a.size, b.size, c.size, length-append a.parts (b.gap ++ (47 ∷ c.parts)), length-append b.gap (47 ∷ c.parts));
     })
 
 -- ---- the kinds of nets
 
 net_name : (name : List ℕ) → (name ≡ codes "none") ⊎ (name ≡ codes "wire") → IsWord name
-net_name name h = ⊎_elim (λ (e : name ≡ codes "none"). subst IsWord (sym e) (refl, refl)) (λ (e : name ≡ codes "wire"). subst IsWord (sym e) (refl, refl)) h
+net_name name h =
+    ⊎_elim (λ (e : name ≡ codes "none"). subst IsWord (sym e) (refl, refl))
+    (λ (e : name ≡ codes "wire"). subst IsWord (sym e) (refl, refl)) h
 
-net_test : (name : List ℕ) → (name ≡ codes "none") ⊎ (name ≡ codes "wire") → (bytes_eq name (codes "none") || bytes_eq name (codes "wire")) ≡ true
-net_test name h = ⊎_elim (λ (e : name ≡ codes "none"). subst (λ (xs : List ℕ). (bytes_eq xs (codes "none") || bytes_eq xs (codes "wire")) ≡ true) (sym e) refl) (λ (e : name ≡ codes "wire"). subst (λ (xs : List ℕ). (bytes_eq xs (codes "none") || bytes_eq xs (codes "wire")) ≡ true) (sym e) refl) h
+net_test : (name : List ℕ) → (name ≡ codes "none") ⊎ (name ≡ codes "wire")
+    → (bytes_eq name (codes "none") || bytes_eq name (codes "wire")) ≡ true
+net_test name h =
+    ⊎_elim (λ (e : name ≡ codes "none"). subst (λ (xs : List ℕ). (bytes_eq xs (codes "none") || bytes_eq xs (codes "wire")) ≡ true)
+    (sym e) refl)
+    (λ (e : name ≡ codes "wire"). subst (λ (xs : List ℕ). (bytes_eq xs (codes "none") || bytes_eq xs (codes "wire")) ≡ true)
+    (sym e) refl) h
 
-net_is : (size : ℕ) (parts behind : List ℕ) → NetTypePart parts behind → net_type_or_broken size (word_after (parts ++ behind)) ≡ directive_of_parts (size + length parts) directive.DefaultNetType
+net_is : (size : ℕ) (parts behind : List ℕ) → NetTypePart parts behind → net_type_or_broken size (word_after (parts ++ behind))
+    ≡ directive_of_parts (size + length parts) directive.DefaultNetType
 net_is size parts behind h =
     let gap = h.0 in
     let name = h.1 in
@@ -597,19 +724,25 @@ net_is size parts behind h =
 
 -- ---- a directive with its parts
 
-named_is : (size : ℕ) (w : DirectiveWord) (name parts behind : List ℕ) → NamePart name parts behind → named_or_broken size w (name_after (parts ++ behind)) ≡ directive_of_parts (size + length parts) (with_name w name)
+named_is : (size : ℕ) (w : DirectiveWord) (name parts behind : List ℕ) → NamePart name parts behind
+    → named_or_broken size w (name_after (parts ++ behind)) ≡ directive_of_parts (size + length parts) (with_name w name)
 named_is size w name parts behind h = ap (named_or_broken size w) (name_is name parts behind h)
 
-define_is : (size : ℕ) (name parts behind : List ℕ) → NamePart name parts behind → IsBlankLine behind → define_or_broken size (parts ++ behind) (name_after (parts ++ behind)) ≡ directive_of_parts (size + length parts) (directive.Define name)
+define_is : (size : ℕ) (name parts behind : List ℕ) → NamePart name parts behind → IsBlankLine behind
+    → define_or_broken size (parts ++ behind) (name_after (parts ++ behind))
+    ≡ directive_of_parts (size + length parts) (directive.Define name)
 define_is size name parts behind h b =
     let d = drop-append_seam parts behind in
-    let t : is_blank (length (drop (length parts) (parts ++ behind))) (drop (length parts) (parts ++ behind)) ≡ true = ap (λ (xs : List ℕ). is_blank (length xs) xs) d ∙ blank_is behind b (length behind) (omega arith) in
+    let t : is_blank (length (drop (length parts) (parts ++ behind))) (drop (length parts) (parts ++ behind)) ≡ true =
+    ap (λ (xs : List ℕ). is_blank (length xs) xs) d ∙ blank_is behind b (length behind) (omega arith) in
     ap (define_or_broken size (parts ++ behind)) (name_is name parts behind h) ∙ cond-true _ _ _ t
 
-bare_size : (size : ℕ) (parts : List ℕ) (d : Directive) → parts ≡ [] → directive_of_parts size d ≡ directive_of_parts (size + length parts) d
+bare_size : (size : ℕ) (parts : List ℕ) (d : Directive) → parts ≡ []
+    → directive_of_parts size d ≡ directive_of_parts (size + length parts) d
 bare_size size parts d e = ap (λ (k : ℕ). directive_of_parts k d) (omega (arith, ap (λ (xs : List ℕ). length xs) e))
 
-with_is : (size : ℕ) (d : Directive) (w : DirectiveWord) (parts behind : List ℕ) → Parts d w parts behind → directive_with size (parts ++ behind) (Some w) ≡ directive_of_parts (size + length parts) d
+with_is : (size : ℕ) (d : Directive) (w : DirectiveWord) (parts behind : List ℕ) → Parts d w parts behind
+    → directive_with size (parts ++ behind) (Some w) ≡ directive_of_parts (size + length parts) d
 unfolding directive_with
 with_is size (directive.TimeScale u p) word.TimeScale parts behind h = ap (scale_or_broken size) (scale_is u p parts behind h)
 with_is size (directive.Define name) word.Define parts behind h = define_is size name parts behind h.0 h.1
@@ -638,12 +771,14 @@ view_named : (size : ℕ) (w : DirectiveWord) (after : List ℕ) (d : List ℕ �
     → ((name parts behind : List ℕ) → NamePart name parts behind → Parts (d name) w parts behind)
     → (name_after after ≡ None → directive_with size after (Some w) ≡ directive_of_parts size (bare_of w))
     → (o : Option (ℕ × List ℕ)) → name_after after ≡ o → View size w after
-view_named size w after d b full lacking (Some a) e = let v = name_view after a e in Full (d a.1) v.parts v.behind v.is (full a.1 v.parts v.behind v.has)
+view_named size w after d b full lacking (Some a) e =
+    let v = name_view after a e in Full (d a.1) v.parts v.behind v.is (full a.1 v.parts v.behind v.has)
 view_named size w after d b full lacking None e = Lacking (lacking e)
 
 view_scale : (size : ℕ) (after : List ℕ) (o : Option (ℕ × Directive)) → scale_after after ≡ o → View size word.TimeScale after
 unfolding directive_with
-view_scale size after (Some d) e = let v = scale_view after d e in Full (directive.TimeScale v.unit v.precision) v.parts v.behind v.is v.has
+view_scale size after (Some d) e =
+    let v = scale_view after d e in Full (directive.TimeScale v.unit v.precision) v.parts v.behind v.is v.has
 view_scale size after None e = Lacking (ap (scale_or_broken size) e)
 
 view_define : (size : ℕ) (after : List ℕ) (o : Option (ℕ × List ℕ)) → name_after after ≡ o → View size word.Define after
@@ -651,11 +786,14 @@ unfolding directive_with
 view_define size after None e = Lacking (ap (define_or_broken size after) e)
 view_define size after (Some a) e =
     let v = name_view after a e in
-    let d : drop a.0 after ≡ v.behind = ap (λ (k : ℕ). drop k after) v.size ∙ ap (drop (length v.parts)) v.is ∙ drop-append_seam v.parts v.behind in
+    let d : drop a.0 after ≡ v.behind =
+    ap (λ (k : ℕ). drop k after) v.size ∙ ap (drop (length v.parts)) v.is ∙ drop-append_seam v.parts v.behind in
     ⊎_elim
     (λ (t : is_blank (length (drop a.0 after)) (drop a.0 after) ≡ true).
-    Full (directive.Define a.1) v.parts v.behind v.is (v.has, blank_of (length v.behind) v.behind (omega arith) (sym (ap (λ (xs : List ℕ). is_blank (length xs) xs) d) ∙ t)))
-    (λ (t : is_blank (length (drop a.0 after)) (drop a.0 after) ≡ false). Lacking (ap (define_or_broken size after) e ∙ cond-false _ _ _ t))
+    Full (directive.Define a.1) v.parts v.behind v.is
+    (v.has, blank_of (length v.behind) v.behind (omega arith) (sym (ap (λ (xs : List ℕ). is_blank (length xs) xs) d) ∙ t)))
+    (λ (t : is_blank (length (drop a.0 after)) (drop a.0 after) ≡ false). Lacking (ap (define_or_broken size after) e
+    ∙ cond-false _ _ _ t))
     (cases_Bool (is_blank (length (drop a.0 after)) (drop a.0 after)))
 
 view_net : (size : ℕ) (after : List ℕ) → View size word.DefaultNetType after
@@ -664,11 +802,14 @@ view_net size after =
     let v = view_word after in
     ⊎_elim
     (λ (t : (bytes_eq v.name (codes "none") || bytes_eq v.name (codes "wire")) ≡ true).
-    Full directive.DefaultNetType (v.gap ++ v.name) v.rest (v.is ∙ sym (append_assoc v.gap v.name v.rest)) (v.gap, v.name, refl, v.separated, either v.name t, v.ends))
-    (λ (t : (bytes_eq v.name (codes "none") || bytes_eq v.name (codes "wire")) ≡ false). Lacking (ap (net_type_or_broken size) v.found ∙ cond-false _ _ _ t))
+    Full directive.DefaultNetType (v.gap ++ v.name) v.rest (v.is ∙ sym (append_assoc v.gap v.name v.rest))
+    (v.gap, v.name, refl, v.separated, either v.name t, v.ends))
+    (λ (t : (bytes_eq v.name (codes "none") || bytes_eq v.name (codes "wire")) ≡ false). Lacking (ap (net_type_or_broken size) v.found
+    ∙ cond-false _ _ _ t))
     (cases_Bool (bytes_eq v.name (codes "none") || bytes_eq v.name (codes "wire")))
   where
-    either : (name : List ℕ) → (bytes_eq name (codes "none") || bytes_eq name (codes "wire")) ≡ true → (name ≡ codes "none") ⊎ (name ≡ codes "wire")
+    either : (name : List ℕ) → (bytes_eq name (codes "none") || bytes_eq name (codes "wire")) ≡ true
+        → (name ≡ codes "none") ⊎ (name ≡ codes "wire")
     either name t = ⊎_elim
         (λ (a : bytes_eq name (codes "none") ≡ true). inl (same_bytes name (codes "none") a))
         (λ (a : bytes_eq name (codes "wire") ≡ true). inr (same_bytes name (codes "wire") a))
@@ -682,10 +823,18 @@ view_with size word.DefaultNetType after = view_net size after
 view_with size word.Else after = Full directive.Else [] after refl refl
 view_with size word.EndIf after = Full directive.EndIf [] after refl refl
 view_with size word.ResetAll after = Full directive.ResetAll [] after refl refl
-view_with size word.Undef after = view_named size word.Undef after (λ n. directive.Undef n) directive.Broken (λ n p b h. h) (λ e. ap (named_or_broken size word.Undef) e) (name_after after) refl
-view_with size word.IfDef after = view_named size word.IfDef after (λ n. directive.IfDef n) directive.Unnamed (λ n p b h. h) (λ e. ap (named_or_broken size word.IfDef) e) (name_after after) refl
-view_with size word.IfNDef after = view_named size word.IfNDef after (λ n. directive.IfNDef n) directive.Unnamed (λ n p b h. h) (λ e. ap (named_or_broken size word.IfNDef) e) (name_after after) refl
-view_with size word.ElsIf after = view_named size word.ElsIf after (λ n. directive.ElsIf n) directive.Broken (λ n p b h. h) (λ e. ap (named_or_broken size word.ElsIf) e) (name_after after) refl
+view_with size word.Undef after =
+    view_named size word.Undef after (λ n. directive.Undef n) directive.Broken (λ n p b h. h)
+    (λ e. ap (named_or_broken size word.Undef) e) (name_after after) refl
+view_with size word.IfDef after =
+    view_named size word.IfDef after (λ n. directive.IfDef n) directive.Unnamed (λ n p b h. h)
+    (λ e. ap (named_or_broken size word.IfDef) e) (name_after after) refl
+view_with size word.IfNDef after =
+    view_named size word.IfNDef after (λ n. directive.IfNDef n) directive.Unnamed (λ n p b h. h)
+    (λ e. ap (named_or_broken size word.IfNDef) e) (name_after after) refl
+view_with size word.ElsIf after =
+    view_named size word.ElsIf after (λ n. directive.ElsIf n) directive.Broken (λ n p b h. h)
+    (λ e. ap (named_or_broken size word.ElsIf) e) (name_after after) refl
 
 -- ---- the word of a directive
 
@@ -702,33 +851,46 @@ word_is : (name : List ℕ) (w : DirectiveWord) → directive_of name ≡ Some w
 unfolding directive_of
 word_is name w e = same_bytes name (directive_spelling w) (find_test (λ d. bytes_eq name (directive_spelling d)) directive_words w e)
 
-at_step : (after : List ℕ) → directive_at after ≡ directive_with (1 + run class.Name after) (drop (run class.Name after) after) (directive_of (take (run class.Name after) after))
+at_step : (after : List ℕ)
+    → directive_at after
+    ≡ directive_with (1 + run class.Name after) (drop (run class.Name after) after) (directive_of (take (run class.Name after) after))
 unfolding directive_at
 at_step after = refl
 
-pub front_word : (name rest : List ℕ) → AllIn class.Name name → Stops class.Name rest → take (run class.Name (name ++ rest)) (name ++ rest) ≡ name
+pub front_word : (name rest : List ℕ) → AllIn class.Name name → Stops class.Name rest
+    → take (run class.Name (name ++ rest)) (name ++ rest) ≡ name
 front_word name rest n s = ap (λ (i : ℕ). take i (name ++ rest)) (run_is class.Name name rest n s) ∙ take-append_seam name rest
 
-at_split : (name rest : List ℕ) → AllIn class.Name name → Stops class.Name rest → directive_at (name ++ rest) ≡ directive_with (1 + length name) rest (directive_of name)
+at_split : (name rest : List ℕ) → AllIn class.Name name → Stops class.Name rest
+    → directive_at (name ++ rest) ≡ directive_with (1 + length name) rest (directive_of name)
 at_split name rest n s =
     at_step (name ++ rest)
-    ∙ ap (λ (i : ℕ). directive_with (1 + i) (drop i (name ++ rest)) (directive_of (take i (name ++ rest)))) (run_is class.Name name rest n s)
-    ∙ ap (λ (xs : List ℕ). directive_with (1 + length name) xs (directive_of (take (length name) (name ++ rest)))) (drop-append_seam name rest)
+    ∙ ap (λ (i : ℕ). directive_with (1 + i) (drop i (name ++ rest)) (directive_of (take i (name ++ rest))))
+    (run_is class.Name name rest n s)
+    ∙ ap (λ (xs : List ℕ). directive_with (1 + length name) xs (directive_of (take (length name) (name ++ rest))))
+    (drop-append_seam name rest)
     ∙ ap (λ (xs : List ℕ). directive_with (1 + length name) rest (directive_of xs)) (take-append_seam name rest)
 
-at_word : (w : DirectiveWord) (rest : List ℕ) → Stops class.Name rest → directive_at (directive_spelling w ++ rest) ≡ directive_with (1 + length (directive_spelling w)) rest (Some w)
-at_word w rest s = at_split (directive_spelling w) rest (word_all w) s ∙ ap (directive_with (1 + length (directive_spelling w)) rest) (word_found w)
+at_word : (w : DirectiveWord) (rest : List ℕ) → Stops class.Name rest → directive_at (directive_spelling w ++ rest)
+    ≡ directive_with (1 + length (directive_spelling w)) rest (Some w)
+at_word w rest s =
+    at_split (directive_spelling w) rest (word_all w) s ∙ ap (directive_with (1 + length (directive_spelling w)) rest) (word_found w)
 
 -- ---- whole directives
 
-pub whole_again : (d : Directive) (bytes behind : List ℕ) (h : IsWhole d bytes behind) → bytes ++ behind ≡ 96 ∷ (directive_spelling h.word ++ (h.parts ++ behind))
-whole_again d bytes behind h = ap (λ (xs : List ℕ). xs ++ behind) h.is ∙ ap (λ (xs : List ℕ). 96 ∷ xs) (append_assoc (directive_spelling h.word) h.parts behind)
+pub whole_again : (d : Directive) (bytes behind : List ℕ) (h : IsWhole d bytes behind)
+    → bytes ++ behind ≡ 96 ∷ (directive_spelling h.word ++ (h.parts ++ behind))
+whole_again d bytes behind h =
+    ap (λ (xs : List ℕ). xs ++ behind) h.is ∙ ap (λ (xs : List ℕ). 96 ∷ xs) (append_assoc (directive_spelling h.word) h.parts behind)
 
-whole_is : (d : Directive) (bytes behind after : List ℕ) → IsWhole d bytes behind → bytes ++ behind ≡ 96 ∷ after → directive_at after ≡ directive_of_parts (length bytes) d
+whole_is : (d : Directive) (bytes behind after : List ℕ) → IsWhole d bytes behind → bytes ++ behind ≡ 96 ∷ after
+    → directive_at after ≡ directive_of_parts (length bytes) d
 whole_is d bytes behind after h e =
     let q : after ≡ directive_spelling h.word ++ (h.parts ++ behind) = ap (drop 1) (sym e ∙ whole_again d bytes behind h) in
-    let n : 1 + length (directive_spelling h.word) + length h.parts ≡ length bytes = omega (arith, length-append (directive_spelling h.word) h.parts, ap (λ (xs : List ℕ). length xs) h.is) in
-    ap directive_at q ∙ at_word h.word (h.parts ++ behind) h.ends ∙ with_is (1 + length (directive_spelling h.word)) d h.word h.parts behind h.has
+    let n : 1 + length (directive_spelling h.word) + length h.parts ≡ length bytes =
+    omega (arith, length-append (directive_spelling h.word) h.parts, ap (λ (xs : List ℕ). length xs) h.is) in
+    ap directive_at q ∙ at_word h.word (h.parts ++ behind) h.ends
+    ∙ with_is (1 + length (directive_spelling h.word)) d h.word h.parts behind h.has
     ∙ ap (λ (k : ℕ). directive_of_parts k d) n
 
 -- A directive with its parts isn't broken.
@@ -773,7 +935,8 @@ kind_of (content.Directive d) = is_whole d
 kind_of _ = true
 
 -- where the code finds a broken directive, none stands with its parts
-lacks_whole : (after : List ℕ) (n : ℕ) (b : Directive) → is_whole b ≡ false → directive_at after ≡ directive_of_parts n b → (d : Directive) (front rest : List ℕ) → 96 ∷ after ≡ front ++ rest → IsWhole d front rest → ⊥
+lacks_whole : (after : List ℕ) (n : ℕ) (b : Directive) → is_whole b ≡ false → directive_at after ≡ directive_of_parts n b
+    → (d : Directive) (front rest : List ℕ) → 96 ∷ after ≡ front ++ rest → IsWhole d front rest → ⊥
 lacks_whole after n b w q d front rest e h =
     let same : directive_of_parts n b ≡ directive_of_parts (length front) d = sym q ∙ whole_is d front rest after h (sym e) in
     let k : is_whole b ≡ is_whole d = ap (λ (p : Piece). kind_of p.content) same in
@@ -798,7 +961,8 @@ other_word : (w : DirectiveWord) (name : List ℕ) → opens w ≡ false → nam
 other_word w name o e u = false≢true (sym o ∙ unnamed_word name w (ap directive_of e ∙ word_found w) u)
 
 -- a bare word's directive
-bare_directive : (name rest : List ℕ) (w : DirectiveWord) → name ≡ directive_spelling w → IsBare name (96 ∷ name) rest → IsDirective (bare_of w) (96 ∷ name) rest
+bare_directive : (name rest : List ℕ) (w : DirectiveWord) → name ≡ directive_spelling w → IsBare name (96 ∷ name) rest
+    → IsDirective (bare_of w) (96 ∷ name) rest
 bare_directive name rest word.IfDef e h = (name, h, inl e)
 bare_directive name rest word.IfNDef e h = (name, h, inr e)
 bare_directive name rest word.DefaultNetType e h = (name, h, λ u. other_word word.DefaultNetType name refl e u)
@@ -819,18 +983,46 @@ pub record Found (after : List ℕ) : Type 0 where
   pub found : directive_at after ≡ directive_of_parts (length bytes) kind
   pub stands : IsDirective kind bytes behind
 
-found_bare : (name rest : List ℕ) (b : Directive) → AllIn class.Name name → Stops class.Name rest → is_whole b ≡ false → directive_at (name ++ rest) ≡ directive_of_parts (1 + length name) b → (IsBare name (96 ∷ name) rest → IsDirective b (96 ∷ name) rest) → Found (name ++ rest)
+found_bare : (name rest : List ℕ) (b : Directive) → AllIn class.Name name → Stops class.Name rest → is_whole b ≡ false
+    → directive_at (name ++ rest) ≡ directive_of_parts (1 + length name) b
+    → (IsBare name (96 ∷ name) rest → IsDirective b (96 ∷ name) rest) → Found (name ++ rest)
 found_bare name rest b n s w q stands =
-    let k : directive_at (name ++ rest) ≡ directive_of_parts (length (96 ∷ name)) b = q ∙ ap (λ (i : ℕ). directive_of_parts i b) (omega arith) in
-    record { bytes = 96 ∷ name; behind = rest; kind = b; is = refl; found = k; stands = stands (record { is = refl; named = n; ends = s; lacks = λ d front tail e h. lacks_whole (name ++ rest) (length (96 ∷ name)) b w k d front tail e h }) }
+    let k : directive_at (name ++ rest) ≡ directive_of_parts (length (96 ∷ name)) b =
+    q ∙ ap (λ (i : ℕ). directive_of_parts i b) (omega arith) in
+    record {
+      bytes = 96 ∷ name;
+      behind = rest;
+      kind = b;
+      is = refl;
+      found = k;
+      stands =
+          stands (record {
+            is = refl;
+            named = n;
+            ends = s;
+            lacks = λ d front tail e h. lacks_whole (name ++ rest) (length (96 ∷ name)) b w k d front tail e h;
+          });
+    }
 
-found_word : (w : DirectiveWord) (rest : List ℕ) → Stops class.Name rest → View (1 + length (directive_spelling w)) w rest → Found (directive_spelling w ++ rest)
+found_word : (w : DirectiveWord) (rest : List ℕ) → Stops class.Name rest → View (1 + length (directive_spelling w)) w rest
+    → Found (directive_spelling w ++ rest)
 found_word w rest s (Full d parts behind e h) =
-    let whole : IsWhole d (96 ∷ (directive_spelling w ++ parts)) behind = record { word = w; parts = parts; is = refl; ends = subst (Stops class.Name) e s; has = h } in
-    let is : 96 ∷ (directive_spelling w ++ rest) ≡ (96 ∷ (directive_spelling w ++ parts)) ++ behind = ap (λ (xs : List ℕ). 96 ∷ (directive_spelling w ++ xs)) e ∙ ap (λ (xs : List ℕ). 96 ∷ xs) (sym (append_assoc (directive_spelling w) parts behind)) in
-    record { bytes = 96 ∷ (directive_spelling w ++ parts); behind = behind; kind = d; is = is; found = whole_is d (96 ∷ (directive_spelling w ++ parts)) behind (directive_spelling w ++ rest) whole (sym is); stands = whole_directive d (96 ∷ (directive_spelling w ++ parts)) behind whole }
+    let whole : IsWhole d (96 ∷ (directive_spelling w ++ parts)) behind =
+    record { word = w; parts = parts; is = refl; ends = subst (Stops class.Name) e s; has = h } in
+    let is : 96 ∷ (directive_spelling w ++ rest) ≡ (96 ∷ (directive_spelling w ++ parts)) ++ behind =
+    ap (λ (xs : List ℕ). 96 ∷ (directive_spelling w ++ xs)) e
+    ∙ ap (λ (xs : List ℕ). 96 ∷ xs) (sym (append_assoc (directive_spelling w) parts behind)) in
+    record {
+      bytes = 96 ∷ (directive_spelling w ++ parts);
+      behind = behind;
+      kind = d;
+      is = is;
+      found = whole_is d (96 ∷ (directive_spelling w ++ parts)) behind (directive_spelling w ++ rest) whole (sym is);
+      stands = whole_directive d (96 ∷ (directive_spelling w ++ parts)) behind whole;
+    }
 found_word w rest s (Lacking q) =
-    found_bare (directive_spelling w) rest (bare_of w) (word_all w) s (bare_whole w) (at_word w rest s ∙ q) (bare_directive (directive_spelling w) rest w refl)
+    found_bare (directive_spelling w) rest (bare_of w) (word_all w) s (bare_whole w) (at_word w rest s ∙ q)
+    (bare_directive (directive_spelling w) rest w refl)
 
 none_with : (size : ℕ) (rest : List ℕ) → directive_with size rest None ≡ directive_of_parts size directive.Broken
 unfolding directive_with
@@ -842,12 +1034,14 @@ none_named name e u = ⊎_elim
     (λ (q : name ≡ codes "ifndef"). none_some word.IfNDef (sym e ∙ ap directive_of q ∙ word_found word.IfNDef))
     u
 
-found_front : (name rest : List ℕ) → AllIn class.Name name → Stops class.Name rest → (o : Option DirectiveWord) → directive_of name ≡ o → Found (name ++ rest)
+found_front : (name rest : List ℕ) → AllIn class.Name name → Stops class.Name rest → (o : Option DirectiveWord) → directive_of name ≡ o
+    → Found (name ++ rest)
 found_front name rest n s (Some w) e =
     let q = word_is name w e in
     subst (λ (xs : List ℕ). Found (xs ++ rest)) (sym q) (found_word w rest s (view_with (1 + length (directive_spelling w)) w rest))
 found_front name rest n s None e =
-    found_bare name rest directive.Broken n s refl (at_split name rest n s ∙ ap (directive_with (1 + length name) rest) e ∙ none_with (1 + length name) rest) (λ h. (name, h, none_named name e))
+    found_bare name rest directive.Broken n s refl (at_split name rest n s ∙ ap (directive_with (1 + length name) rest) e
+    ∙ none_with (1 + length name) rest) (λ h. (name, h, none_named name e))
 
 pub found : (after : List ℕ) → Found after
 found after =
@@ -889,22 +1083,30 @@ none_kind directive.Broken name u e = refl
 none_kind directive.Unnamed name u e = absurd (none_named name e u)
 none_kind _ name u e = absurd u
 
-bare_is : (b : Directive) (name bytes behind after : List ℕ) → IsBare name bytes behind → named_of b name → bytes ++ behind ≡ 96 ∷ after → directive_at after ≡ directive_of_parts (length bytes) b
+bare_is : (b : Directive) (name bytes behind after : List ℕ) → IsBare name bytes behind → named_of b name → bytes ++ behind ≡ 96 ∷ after
+    → directive_at after ≡ directive_of_parts (length bytes) b
 bare_is b name bytes behind after h u e =
     let q : after ≡ name ++ behind = ap (drop 1) (sym e ∙ ap (λ (xs : List ℕ). xs ++ behind) h.is) in
     let n : 1 + length name ≡ length bytes = omega (arith, ap (λ (xs : List ℕ). length xs) h.is) in
     ap directive_at q ∙ at_split name behind h.named h.ends ∙ go (directive_of name) refl ∙ ap (λ (k : ℕ). directive_of_parts k b) n
   where
-    viewed : (w : DirectiveWord) → name ≡ directive_spelling w → View (1 + length name) w behind → directive_with (1 + length name) behind (Some w) ≡ directive_of_parts (1 + length name) b
+    viewed : (w : DirectiveWord) → name ≡ directive_spelling w → View (1 + length name) w behind
+        → directive_with (1 + length name) behind (Some w) ≡ directive_of_parts (1 + length name) b
     viewed w k (Full d parts tail t p) =
-        let whole : IsWhole d (96 ∷ (directive_spelling w ++ parts)) tail = record { word = w; parts = parts; is = refl; ends = subst (Stops class.Name) t h.ends; has = p } in
+        let whole : IsWhole d (96 ∷ (directive_spelling w ++ parts)) tail =
+        record { word = w; parts = parts; is = refl; ends = subst (Stops class.Name) t h.ends; has = p } in
         let is : bytes ++ behind ≡ (96 ∷ (directive_spelling w ++ parts)) ++ tail =
-        ap (λ (xs : List ℕ). xs ++ behind) h.is ∙ ap (λ (xs : List ℕ). 96 ∷ (xs ++ behind)) k ∙ ap (λ (xs : List ℕ). 96 ∷ (directive_spelling w ++ xs)) t ∙ ap (λ (xs : List ℕ). 96 ∷ xs) (sym (append_assoc (directive_spelling w) parts tail)) in
+        ap (λ (xs : List ℕ). xs ++ behind) h.is ∙ ap (λ (xs : List ℕ). 96 ∷ (xs ++ behind)) k
+        ∙ ap (λ (xs : List ℕ). 96 ∷ (directive_spelling w ++ xs)) t
+        ∙ ap (λ (xs : List ℕ). 96 ∷ xs) (sym (append_assoc (directive_spelling w) parts tail)) in
         absurd (h.lacks d (96 ∷ (directive_spelling w ++ parts)) tail is whole)
     viewed w k (Lacking l) = l ∙ ap (directive_of_parts (1 + length name)) (bare_kind b name w u k)
 
-    go : (o : Option DirectiveWord) → directive_of name ≡ o → directive_with (1 + length name) behind (directive_of name) ≡ directive_of_parts (1 + length name) b
-    go None r = ap (directive_with (1 + length name) behind) r ∙ none_with (1 + length name) behind ∙ ap (directive_of_parts (1 + length name)) (none_kind b name u r)
+    go : (o : Option DirectiveWord) → directive_of name ≡ o → directive_with (1 + length name) behind (directive_of name)
+        ≡ directive_of_parts (1 + length name) b
+    go None r =
+        ap (directive_with (1 + length name) behind) r ∙ none_with (1 + length name) behind
+        ∙ ap (directive_of_parts (1 + length name)) (none_kind b name u r)
     go (Some w) r = ap (directive_with (1 + length name) behind) r ∙ viewed w (word_is name w r) (view_with (1 + length name) w behind)
 
 record Begins (text : List ℕ) : Type 0 where
@@ -926,12 +1128,22 @@ pub record Read (d : Directive) (bytes behind : List ℕ) : Type 0 where
 read_whole : (d : Directive) (bytes behind : List ℕ) → IsWhole d bytes behind → Read d bytes behind
 read_whole d bytes behind h =
     let b = whole_begins d bytes behind h in
-    record { after = b.after; is = b.is; found = whole_is d bytes behind b.after h b.is; some = omega (arith, ap (λ (xs : List ℕ). length xs) h.is) }
+    record {
+      after = b.after;
+      is = b.is;
+      found = whole_is d bytes behind b.after h b.is;
+      some = omega (arith, ap (λ (xs : List ℕ). length xs) h.is);
+    }
 
 read_bare : (d : Directive) (name bytes behind : List ℕ) → IsBare name bytes behind → named_of d name → Read d bytes behind
 read_bare d name bytes behind h u =
     let b = bare_begins name bytes behind h in
-    record { after = b.after; is = b.is; found = bare_is d name bytes behind b.after h u b.is; some = omega (arith, ap (λ (xs : List ℕ). length xs) h.is) }
+    record {
+      after = b.after;
+      is = b.is;
+      found = bare_is d name bytes behind b.after h u b.is;
+      some = omega (arith, ap (λ (xs : List ℕ). length xs) h.is);
+    }
 
 pub read : (d : Directive) (bytes behind : List ℕ) → IsDirective d bytes behind → Read d bytes behind
 read directive.Broken bytes behind h = read_bare directive.Broken h.0 bytes behind h.1 h.2
@@ -974,15 +1186,25 @@ conditional_at after = is_conditional (directive_of (take (run class.Name after)
 pub conditional_is : (after : List ℕ) → BeginsConditional (96 ∷ after) → conditional_at after ≡ true
 conditional_is after h =
     let q : after ≡ directive_spelling h.0 ++ h.1 = ap (drop 1) h.3 in
-    ap conditional_at q ∙ ap (λ (xs : List ℕ). is_conditional (directive_of xs)) (front_word (directive_spelling h.0) h.1 (word_all h.0) h.4) ∙ ap is_conditional (word_found h.0) ∙ of_conditional h.0 h.2
+    ap conditional_at q
+    ∙ ap (λ (xs : List ℕ). is_conditional (directive_of xs)) (front_word (directive_spelling h.0) h.1 (word_all h.0) h.4)
+    ∙ ap is_conditional (word_found h.0) ∙ of_conditional h.0 h.2
 
 pub conditional_begins : (after : List ℕ) → conditional_at after ≡ true → BeginsConditional (96 ∷ after)
 conditional_begins after t =
     let s = split class.Name after in
-    let f : is_conditional (directive_of s.front) ≡ true = sym (ap conditional_at s.is ∙ ap (λ (xs : List ℕ). is_conditional (directive_of xs)) (front_word s.front s.rest s.all s.stops)) ∙ t in
+    let f : is_conditional (directive_of s.front) ≡ true =
+    sym (ap conditional_at s.is ∙ ap (λ (xs : List ℕ). is_conditional (directive_of xs)) (front_word s.front s.rest s.all s.stops))
+    ∙ t in
     go s.front s.rest s.is s.stops (directive_of s.front) refl f
   where
-    go : (name rest : List ℕ) → after ≡ name ++ rest → Stops class.Name rest → (o : Option DirectiveWord) → directive_of name ≡ o → is_conditional (directive_of name) ≡ true → BeginsConditional (96 ∷ after)
+    go : (name rest : List ℕ) → after ≡ name ++ rest → Stops class.Name rest → (o : Option DirectiveWord) → directive_of name ≡ o
+        → is_conditional (directive_of name) ≡ true → BeginsConditional (96 ∷ after)
     go name rest e s None q f = absurd (false≢true (sym (ap is_conditional q) ∙ f))
-    go name rest e s (Some w) q f =
-        (w, rest, conditional_of w (sym (ap is_conditional q) ∙ f), ap (λ (xs : List ℕ). 96 ∷ xs) (e ∙ ap (λ (xs : List ℕ). xs ++ rest) (word_is name w q)), s)
+    go name rest e s (Some w) q f = (
+      w,
+      rest,
+      conditional_of w (sym (ap is_conditional q) ∙ f),
+      ap (λ (xs : List ℕ). 96 ∷ xs) (e ∙ ap (λ (xs : List ℕ). xs ++ rest) (word_is name w q)),
+      s,
+    )

@@ -1,7 +1,9 @@
 -- The first byte of a front tells its form.
-use Rattle.std.proofs.Common.{◌≡◌, ℕ, ◌<◌, ◌≤◌, true, false, ◌&&◌, ◌||◌, eqb, leb, cond, List, [], ◌∷◌, ◌++◌, length, get_or, Option, Some, None, ap, ◌∙◌, sym, refl, subst, ⊎_elim, arith}
+use Rattle.std.proofs.Common.{◌≡◌, ℕ, ◌<◌, ◌≤◌, true, false, ◌&&◌, ◌||◌, eqb, leb, cond, List, [], ◌∷◌, ◌++◌, length, get_or, Option}
+use Rattle.std.proofs.Common.{Some, None, ap, ◌∙◌, sym, refl, subst, ⊎_elim, arith}
 use Rattle.std.proofs.lemmas.List.{length-append}
-use Rattle.std.proofs.lemmas.Bool.{or_cases, or_from, or_left, and_parts, and_left, and_right, leb-true, lt-leb, eqb-true, ne_eqb, cond-true, cond-false}
+use Rattle.std.proofs.lemmas.Bool.{or_cases, or_from, or_left, and_parts, and_left, and_right, leb-true, lt-leb, eqb-true, ne_eqb}
+use Rattle.std.proofs.lemmas.Bool.{cond-true, cond-false}
 use Rattle.v_syntax.specs.declared.mark.Mark.{Mark}
 use Rattle.v_syntax.specs.declared.mark.Mark.TheVariants.{CaseEqual}
 use Rattle.v_syntax.specs.Marks.{mark_spelling}
@@ -10,7 +12,11 @@ use Rattle.v_lex.specs.Bytes.{is_digit, is_letter, is_name_start}
 use Rattle.v_lex.specs.Spelling.{Form, Word, SystemName, Number, Quoted, Sign, HasForm, IsLongest, IsDecimal, IsBased}
 
 abbrev pub kind_of : ℕ → Option Form
-kind_of b = cond (eqb b 34) (Some Quoted) (cond (eqb b 96) None (cond (is_digit b || eqb b 39) (Some Number) (cond (is_name_start b) (Some Word) (cond (eqb b 36) (Some SystemName) (Some Sign)))))
+kind_of b =
+    cond (eqb b 34) (Some Quoted)
+    (cond (eqb b 96) None
+    (cond (is_digit b || eqb b 39) (Some Number)
+    (cond (is_name_start b) (Some Word) (cond (eqb b 36) (Some SystemName) (Some Sign)))))
 
 pub between : (lo hi b : ℕ) → (leb lo b && leb b hi) ≡ true → (lo ≤ b) × (b ≤ hi)
 between lo hi b h = let p = and_parts (leb lo b) (leb b hi) h in (leb-true lo b p.0, leb-true b hi p.1)
@@ -37,8 +43,10 @@ kind_word b h =
     let r = starts_range b h in
     let q : eqb b 34 ≡ false = ne_eqb b 34 (λ e. omega (arith, r.0, e)) in
     let t : eqb b 96 ≡ false = ne_eqb b 96 r.1 in
-    let d : (is_digit b || eqb b 39) ≡ false = or_from (is_digit b) (eqb b 39) (above 48 57 b r.0) (ne_eqb b 39 (λ e. omega (arith, r.0, e))) in
-    cond-false (eqb b 34) _ _ q ∙ cond-false (eqb b 96) _ _ t ∙ cond-false (is_digit b || eqb b 39) _ _ d ∙ cond-true (is_name_start b) _ _ h
+    let d : (is_digit b || eqb b 39) ≡ false =
+    or_from (is_digit b) (eqb b 39) (above 48 57 b r.0) (ne_eqb b 39 (λ e. omega (arith, r.0, e))) in
+    cond-false (eqb b 34) _ _ q ∙ cond-false (eqb b 96) _ _ t ∙ cond-false (is_digit b || eqb b 39) _ _ d
+    ∙ cond-true (is_name_start b) _ _ h
 
 pub kind_digit : (b : ℕ) → is_digit b ≡ true → kind_of b ≡ Some Number
 kind_digit b h =
@@ -104,5 +112,6 @@ pub longest : (f : Form) (b : ℕ) (bs behind : List ℕ) → HasForm f (b ∷ b
     → IsLongest f (b ∷ bs) behind
 longest f b bs behind h most = record {
   has = h;
-  most = λ other more rest e k. most more rest e (subst (λ (g : Form). HasForm g (b ∷ bs ++ more)) (one_form other f b (bs ++ more) bs k h) k);
+  most = λ other more rest e k.
+      most more rest e (subst (λ (g : Form). HasForm g (b ∷ bs ++ more)) (one_form other f b (bs ++ more) bs k h) k);
 }

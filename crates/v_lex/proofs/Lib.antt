@@ -1,5 +1,4 @@
 pub mod GapLaws
-pub mod Lists
 pub mod NameLaws
 pub mod NumberLaws
 pub mod RunLaws
@@ -15,3 +14,5 @@ pub mod DirectiveFronts
 pub mod PieceFronts
 pub mod RowLaws
 pub mod ConditionalLaws
+pub mod GroupLaws
+pub mod DefineLaws

@@ -1,5 +1,6 @@
 -- A text has one row of parts, and the code's scan tells what the row tells.
-use Rattle.std.proofs.Common.{◌≡◌, ℕ, zero, suc, ◌+◌, ◌≤◌, Bool, true, false, List, [], ◌∷◌, ◌++◌, length, take, drop, Some, ap, ◌∙◌, sym, refl, subst, ⊎_elim, unwrap_or, arith}
+use Rattle.std.proofs.Common.{◌≡◌, ℕ, zero, suc, ◌+◌, ◌≤◌, Bool, true, false, List, [], ◌∷◌, ◌++◌, length, take, drop, Some, ap, ◌∙◌, sym}
+use Rattle.std.proofs.Common.{refl, subst, ⊎_elim, unwrap_or, arith}
 use lib.Seq.{take-append_seam, drop-append_seam}
 use Rattle.std.proofs.lemmas.List.{length-append}
 use Rattle.v_lex.specs.declared.directive.Content.{Content}
@@ -15,7 +16,8 @@ use Rattle.v_lex.specs.Scan.{scan_from, scan_of, faults_of, lexed}
 use Rattle.v_lex.specs.Faults.{fault_at, fault_of, IsFault}
 use Rattle.v_lex.specs.Spelling.{Form, SystemName, Number, HasForm, IsQuoted}
 use Rattle.v_lex.specs.Gaps.{BeginsComment}
-use Rattle.v_lex.specs.Row.{Part, IsStray, IsNoToken, IsSkipped, CommentStands, TakenStands, SkippedStands, Stands, IsRow, spelled, told_of, told, Reads, BreaksFirst}
+use Rattle.v_lex.specs.Row.{Part, IsStray, IsNoToken, IsSkipped, CommentStands, TakenStands, SkippedStands, Stands, IsRow, spelled}
+use Rattle.v_lex.specs.Row.{told_of, told, Reads, BreaksFirst}
 use Rattle.v_lex.proofs.FormKinds.{has_some}
 use Rattle.v_lex.proofs.ScanLaws.{scan_step}
 use Rattle.v_lex.proofs.CommentLaws.{one, comment_some}
@@ -62,18 +64,23 @@ stands_some false c bytes behind h = ⊎_elim
 -- ---- the scan tells what a row tells
 
 next_step : (s : State) (place : ℕ) (p : Part) (behind : List ℕ) → Stands (is_taken s.conditionals) p.content p.bytes behind
-    → scan_from s place 0 (p.bytes ++ behind) ≡ with_content s place p.content (scan_from (after_content s place p.content) (place + length p.bytes) 0 behind)
+    → scan_from s place 0 (p.bytes ++ behind)
+    ≡ with_content s place p.content (scan_from (after_content s place p.content) (place + length p.bytes) 0 behind)
 next_step s place p behind h =
     let some = stands_some (is_taken s.conditionals) p.content p.bytes behind h in
     let is = stands_is (is_taken s.conditionals) p.content p.bytes behind h in
-    scan_step s place (p.bytes ++ behind) (piece (length p.bytes) p.content) (omega (arith, some, length-append p.bytes behind)) (sym is) some
-    ∙ ap (λ (xs : List ℕ). with_content s place p.content (scan_from (after_content s place p.content) (place + length p.bytes) 0 xs)) (drop-append_seam p.bytes behind)
+    scan_step s place (p.bytes ++ behind) (piece (length p.bytes) p.content) (omega (arith, some, length-append p.bytes behind))
+    (sym is) some
+    ∙ ap (λ (xs : List ℕ). with_content s place p.content (scan_from (after_content s place p.content) (place + length p.bytes) 0 xs))
+    (drop-append_seam p.bytes behind)
 
-scan_end : (s : State) (place : ℕ) → scan_from s place 0 [] ≡ record { tokens = []; places = []; faults = left_open s.conditionals; last = s }
+scan_end : (s : State) (place : ℕ)
+    → scan_from s place 0 [] ≡ record { tokens = []; places = []; faults = left_open s.conditionals; last = s }
 unfolding scan_from
 scan_end s place = refl
 
-pub row_tells : (s : State) (place : ℕ) (row : List Part) (text : List ℕ) → IsRow s place row text → told_of s place row ≡ scan_from s place 0 text
+pub row_tells : (s : State) (place : ℕ) (row : List Part) (text : List ℕ) → IsRow s place row text
+    → told_of s place row ≡ scan_from s place 0 text
 unfolding IsRow told_of
 row_tells s place [] text h = sym (ap (scan_from s place 0) h ∙ scan_end s place)
 row_tells s place (p ∷ ps) text h =
@@ -93,7 +100,8 @@ some_row (suc n) s place (b ∷ bs) h =
     let c = (piece_at (is_taken s.conditionals) (b ∷ bs)).content in
     let some = stands_some (is_taken s.conditionals) c q.bytes q.behind q.stands in
     let l = ap (λ (xs : List ℕ). length xs) q.is in
-    let r = some_row n (after_content s place c) (place + length q.bytes) q.behind (omega (arith, some, l, length-append q.bytes q.behind)) in
+    let r = some_row n (after_content s place c) (place + length q.bytes) q.behind
+    (omega (arith, some, l, length-append q.bytes q.behind)) in
     record { parts = record { bytes = q.bytes; content = c } ∷ r.parts; is = (q.behind, q.is, q.stands, r.is) }
 
 -- a text has a row
@@ -103,16 +111,25 @@ row text = some_row (length text) start 0 text (omega arith)
 -- ---- and one row
 
 part_first : (p : Part) (bytes : List ℕ) (c : Content) → bytes ≡ p.bytes → c ≡ p.content → p ≡ record { bytes = bytes; content = c }
-part_first p bytes c e f = ap (λ (xs : List ℕ). record { bytes = xs; content = p.content }) (sym e) ∙ ap (λ (x : Content). record { bytes = bytes; content = x }) (sym f)
+part_first p bytes c e f =
+    ap (λ (xs : List ℕ). record { bytes = xs; content = p.content }) (sym e)
+    ∙ ap (λ (x : Content). record { bytes = bytes; content = x }) (sym f)
 
 -- two parts at the front of one text
-same_part : (t : Bool) (p q : Part) (behind rest : List ℕ) → p.bytes ++ behind ≡ q.bytes ++ rest → Stands t p.content p.bytes behind → Stands t q.content q.bytes rest → (p ≡ q) × (behind ≡ rest)
+same_part : (t : Bool) (p q : Part) (behind rest : List ℕ) → p.bytes ++ behind ≡ q.bytes ++ rest → Stands t p.content p.bytes behind
+    → Stands t q.content q.bytes rest → (p ≡ q) × (behind ≡ rest)
 same_part t p q behind rest e h k =
-    let same : piece (length p.bytes) p.content ≡ piece (length q.bytes) q.content = sym (stands_is t p.content p.bytes behind h) ∙ ap (piece_at t) e ∙ stands_is t q.content q.bytes rest k in
+    let same : piece (length p.bytes) p.content ≡ piece (length q.bytes) q.content =
+    sym (stands_is t p.content p.bytes behind h) ∙ ap (piece_at t) e ∙ stands_is t q.content q.bytes rest k in
     let n : length p.bytes ≡ length q.bytes = ap (λ (x : Piece). x.size) same in
     let c : p.content ≡ q.content = ap (λ (x : Piece). x.content) same in
-    let b : p.bytes ≡ q.bytes = sym (take-append_seam p.bytes behind) ∙ ap (take (length p.bytes)) e ∙ ap (λ (k : ℕ). take k (q.bytes ++ rest)) n ∙ take-append_seam q.bytes rest in
-    (part_first p q.bytes q.content (sym b) (sym c), sym (drop-append_seam p.bytes behind) ∙ ap (drop (length p.bytes)) e ∙ ap (λ (k : ℕ). drop k (q.bytes ++ rest)) n ∙ drop-append_seam q.bytes rest)
+    let b : p.bytes ≡ q.bytes =
+    sym (take-append_seam p.bytes behind) ∙ ap (take (length p.bytes)) e ∙ ap (λ (k : ℕ). take k (q.bytes ++ rest)) n
+    ∙ take-append_seam q.bytes rest in (
+      part_first p q.bytes q.content (sym b) (sym c),
+      sym (drop-append_seam p.bytes behind) ∙ ap (drop (length p.bytes)) e
+          ∙ ap (λ (k : ℕ). drop k (q.bytes ++ rest)) n ∙ drop-append_seam q.bytes rest,
+    )
 
 no_more : (t : Bool) (p : Part) (behind : List ℕ) → [] ≡ p.bytes ++ behind → Stands t p.content p.bytes behind → ⊥
 no_more t p behind e h =
@@ -120,7 +137,8 @@ no_more t p behind e h =
     let n = ap (λ (xs : List ℕ). length xs) e in
     omega (arith, some, n, length-append p.bytes behind)
 
-pub one_row : (s : State) (place : ℕ) (row other : List Part) (text : List ℕ) → IsRow s place row text → IsRow s place other text → row ≡ other
+pub one_row : (s : State) (place : ℕ) (row other : List Part) (text : List ℕ) → IsRow s place row text → IsRow s place other text
+    → row ≡ other
 unfolding IsRow
 one_row s place [] [] text h k = refl
 one_row s place [] (q ∷ qs) text h k = absurd (no_more (is_taken s.conditionals) q k.0 (sym h ∙ k.1) k.2)
@@ -129,13 +147,15 @@ one_row s place (p ∷ ps) (q ∷ qs) text h k =
     let same = same_part (is_taken s.conditionals) p q h.0 k.0 (sym h.1 ∙ k.1) h.2 k.2 in
     let tail = subst (λ (x : Part). IsRow (after_content s place x.content) (place + length x.bytes) ps h.0) same.0 h.3 in
     let there = subst (λ (xs : List ℕ). IsRow (after_content s place q.content) (place + length q.bytes) ps xs) same.1 tail in
-    ap (λ (x : Part). x ∷ ps) same.0 ∙ ap (λ (xs : List Part). q ∷ xs) (one_row (after_content s place q.content) (place + length q.bytes) ps qs k.0 there k.3)
+    ap (λ (x : Part). x ∷ ps) same.0
+    ∙ ap (λ (xs : List Part). q ∷ xs) (one_row (after_content s place q.content) (place + length q.bytes) ps qs k.0 there k.3)
 
 -- the parts are the text
 pub covers : (s : State) (place : ℕ) (row : List Part) (text : List ℕ) → IsRow s place row text → spelled row ≡ text
 unfolding IsRow
 covers s place [] text h = sym h
-covers s place (p ∷ ps) text h = ap (λ (xs : List ℕ). p.bytes ++ xs) (covers (after_content s place p.content) (place + length p.bytes) ps h.0 h.3) ∙ sym h.1
+covers s place (p ∷ ps) text h =
+    ap (λ (xs : List ℕ). p.bytes ++ xs) (covers (after_content s place p.content) (place + length p.bytes) ps h.0 h.3) ∙ sym h.1
 
 -- ---- what is read and what is refused
 
@@ -147,15 +167,28 @@ pub reads_is : (text : List ℕ) (tokens : Lexed) → faults_of text ≡ [] → 
 unfolding faults_of lexed
 reads_is text tokens h e =
     let t = row_is text in
-    let told_is : lexed text ≡ record { tokens = (told (row text).parts).tokens; places = (told (row text).parts).places ++ length text ∷ []; unit = (told (row text).parts).last.unit; step = unwrap_or (told (row text).parts).last.step nanosecond } =
-    ap (λ (s : Scan). record { tokens = s.tokens; places = s.places ++ length text ∷ []; unit = s.last.unit; step = unwrap_or s.last.step nanosecond }) (sym t) in
+    let told_is : lexed text
+    ≡ record {
+      tokens = (told (row text).parts).tokens;
+      places = (told (row text).parts).places ++ length text ∷ [];
+      unit = (told (row text).parts).last.unit;
+      step = unwrap_or (told (row text).parts).last.step nanosecond;
+    } =
+    ap (λ (s : Scan). record {
+      tokens = s.tokens;
+      places = s.places ++ length text ∷ [];
+      unit = s.last.unit;
+      step = unwrap_or s.last.step nanosecond;
+    }) (sym t) in
     ((row text).parts, (row text).is, ap (λ (s : Scan). s.faults) t ∙ h, e ∙ told_is)
 
-breaks_is : (text : List ℕ) (r : LexRule) (place : ℕ) → earliest (faults_of text) ≡ Some (record { rule = r; place = place }) → BreaksFirst text r place
+breaks_is : (text : List ℕ) (r : LexRule) (place : ℕ) → earliest (faults_of text) ≡ Some (record { rule = r; place = place })
+    → BreaksFirst text r place
 unfolding faults_of
 breaks_is text r place e = ((row text).parts, (row text).is, ap (λ (s : Scan). earliest s.faults) (row_is text) ∙ e)
 
-fault_at_is : (text : List ℕ) (r : LexRule) (place : ℕ) → earliest (faults_of text) ≡ Some (record { rule = r; place = place }) → IsFault (fault_at r place) text
+fault_at_is : (text : List ℕ) (r : LexRule) (place : ℕ) → earliest (faults_of text) ≡ Some (record { rule = r; place = place })
+    → IsFault (fault_at r place) text
 fault_at_is text rule.BadByte place e = breaks_is text rule.BadByte place e
 fault_at_is text rule.BadNumber place e = breaks_is text rule.BadNumber place e
 fault_at_is text rule.UnclosedText place e = breaks_is text rule.UnclosedText place e

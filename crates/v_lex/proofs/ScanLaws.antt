@@ -1,5 +1,6 @@
 -- The whole scan, in what a loop has left.
-use Rattle.std.proofs.Common.{◌≡◌, ℕ, zero, suc, ◌+◌, ◌-◌, ◌<◌, ◌≤◌, true, false, cond, leb, List, [], ◌∷◌, ◌++◌, length, get_or, drop, Option, Some, None, unwrap_or, ap, ◌∙◌, sym, refl, ⊎_elim, append_assoc, arith}
+use Rattle.std.proofs.Common.{◌≡◌, ℕ, zero, suc, ◌+◌, ◌-◌, ◌<◌, ◌≤◌, true, false, cond, leb, List, [], ◌∷◌, ◌++◌, length, get_or, drop}
+use Rattle.std.proofs.Common.{Option, Some, None, unwrap_or, ap, ◌∙◌, sym, refl, ⊎_elim, append_assoc, arith}
 use Rattle.std.proofs.lemmas.List.{drop_more, drop_all, drop-drop, length-drop, append-nil}
 use Rattle.std.proofs.lemmas.Bool.{cases_Bool, leb-true, leb-false, le-leb, lt-leb}
 use Rattle.v_syntax.specs.declared.token.Token.{Token}
@@ -11,13 +12,15 @@ use Rattle.v_lex.specs.declared.directive.Piece.{Piece}
 use Rattle.v_lex.specs.declared.directive.LexRule.{LexRule}
 use Rattle.v_lex.specs.declared.directive.LexRule.TheVariants as rule
 use Rattle.v_lex.specs.Pieces.{piece_at}
-use Rattle.v_lex.specs.Lexing.{State, Scan, is_taken, is_allowed, broken_at, earlier, earliest, left_open, with_token, with_fault, with_content, after_content, start, nanosecond}
+use Rattle.v_lex.specs.Lexing.{State, Scan, is_taken, is_allowed, broken_at, earlier, earliest, left_open, with_token, with_fault}
+use Rattle.v_lex.specs.Lexing.{with_content, after_content, start, nanosecond}
 use Rattle.v_lex.specs.Scan.{scan_from, scan_of, faults_of, lexed}
 use Rattle.v_lex.specs.Found.{Sum, nothing, found_with, end_of}
 
 -- ---- the first of the broken rules
 
-three : (a b c : BrokenRule) → earlier (cond (leb a.place b.place) (Some a) (Some b)) (Some c) ≡ earlier (Some a) (cond (leb b.place c.place) (Some b) (Some c))
+three : (a b c : BrokenRule) → earlier (cond (leb a.place b.place) (Some a) (Some b)) (Some c)
+    ≡ earlier (Some a) (cond (leb b.place c.place) (Some b) (Some c))
 three a b c =
     ⊎_elim
     (λ (h : leb a.place b.place ≡ true). ⊎_elim
@@ -39,7 +42,8 @@ three a b c =
     (cases_Bool (leb a.place b.place))
 
 two : (a b : BrokenRule) → earlier (cond (leb a.place b.place) (Some a) (Some b)) None ≡ cond (leb a.place b.place) (Some a) (Some b)
-two a b = elim (leb a.place b.place) as (λ t. earlier (cond t (Some a) (Some b)) None ≡ cond t (Some a) (Some b)) [ true ↦ refl | false ↦ refl ]
+two a b =
+    elim (leb a.place b.place) as (λ t. earlier (cond t (Some a) (Some b)) None ≡ cond t (Some a) (Some b)) [ true ↦ refl | false ↦ refl ]
 
 pub earlier_assoc : (f g h : Option BrokenRule) → earlier (earlier f g) h ≡ earlier f (earlier g h)
 earlier_assoc None g h = refl
@@ -59,13 +63,18 @@ unfolding earliest
 earliest_none [] e = refl
 earliest_none (f ∷ fs) e = absurd (not_none f (earliest fs) e)
 
-pub open_more : (cs : List Conditional) (i : ℕ) (d : Conditional) (first : Option BrokenRule) → i < length cs → earlier first (earliest (left_open (drop i cs))) ≡ earliest (left_open cs) → earlier (earlier first (Some (broken_at rule.Directive (get_or cs i d).place))) (earliest (left_open (drop (i + 1) cs))) ≡ earliest (left_open cs)
+pub open_more : (cs : List Conditional) (i : ℕ) (d : Conditional) (first : Option BrokenRule) → i < length cs
+    → earlier first (earliest (left_open (drop i cs))) ≡ earliest (left_open cs)
+    → earlier (earlier first (Some (broken_at rule.Directive (get_or cs i d).place))) (earliest (left_open (drop (i + 1) cs)))
+    ≡ earliest (left_open cs)
 unfolding earliest left_open
 open_more cs i d first h e =
     let f = broken_at rule.Directive (get_or cs i d).place in
-    earlier_assoc first (Some f) (earliest (left_open (drop (i + 1) cs))) ∙ sym (ap (λ xs. earlier first (earliest (left_open xs))) (drop_more cs i d h)) ∙ e
+    earlier_assoc first (Some f) (earliest (left_open (drop (i + 1) cs)))
+    ∙ sym (ap (λ xs. earlier first (earliest (left_open xs))) (drop_more cs i d h)) ∙ e
 
-pub open_all : (cs : List Conditional) (i : ℕ) (first : Option BrokenRule) → length cs ≤ i → earlier first (earliest (left_open (drop i cs))) ≡ earliest (left_open cs) → first ≡ earliest (left_open cs)
+pub open_all : (cs : List Conditional) (i : ℕ) (first : Option BrokenRule) → length cs ≤ i
+    → earlier first (earliest (left_open (drop i cs))) ≡ earliest (left_open cs) → first ≡ earliest (left_open cs)
 unfolding earliest left_open
 open_all cs i first h e = sym (with_none first) ∙ sym (ap (λ xs. earlier first (earliest (left_open xs))) (drop_all i cs h)) ∙ e
   where
@@ -79,11 +88,15 @@ earlier_nothing (Some g) = refl
 
 -- ---- what was found before a place
 
-pub found_token : (f : Sum) (t : Token) (place : ℕ) (scan : Scan) → found_with (record { tokens = f.tokens ++ t ∷ []; places = f.places ++ place ∷ []; first = f.first }) scan ≡ found_with f (with_token place t scan)
+pub found_token : (f : Sum) (t : Token) (place : ℕ) (scan : Scan)
+    → found_with (record { tokens = f.tokens ++ t ∷ []; places = f.places ++ place ∷ []; first = f.first }) scan
+    ≡ found_with f (with_token place t scan)
 unfolding found_with
 found_token f t place scan = rw (append_assoc f.tokens (t ∷ []) scan.tokens, append_assoc f.places (place ∷ []) scan.places) refl
 
-pub found_fault : (f : Sum) (r : LexRule) (place : ℕ) (scan : Scan) → found_with (record { tokens = f.tokens; places = f.places; first = earlier f.first (Some (broken_at r place)) }) scan ≡ found_with f (with_fault place r scan)
+pub found_fault : (f : Sum) (r : LexRule) (place : ℕ) (scan : Scan)
+    → found_with (record { tokens = f.tokens; places = f.places; first = earlier f.first (Some (broken_at r place)) }) scan
+    ≡ found_with f (with_fault place r scan)
 unfolding found_with earliest
 found_fault f r place scan = rw (earlier_assoc f.first (Some (broken_at r place)) (earliest scan.faults)) refl
 
@@ -99,34 +112,51 @@ with_content_last : (s : State) (p : ℕ) (c : Content) (scan : Scan) → (with_
 unfolding with_content
 with_content_last s p content.Gap scan = refl
 with_content_last s p (content.Token t) scan = refl
-with_content_last s p (content.Directive d) scan = elim (is_allowed s d) as (λ t. (cond t scan (with_fault p rule.Directive scan)).last ≡ scan.last) [ true ↦ refl | false ↦ refl ]
+with_content_last s p (content.Directive d) scan =
+    elim (is_allowed s d) as (λ t. (cond t scan (with_fault p rule.Directive scan)).last ≡ scan.last) [ true ↦ refl | false ↦ refl ]
 with_content_last s p (content.Broken r) scan = refl
 
 drop_suc : (n b : ℕ) (bs : List ℕ) → 1 ≤ n → drop (n - 1) bs ≡ drop n (b ∷ bs)
 drop_suc zero b bs h = absurd (omega arith)
 drop_suc (suc n) b bs h = let e : suc n - 1 ≡ n = omega arith in rw e refl
 
-pub scan_step : (s : State) (p : ℕ) (text : List ℕ) (q : Piece) → 0 < length text → q ≡ piece_at (is_taken s.conditionals) text → 1 ≤ q.size → scan_from s p 0 text ≡ with_content s p q.content (scan_from (after_content s p q.content) (p + q.size) 0 (drop q.size text))
+pub scan_step : (s : State) (p : ℕ) (text : List ℕ) (q : Piece) → 0 < length text → q ≡ piece_at (is_taken s.conditionals) text
+    → 1 ≤ q.size
+    → scan_from s p 0 text ≡ with_content s p q.content (scan_from (after_content s p q.content) (p + q.size) 0 (drop q.size text))
 unfolding scan_from
 scan_step s p [] q h e k = absurd (omega arith)
 scan_step s p (b ∷ bs) q h e k =
     let j : p + 1 + (q.size - 1) ≡ p + q.size = omega arith in
     let f = jump (after_content s p q.content) (p + 1) (q.size - 1) bs in
-    rw (← e) (ap (with_content s p q.content) (f ∙ ap (λ n. scan_from (after_content s p q.content) n 0 (drop (q.size - 1) bs)) j ∙ ap (scan_from (after_content s p q.content) (p + q.size) 0) (drop_suc q.size b bs k)))
+    rw (← e)
+    (ap (with_content s p q.content) (f ∙ ap (λ n. scan_from (after_content s p q.content) n 0 (drop (q.size - 1) bs)) j
+    ∙ ap (scan_from (after_content s p q.content) (p + q.size) 0) (drop_suc q.size b bs k)))
 
 left : (p : ℕ) (text : List ℕ) → p < length text → 0 < length (drop p text)
 left p text h = omega (arith, length-drop p text)
 
-scan_next : (s t : State) (p : ℕ) (text : List ℕ) (q : Piece) → p < length text → q ≡ piece_at (is_taken s.conditionals) (drop p text) → 1 ≤ q.size → t ≡ after_content s p q.content → scan_from s p 0 (drop p text) ≡ with_content s p q.content (scan_from t (p + q.size) 0 (drop (p + q.size) text))
+scan_next : (s t : State) (p : ℕ) (text : List ℕ) (q : Piece) → p < length text → q ≡ piece_at (is_taken s.conditionals) (drop p text)
+    → 1 ≤ q.size → t ≡ after_content s p q.content
+    → scan_from s p 0 (drop p text) ≡ with_content s p q.content (scan_from t (p + q.size) 0 (drop (p + q.size) text))
 scan_next s t p text q h e k u =
-    scan_step s p (drop p text) q (left p text h) e k ∙ ap (λ v. with_content s p q.content (scan_from v (p + q.size) 0 (drop q.size (drop p text)))) (sym u) ∙ ap (λ xs. with_content s p q.content (scan_from t (p + q.size) 0 xs)) (drop-drop q.size p text)
+    scan_step s p (drop p text) q (left p text h) e k
+    ∙ ap (λ v. with_content s p q.content (scan_from v (p + q.size) 0 (drop q.size (drop p text)))) (sym u)
+    ∙ ap (λ xs. with_content s p q.content (scan_from t (p + q.size) 0 xs)) (drop-drop q.size p text)
 
-pub found_next : (s t : State) (f g : Sum) (p : ℕ) (text : List ℕ) (q : Piece) (whole : Sum) → p < length text → q ≡ piece_at (is_taken s.conditionals) (drop p text) → 1 ≤ q.size → t ≡ after_content s p q.content → ((scan : Scan) → found_with g scan ≡ found_with f (with_content s p q.content scan)) → found_with f (scan_from s p 0 (drop p text)) ≡ whole → found_with g (scan_from t (p + q.size) 0 (drop (p + q.size) text)) ≡ whole
-found_next s t f g p text q whole h e k u v w = v (scan_from t (p + q.size) 0 (drop (p + q.size) text)) ∙ sym (ap (found_with f) (scan_next s t p text q h e k u)) ∙ w
+pub found_next : (s t : State) (f g : Sum) (p : ℕ) (text : List ℕ) (q : Piece) (whole : Sum) → p < length text
+    → q ≡ piece_at (is_taken s.conditionals) (drop p text) → 1 ≤ q.size → t ≡ after_content s p q.content
+    → ((scan : Scan) → found_with g scan ≡ found_with f (with_content s p q.content scan))
+    → found_with f (scan_from s p 0 (drop p text)) ≡ whole → found_with g (scan_from t (p + q.size) 0 (drop (p + q.size) text))
+    ≡ whole
+found_next s t f g p text q whole h e k u v w =
+    v (scan_from t (p + q.size) 0 (drop (p + q.size) text)) ∙ sym (ap (found_with f) (scan_next s t p text q h e k u)) ∙ w
 
-pub last_next : (s t : State) (p : ℕ) (text : List ℕ) (q : Piece) (whole : State) → p < length text → q ≡ piece_at (is_taken s.conditionals) (drop p text) → 1 ≤ q.size → t ≡ after_content s p q.content → (scan_from s p 0 (drop p text)).last ≡ whole → (scan_from t (p + q.size) 0 (drop (p + q.size) text)).last ≡ whole
+pub last_next : (s t : State) (p : ℕ) (text : List ℕ) (q : Piece) (whole : State) → p < length text
+    → q ≡ piece_at (is_taken s.conditionals) (drop p text) → 1 ≤ q.size → t ≡ after_content s p q.content
+    → (scan_from s p 0 (drop p text)).last ≡ whole → (scan_from t (p + q.size) 0 (drop (p + q.size) text)).last ≡ whole
 last_next s t p text q whole h e k u w =
-    sym (with_content_last s p q.content (scan_from t (p + q.size) 0 (drop (p + q.size) text))) ∙ sym (ap (λ scan. scan.last) (scan_next s t p text q h e k u)) ∙ w
+    sym (with_content_last s p q.content (scan_from t (p + q.size) 0 (drop (p + q.size) text)))
+    ∙ sym (ap (λ scan. scan.last) (scan_next s t p text q h e k u)) ∙ w
 
 pub scan_end : (s : State) (p : ℕ) (text : List ℕ) → length text ≤ p → scan_from s p 0 (drop p text) ≡ end_of s
 unfolding scan_from
@@ -141,7 +171,8 @@ paired_content : (s : State) (p : ℕ) (c : Content) (scan : Scan) → IsPaired 
 unfolding with_content
 paired_content s p content.Gap scan h = h
 paired_content s p (content.Token t) scan h = ap suc h
-paired_content s p (content.Directive d) scan h = elim (is_allowed s d) as (λ t. IsPaired (cond t scan (with_fault p rule.Directive scan))) [ true ↦ h | false ↦ h ]
+paired_content s p (content.Directive d) scan h =
+    elim (is_allowed s d) as (λ t. IsPaired (cond t scan (with_fault p rule.Directive scan))) [ true ↦ h | false ↦ h ]
 paired_content s p (content.Broken r) scan h = h
 
 pub paired : (s : State) (p k : ℕ) (text : List ℕ) → IsPaired (scan_from s p k text)
@@ -151,7 +182,8 @@ paired s p (suc k) [] = refl
 paired s p (suc k) (b ∷ bs) = paired s (p + 1) k bs
 paired s p zero (b ∷ bs) =
     let q = piece_at (is_taken s.conditionals) (b ∷ bs) in
-    paired_content s p q.content (scan_from (after_content s p q.content) (p + 1) (q.size - 1) bs) (paired (after_content s p q.content) (p + 1) (q.size - 1) bs)
+    paired_content s p q.content (scan_from (after_content s p q.content) (p + 1) (q.size - 1) bs)
+    (paired (after_content s p q.content) (p + 1) (q.size - 1) bs)
 
 -- ---- each token has a byte
 
@@ -159,7 +191,9 @@ few_content : (s : State) (p n : ℕ) (c : Content) (scan : Scan) → length sca
 unfolding with_content
 few_content s p n content.Gap scan h = omega arith
 few_content s p n (content.Token t) scan h = omega arith
-few_content s p n (content.Directive d) scan h = elim (is_allowed s d) as (λ t. length (cond t scan (with_fault p rule.Directive scan)).tokens ≤ suc n) [ true ↦ omega arith | false ↦ omega arith ]
+few_content s p n (content.Directive d) scan h =
+    elim (is_allowed s d) as (λ t. length (cond t scan (with_fault p rule.Directive scan)).tokens ≤ suc n)
+    [ true ↦ omega arith | false ↦ omega arith ]
 few_content s p n (content.Broken r) scan h = omega arith
 
 pub few_tokens : (s : State) (p k : ℕ) (text : List ℕ) → length (scan_from s p k text).tokens ≤ length text
@@ -169,35 +203,43 @@ few_tokens s p (suc k) [] = omega arith
 few_tokens s p (suc k) (b ∷ bs) = let h = few_tokens s (p + 1) k bs in omega arith
 few_tokens s p zero (b ∷ bs) =
     let q = piece_at (is_taken s.conditionals) (b ∷ bs) in
-    few_content s p (length bs) q.content (scan_from (after_content s p q.content) (p + 1) (q.size - 1) bs) (few_tokens (after_content s p q.content) (p + 1) (q.size - 1) bs)
+    few_content s p (length bs) q.content (scan_from (after_content s p q.content) (p + 1) (q.size - 1) bs)
+    (few_tokens (after_content s p q.content) (p + 1) (q.size - 1) bs)
 
 -- ---- the answer
 
-pub is_first : (f : Sum) (s : State) (text : List ℕ) → found_with f (end_of s) ≡ found_with nothing (scan_of text) → earlier f.first (earliest (left_open s.conditionals)) ≡ earliest (faults_of text)
+pub is_first : (f : Sum) (s : State) (text : List ℕ) → found_with f (end_of s) ≡ found_with nothing (scan_of text)
+    → earlier f.first (earliest (left_open s.conditionals)) ≡ earliest (faults_of text)
 unfolding found_with scan_from faults_of
 is_first f s text h = ap (λ (x : Sum). x.first) h
 
-pub has_places : (f : Sum) (s : State) (text : List ℕ) → found_with f (end_of s) ≡ found_with nothing (scan_of text) → length f.tokens ≡ length f.places
+pub has_places : (f : Sum) (s : State) (text : List ℕ) → found_with f (end_of s) ≡ found_with nothing (scan_of text)
+    → length f.tokens ≡ length f.places
 unfolding found_with scan_from scan_of
 has_places f s text h =
     let t : f.tokens ≡ (scan_of text).tokens = sym (append-nil f.tokens) ∙ ap (λ (x : Sum). x.tokens) h in
     let p : f.places ≡ (scan_of text).places = sym (append-nil f.places) ∙ ap (λ (x : Sum). x.places) h in
     ap length t ∙ paired start 0 0 text ∙ sym (ap length p)
 
-pub has_few : (f : Sum) (s : State) (text : List ℕ) → found_with f (end_of s) ≡ found_with nothing (scan_of text) → length f.tokens ≤ length text
+pub has_few : (f : Sum) (s : State) (text : List ℕ) → found_with f (end_of s) ≡ found_with nothing (scan_of text)
+    → length f.tokens ≤ length text
 unfolding found_with scan_from scan_of
 has_few f s text h =
     let t : f.tokens ≡ (scan_of text).tokens = sym (append-nil f.tokens) ∙ ap (λ (x : Sum). x.tokens) h in
     let l : length f.tokens ≡ length (scan_of text).tokens = ap length t in
     omega (arith, l, few_tokens start 0 0 text)
 
-pub is_lexed : (f : Sum) (s : State) (text : List ℕ) → found_with f (end_of s) ≡ found_with nothing (scan_of text) → s ≡ (scan_of text).last → record { tokens = f.tokens; places = f.places ++ length text ∷ []; unit = s.unit; step = unwrap_or s.step nanosecond } ≡ lexed text
+pub is_lexed : (f : Sum) (s : State) (text : List ℕ) → found_with f (end_of s) ≡ found_with nothing (scan_of text)
+    → s ≡ (scan_of text).last
+    → record { tokens = f.tokens; places = f.places ++ length text ∷ []; unit = s.unit; step = unwrap_or s.step nanosecond }
+    ≡ lexed text
 unfolding found_with scan_from lexed
 is_lexed f s text h e =
     let t : f.tokens ≡ (scan_of text).tokens = sym (append-nil f.tokens) ∙ ap (λ (x : Sum). x.tokens) h in
     let p : f.places ≡ (scan_of text).places = sym (append-nil f.places) ∙ ap (λ (x : Sum). x.places) h in
     rw (t, p, e) refl
 
-pub last_end : (s : State) (p : ℕ) (text : List ℕ) (whole : State) → length text ≤ p → (scan_from s p 0 (drop p text)).last ≡ whole → s ≡ whole
+pub last_end : (s : State) (p : ℕ) (text : List ℕ) (whole : State) → length text ≤ p → (scan_from s p 0 (drop p text)).last ≡ whole
+    → s ≡ whole
 unfolding scan_from
 last_end s p text whole h e = sym (ap (λ xs. (scan_from s p 0 xs).last) (drop_all p text h)) ∙ e

@@ -30,7 +30,13 @@ module _ (c : ByteClass) where
   split (b ∷ bs) =
       let s = split bs in
       ⊎_elim
-      (λ (yes : is_in c b ≡ true). record { front = b ∷ s.front; rest = s.rest; is = ap (λ (xs : List ℕ). b ∷ xs) s.is; all = and_from (is_in c b) (list_all (is_in c) s.front) yes s.all; stops = s.stops })
+      (λ (yes : is_in c b ≡ true). record {
+        front = b ∷ s.front;
+        rest = s.rest;
+        is = ap (λ (xs : List ℕ). b ∷ xs) s.is;
+        all = and_from (is_in c b) (list_all (is_in c) s.front) yes s.all;
+        stops = s.stops;
+      })
       (λ (no : is_in c b ≡ false). record { front = []; rest = b ∷ bs; is = refl; all = refl; stops = no })
       (cases_Bool (is_in c b))
 

@@ -1,5 +1,6 @@
 -- Words, names of system tasks and signs: which token their bytes spell, and what the code finds.
-use Rattle.std.proofs.Common.{◌≡◌, ℕ, ◌≤◌, Bool, true, false, List, [], ◌∷◌, ◌++◌, length, get_or, drop, Option, Some, None, nat_eq, ap, ◌∙◌, sym, refl, subst, ⊎_elim, eq-eqb, eqb-true, Decides, append_assoc, append-nil, arith}
+use Rattle.std.proofs.Common.{◌≡◌, ℕ, ◌≤◌, Bool, true, false, List, [], ◌∷◌, ◌++◌, length, get_or, drop, Option, Some, None, nat_eq, ap}
+use Rattle.std.proofs.Common.{◌∙◌, sym, refl, subst, ⊎_elim, eq-eqb, eqb-true, Decides, append_assoc, append-nil, arith}
 use Rattle.std.specs.List.{find, starts_with}
 use Rattle.std.specs.Str.{bytes_eq}
 use Rattle.std.specs.Cmp.Lexicographic.{bytes_decides}
@@ -15,7 +16,8 @@ use Rattle.v_syntax.specs.declared.word.SystemTask.{SystemTask}
 use Rattle.v_syntax.specs.declared.word.SystemTask.TheVariants.{DumpFile, DumpVars}
 use Rattle.v_syntax.specs.declared.mark.Mark.{Mark}
 use Rattle.v_syntax.specs.declared.mark.Mark.TheVariants.{CaseEqual}
-use Rattle.v_syntax.specs.Words.{keyword_of, keyword_spelling, keywords, reserved_of, reserved_spelling, reserved_words, task_of, task_spelling, system_tasks}
+use Rattle.v_syntax.specs.Words.{keyword_of, keyword_spelling, keywords, reserved_of, reserved_spelling, reserved_words, task_of}
+use Rattle.v_syntax.specs.Words.{task_spelling, system_tasks}
 use Rattle.v_syntax.specs.Marks.{mark_spelling, marks, mark_at, IsMarkAt}
 use Rattle.v_syntax.proofs.MarkLaws as marks_laws
 use Rattle.v_lex.specs.Pieces.{keyword_or_name, reserved_or_name, word_token}
@@ -28,7 +30,8 @@ pub find_test : {X : Type 0} (p : X → Bool) (xs : List X) (x : X) → find p x
 find_test p [] x e = absurd cc
 find_test p (y ∷ ys) x e =
     ⊎_elim
-    (λ (t : p y ≡ true). let is : Some y ≡ Some x = sym (cond-true (p y) (Some y) (find p ys) t) ∙ e in let same : y ≡ x = cc in sym (ap p same) ∙ t)
+    (λ (t : p y ≡ true). let is : Some y ≡ Some x = sym (cond-true (p y) (Some y) (find p ys) t)
+    ∙ e in let same : y ≡ x = cc in sym (ap p same) ∙ t)
     (λ (t : p y ≡ false). find_test p ys x (sym (cond-false (p y) (Some y) (find p ys) t) ∙ e))
     (cases_Bool (p y))
 
@@ -73,7 +76,8 @@ keyword_is word k e = (bytes_decides word (keyword_spelling k)).0 (find_test (λ
 
 reserved_is : (word : List ℕ) (r : ReservedWord) → reserved_of word ≡ Some r → word ≡ reserved_spelling r
 unfolding reserved_of
-reserved_is word r e = (bytes_decides word (reserved_spelling r)).0 (find_test (λ r. bytes_eq word (reserved_spelling r)) reserved_words r e)
+reserved_is word r e =
+    (bytes_decides word (reserved_spelling r)).0 (find_test (λ r. bytes_eq word (reserved_spelling r)) reserved_words r e)
 
 pub task_is : (name : List ℕ) (t : SystemTask) → task_of name ≡ Some t → name ≡ task_spelling t
 unfolding task_of
@@ -83,7 +87,8 @@ token_step : (word : List ℕ) → word_token word ≡ keyword_or_name word (key
 unfolding word_token
 token_step word = refl
 
-reserved_spells : (word : List ℕ) → IsWord word → keyword_of word ≡ None → (o : Option ReservedWord) → reserved_of word ≡ o → Spells word (reserved_or_name word o)
+reserved_spells : (word : List ℕ) → IsWord word → keyword_of word ≡ None → (o : Option ReservedWord) → reserved_of word ≡ o
+    → Spells word (reserved_or_name word o)
 reserved_spells word h k (Some r) e = reserved_is word r e
 reserved_spells word h k None e = (refl, (h, k, e))
 
@@ -102,7 +107,9 @@ pub keyword_token : (k : Keyword) → word_token (keyword_spelling k) ≡ token.
 keyword_token k = token_step (keyword_spelling k) ∙ ap (keyword_or_name (keyword_spelling k)) (keyword_found k)
 
 pub reserved_token : (r : ReservedWord) → word_token (reserved_spelling r) ≡ token.Reserved r
-reserved_token r = token_step (reserved_spelling r) ∙ ap (keyword_or_name (reserved_spelling r)) (reserved_found r).0 ∙ ap (reserved_or_name (reserved_spelling r)) (reserved_found r).1
+reserved_token r =
+    token_step (reserved_spelling r) ∙ ap (keyword_or_name (reserved_spelling r)) (reserved_found r).0
+    ∙ ap (reserved_or_name (reserved_spelling r)) (reserved_found r).1
 
 -- ---- signs
 
@@ -125,7 +132,8 @@ unfolding mark_at
 sign_of text m e = find_test (λ m. starts_with nat_eq text (mark_spelling m)) marks m e
 
 -- of two fronts of one text the longer goes on where the shorter ends
-pub longer_front : (xs ys us vs : List ℕ) → xs ++ ys ≡ us ++ vs → length xs ≤ length us → (more : List ℕ) × (us ≡ xs ++ more) × (ys ≡ more ++ vs)
+pub longer_front : (xs ys us vs : List ℕ) → xs ++ ys ≡ us ++ vs → length xs ≤ length us
+    → (more : List ℕ) × (us ≡ xs ++ more) × (ys ≡ more ++ vs)
 longer_front [] ys us vs e h = (us, refl, e)
 longer_front (x ∷ xs) ys [] vs e h = absurd (omega arith)
 longer_front (x ∷ xs) ys (u ∷ us) vs e h =
@@ -134,7 +142,8 @@ longer_front (x ∷ xs) ys (u ∷ us) vs e h =
     (r.0, ap (λ (zs : List ℕ). u ∷ zs) r.1 ∙ ap (λ (z : ℕ). z ∷ (xs ++ r.0)) (sym first), r.2)
 
 -- the longest sign is found
-pub sign_is : (bytes behind : List ℕ) (m : Mark) → IsLongest Sign bytes behind → bytes ≡ mark_spelling m → mark_at (bytes ++ behind) ≡ Some m
+pub sign_is : (bytes behind : List ℕ) (m : Mark) → IsLongest Sign bytes behind → bytes ≡ mark_spelling m
+    → mark_at (bytes ++ behind) ≡ Some m
 sign_is bytes behind m h e = go (mark_at (bytes ++ behind)) refl
   where
     here : IsMarkAt (bytes ++ behind) m
@@ -144,16 +153,19 @@ sign_is bytes behind m h e = go (mark_at (bytes ++ behind)) refl
     go None q = absurd (marks_laws.none (bytes ++ behind) m q here)
     go (Some k) q =
         let there = begins_of (bytes ++ behind) (mark_spelling k) (sign_of (bytes ++ behind) k q) in
-        let l : length bytes ≤ length (mark_spelling k) = omega (arith, marks_laws.longest (bytes ++ behind) k m q here, ap (λ (xs : List ℕ). length xs) e) in
+        let l : length bytes ≤ length (mark_spelling k) =
+        omega (arith, marks_laws.longest (bytes ++ behind) k m q here, ap (λ (xs : List ℕ). length xs) e) in
         let r = longer_front bytes behind (mark_spelling k) (drop (length (mark_spelling k)) (bytes ++ behind)) there l in
         let none = h.most Sign r.0 (drop (length (mark_spelling k)) (bytes ++ behind)) r.2 (k, sym r.1) in
         let same : mark_spelling k ≡ bytes ++ [] = r.1 ∙ ap (λ (xs : List ℕ). bytes ++ xs) none in
-        let n : length (mark_spelling k) ≡ length (mark_spelling m) = ap (λ (xs : List ℕ). length xs) same ∙ omega (arith, length-append bytes [], ap (λ (xs : List ℕ). length xs) e) in
+        let n : length (mark_spelling k) ≡ length (mark_spelling m) =
+        ap (λ (xs : List ℕ). length xs) same ∙ omega (arith, length-append bytes [], ap (λ (xs : List ℕ). length xs) e) in
         let is : mark_spelling k ≡ mark_spelling m = same ∙ append-nil bytes ∙ e in
         sym (sign_found k) ∙ ap mark_at is ∙ sign_found m
 
 -- what is found is the longest sign
-pub sign_longest : (text : List ℕ) (m : Mark) → mark_at text ≡ Some m → (behind : List ℕ) × (text ≡ mark_spelling m ++ behind) × IsLongest Sign (mark_spelling m) behind
+pub sign_longest : (text : List ℕ) (m : Mark) → mark_at text ≡ Some m → (behind : List ℕ) × (text ≡ mark_spelling m ++ behind)
+    × IsLongest Sign (mark_spelling m) behind
 sign_longest text m e =
     let behind = drop (length (mark_spelling m)) text in
     let is = begins_of text (mark_spelling m) (sign_of text m e) in (
@@ -161,7 +173,9 @@ sign_longest text m e =
       is,
       longest_of Sign (mark_spelling m) behind (m, refl)
           (λ more rest q k.
-          let whole : text ≡ mark_spelling k.0 ++ rest = is ∙ ap (λ (xs : List ℕ). mark_spelling m ++ xs) q ∙ sym (append_assoc (mark_spelling m) more rest) ∙ ap (λ (xs : List ℕ). xs ++ rest) k.1 in
+          let whole : text ≡ mark_spelling k.0 ++ rest =
+          is ∙ ap (λ (xs : List ℕ). mark_spelling m ++ xs) q ∙ sym (append_assoc (mark_spelling m) more rest)
+          ∙ ap (λ (xs : List ℕ). xs ++ rest) k.1 in
           let l = marks_laws.longest text m k.0 e (begins_is text (mark_spelling k.0) rest whole) in
           let n = ap (λ (xs : List ℕ). length xs) k.1 in
           nil_from_length more (omega (arith, l, n, length-append (mark_spelling m) more))),
@@ -169,4 +183,5 @@ sign_longest text m e =
 
 -- where no sign is found, none stands
 pub no_sign : (text : List ℕ) (front rest : List ℕ) → mark_at text ≡ None → text ≡ front ++ rest → HasForm Sign front → ⊥
-no_sign text front rest q e k = marks_laws.none text k.0 q (begins_is text (mark_spelling k.0) rest (e ∙ ap (λ (xs : List ℕ). xs ++ rest) k.1))
+no_sign text front rest q e k =
+    marks_laws.none text k.0 q (begins_is text (mark_spelling k.0) rest (e ∙ ap (λ (xs : List ℕ). xs ++ rest) k.1))

@@ -26,7 +26,9 @@ is_name_byte b = is_letter b || is_digit b || (b == 95) || (b == 36)
 
 -- 0 to 9, a to f, A to F, x, X, z, Z, ? and _
 abbrev pub is_written : ℕ → Bool
-is_written b = is_digit b || (nat_le 97 b && nat_le b 102) || (nat_le 65 b && nat_le b 70) || (b == 120) || (b == 88) || (b == 122) || (b == 90) || (b == 63) || (b == 95)
+is_written b =
+    is_digit b || (nat_le 97 b && nat_le b 102) || (nat_le 65 b && nat_le b 70) || (b == 120) || (b == 88) || (b == 122) || (b == 90)
+    || (b == 63) || (b == 95)
 
 abbrev pub is_in : ByteClass → ℕ → Bool
 is_in Separator b = is_separator b

@@ -44,4 +44,6 @@ block_comment_to text None = broken (length text) rule.UnclosedText
 
 -- the comment that stands at the front of the text, if one does
 unfoldable pub comment_at : List ℕ → Option Piece
-comment_at text = if begins text (codes "//") then Some (gap (2 + run class.Line (drop 2 text))) else (if begins text (codes "/*") then Some (block_comment_to text (comment_end (drop 2 text))) else None)
+comment_at text =
+    if begins text (codes "//") then Some (gap (2 + run class.Line (drop 2 text)))
+    else (if begins text (codes "/*") then Some (block_comment_to text (comment_end (drop 2 text))) else None)

@@ -8,7 +8,10 @@ use Rattle.v_lex.specs.declared.base.Base.TheVariants.{Binary, Octal, Decimal, H
 
 -- the base that a letter names, in either case
 abbrev pub base_of : ℕ → Option Base
-base_of b = if (b == 98) || (b == 66) then Some Binary else (if (b == 111) || (b == 79) then Some Octal else (if (b == 100) || (b == 68) then Some Decimal else (if (b == 104) || (b == 72) then Some Hexadecimal else None)))
+base_of b =
+    if (b == 98) || (b == 66) then Some Binary
+    else (if (b == 111) || (b == 79) then Some Octal
+    else (if (b == 100) || (b == 68) then Some Decimal else (if (b == 104) || (b == 72) then Some Hexadecimal else None)))
 
 -- how many bits one written digit has
 abbrev pub bits_of : Base → ℕ
@@ -23,7 +26,9 @@ unknown_of b = if (b == 120) || (b == 88) then Some X else (if (b == 122) || (b 
 
 -- the value of a digit up to f, and 16 for any other byte
 abbrev pub hexadecimal_of : ℕ → ℕ
-hexadecimal_of b = if nat_le 48 b && nat_le b 57 then b - 48 else (if nat_le 97 b && nat_le b 102 then b - 87 else (if nat_le 65 b && nat_le b 70 then b - 55 else 16))
+hexadecimal_of b =
+    if nat_le 48 b && nat_le b 57 then b - 48
+    else (if nat_le 97 b && nat_le b 102 then b - 87 else (if nat_le 65 b && nat_le b 70 then b - 55 else 16))
 
 abbrev pub known_digits : ℕ → ℕ → Option (List Digit)
 known_digits bits n = if nat_lt n (2 ^ bits) then Some (vector bits n) else None

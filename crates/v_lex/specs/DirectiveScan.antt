@@ -1,5 +1,6 @@
 -- A means of proof: a directive and its parts, as the code finds them. `Directives` says what they mean.
-use Rattle.std.specs.Prelude.{ℕ, zero, suc, ◌+◌, ◌*◌, Bool, true, false, ◌==◌, ◌||◌, ◌&&◌, List, [], ◌∷◌, length, take, drop, Option, Some, None, option_map, is_none, if◌then◌else◌}
+use Rattle.std.specs.Prelude.{ℕ, zero, suc, ◌+◌, ◌*◌, Bool, true, false, ◌==◌, ◌||◌, ◌&&◌, List, [], ◌∷◌, length, take, drop, Option}
+use Rattle.std.specs.Prelude.{Some, None, option_map, is_none, if◌then◌else◌}
 use Rattle.std.specs.Str.{bytes_eq}
 use lib.Chars.{codes}
 use Rattle.v_lex.specs.declared.bytes.ByteClass.TheVariants as class
@@ -57,7 +58,8 @@ time_of size digits unit = do
   Some (size + unit.0, magnitude * femtoseconds)
 
 abbrev pub time_behind : ℕ → List ℕ → Option (ℕ × ℕ)
-time_behind separators rest = time_of (separators + run class.Digit rest) (take (run class.Digit rest) rest) (word_after (drop (run class.Digit rest) rest))
+time_behind separators rest =
+    time_of (separators + run class.Digit rest) (take (run class.Digit rest) rest) (word_after (drop (run class.Digit rest) rest))
 
 unfoldable pub time_after : List ℕ → Option (ℕ × ℕ)
 time_after text = time_behind (run class.Separator text) (drop (run class.Separator text) text)
@@ -97,11 +99,15 @@ named_or_broken size w None = directive_of_parts size (without_name w)
 
 -- Behind the name nothing stands on the line.
 abbrev pub define_or_broken : ℕ → List ℕ → Option (ℕ × List ℕ) → Piece
-define_or_broken size after (Some a) = if is_blank (length (drop a.0 after)) (drop a.0 after) then directive_of_parts (size + a.0) (directive.Define a.1) else directive_of_parts size directive.Broken
+define_or_broken size after (Some a) =
+    if is_blank (length (drop a.0 after)) (drop a.0 after) then directive_of_parts (size + a.0) (directive.Define a.1)
+    else directive_of_parts size directive.Broken
 define_or_broken size after None = directive_of_parts size directive.Broken
 
 abbrev pub net_type_or_broken : ℕ → ℕ × List ℕ → Piece
-net_type_or_broken size a = if bytes_eq a.1 (codes "none") || bytes_eq a.1 (codes "wire") then directive_of_parts (size + a.0) directive.DefaultNetType else directive_of_parts size directive.Broken
+net_type_or_broken size a =
+    if bytes_eq a.1 (codes "none") || bytes_eq a.1 (codes "wire") then directive_of_parts (size + a.0) directive.DefaultNetType
+    else directive_of_parts size directive.Broken
 
 -- A directive whose word has this size, before these bytes. Where it is broken, only its word belongs to it.
 unfoldable pub directive_with : ℕ → List ℕ → Option DirectiveWord → Piece
@@ -116,7 +122,8 @@ directive_with size after (Some w) = named_or_broken size w (name_after after)
 
 -- the directive behind a backquote
 unfoldable pub directive_at : List ℕ → Piece
-directive_at after = directive_with (1 + run class.Name after) (drop (run class.Name after) after) (directive_of (take (run class.Name after) after))
+directive_at after =
+    directive_with (1 + run class.Name after) (drop (run class.Name after) after) (directive_of (take (run class.Name after) after))
 
 -- The directives of conditionals are seen in a part that isn't taken, too.
 abbrev pub is_conditional : Option DirectiveWord → Bool

@@ -4,7 +4,8 @@ use Rattle.std.specs.List.{find}
 use Rattle.std.specs.Str.{bytes_eq}
 use lib.Chars.{codes}
 use Rattle.v_lex.specs.declared.directive.DirectiveWord.{DirectiveWord}
-use Rattle.v_lex.specs.declared.directive.DirectiveWord.TheVariants.{DefaultNetType, Define, Else, ElsIf, EndIf, IfDef, IfNDef, ResetAll, TimeScale, Undef}
+use Rattle.v_lex.specs.declared.directive.DirectiveWord.TheVariants.{DefaultNetType, Define, Else, ElsIf, EndIf, IfDef, IfNDef, ResetAll}
+use Rattle.v_lex.specs.declared.directive.DirectiveWord.TheVariants.{TimeScale, Undef}
 
 abbrev pub directive_spelling : DirectiveWord → List ℕ
 directive_spelling DefaultNetType = codes "default_nettype"

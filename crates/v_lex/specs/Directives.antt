@@ -25,7 +25,9 @@ NamePart name parts behind = (gap : List ℕ) × (parts ≡ gap ++ name) × AllI
 
 -- separators, and `none` or `wire`
 abbrev pub NetTypePart : List ℕ → List ℕ → Type 0
-NetTypePart parts behind = (gap name : List ℕ) × (parts ≡ gap ++ name) × AllIn class.Separator gap × ((name ≡ codes "none") ⊎ (name ≡ codes "wire")) × Stops class.Name behind
+NetTypePart parts behind =
+    (gap name : List ℕ) × (parts ≡ gap ++ name) × AllIn class.Separator gap × ((name ≡ codes "none") ⊎ (name ≡ codes "wire"))
+    × Stops class.Name behind
 
 -- separators and 1, 10 or 100, separators and a unit: a time in femtoseconds
 pub record TimePart (time : ℕ) (parts : List ℕ) : Type 0 where
@@ -102,4 +104,5 @@ IsOfConditional _ = ⊥
 
 -- A backquote and the whole word of a directive of conditionals stand there.
 abbrev pub BeginsConditional : List ℕ → Type 0
-BeginsConditional text = (w : DirectiveWord) × (after : List ℕ) × IsOfConditional w × (text ≡ 96 ∷ (directive_spelling w ++ after)) × Stops class.Name after
+BeginsConditional text =
+    (w : DirectiveWord) × (after : List ℕ) × IsOfConditional w × (text ≡ 96 ∷ (directive_spelling w ++ after)) × Stops class.Name after

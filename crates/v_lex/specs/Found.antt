@@ -20,7 +20,8 @@ of_found f = record { tokens = f.tokens.items; places = f.places.items; first = 
 
 -- what was found before a place, and what a scan finds from there on
 unfoldable pub found_with : Sum → Scan → Sum
-found_with f scan = record { tokens = f.tokens ++ scan.tokens; places = f.places ++ scan.places; first = earlier f.first (earliest scan.faults) }
+found_with f scan =
+    record { tokens = f.tokens ++ scan.tokens; places = f.places ++ scan.places; first = earlier f.first (earliest scan.faults) }
 
 -- what a scan finds at the end of the text
 abbrev pub end_of : State → Scan

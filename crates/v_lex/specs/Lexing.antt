@@ -1,11 +1,13 @@
 -- What directives set, and what the parts of a text tell: tokens, their places, and the rules that are broken.
-use Rattle.std.specs.Prelude.{ℕ, ◌-◌, min, Bool, true, false, not, ◌&&◌, nat_le, List, [], ◌∷◌, ◌++◌, length, take, map, Option, Some, None, if◌then◌else◌}
+use Rattle.std.specs.Prelude.{ℕ, ◌-◌, min, Bool, true, false, not, ◌&&◌, nat_le, List, [], ◌∷◌, ◌++◌, length, take, map, Option, Some}
+use Rattle.std.specs.Prelude.{None, if◌then◌else◌}
 use Rattle.std.specs.List.{slice_get}
 use Rattle.std.specs.Str.{bytes_eq}
 use lib.Chars.{codes}
 use Rattle.v_syntax.specs.declared.token.Token.{Token}
 use Rattle.v_lex.specs.declared.directive.Directive.{Directive}
-use Rattle.v_lex.specs.declared.directive.Directive.TheVariants.{TimeScale, Define, Undef, IfDef, IfNDef, ElsIf, Else, EndIf, ResetAll, DefaultNetType, Unnamed, Broken}
+use Rattle.v_lex.specs.declared.directive.Directive.TheVariants.{TimeScale, Define, Undef, IfDef, IfNDef, ElsIf, Else, EndIf, ResetAll}
+use Rattle.v_lex.specs.declared.directive.Directive.TheVariants.{DefaultNetType, Unnamed, Broken}
 use Rattle.v_lex.specs.declared.directive.LexRule.{LexRule}
 use Rattle.v_lex.specs.declared.directive.LexRule.TheVariants as rule
 use Rattle.v_lex.specs.declared.directive.BrokenRule.{BrokenRule}
@@ -58,11 +60,13 @@ is_taken cs = taken_in (innermost cs)
 
 -- one more conditional, with the truth of its condition
 abbrev pub opened : List Conditional → ℕ → Bool → List Conditional
-opened cs place holds = cs ++ record { place = place; is_taken = is_taken cs && holds; may_take = is_taken cs && not holds; has_else = false } ∷ []
+opened cs place holds =
+    cs ++ record { place = place; is_taken = is_taken cs && holds; may_take = is_taken cs && not holds; has_else = false } ∷ []
 
 -- the next part of a conditional, with the truth of its condition
 abbrev pub next_part : Conditional → Bool → Bool → Conditional
-next_part c holds is_else = record { place = c.place; is_taken = c.may_take && holds; may_take = c.may_take && not holds; has_else = is_else }
+next_part c holds is_else =
+    record { place = c.place; is_taken = c.may_take && holds; may_take = c.may_take && not holds; has_else = is_else }
 
 abbrev pub may_go_on : Option Conditional → Bool
 may_go_on None = false
@@ -85,7 +89,8 @@ after_directive s place (Define name) = record s { defined = with_name s.defined
 after_directive s place (Undef name) = record s { defined = with_name s.defined name false }
 after_directive s place (IfDef name) = record s { conditionals = opened s.conditionals place (s.defined name) }
 after_directive s place (IfNDef name) = record s { conditionals = opened s.conditionals place (not (s.defined name)) }
-after_directive s place (ElsIf name) = record s { conditionals = with_next_part s.conditionals (s.defined name) false (innermost s.conditionals) }
+after_directive s place (ElsIf name) =
+    record s { conditionals = with_next_part s.conditionals (s.defined name) false (innermost s.conditionals) }
 after_directive s place Else = record s { conditionals = with_next_part s.conditionals true true (innermost s.conditionals) }
 after_directive s place EndIf = record s { conditionals = outer s.conditionals }
 after_directive s place ResetAll = record s { unit = nanosecond }

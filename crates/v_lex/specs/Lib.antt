@@ -8,6 +8,7 @@ pub mod Directives
 pub mod Lexing
 pub mod Row
 pub mod Conditionals
+pub mod Defines
 pub mod Numbers
 pub mod Comments
 pub mod DirectiveScan

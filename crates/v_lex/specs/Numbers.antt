@@ -1,5 +1,6 @@
 -- A means of proof: the value of a written number as the code finds it. `Spelling` says what it means.
-use Rattle.std.specs.Prelude.{ℕ, ◌+◌, ◌-◌, ◌*◌, ◌^◌, Bool, false, not, nat_lt, nat_le, ◌==◌, ◌&&◌, List, [], ◌∷◌, ◌++◌, take, replicate, Option, Some, None, option_map, if◌then◌else◌}
+use Rattle.std.specs.Prelude.{ℕ, ◌+◌, ◌-◌, ◌*◌, ◌^◌, Bool, false, not, nat_lt, nat_le, ◌==◌, ◌&&◌, List, [], ◌∷◌, ◌++◌, take, replicate}
+use Rattle.std.specs.Prelude.{Option, Some, None, option_map, if◌then◌else◌}
 use Rattle.std.specs.List.{list_all}
 use Rattle.four_value.specs.declared.Digit.{Digit}
 use Rattle.four_value.specs.Vector.{vector}
@@ -34,7 +35,8 @@ decimal_of bs = if nat_lt (decimal_from 0 bs) (2 ^ 128) then Some (decimal_from 
 -- The bits of written digits, which stand from the highest on, below those that are read already.
 unfoldable pub digits_below : ℕ → List Digit → List ℕ → Option (List Digit)
 digits_below bits above [] = Some above
-digits_below bits above (b ∷ bs) = if b == 95 then digits_below bits above bs else (digits_of bits b >>= λ ds. digits_below bits (ds ++ above) bs)
+digits_below bits above (b ∷ bs) =
+    if b == 95 then digits_below bits above bs else (digits_of bits b >>= λ ds. digits_below bits (ds ++ above) bs)
 
 -- ---- the vector of a written number
 

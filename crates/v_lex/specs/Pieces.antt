@@ -68,7 +68,8 @@ number_with digits rest None = if length digits == 0 then broken 1 rule.BadByte 
 
 -- a number, or a ' that begins none
 unfoldable pub number_at : List ℕ → Piece
-number_at text = number_with (take (run class.Decimal text) text) (drop (run class.Decimal text) text) (base_at (drop (run class.Decimal text) text))
+number_at text =
+    number_with (take (run class.Decimal text) text) (drop (run class.Decimal text) text) (base_at (drop (run class.Decimal text) text))
 
 abbrev pub reserved_or_name : List ℕ → Option ReservedWord → Token
 reserved_or_name word (Some r) = token.Reserved r
@@ -111,7 +112,11 @@ comment_or other None = other
 
 -- a token, a directive or a byte that begins none; b is the first byte
 abbrev pub token_from : ℕ → List ℕ → List ℕ → Piece
-token_from b after text = if b == 34 then text_at after else (if b == 96 then directive_at after else (if is_digit b || (b == 39) then number_at text else (if is_name_start b then word_at text else (if b == 36 then task_at text else mark_piece text))))
+token_from b after text =
+    if b == 34 then text_at after
+    else (if b == 96 then directive_at after
+    else (if is_digit b || (b == 39) then number_at text
+    else (if is_name_start b then word_at text else (if b == 36 then task_at text else mark_piece text))))
 
 abbrev pub closed_text_or_byte : Option ℕ → Piece
 closed_text_or_byte (Some n) = gap (2 + n)
@@ -121,7 +126,9 @@ abbrev pub conditional_or_byte : List ℕ → Option DirectiveWord → Piece
 conditional_or_byte after d = if is_conditional d then directive_at after else gap 1
 
 abbrev pub skipped_from : ℕ → List ℕ → Piece
-skipped_from b after = if b == 34 then closed_text_or_byte (text_len after) else (if b == 96 then conditional_or_byte after (directive_of (take (run class.Name after) after)) else gap 1)
+skipped_from b after =
+    if b == 34 then closed_text_or_byte (text_len after)
+    else (if b == 96 then conditional_or_byte after (directive_of (take (run class.Name after) after)) else gap 1)
 
 abbrev pub taken_or_skipped : Bool → ℕ → List ℕ → Piece
 taken_or_skipped true b after = token_from b after (b ∷ after)

@@ -16,7 +16,8 @@ use Rattle.v_lex.specs.Lexing.{State, Scan, Lexed, is_taken, left_open, with_con
 
 -- a quote that isn't closed on its line, up to the line's end
 abbrev pub IsOpenText : List ℕ → List ℕ → Type 0
-IsOpenText bytes behind = (inside : List ℕ) × (bytes ≡ 34 ∷ inside) × AllIn class.Text inside × ((behind ≡ []) ⊎ ((rest : List ℕ) × (behind ≡ 10 ∷ rest)))
+IsOpenText bytes behind =
+    (inside : List ℕ) × (bytes ≡ 34 ∷ inside) × AllIn class.Text inside × ((behind ≡ []) ⊎ ((rest : List ℕ) × (behind ≡ 10 ∷ rest)))
 
 -- The bytes look like a token of the form, and are none.
 abbrev pub IsNoToken : Form → List ℕ → List ℕ → Type 0
@@ -74,7 +75,8 @@ TakenOrSkippedStands false c bytes behind = SkippedStands c bytes behind
 
 -- these bytes stand before those, in a part that is taken or not
 abbrev pub Stands : Bool → Content → List ℕ → List ℕ → Type 0
-Stands taken c bytes behind = CommentStands c bytes behind ⊎ ((BeginsComment (bytes ++ behind) → ⊥) × TakenOrSkippedStands taken c bytes behind)
+Stands taken c bytes behind =
+    CommentStands c bytes behind ⊎ ((BeginsComment (bytes ++ behind) → ⊥) × TakenOrSkippedStands taken c bytes behind)
 
 -- ---- the whole text
 
@@ -111,7 +113,12 @@ told row = told_of start 0 row
 abbrev pub Reads : List ℕ → Lexed → Type 0
 Reads text lexed =
     (row : List Part) × IsRowOf row text × ((told row).faults ≡ [])
-    × (lexed ≡ record { tokens = (told row).tokens; places = (told row).places ++ length text ∷ []; unit = (told row).last.unit; step = unwrap_or (told row).last.step nanosecond })
+    × (lexed ≡ record {
+      tokens = (told row).tokens;
+      places = (told row).places ++ length text ∷ [];
+      unit = (told row).last.unit;
+      step = unwrap_or (told row).last.step nanosecond;
+    })
 
 -- Of the rules that the text breaks this is the first by place.
 abbrev pub BreaksFirst : List ℕ → LexRule → ℕ → Type 0

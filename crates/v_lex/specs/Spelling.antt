@@ -1,5 +1,6 @@
 -- Which bytes have the form of a token, and which token they spell.
-use Rattle.std.specs.Prelude.{◌≡◌, ℕ, suc, ◌+◌, ◌-◌, ◌*◌, ◌^◌, ◌≤◌, ◌<◌, ◌==◌, List, [], ◌∷◌, ◌++◌, take, replicate, Some, None, IsTrue, ◌⊎◌, if◌then◌else◌}
+use Rattle.std.specs.Prelude.{◌≡◌, ℕ, suc, ◌+◌, ◌-◌, ◌*◌, ◌^◌, ◌≤◌, ◌<◌, ◌==◌, List, [], ◌∷◌, ◌++◌, take, replicate, Some, None, IsTrue}
+use Rattle.std.specs.Prelude.{◌⊎◌, if◌then◌else◌}
 use Rattle.std.specs.List.{list_all}
 use Rattle.four_value.specs.declared.Digit.{Digit}
 use Rattle.four_value.specs.Vector.{vector}
@@ -113,7 +114,8 @@ DecimalVector size written ds =
 
 -- In the other bases missing high digits are x or z where the highest written one is, and else 0; what is past the size is cut.
 abbrev pub WrittenVector : ℕ → ℕ → List ℕ → List Digit → Type 0
-WrittenVector bits size written ds = (low : List Digit) × Writes bits written low × (ds ≡ take size (low ++ replicate size (fill_of written)))
+WrittenVector bits size written ds =
+    (low : List Digit) × Writes bits written low × (ds ≡ take size (low ++ replicate size (fill_of written)))
 
 abbrev pub InBase : Base → ℕ → List ℕ → List Digit → Type 0
 InBase Decimal size written ds = DecimalVector size written ds

@@ -3,7 +3,9 @@
 ghost use Rattle.std.specs.Prelude.{◌≡◌, ◌≤◌, ◌<◌, ◌+◌, ◌*◌, ◌^◌, ℕ, List, length, Option, IfSome, IfOk, option_map};
 ghost use Rattle.std.specs.Str.{bytes_eq};
 ghost use Rattle.v_lex.specs.Times.{magnitude_of, unit_of};
-ghost use Rattle.v_lex.specs.DirectiveScan.{word_after, is_name, name_after, time_after, slash_after, scale_after, scale_or_broken, with_name, without_name, named_or_broken, define_or_broken, net_type_or_broken, directive_with, directive_at};
+ghost use Rattle.v_lex.specs.DirectiveScan.{word_after, is_name, name_after, time_after, slash_after, scale_after, scale_or_broken};
+ghost use Rattle.v_lex.specs.DirectiveScan.{with_name, without_name, named_or_broken, define_or_broken, net_type_or_broken};
+ghost use Rattle.v_lex.specs.DirectiveScan.{directive_with, directive_at};
 ghost use Rattle.v_lex.specs.Comments.{directive_of_parts};
 
 use crate::bytes::{ByteClass, is_name_start};

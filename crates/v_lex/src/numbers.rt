@@ -3,7 +3,8 @@
 ghost use Rattle.std.specs.Prelude.{◌≡◌, ◌≤◌, ◌<◌, ◌+◌, ◌^◌, ◌++◌, length, take, drop, Option, IfSome, SomeIff, option_map, ◌==◌};
 ghost use Rattle.std.specs.List.{list_all};
 ghost use Rattle.v_lex.specs.Bytes.{is_in};
-ghost use Rattle.v_lex.specs.Numbers.{decimal_step, decimal_of, digits_below, begins_with_digit, lone_unknown, decimal_vector, vector_in, vector_of, size_of};
+ghost use Rattle.v_lex.specs.Numbers.{decimal_step, decimal_of, digits_below, begins_with_digit, lone_unknown};
+ghost use Rattle.v_lex.specs.Numbers.{decimal_vector, vector_in, vector_of, size_of};
 ghost use Rattle.v_lex.specs.Digits.{unknown_of, hexadecimal_of, digits_of, fill_of, bits_of};
 ghost use Rattle.v_lex.specs.Pieces.{base_at, number_or_bad, plain_value, based_value, number_at};
 

@@ -1,7 +1,8 @@
 //! What stands at a place of a text.
 
 ghost use Rattle.std.specs.Prelude.{◌≡◌, ◌≤◌, ◌<◌, ◌+◌, ◌^◌, ◌∷◌, ℕ, List, length, drop, IfOk};
-ghost use Rattle.v_lex.specs.Pieces.{word_token, word_at, task_at, mark_piece, text_len, closed_text_or_byte, skipped_from, token_from, piece_at};
+ghost use Rattle.v_lex.specs.Pieces.{word_token, word_at, task_at, mark_piece, text_len, closed_text_or_byte, skipped_from};
+ghost use Rattle.v_lex.specs.Pieces.{token_from, piece_at};
 ghost use Rattle.v_lex.specs.DirectiveScan.{is_conditional};
 ghost use Rattle.v_lex.specs.Comments.{gap};
 

@@ -68,7 +68,8 @@ impl Found {
     }
 
     fn token(&mut self, token: Token, place: u32) -> Result<(), NoMemory>
-        ensures { OnOk result ((scan : Scan) → found_with (of_found self.new) scan ≡ found_with (of_found self.old) (with_token place token scan)) }
+        ensures { OnOk result ((scan : Scan)
+            → found_with (of_found self.new) scan ≡ found_with (of_found self.old) (with_token place token scan)) }
     {
         self.tokens.push(token)?;
         self.places.push(place)?;
@@ -84,7 +85,9 @@ impl Found {
         place: u32,
         content: Content,
     ) -> Result<(), NoMemory>
-        ensures found { OnOk result ((scan : Scan) → found_with (of_found self.new) scan ≡ found_with (of_found self.old) (with_content (state_of state.old) place content scan)) }
+        ensures found { OnOk result ((scan : Scan)
+            → found_with (of_found self.new) scan
+            ≡ found_with (of_found self.old) (with_content (state_of state.old) place content scan)) }
         ensures state { OnOk result (state_of state.new ≡ after_content (state_of state.old) place content) }
     {
         match content {

@@ -2,7 +2,8 @@
 
 ghost use Rattle.std.specs.Prelude.{◌≡◌, ◌≤◌, ◌<◌, ◌&&◌, not, length, Option, IfOk, OnOk, IfSome, ◌++◌, ◌∷◌, []};
 ghost use Rattle.v_lex.specs.States.{state_of};
-ghost use Rattle.v_lex.specs.Lexing.{innermost, outer, is_taken, opened, next_part, with_next_part, may_go_on, is_allowed, after_directive, start, least, nanosecond};
+ghost use Rattle.v_lex.specs.Lexing.{innermost, outer, is_taken, opened, next_part, with_next_part, may_go_on, is_allowed};
+ghost use Rattle.v_lex.specs.Lexing.{after_directive, start, least, nanosecond};
 
 use crate::directive::{Conditional, Directive};
 use crate::names::Names;
@@ -78,7 +79,8 @@ fn next_part(inner: Conditional, holds: bool, is_else: bool) -> Conditional
 
 /// Goes on to the next part of the conditional at hand, whose condition holds or not.
 fn go_on(conditionals: &mut Vec<Conditional>, holds: bool, is_else: bool) -> Result<(), NoMemory>
-    ensures { OnOk result (conditionals.new.items ≡ with_next_part conditionals.old.items holds is_else (innermost conditionals.old.items)) }
+    ensures { OnOk result (conditionals.new.items
+        ≡ with_next_part conditionals.old.items holds is_else (innermost conditionals.old.items)) }
 {
     match innermost(conditionals) {
         Some(inner) if !inner.has_else => {

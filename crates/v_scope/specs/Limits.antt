@@ -1,14 +1,12 @@
--- How wide a vector and how long a memory may be, and how many signals, processes and instances a design may have. The standard asks for at least 65,536 digits and
--- 16,777,216 words (IEEE 1364-2005, clauses 4.3.1 and 4.9); the limits here are narrower.
-use Rattle.std.specs.Prelude.{ℕ, min}
+-- How wide a vector and how long a memory may be, and how many signals, processes and instances a design may have. The standard
+-- asks for at least 65,536 digits and 16,777,216 words (IEEE 1364-2005, clauses 4.3.1 and 4.9); the limits here are narrower. How
+-- wide a vector may be is `four_value`'s limit.
+use Rattle.std.specs.Prelude.{ℕ, ◌+◌, min}
+pub use Rattle.four_value.specs.Limits.{most_digits}
 
--- the digits of a vector
-abbrev pub most_digits : ℕ
-most_digits = 128
-
--- what stands for each width beyond that, where widths are cut
+-- what stands for each width beyond most_digits, where widths are cut
 abbrev pub too_wide : ℕ
-too_wide = 129
+too_wide = most_digits + 1
 
 -- a width that is cut: all beyond most_digits are one
 abbrev pub counted_width : ℕ → ℕ

@@ -9,16 +9,20 @@ use Rattle.gpi.proofs.acts.+copying.Goals as goal
 
 pub copy_act-returns-in_ok-copy_acts-in-Block : goal.copy_act-returns-in_ok-copy_acts-in-Block
 copy_act-returns-in_ok-copy_acts-in-Block t c =
-    copied_block c.args.act.now c.in-Block.list c.in_ok-copy_acts-in-Block.field-0 c.block.result c.in-Block.is c.in_ok-copy_acts-in-Block.ensures c.block.ensures
+    let copies = c.in_ok-copy_acts-in-Block in
+    copied_block c.args.act.now c.in-Block.list copies.field-0 c.block.result c.in-Block.is copies.ensures c.block.ensures
 
 pub copy_act-returns-in_ok-value-in-Case : goal.copy_act-returns-in_ok-value-in-Case
 copy_act-returns-in_ok-value-in-Case t c =
     let made = c.in_ok-value-in-Case in
-    let e = made.ensures in
-    let choice = both_made (IsCopy c.in-Case.value) (AreLabelCopies c.in-Case.labels) c.copy-in-Case.result c.copy_labels.result c.both-choice.result made.value made.labels c.both-choice.ensures e.0 c.copy-in-Case.ensures c.copy_labels.ensures in
-    let branches = both_made (λ (xs : Acts). AreActCopies (acts_of c.in-Case.items) (acts_of xs)) (λ (a : Box Act Global). IsActCopy c.deref-in-Case.result.now a.value)
-    c.copy_acts-in-Case.result c.copy_boxed-in-Case.result c.both-branches-in-Case.result made.items made.other
-    c.both-branches-in-Case.ensures e.1 c.copy_acts-in-Case.ensures c.copy_boxed-in-Case.ensures in
+    let e = made.ensures.made in
+    let choice = both_made (IsCopy c.in-Case.value) (AreLabelCopies c.in-Case.labels)
+    c.copy-in-Case.result c.copy_labels.result c.both_ok-choice.result made.value made.labels
+    c.both_ok-choice.ensures.made e.0 c.copy-in-Case.ensures c.copy_labels.ensures in
+    let branches = both_made (λ (xs : Acts). AreActCopies (acts_of c.in-Case.items) (acts_of xs))
+    (λ (a : Box Act Global). IsActCopy c.deref-in-Case.result.now a.value)
+    c.copy_acts-in-Case.result c.copy_boxed-in-Case.result c.both_ok-branches-in-Case.result made.items made.other
+    c.both_ok-branches-in-Case.ensures.made e.1 c.copy_acts-in-Case.ensures c.copy_boxed-in-Case.ensures in
     copied_case c.args.act.now c.in-Case.kind c.in-Case.value made.value c.in-Case.labels made.labels
     c.in-Case.items made.items c.in-Case.other made.other.value c.case_of.result
     c.in-Case.is choice.0 choice.1 branches.0

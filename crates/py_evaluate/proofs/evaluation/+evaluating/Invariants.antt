@@ -1,10 +1,11 @@
-use Rattle.std.proofs.Common.{◌≡◌, ◌≤◌, ◌+◌, ◌*◌, drop}
+use Rattle.std.proofs.Common.{◌≡◌, ℕ, ◌≤◌, ◌+◌, ◌*◌, drop}
 use Rattle.std.specs.Prelude.{max}
 use Rattle.py_syntax.proofs.expression.Expression.TheLaws.{the_size}
 use Rattle.py_attribute.specs.Knows.{KnowsAll}
 use Rattle.py_evaluate.specs.Eval.{eval_row, eval_parts}
 use Rattle.py_evaluate.specs.Gives.{scope}
 use Rattle.py_evaluate.specs.Rows.{trees_of, parts_of}
+use Rattle.py_evaluate.specs.Wants.{RowWants, PartsWant}
 use Rattle.py_evaluate.proofs.Steps.{behind}
 use Rattle.py_evaluate.proofs.evaluation.+evaluating.Given as goal
 
@@ -50,9 +51,11 @@ invariant-values_of-loop-e g l =
     (behind l.values.items (eval_row s (trees_of (drop l.e-index l.arguments)) l.next) ≡ eval_row s (trees_of l.arguments) l.initial.next)
     × KnowsAll (g.V.Look.view l.view) l.values.items
     × (l.initial.next ≤ l.next)
+    × ((j : ℕ) → RowWants s (trees_of (drop l.e-index l.arguments)) l.next j → RowWants s (trees_of l.arguments) l.initial.next j)
 
 abbrev pub invariant-text_of-loop-part : goal.invariant-text_of-loop-part
 invariant-text_of-loop-part g l =
     let s = scope l.task (g.N.Locals.names l.names) (g.V.Look.view l.view) in
     (behind l.text.items (eval_parts s (parts_of (drop l.part-index l.parts)) l.next) ≡ eval_parts s (parts_of l.parts) l.initial.next)
     × (l.initial.next ≤ l.next)
+    × ((j : ℕ) → PartsWant s (parts_of (drop l.part-index l.parts)) l.next j → PartsWant s (parts_of l.parts) l.initial.next j)

@@ -12,4 +12,5 @@ returns g c =
       ends = c.call.ensures.ends;
       known = ends_known view o c.call.result c.call.new.next (called_known c.args.task view c.args.function values c.args.next.now c.requires) c.call.ensures.ends;
       rises = c.call.ensures.rises;
+      want = c.call.ensures.want;
     }

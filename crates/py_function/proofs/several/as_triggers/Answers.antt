@@ -1,7 +1,9 @@
 use Rattle.std.proofs.Common.{◌≤◌, arith}
 use Rattle.std.proofs.lemmas.Result.{err_from_is_err_and}
-use Rattle.py_function.specs.Making.{as_triggers}
-use Rattle.py_function.proofs.Rows.{behind_begin, triggers_step, triggers_fault, triggers_end}
+use Rattle.std.specs.Prelude.{◌+◌, ◌++◌, ◌∷◌, [], drop}
+use Rattle.py_attribute.proofs.Want.{wants, want_on}
+use Rattle.py_function.specs.Making.{as_trigger, as_triggers}
+use Rattle.py_function.proofs.Rows.{behind_begin, triggers_step, triggers_fault, triggers_end, rest_within, one_within}
 use Rattle.py_function.proofs.several.as_triggers.Goals as goal
 
 pub loop-v-init : goal.loop-v-init
@@ -13,6 +15,24 @@ returns-in_err-as_trigger-clause-ends c =
     rw (p.1, p.2)
     (triggers_fault c.args.task c.loop-v.trigs.list.items c.args.values.now c.loop-v.v-index c.v-item.result c.loop-v.next c.as_trigger.new.next c.in_err-as_trigger.field-0.0
     (as_triggers c.args.task c.args.values.now c.args.next.now) c.loop-v-test.true c.v-item.is c.loop-v.invariant.0 c.in_err-as_trigger.ensures.ends)
+
+pub returns-in_err-as_trigger-clause-want : goal.returns-in_err-as_trigger-clause-want
+returns-in_err-as_trigger-clause-want c =
+    let whole = as_triggers c.args.task c.args.values.now c.args.next.now in
+    let o = as_trigger c.args.task c.v-item.result c.loop-v.next in
+    let p = err_from_is_err_and c.from_residual.result c.from_residual.ensures.1 in
+    let within = one_within c.args.task c.loop-v.trigs.list.items c.args.values.now c.loop-v.v-index c.v-item.result c.loop-v.next whole
+    c.loop-v-test.true c.v-item.is c.loop-v.invariant.0 in
+    rw (p.1, p.2)
+    (want_on c.in_err-as_trigger.field-0.0 (c.as_trigger.new.next ≤ o.next) (c.as_trigger.new.next ≤ whole.next) (λ h. omega (arith, h, within)) c.in_err-as_trigger.ensures.want)
+
+pub returns-in_err-push-clause-want : goal.returns-in_err-push-clause-want
+returns-in_err-push-clause-want c =
+    let whole = as_triggers c.args.task c.args.values.now c.args.next.now in
+    let step = triggers_step c.args.task c.loop-v.trigs.list.items c.args.values.now c.loop-v.v-index c.v-item.result c.loop-v.next c.as_trigger.new.next c.in_ok-as_trigger.field-0
+    whole c.loop-v-test.true c.v-item.is c.loop-v.invariant.0 c.in_ok-as_trigger.ensures.ends in
+    wants _ (c.as_trigger.new.next ≤ whole.next)
+    (rest_within c.args.task (c.loop-v.trigs.list.items ++ c.in_ok-as_trigger.field-0 ∷ []) (drop (c.loop-v.v-index + 1) c.args.values.now) c.as_trigger.new.next whole step)
 
 pub loop-v-preserved : goal.loop-v-preserved
 loop-v-preserved c =

@@ -1,12 +1,15 @@
-use Rattle.std.proofs.Common.{◌∷◌, []}
+use Rattle.std.proofs.Common.{ap, Err, ◌∷◌, []}
+use Rattle.port_io.specs.Means.{sink_means}
 use Rattle.port_io.specs.PutLaws.{takes_one}
-use Rattle.regression.proofs.LineLaws.{one_more, first_broke, line_taken, line_broke}
+use Rattle.port_io.proofs.PartLaws.{puts_to_then}
+use Rattle.scheduler.proofs.PutLaws.{put_done, put_one, puts_no_more}
 use Rattle.regression.proofs.run.put_two.Goals as goal
 
-pub returns-then-branch : goal.returns-then-branch
-returns-then-branch g c = one_more g.O.Sink.takes g.O.Sink.breaks g.O.Sink.told c.args.out.now (c.args.first.now ∷ []) c.take_line.new.out c.args.second.now _ _
-    (takes_one g.O.Sink.takes g.O.Sink.breaks _ _ _ (line_taken g.O.Sink.takes g.O.Sink.breaks g.O.Sink.told _ _ _ _ c.if-branch.true c.in_ok-take_line.ensures))
-    c.take_line-then-branch.ensures
+pub returns-in-Ok : goal.returns-in-Ok
+returns-in-Ok g c = puts_to_then (sink_means g.O.Sink) c.args.out.now (c.args.first.now ∷ []) c.put.new.self (c.args.second.now ∷ []) _ _
+    (takes_one g.O.Sink.takes g.O.Sink.breaks _ _ _ c.in-Ok.ensures.taken)
+    (put_done (sink_means g.O.Sink) _ _ _ _ c.put-in-Ok.ensures.taken c.put-in-Ok.ensures.broken c.put-in-Ok.ensures.part)
 
-pub returns-else-branch : goal.returns-else-branch
-returns-else-branch g c = first_broke g.O.Sink.takes g.O.Sink.breaks g.O.Sink.told _ _ _ _ (line_broke g.O.Sink.takes g.O.Sink.breaks g.O.Sink.told _ _ _ _ c.if-branch.false c.in_ok-take_line.ensures)
+pub returns-in-Err : goal.returns-in-Err
+returns-in-Err g c = puts_no_more (sink_means g.O.Sink) c.args.out.now (c.args.first.now ∷ []) c.in-Err.fault _ (c.args.second.now ∷ [])
+    (put_one (sink_means g.O.Sink) c.in-Err.fault c.args.out.now c.args.first.now _ (λ e. c.in-Err.ensures.broken (ap Err e)) c.in-Err.ensures.part)

@@ -1,4 +1,5 @@
 use Rattle.std.proofs.Common.{◌≡◌, ◌+◌, ◌*◌, ℕ, Result, length, true}
+use Rattle.port_io.specs.Means.{sink_means}
 use Rattle.port_io.specs.declared.ports.NoMemory.{NoMemory}
 use Rattle.rig_model.specs.Rig.{Rig}
 use Rattle.rig_model.specs.FitSteps.{FitSteps, anywhere}
@@ -12,9 +13,9 @@ use Rattle.regression.proofs.run.run_turns.Given as goal
 abbrev pub invariant-turns : goal.invariant-turns
 invariant-turns g l = record {
   turning : (r : Result Turn NoMemory) (fuel : ℕ) (e : Rig) (out : _)
-      → Turning g.O.Sink.takes g.O.Sink.breaks g.O.Sink.told (FitSteps anywhere (setup_of g.M.FlowMaker.functions l.fn.engine)) (setup_of g.M.FlowMaker.functions l.fn.engine)
+      → Turning (sink_means g.O.Sink) (FitSteps anywhere (setup_of g.M.FlowMaker.functions l.fn.engine)) (setup_of g.M.FlowMaker.functions l.fn.engine)
       l.fuel (rig_of g.W.Awaits.waiting l.engine (g.K.Gpi.content l.kernel)) l.out r fuel e out
-      → Turning g.O.Sink.takes g.O.Sink.breaks g.O.Sink.told (FitSteps anywhere (setup_of g.M.FlowMaker.functions l.fn.engine)) (setup_of g.M.FlowMaker.functions l.fn.engine)
+      → Turning (sink_means g.O.Sink) (FitSteps anywhere (setup_of g.M.FlowMaker.functions l.fn.engine)) (setup_of g.M.FlowMaker.functions l.fn.engine)
       l.fn.fuel (rig_of g.W.Awaits.waiting l.fn.engine (g.K.Gpi.content l.fn.kernel)) l.fn.out r fuel e out;
   setup : setup_of g.M.FlowMaker.functions l.engine ≡ setup_of g.M.FlowMaker.functions l.fn.engine;
   loaded : g.K.Gpi.is_loaded l.kernel;

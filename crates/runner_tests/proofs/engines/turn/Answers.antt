@@ -1,6 +1,5 @@
 use Rattle.std.proofs.Common.{rules, ◌≡◌, ℕ, List, [], ◌∷◌, Result, Ok, Err, IfOk, ap, ◌∙◌, subst}
 use Rattle.port_io.specs.Memory.{Lines}
-use Rattle.port_io.specs.Steps.{SinkTakes, SinkBreaks}
 use Rattle.port_io.specs.declared.ports.NoMemory.{NoMemory}
 use Rattle.gpi.specs.Content.{Content, opening}
 use Rattle.rig_model.specs.Rig.{Rig, Setup}
@@ -12,16 +11,16 @@ use Rattle.scheduler.specs.Turns.{BeginsTo, Turning}
 use Rattle.scheduler.specs.declared.turn.Turn.{Turn}
 use Rattle.scheduler.specs.declared.turn.Turn.TheVariants.{Went}
 use Rattle.command.specs.Answer.{setup_with}
-use Rattle.runner_tests.specs.Engines.{FirstTurn, no_lines, told, unbegun}
+use Rattle.runner_tests.specs.Engines.{FirstTurn, line_means, no_lines, unbegun}
 use Rattle.runner_tests.proofs.engines.turn.Goals as goal
 
 pub begin_test-requires-clause-empty : goal.begin_test-requires-clause-empty
 begin_test-requires-clause-empty g c = c.in_ok-engine.ensures.empty (g.K.Gpi.content c.load.new.self)
 
 went_on : (ports : List ℕ) (file : TestFile) (case : TestCase) → file.cases ≡ case ∷ [] → (begun : Rig) (out : Lines)
-    → BeginsTo SinkTakes SinkBreaks told (setup_with ports file) case (unbegun ports) (Ok Went) begun no_lines out
+    → BeginsTo line_means (setup_with ports file) case (unbegun ports) (Ok Went) begun no_lines out
     → (r : Result Turn NoMemory) (left : ℕ) (last : Rig) (after : Lines)
-    → Turning SinkTakes SinkBreaks told (TurnSteps (setup_with ports file)) (setup_with ports file) 3 begun out r left last after
+    → Turning line_means (TurnSteps (setup_with ports file)) (setup_with ports file) 3 begun out r left last after
     → IfOk r (λ turn. FirstTurn ports file turn)
 went_on ports file case is_case begun out begins (Err no_memory) left last after turning = tt
 went_on ports file case is_case begun out begins (Ok turn) left last after turning = record {
@@ -34,21 +33,22 @@ went_on ports file case is_case begun out begins (Ok turn) left last after turni
   follows = record { left = left; last = last; after = after; turning = turning };
 }
 
-first_turn : (ports : List ℕ) (file : TestFile) (case : TestCase) (s s' : Setup) (c : Rig) (out₀ : Lines) (first : Turn) (begun : Rig) (out : Lines)
-    → BeginsTo SinkTakes SinkBreaks told s case c (Ok first) begun out₀ out
+first_turn : (ports : List ℕ) (file : TestFile) (case : TestCase) (s s' : Setup) (c : Rig)
+    (out₀ : Lines) (first : Turn) (begun : Rig) (out : Lines)
+    → BeginsTo line_means s case c (Ok first) begun out₀ out
     → (r : Result Turn NoMemory) (left : ℕ) (last : Rig) (after : Lines)
-    → Turning SinkTakes SinkBreaks told (TurnSteps s') s' 3 begun out r left last after
+    → Turning line_means (TurnSteps s') s' 3 begun out r left last after
     → file.cases ≡ case ∷ [] → s' ≡ s → s ≡ setup_with ports file → c ≡ unbegun ports → out₀ ≡ no_lines → first ≡ Went
     → IfOk r (λ turn. FirstTurn ports file turn)
-first_turn ports file case s s' c out₀ first begun out begins r left last after turning is_case same is_setup is_unbegun is_empty has_gone =
+first_turn ports file case s s' c out₀ first begun out begins r left last after turning is_case same is_setup is_new is_empty has_gone =
     went_on ports file case is_case begun out
-    (subst (λ x. BeginsTo SinkTakes SinkBreaks told (setup_with ports file) case (unbegun ports) (Ok x) begun no_lines out) has_gone
-    (subst (λ x. BeginsTo SinkTakes SinkBreaks told (setup_with ports file) case (unbegun ports) (Ok first) begun x out) is_empty
-    (subst (λ x. BeginsTo SinkTakes SinkBreaks told (setup_with ports file) case x (Ok first) begun out₀ out) is_unbegun
-    (subst (λ x. BeginsTo SinkTakes SinkBreaks told x case c (Ok first) begun out₀ out) is_setup begins))))
+    (subst (λ x. BeginsTo line_means (setup_with ports file) case (unbegun ports) (Ok x) begun no_lines out) has_gone
+    (subst (λ x. BeginsTo line_means (setup_with ports file) case (unbegun ports) (Ok first) begun x out) is_empty
+    (subst (λ x. BeginsTo line_means (setup_with ports file) case x (Ok first) begun out₀ out) is_new
+    (subst (λ x. BeginsTo line_means x case c (Ok first) begun out₀ out) is_setup begins))))
     r left last after
-    (subst (λ x. Turning SinkTakes SinkBreaks told (TurnSteps x) x 3 begun out r left last after) is_setup
-    (subst (λ x. Turning SinkTakes SinkBreaks told (TurnSteps x) x 3 begun out r left last after) same turning))
+    (subst (λ x. Turning line_means (TurnSteps x) x 3 begun out r left last after) is_setup
+    (subst (λ x. Turning line_means (TurnSteps x) x 3 begun out r left last after) same turning))
 
 pub returns-in-Went : goal.returns-in-Went
 returns-in-Went g c =

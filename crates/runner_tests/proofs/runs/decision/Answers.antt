@@ -9,7 +9,8 @@ use Rattle.runner_tests.specs.Files.{ComesTo, store_with}
 use Rattle.runner_tests.proofs.runs.decision.Goals as goal
 
 comes : (design tests : List ℕ) (before after : Files) → before ≡ store_with design tests → (r : Result Decision NoMemory)
-    → IfOk r (λ d. ReadsBoth StoreGives StoreMisses (codes "d.v") (codes "t.py") before (reading_of d) after) → IfOk r (λ d. ComesTo design tests (reading_of d))
+    → IfOk r (λ d. ReadsBoth StoreGives StoreMisses (codes "d.v") (codes "t.py") before (reading_of d) after)
+    → IfOk r (λ d. ComesTo design tests (reading_of d))
 comes design tests before after e (Err no_memory) reads = tt
 comes design tests before after e (Ok d) reads = record {
   after = after;
@@ -17,4 +18,6 @@ comes design tests before after e (Ok d) reads = record {
 }
 
 pub returns-clause-comes : goal.returns-clause-comes
-returns-clause-comes c = comes c.args.design.now c.args.tests.now c.in_ok-store.store c.decide.new.store c.in_ok-store.ensures c.decide.result c.decide.ensures.reads
+returns-clause-comes c =
+    comes c.args.design.now c.args.tests.now c.in_ok-store.store c.decide.new.store c.in_ok-store.ensures
+    c.decide.result c.decide.ensures.reads

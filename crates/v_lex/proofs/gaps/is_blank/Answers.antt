@@ -41,8 +41,10 @@ returns-then-in_line-n c =
     let ne = eqb-false (length c.loop.rest.now) 0 (sym c.is_empty.ensures ∙ c.if-is_empty.false) in
     let h : 0 < length c.loop.rest.now = omega arith in
     let g : gap_size c.loop.rest.now ≡ Some c.in-Some.n = sym c.gap_size.ensures.is ∙ c.in-Some.is in
-    let r : c.run-in_line.result ≡ run class.Line (take c.in-Some.n c.loop.rest.now) = c.run-in_line.ensures.is ∙ ap (run class.Line) c.split_at.ensures.front in
-    sym (blank_past n (n - 1) c.in-Some.n c.loop.rest.now k h c.if-rest-eq10.false g (λ e. c.if-in_line-n.true (r ∙ e))) ∙ c.loop.invariant
+    let r : c.run-in_line.result ≡ run class.Line (take c.in-Some.n c.loop.rest.now) =
+    c.run-in_line.ensures.is ∙ ap (run class.Line) c.split_at.ensures.front in
+    sym (blank_past n (n - 1) c.in-Some.n c.loop.rest.now k h c.if-rest-eq10.false g (λ e. c.if-in_line-n.true (r ∙ e)))
+    ∙ c.loop.invariant
 
 pub loop-preserved : goal.loop-preserved
 loop-preserved c =
@@ -52,5 +54,7 @@ loop-preserved c =
     let ne = eqb-false (length c.loop.rest.now) 0 (sym c.is_empty.ensures ∙ c.if-is_empty.false) in
     let h : 0 < length c.loop.rest.now = omega arith in
     let g : gap_size c.loop.rest.now ≡ Some c.in-Some.n = sym c.gap_size.ensures.is ∙ c.in-Some.is in
-    let r : c.run-in_line.result ≡ run class.Line (take c.in-Some.n c.loop.rest.now) = c.run-in_line.ensures.is ∙ ap (run class.Line) c.split_at.ensures.front in
-    ap (is_blank m) c.split_at.ensures.back ∙ sym (blank_goes_on n m c.in-Some.n c.loop.rest.now k h c.if-rest-eq10.false g (sym r ∙ c.if-in_line-n.false)) ∙ c.loop.invariant
+    let r : c.run-in_line.result ≡ run class.Line (take c.in-Some.n c.loop.rest.now) =
+    c.run-in_line.ensures.is ∙ ap (run class.Line) c.split_at.ensures.front in
+    ap (is_blank m) c.split_at.ensures.back
+    ∙ sym (blank_goes_on n m c.in-Some.n c.loop.rest.now k h c.if-rest-eq10.false g (sym r ∙ c.if-in_line-n.false)) ∙ c.loop.invariant

@@ -12,9 +12,12 @@ returns-in_default c =
 pub loop-byte-preserved : goal.loop-byte-preserved
 loop-byte-preserved c =
     let yes = c.in-Some.ensures in record {
-      rest = ap (λ n. decimal_from n (drop (c.loop-byte.byte-index + 1) c.args.text.now)) yes.1 ∙ decimal_more c.args.text.now c.loop-byte.byte-index c.loop-byte.n c.loop-byte-test.true c.loop-byte.invariant.rest;
+      rest = ap (λ n. decimal_from n (drop (c.loop-byte.byte-index + 1) c.args.text.now)) yes.1
+          ∙ decimal_more c.args.text.now c.loop-byte.byte-index c.loop-byte.n c.loop-byte-test.true c.loop-byte.invariant.rest;
       fits = rw yes.1 yes.0;
     }
 
 pub returns : goal.returns
-returns c = decimal_all c.args.text.now c.loop-byte.byte-index c.loop-byte.n c.loop-byte-test.false c.loop-byte.invariant.fits c.loop-byte.invariant.rest
+returns c =
+    decimal_all c.args.text.now c.loop-byte.byte-index c.loop-byte.n c.loop-byte-test.false c.loop-byte.invariant.fits
+    c.loop-byte.invariant.rest

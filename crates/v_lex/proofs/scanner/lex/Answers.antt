@@ -12,8 +12,11 @@ pub returns-in-Some-clause-refused : goal.returns-in-Some-clause-refused
 returns-in-Some-clause-refused c =
     let f = of_found c.in_ok-found.found in
     let s = state_of c.in_ok-found.state in
-    let o : c.first_open.result ≡ earliest (left_open s.conditionals) = c.first_open.ensures ∙ ap (λ cs. earliest (left_open cs)) c.deref.ensures.value in
-    let e : earliest (faults_of c.args.text.now) ≡ Some c.in-Some.broken = sym (is_first f s c.args.text.now c.in_ok-found.ensures.found) ∙ ap (earlier f.first) (sym o) ∙ sym c.earlier.ensures ∙ c.in-Some.is in
+    let o : c.first_open.result ≡ earliest (left_open s.conditionals) =
+    c.first_open.ensures ∙ ap (λ cs. earliest (left_open cs)) c.deref.ensures.value in
+    let e : earliest (faults_of c.args.text.now) ≡ Some c.in-Some.broken =
+    sym (is_first f s c.args.text.now c.in_ok-found.ensures.found) ∙ ap (earlier f.first) (sym o) ∙ sym c.earlier.ensures
+    ∙ c.in-Some.is in
     rw c.from.ensures (fault_is c.args.text.now c.in-Some.broken e)
 
 pub new-requires-clause-few : goal.new-requires-clause-few
@@ -32,6 +35,10 @@ returns-clause-tokens c =
     let f = of_found c.in_ok-found.found in
     let s = state_of c.in_ok-found.state in
     let text = c.args.text.now in
-    let o : c.first_open.result ≡ earliest (left_open s.conditionals) = c.first_open.ensures ∙ ap (λ cs. earliest (left_open cs)) c.deref.ensures.value in
-    let e : earliest (faults_of text) ≡ None = sym (is_first f s text c.in_ok-found.ensures.found) ∙ ap (earlier f.first) (sym o) ∙ sym c.earlier.ensures ∙ c.in_default.is in
-    reads_is text _ (earliest_none (faults_of text) e) (c.new.ensures ∙ rw (c.in_ok-push.ensures.items, c.unwrap_or-step.ensures) (is_lexed f s text c.in_ok-found.ensures.found c.in_ok-found.ensures.state))
+    let o : c.first_open.result ≡ earliest (left_open s.conditionals) =
+    c.first_open.ensures ∙ ap (λ cs. earliest (left_open cs)) c.deref.ensures.value in
+    let e : earliest (faults_of text) ≡ None =
+    sym (is_first f s text c.in_ok-found.ensures.found) ∙ ap (earlier f.first) (sym o) ∙ sym c.earlier.ensures ∙ c.in_default.is in
+    reads_is text _ (earliest_none (faults_of text) e) (c.new.ensures
+    ∙ rw (c.in_ok-push.ensures.items, c.unwrap_or-step.ensures)
+    (is_lexed f s text c.in_ok-found.ensures.found c.in_ok-found.ensures.state))

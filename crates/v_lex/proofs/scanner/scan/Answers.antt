@@ -22,15 +22,22 @@ loop-place-preserved c =
     let p = c.loop-place.place in
     let q = c.in_ok-piece.piece in
     let text = c.args.text.now in
-    let e : q ≡ piece_at (is_taken s.conditionals) (drop p text) = rw (← c.is_taken.ensures, ← c.split_at.ensures.back) c.in_ok-piece.ensures.is in
+    let e : q ≡ piece_at (is_taken s.conditionals) (drop p text) =
+    rw (← c.is_taken.ensures, ← c.split_at.ensures.back) c.in_ok-piece.ensures.is in
     let k = c.in_ok-piece.ensures.some in record {
-      found = found_next s t (of_found c.loop-place.found) (of_found c.add.new.self) p text q (found_with nothing (scan_of text)) c.loop-place-test.true e k c.in_ok-add.ensures.state c.in_ok-add.ensures.found c.loop-place.invariant.found;
+      found = found_next s t (of_found c.loop-place.found) (of_found c.add.new.self) p text q
+          (found_with nothing (scan_of text)) c.loop-place-test.true e k c.in_ok-add.ensures.state c.in_ok-add.ensures.found
+          c.loop-place.invariant.found;
       last = last_next s t p text q (scan_of text).last c.loop-place-test.true e k c.in_ok-add.ensures.state c.loop-place.invariant.last;
       within = omega (arith, c.in_ok-piece.ensures.within);
     }
 
 pub returns-clause-found : goal.returns-clause-found
-returns-clause-found c = sym (ap (found_with (of_found c.loop-place.found)) (scan_end (state_of c.loop-place.state) c.loop-place.place c.args.text.now c.loop-place-test.false)) ∙ c.loop-place.invariant.found
+returns-clause-found c =
+    sym (ap (found_with (of_found c.loop-place.found))
+    (scan_end (state_of c.loop-place.state) c.loop-place.place c.args.text.now c.loop-place-test.false))
+    ∙ c.loop-place.invariant.found
 
 pub returns-clause-state : goal.returns-clause-state
-returns-clause-state c = last_end (state_of c.loop-place.state) c.loop-place.place c.args.text.now _ c.loop-place-test.false c.loop-place.invariant.last
+returns-clause-state c =
+    last_end (state_of c.loop-place.state) c.loop-place.place c.args.text.now _ c.loop-place-test.false c.loop-place.invariant.last

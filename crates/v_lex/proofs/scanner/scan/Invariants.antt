@@ -6,7 +6,8 @@ use Rattle.v_lex.proofs.scanner.scan.Given as goal
 
 abbrev pub invariant-loop-place : goal.invariant-loop-place
 invariant-loop-place l = record {
-  found : found_with (of_found l.found) (scan_from (state_of l.state) l.place 0 (drop l.place l.text)) ≡ found_with nothing (scan_of l.text);
+  found : found_with (of_found l.found) (scan_from (state_of l.state) l.place 0 (drop l.place l.text))
+      ≡ found_with nothing (scan_of l.text);
   last : (scan_from (state_of l.state) l.place 0 (drop l.place l.text)).last ≡ (scan_of l.text).last;
   within : l.place ≤ length l.text;
 }

@@ -1,4 +1,5 @@
 use Rattle.std.proofs.Common.{◌∙◌, ap, refl, length}
+use Rattle.port_io.specs.Means.{sink_means}
 use Rattle.rig_model.specs.Keys.{keys_in}
 use Rattle.rig_model.specs.Rig.{Setup}
 use Rattle.rig_model.proofs.KernelLaws.{but_more}
@@ -36,7 +37,7 @@ flush_if-put-requires-clause-alone g c = event_alone (setup_of g.M.FlowMaker.fun
 pub returns-clause-done : goal.returns-clause-done
 returns-clause-done g c = event_evented (setup_of g.M.FlowMaker.functions c.args.self.now) (parts_of g.W.Awaits.waiting c.args.self.now) (g.K.Gpi.content c.args.kernel.now) (g.K.Gpi.content c.advance.new.self) (g.W.Awaits.held c.args.self.now.awaits) c.requires.fits.kernel c.in-Moved.moved
     (advances_of (g.K.Gpi.content c.args.kernel.now) c.in-Moved.moved (g.K.Gpi.content c.advance.new.self) (rw c.in-Moved.is at c.in_ok-moved.ensures.is))
-    g.O.Sink.takes g.O.Sink.breaks g.O.Sink.told (parts_of g.W.Awaits.waiting c.flush_if-put.new.self) (g.K.Gpi.content c.flush_if-put.new.kernel) (g.K.Gpi.content c.fire.new.kernel)
+    (sink_means g.O.Sink) (parts_of g.W.Awaits.waiting c.flush_if-put.new.self) (g.K.Gpi.content c.flush_if-put.new.kernel) (g.K.Gpi.content c.fire.new.kernel)
     c.tell-told.result c.tell-told.new.out c.flush_if-put.result c.flush_if-put.new.out
     (c.flush_if-put.ensures.serves (g.K.Gpi.content c.args.kernel.now).counts
     (event_stands_ahead (setup_of g.M.FlowMaker.functions c.args.self.now) (parts_of g.W.Awaits.waiting c.args.self.now) (g.K.Gpi.content c.args.kernel.now) (g.K.Gpi.content c.advance.new.self) (g.W.Awaits.held c.args.self.now.awaits) c.requires.fits.kernel c.in-Moved.moved
@@ -51,7 +52,7 @@ returns-clause-fits g c = record {
   own = fits_served (setup_of g.M.FlowMaker.functions c.flush_if-put.new.self) _ (parts_of g.W.Awaits.waiting c.flush_if-put.new.self) _ _ _ _ c.flush_if-put.ensures.amid.own c.fire.ensures.room c.fire.ensures.ready c.fire.ensures.waiting;
   kernel = rw c.flush_if-put.ensures.setup (event_fits (setup_of g.M.FlowMaker.functions c.args.self.now) (parts_of g.W.Awaits.waiting c.args.self.now) (g.K.Gpi.content c.args.kernel.now) (g.K.Gpi.content c.advance.new.self) (g.W.Awaits.held c.args.self.now.awaits) c.requires.fits.kernel c.in-Moved.moved
       (advances_of (g.K.Gpi.content c.args.kernel.now) c.in-Moved.moved (g.K.Gpi.content c.advance.new.self) (rw c.in-Moved.is at c.in_ok-moved.ensures.is))
-      g.O.Sink.takes g.O.Sink.breaks g.O.Sink.told (parts_of g.W.Awaits.waiting c.flush_if-put.new.self) (g.K.Gpi.content c.flush_if-put.new.kernel) (g.K.Gpi.content c.fire.new.kernel)
+      (sink_means g.O.Sink) (parts_of g.W.Awaits.waiting c.flush_if-put.new.self) (g.K.Gpi.content c.flush_if-put.new.kernel) (g.K.Gpi.content c.fire.new.kernel)
       c.tell-told.result c.tell-told.new.out c.flush_if-put.result c.flush_if-put.new.out
       (c.flush_if-put.ensures.serves (g.K.Gpi.content c.args.kernel.now).counts
       (event_stands_ahead (setup_of g.M.FlowMaker.functions c.args.self.now) (parts_of g.W.Awaits.waiting c.args.self.now) (g.K.Gpi.content c.args.kernel.now) (g.K.Gpi.content c.advance.new.self) (g.W.Awaits.held c.args.self.now.awaits) c.requires.fits.kernel c.in-Moved.moved
@@ -68,7 +69,7 @@ returns-clause-keeps g c = record {
   keys = keys_named (setup_of g.M.FlowMaker.functions c.args.self.now) _ _ (record (parts_of g.W.Awaits.waiting c.flush_if-put.new.self) { ready = c.fire.new.ready.entries; waiting = g.W.Awaits.waiting c.fire.new.self })
       (event_fits (setup_of g.M.FlowMaker.functions c.args.self.now) (parts_of g.W.Awaits.waiting c.args.self.now) (g.K.Gpi.content c.args.kernel.now) (g.K.Gpi.content c.advance.new.self) (g.W.Awaits.held c.args.self.now.awaits) c.requires.fits.kernel c.in-Moved.moved
       (advances_of (g.K.Gpi.content c.args.kernel.now) c.in-Moved.moved (g.K.Gpi.content c.advance.new.self) (rw c.in-Moved.is at c.in_ok-moved.ensures.is))
-      g.O.Sink.takes g.O.Sink.breaks g.O.Sink.told (parts_of g.W.Awaits.waiting c.flush_if-put.new.self) (g.K.Gpi.content c.flush_if-put.new.kernel) (g.K.Gpi.content c.fire.new.kernel)
+      (sink_means g.O.Sink) (parts_of g.W.Awaits.waiting c.flush_if-put.new.self) (g.K.Gpi.content c.flush_if-put.new.kernel) (g.K.Gpi.content c.fire.new.kernel)
       c.tell-told.result c.tell-told.new.out c.flush_if-put.result c.flush_if-put.new.out
       (c.flush_if-put.ensures.serves (g.K.Gpi.content c.args.kernel.now).counts
       (event_stands_ahead (setup_of g.M.FlowMaker.functions c.args.self.now) (parts_of g.W.Awaits.waiting c.args.self.now) (g.K.Gpi.content c.args.kernel.now) (g.K.Gpi.content c.advance.new.self) (g.W.Awaits.held c.args.self.now.awaits) c.requires.fits.kernel c.in-Moved.moved

@@ -1,4 +1,5 @@
 use Rattle.std.proofs.Common.{◌∙◌, refl, sym, ap, subst, List, [], ◌∷◌, None, Vec, Global}
+use Rattle.port_io.specs.Means.{sink_means}
 use Rattle.gpi.specs.State.{is_end}
 use Rattle.gpi.specs.declared.types.Key.TheVariants.{ReadWrite}
 use Rattle.rig_model.specs.Keys.{AreOnce}
@@ -19,7 +20,7 @@ writes-init g c = record {
   stays = stays_same (g.K.Gpi.content c.args.kernel.now) (g.W.Awaits.waiting c.args.self.now.awaits);
   begun = λ h. h;
   setup = refl;
-  flushing = λ counts s. flushing_begins g.O.Sink.takes g.O.Sink.breaks g.O.Sink.told (setup_of g.M.FlowMaker.functions c.args.self.now) (parts_of g.W.Awaits.waiting c.args.self.now) (g.K.Gpi.content c.args.kernel.now) _ _ counts s;
+  flushing = λ counts s. flushing_begins (sink_means g.O.Sink) (setup_of g.M.FlowMaker.functions c.args.self.now) (parts_of g.W.Awaits.waiting c.args.self.now) (g.K.Gpi.content c.args.kernel.now) _ _ counts s;
 }
 
 pub writes-preserved : goal.writes-preserved
@@ -31,7 +32,7 @@ writes-preserved g c = record {
   stays = stays_then _ _ _ _ _ _ c.writes.invariant.stays c.put_out-fault.ensures.stays;
   begun = λ h. absurd (no_write c.writes.self.staged.items c.in-Some.write _ c.in-Some.ensures (c.writes.invariant.begun h));
   setup = c.put_out-fault.ensures.setup ∙ c.writes.invariant.setup;
-  flushing = λ counts s. flushing_more g.O.Sink.takes g.O.Sink.breaks g.O.Sink.told (setup_of g.M.FlowMaker.functions c.args.self.now) _ c.writes.invariant.setup _ _ _
+  flushing = λ counts s. flushing_more (sink_means g.O.Sink) (setup_of g.M.FlowMaker.functions c.args.self.now) _ c.writes.invariant.setup _ _ _
       (parts_of g.W.Awaits.waiting c.writes.self) (g.K.Gpi.content c.writes.kernel) _ _ (c.writes.invariant.flushing counts s) c.in-Some.write _ c.in-Some.ensures
       (parts_of g.W.Awaits.waiting c.put_out-fault.new.self) (g.K.Gpi.content c.put_out-fault.new.kernel) _ _ (ap (λ (v : Vec Staged Global). v.items) c.put_out-fault.ensures.staged)
       c.put_out-fault.ensures.serves;
@@ -48,11 +49,11 @@ returns-clause-amid g c = record {
 
 pub returns-clause-serves : goal.returns-clause-serves
 returns-clause-serves g c = λ counts s.
-    let ended : Serves g.O.Sink.takes g.O.Sink.breaks g.O.Sink.told (setup_of g.M.FlowMaker.functions c.args.self.now) (ReadWrite ∷ [])
+    let ended : Serves (sink_means g.O.Sink) (setup_of g.M.FlowMaker.functions c.args.self.now) (ReadWrite ∷ [])
     (flushed (setup_of g.M.FlowMaker.functions c.args.self.now) c.args.self.now.staged.items
     (rig_amid (parts_of g.W.Awaits.waiting c.args.self.now) (g.K.Gpi.content c.args.kernel.now).state (ReadWrite ∷ []) counts))
     (parts_of g.W.Awaits.waiting c.writes.self) (g.K.Gpi.content c.writes.kernel) c.args.fault c.args.out.now c.writes.fault c.writes.out
-    = flushing_ends g.O.Sink.takes g.O.Sink.breaks g.O.Sink.told (setup_of g.M.FlowMaker.functions c.args.self.now) _ _ _
+    = flushing_ends (sink_means g.O.Sink) (setup_of g.M.FlowMaker.functions c.args.self.now) _ _ _
     (parts_of g.W.Awaits.waiting c.writes.self) (g.K.Gpi.content c.writes.kernel) _ _ (c.writes.invariant.flushing counts s) c.in_default.ensures.0 in
     rw (c.in_default.ensures.1) (rw (c.in_default.ensures.0) at ended)
 

@@ -1,4 +1,5 @@
 use Rattle.std.proofs.Common.{◌≡◌, ◌∷◌, [], length}
+use Rattle.port_io.specs.Means.{sink_means}
 use Rattle.gpi.specs.declared.types.Counts.{Counts}
 use Rattle.gpi.specs.declared.types.Key.TheVariants.{ReadWrite}
 use Rattle.rig_model.specs.Kernel.{StandsAhead}
@@ -23,7 +24,7 @@ invariant-writes g l = record {
   flushing : (counts : Counts)
       → (let c = rig_amid (parts_of g.W.Awaits.waiting l.fn.self) (g.K.Gpi.content l.fn.kernel).state (ReadWrite ∷ []) counts in
       StandsAhead (ReadWrite ∷ []) (setup_of g.M.FlowMaker.functions l.fn.self) (g.K.Gpi.content l.fn.kernel) c
-      → Flushing g.O.Sink.takes g.O.Sink.breaks g.O.Sink.told (setup_of g.M.FlowMaker.functions l.fn.self) (flushed (setup_of g.M.FlowMaker.functions l.fn.self) l.fn.self.staged.items c) l.fn.fault l.fn.out
+      → Flushing (sink_means g.O.Sink) (setup_of g.M.FlowMaker.functions l.fn.self) (flushed (setup_of g.M.FlowMaker.functions l.fn.self) l.fn.self.staged.items c) l.fn.fault l.fn.out
       (parts_of g.W.Awaits.waiting l.self) (g.K.Gpi.content l.kernel) l.fault l.out);
 }
 

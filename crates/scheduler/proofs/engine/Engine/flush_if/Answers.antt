@@ -1,4 +1,5 @@
 use Rattle.std.proofs.Common.{◌∙◌, sym, ap, subst, List}
+use Rattle.port_io.specs.Means.{sink_means}
 use Rattle.gpi.specs.Keys.{among}
 use Rattle.gpi.specs.declared.types.Key.{Key}
 use Rattle.rig_model.specs.Keys.{AreOnce, keys_in, without_all}
@@ -11,7 +12,7 @@ use Rattle.scheduler.proofs.engine.Engine.flush_if.Goals as goal
 
 pub returns-then-settles-clause-serves : goal.returns-then-settles-clause-serves
 returns-then-settles-clause-serves g c = λ counts s.
-    flushed_then g.O.Sink.takes g.O.Sink.breaks g.O.Sink.told (setup_of g.M.FlowMaker.functions c.args.self.now) _ (parts_of g.W.Awaits.waiting c.args.self.now) (g.K.Gpi.content c.args.kernel.now) counts _ _ _ _ _ _
+    flushed_then (sink_means g.O.Sink) (setup_of g.M.FlowMaker.functions c.args.self.now) _ (parts_of g.W.Awaits.waiting c.args.self.now) (g.K.Gpi.content c.args.kernel.now) counts _ _ _ _ _ _
     (c.requires.alone (sym c.settles.ensures ∙ c.if-settles.true)) (c.flush.ensures.serves counts) s
 
 pub returns-then-settles-clause-held : goal.returns-then-settles-clause-held
@@ -25,7 +26,7 @@ returns-then-settles-clause-free g c = nothing_staged _ _ c.flush.ensures.staged
 
 pub returns-else-settles-clause-serves : goal.returns-else-settles-clause-serves
 returns-else-settles-clause-serves g c = λ counts s.
-    flushed_else g.O.Sink.takes g.O.Sink.breaks g.O.Sink.told (setup_of g.M.FlowMaker.functions c.args.self.now) _ (parts_of g.W.Awaits.waiting c.args.self.now) (g.K.Gpi.content c.args.kernel.now) counts _ _
+    flushed_else (sink_means g.O.Sink) (setup_of g.M.FlowMaker.functions c.args.self.now) _ (parts_of g.W.Awaits.waiting c.args.self.now) (g.K.Gpi.content c.args.kernel.now) counts _ _
     (sym c.settles.ensures ∙ c.if-settles.false) s
 
 pub returns-else-settles-clause-held : goal.returns-else-settles-clause-held

@@ -1,4 +1,5 @@
 use Rattle.std.proofs.Common.{◌∙◌, sym, ap, subst, length, ℕ, List}
+use Rattle.port_io.specs.Means.{sink_means}
 use Rattle.four_value.specs.declared.Digit.{Digit}
 use Rattle.four_value.specs.Vector.{vector}
 use Rattle.four_value.proofs.Numbers.{length_vector}
@@ -19,9 +20,9 @@ pub returns-clause-serves : goal.returns-clause-serves
 returns-clause-serves g c = λ ahead counts s.
     put_serves (setup_of g.M.FlowMaker.functions c.args.self.now) (parts_of g.W.Awaits.waiting c.args.self.now) _ _ _ c.args.write _ _ _ _ _ _
     c.deposit-fired.ensures.is.0 c.deposit-fired.ensures.is.1 c.fire.ensures.waiting c.fire.ensures.held c.fire.ensures.ready c.requires.amid.keys c.fire.ensures.keys ahead counts s
-    g.O.Sink.takes g.O.Sink.breaks g.O.Sink.told _ _ _ _
+    (sink_means g.O.Sink) _ _ _ _
     (c.from_number-bits.ensures ∙ ap (vector c.width.result) c.from.ensures ∙ ap (λ (w : ℕ). vector w c.args.write.number) (c.width.ensures.is ∙ ap (λ (ds : List Digit). length ds) c.read-old.ensures))
-    (subst (λ (lines : List (List ℕ)). PutsOn g.O.Sink.takes g.O.Sink.breaks g.O.Sink.told c.args.fault c.args.out.now lines c.tell-fault.result c.tell-fault.new.out)
+    (subst (λ (lines : List (List ℕ)). PutsOn (sink_means g.O.Sink) c.args.fault c.args.out.now lines c.tell-fault.result c.tell-fault.new.out)
     (told_same (setup_of g.M.FlowMaker.functions c.args.self.now) (g.K.Gpi.content c.args.kernel.now) c.args.write.sig _ _ _ _ c.now-time.ensures c.read-old.ensures c.change_of.ensures)
     c.tell-fault.ensures)
 

@@ -1,4 +1,5 @@
 use Rattle.std.proofs.Common.{◌∙◌, refl, sym, subst}
+use Rattle.port_io.specs.Means.{sink_means}
 use Rattle.scheduler.specs.Engine.{rig_of, setup_of, parts_of}
 use Rattle.scheduler.specs.Fits.{FitsNext}
 use Rattle.scheduler.specs.Parts.{bounds_of}
@@ -17,7 +18,7 @@ pub poll_task-requires-clause-live : goal.poll_task-requires-clause-live
 poll_task-requires-clause-live g c = turn_lives c.effects.self.live.tasks c.effects.self.live.started c.args.task c.effects.self.ready.entries (g.W.Awaits.waiting c.effects.self.awaits) c.effects.invariant.fits.own.placed_are
 
 pub returns-in_err-turned-clause-turning : goal.returns-in_err-turned-clause-turning
-returns-in_err-turned-clause-turning g c = c.effects.invariant.turning _ _ _ _ (turning_short_of_memory g.O.Sink.takes g.O.Sink.breaks g.O.Sink.told _ _ _ _ _ _ _ _ c.from_residual.ensures.0)
+returns-in_err-turned-clause-turning g c = c.effects.invariant.turning _ _ _ _ (turning_short_of_memory (sink_means g.O.Sink) _ _ _ _ _ _ _ _ c.from_residual.ensures.0)
 
 pub returns-in_err-turned-clause-keeps : goal.returns-in_err-turned-clause-keeps
 returns-in_err-turned-clause-keeps g c = record {
@@ -28,12 +29,12 @@ returns-in_err-turned-clause-keeps g c = record {
 
 pub returns-in-Spent-clause-turning : goal.returns-in-Spent-clause-turning
 returns-in-Spent-clause-turning g c = c.effects.invariant.turning _ _ _ _
-    (spends g.O.Sink.takes g.O.Sink.breaks g.O.Sink.told (setup_of g.M.FlowMaker.functions c.effects.self) (setup_of g.M.FlowMaker.functions c.args.self.now) c.effects.invariant.setup c.args.task (parts_of g.W.Awaits.waiting c.effects.self) (g.K.Gpi.content c.effects.kernel) c.effects.fuel c.effects.given c.effects.out c.in_ok-turned.turned c.poll_task.new.fuel c.poll_task.new.live.tasks c.poll_task.new.live.started
+    (spends (sink_means g.O.Sink) (setup_of g.M.FlowMaker.functions c.effects.self) (setup_of g.M.FlowMaker.functions c.args.self.now) c.effects.invariant.setup c.args.task (parts_of g.W.Awaits.waiting c.effects.self) (g.K.Gpi.content c.effects.kernel) c.effects.fuel c.effects.given c.effects.out c.in_ok-turned.turned c.poll_task.new.fuel c.poll_task.new.live.tasks c.poll_task.new.live.started
     c.in_ok-turned.ensures c.in-Spent.is)
 
 pub returns-in-Spent-clause-fits : goal.returns-in-Spent-clause-fits
 returns-in-Spent-clause-fits g c = record {
-  own = fits_less _ _ _ c.args.task (still_fits g.O.Sink.takes g.O.Sink.breaks g.O.Sink.told (setup_of g.M.FlowMaker.functions c.effects.self) (setup_of g.M.FlowMaker.functions c.effects.self) refl c.args.task (parts_of g.W.Awaits.waiting c.effects.self) (g.K.Gpi.content c.effects.kernel) c.effects.fuel c.effects.given c.effects.out c.in_ok-turned.turned c.poll_task.new.fuel c.poll_task.new.live.tasks c.poll_task.new.live.started
+  own = fits_less _ _ _ c.args.task (still_fits (sink_means g.O.Sink) (setup_of g.M.FlowMaker.functions c.effects.self) (setup_of g.M.FlowMaker.functions c.effects.self) refl c.args.task (parts_of g.W.Awaits.waiting c.effects.self) (g.K.Gpi.content c.effects.kernel) c.effects.fuel c.effects.given c.effects.out c.in_ok-turned.turned c.poll_task.new.fuel c.poll_task.new.live.tasks c.poll_task.new.live.started
       c.in_ok-turned.ensures c.effects.self.ready.room c.effects.invariant.fits.own).0;
   kernel = stands_same g.W.Awaits.waiting g.W.Awaits.held _ _ _ _ _ _ _ _ _ _ _ _ _ refl refl refl c.effects.invariant.fits.kernel;
 }
@@ -47,7 +48,7 @@ returns-in-Spent-clause-keeps g c = record {
 
 pub apply-requires : goal.apply-requires
 apply-requires g c =
-    let k = (still_fits g.O.Sink.takes g.O.Sink.breaks g.O.Sink.told (setup_of g.M.FlowMaker.functions c.effects.self) (setup_of g.M.FlowMaker.functions c.effects.self) refl c.args.task (parts_of g.W.Awaits.waiting c.effects.self) (g.K.Gpi.content c.effects.kernel) c.effects.fuel c.effects.given c.effects.out c.in_ok-turned.turned c.poll_task.new.fuel c.poll_task.new.live.tasks c.poll_task.new.live.started
+    let k = (still_fits (sink_means g.O.Sink) (setup_of g.M.FlowMaker.functions c.effects.self) (setup_of g.M.FlowMaker.functions c.effects.self) refl c.args.task (parts_of g.W.Awaits.waiting c.effects.self) (g.K.Gpi.content c.effects.kernel) c.effects.fuel c.effects.given c.effects.out c.in_ok-turned.turned c.poll_task.new.fuel c.poll_task.new.live.tasks c.poll_task.new.live.started
     c.in_ok-turned.ensures c.effects.self.ready.room c.effects.invariant.fits.own) in
     record {
       loaded = c.effects.invariant.loaded;
@@ -58,20 +59,20 @@ apply-requires g c =
     }
 
 pub returns-in_err-next-clause-turning : goal.returns-in_err-next-clause-turning
-returns-in_err-next-clause-turning g c = c.effects.invariant.turning _ _ _ _ (cut g.O.Sink.takes g.O.Sink.breaks g.O.Sink.told (setup_of g.M.FlowMaker.functions c.effects.self) (setup_of g.M.FlowMaker.functions c.args.self.now) c.effects.invariant.setup c.args.task (parts_of g.W.Awaits.waiting c.effects.self) (g.K.Gpi.content c.effects.kernel) c.effects.fuel c.effects.given c.effects.out c.in_ok-turned.turned c.poll_task.new.fuel c.poll_task.new.live.tasks c.poll_task.new.live.started
-    c.in_ok-turned.ensures c.in_default.not-Spent _ _ _ c.from_residual-in_err-next.ensures.0 c.in_err-next.ensures.part)
+returns-in_err-next-clause-turning g c = c.effects.invariant.turning _ _ _ _ (cut (sink_means g.O.Sink) (setup_of g.M.FlowMaker.functions c.effects.self) (setup_of g.M.FlowMaker.functions c.args.self.now) c.effects.invariant.setup c.args.task (parts_of g.W.Awaits.waiting c.effects.self) (g.K.Gpi.content c.effects.kernel) c.effects.fuel c.effects.given c.effects.out c.in_ok-turned.turned c.poll_task.new.fuel c.poll_task.new.live.tasks c.poll_task.new.live.started
+    c.in_ok-turned.ensures c.in_default.not-Spent _ _ _ c.from_residual-in_err-next.ensures.0 c.in_err-next.ensures.puts)
 
 pub effects-smaller : goal.effects-smaller
-effects-smaller g c = paid g.O.Sink.takes g.O.Sink.breaks g.O.Sink.told (setup_of g.M.FlowMaker.functions c.effects.self) (setup_of g.M.FlowMaker.functions c.args.self.now) c.effects.invariant.setup c.args.task (parts_of g.W.Awaits.waiting c.effects.self) (g.K.Gpi.content c.effects.kernel) c.effects.fuel c.effects.given c.effects.out c.in_ok-turned.turned c.poll_task.new.fuel c.poll_task.new.live.tasks c.poll_task.new.live.started
+effects-smaller g c = paid (sink_means g.O.Sink) (setup_of g.M.FlowMaker.functions c.effects.self) (setup_of g.M.FlowMaker.functions c.args.self.now) c.effects.invariant.setup c.args.task (parts_of g.W.Awaits.waiting c.effects.self) (g.K.Gpi.content c.effects.kernel) c.effects.fuel c.effects.given c.effects.out c.in_ok-turned.turned c.poll_task.new.fuel c.poll_task.new.live.tasks c.poll_task.new.live.started
     c.in_ok-turned.ensures (leads_of (setup_of g.M.FlowMaker.functions c.effects.self) _ _ _ _ _ _ c.in-GoesOn.is c.in_ok-next.ensures.leads).0
 
 pub effects-preserved : goal.effects-preserved
 effects-preserved g c = record {
   turning = λ r fuel e out h. c.effects.invariant.turning r fuel e out
-      (goes g.O.Sink.takes g.O.Sink.breaks g.O.Sink.told (setup_of g.M.FlowMaker.functions c.effects.self) (setup_of g.M.FlowMaker.functions c.args.self.now) c.effects.invariant.setup c.args.task (parts_of g.W.Awaits.waiting c.effects.self) (g.K.Gpi.content c.effects.kernel) c.effects.fuel c.effects.given c.effects.out c.in_ok-turned.turned c.poll_task.new.fuel c.poll_task.new.live.tasks c.poll_task.new.live.started
+      (goes (sink_means g.O.Sink) (setup_of g.M.FlowMaker.functions c.effects.self) (setup_of g.M.FlowMaker.functions c.args.self.now) c.effects.invariant.setup c.args.task (parts_of g.W.Awaits.waiting c.effects.self) (g.K.Gpi.content c.effects.kernel) c.effects.fuel c.effects.given c.effects.out c.in_ok-turned.turned c.poll_task.new.fuel c.poll_task.new.live.tasks c.poll_task.new.live.started
       c.in_ok-turned.ensures c.in_default.not-Spent c.in-GoesOn.next (rig_of g.W.Awaits.waiting c.apply.new.self (g.K.Gpi.content c.apply.new.kernel)) c.apply.new.out r fuel e out
-      (leads_of (setup_of g.M.FlowMaker.functions c.effects.self) _ _ _ _ _ _ c.in-GoesOn.is c.in_ok-next.ensures.leads) (puts_of g.O.Sink.takes g.O.Sink.breaks _ _ _ _ _ c.in-GoesOn.is c.in_ok-next.ensures.puts) h);
-  falls = goes_fall g.O.Sink.takes g.O.Sink.breaks g.O.Sink.told (setup_of g.M.FlowMaker.functions c.effects.self) (setup_of g.M.FlowMaker.functions c.args.self.now) c.effects.invariant.setup c.args.task (parts_of g.W.Awaits.waiting c.effects.self) (g.K.Gpi.content c.effects.kernel) c.effects.fuel c.effects.given c.effects.out c.in_ok-turned.turned c.poll_task.new.fuel c.poll_task.new.live.tasks c.poll_task.new.live.started
+      (leads_of (setup_of g.M.FlowMaker.functions c.effects.self) _ _ _ _ _ _ c.in-GoesOn.is c.in_ok-next.ensures.leads) (puts_of (sink_means g.O.Sink) _ _ _ _ _ c.in-GoesOn.is c.in_ok-next.ensures.puts) h);
+  falls = goes_fall (sink_means g.O.Sink) (setup_of g.M.FlowMaker.functions c.effects.self) (setup_of g.M.FlowMaker.functions c.args.self.now) c.effects.invariant.setup c.args.task (parts_of g.W.Awaits.waiting c.effects.self) (g.K.Gpi.content c.effects.kernel) c.effects.fuel c.effects.given c.effects.out c.in_ok-turned.turned c.poll_task.new.fuel c.poll_task.new.live.tasks c.poll_task.new.live.started
       c.in_ok-turned.ensures c.in_default.not-Spent _ _ _ c.in-GoesOn.next (rig_of g.W.Awaits.waiting c.apply.new.self (g.K.Gpi.content c.apply.new.kernel)) c.effects.invariant.falls
       (leads_of (setup_of g.M.FlowMaker.functions c.effects.self) _ _ _ _ _ _ c.in-GoesOn.is c.in_ok-next.ensures.leads);
   setup = c.apply.ensures.keeps.setup ∙ c.effects.invariant.setup;
@@ -81,12 +82,12 @@ effects-preserved g c = record {
 
 pub returns-in-Ends-clause-turning : goal.returns-in-Ends-clause-turning
 returns-in-Ends-clause-turning g c = c.effects.invariant.turning _ _ _ _
-    (ends g.O.Sink.takes g.O.Sink.breaks g.O.Sink.told (setup_of g.M.FlowMaker.functions c.effects.self) (setup_of g.M.FlowMaker.functions c.args.self.now) c.effects.invariant.setup c.args.task (parts_of g.W.Awaits.waiting c.effects.self) (g.K.Gpi.content c.effects.kernel) c.effects.fuel c.effects.given c.effects.out c.in_ok-turned.turned c.poll_task.new.fuel c.poll_task.new.live.tasks c.poll_task.new.live.started
+    (ends (sink_means g.O.Sink) (setup_of g.M.FlowMaker.functions c.effects.self) (setup_of g.M.FlowMaker.functions c.args.self.now) c.effects.invariant.setup c.args.task (parts_of g.W.Awaits.waiting c.effects.self) (g.K.Gpi.content c.effects.kernel) c.effects.fuel c.effects.given c.effects.out c.in_ok-turned.turned c.poll_task.new.fuel c.poll_task.new.live.tasks c.poll_task.new.live.started
     c.in_ok-turned.ensures c.in_default.not-Spent c.in-Ends.turn (rig_of g.W.Awaits.waiting c.apply.new.self (g.K.Gpi.content c.apply.new.kernel)) c.apply.new.out
-    (leads_of (setup_of g.M.FlowMaker.functions c.effects.self) _ _ _ _ _ _ c.in-Ends.is c.in_ok-next.ensures.leads) (puts_of g.O.Sink.takes g.O.Sink.breaks _ _ _ _ _ c.in-Ends.is c.in_ok-next.ensures.puts))
+    (leads_of (setup_of g.M.FlowMaker.functions c.effects.self) _ _ _ _ _ _ c.in-Ends.is c.in_ok-next.ensures.leads) (puts_of (sink_means g.O.Sink) _ _ _ _ _ c.in-Ends.is c.in_ok-next.ensures.puts))
 
 pub returns-in-Ends-clause-falls : goal.returns-in-Ends-clause-falls
-returns-in-Ends-clause-falls g c = λ h. ends_fall g.O.Sink.takes g.O.Sink.breaks g.O.Sink.told (setup_of g.M.FlowMaker.functions c.effects.self) (setup_of g.M.FlowMaker.functions c.args.self.now) c.effects.invariant.setup c.args.task (parts_of g.W.Awaits.waiting c.effects.self) (g.K.Gpi.content c.effects.kernel) c.effects.fuel c.effects.given c.effects.out c.in_ok-turned.turned c.poll_task.new.fuel c.poll_task.new.live.tasks c.poll_task.new.live.started
+returns-in-Ends-clause-falls g c = λ h. ends_fall (sink_means g.O.Sink) (setup_of g.M.FlowMaker.functions c.effects.self) (setup_of g.M.FlowMaker.functions c.args.self.now) c.effects.invariant.setup c.args.task (parts_of g.W.Awaits.waiting c.effects.self) (g.K.Gpi.content c.effects.kernel) c.effects.fuel c.effects.given c.effects.out c.in_ok-turned.turned c.poll_task.new.fuel c.poll_task.new.live.tasks c.poll_task.new.live.started
     c.in_ok-turned.ensures c.in_default.not-Spent _ _ c.effects.invariant.falls c.in-Ends.turn (rig_of g.W.Awaits.waiting c.apply.new.self (g.K.Gpi.content c.apply.new.kernel))
     (leads_of (setup_of g.M.FlowMaker.functions c.effects.self) _ _ _ _ _ _ c.in-Ends.is c.in_ok-next.ensures.leads) (ok_same _ _ h)
 

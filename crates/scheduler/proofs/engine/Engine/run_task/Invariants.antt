@@ -1,4 +1,5 @@
 use Rattle.std.proofs.Common.{◌≡◌, ◌≤◌, ◌<◌, ◌⊎◌, ℕ, Some, Result, length}
+use Rattle.port_io.specs.Means.{sink_means}
 use Rattle.port_io.specs.declared.ports.NoMemory.{NoMemory}
 use Rattle.rig_model.specs.Rig.{Rig}
 use Rattle.rig_model.specs.Effect.{goes_on}
@@ -13,9 +14,9 @@ use Rattle.scheduler.proofs.engine.Engine.run_task.Given as goal
 abbrev pub invariant-effects : goal.invariant-effects
 invariant-effects g l = record {
   turning : (r : Result Turn NoMemory) (fuel : ℕ) (e : Rig) (out : _)
-      → Turning g.O.Sink.takes g.O.Sink.breaks g.O.Sink.told (FitSteps in_turn (setup_of g.M.FlowMaker.functions l.fn.self)) (setup_of g.M.FlowMaker.functions l.fn.self)
+      → Turning (sink_means g.O.Sink) (FitSteps in_turn (setup_of g.M.FlowMaker.functions l.fn.self)) (setup_of g.M.FlowMaker.functions l.fn.self)
       l.fuel (goes_on l.task (Some l.given) (rig_of g.W.Awaits.waiting l.self (g.K.Gpi.content l.kernel))) l.out r fuel e out
-      → Turning g.O.Sink.takes g.O.Sink.breaks g.O.Sink.told (FitSteps in_turn (setup_of g.M.FlowMaker.functions l.fn.self)) (setup_of g.M.FlowMaker.functions l.fn.self)
+      → Turning (sink_means g.O.Sink) (FitSteps in_turn (setup_of g.M.FlowMaker.functions l.fn.self)) (setup_of g.M.FlowMaker.functions l.fn.self)
       l.fn.fuel (goes_on l.fn.task (Some l.fn.given) (rig_of g.W.Awaits.waiting l.fn.self (g.K.Gpi.content l.fn.kernel))) l.fn.out r fuel e out;
   falls : (l.fuel < l.fn.fuel) ⊎ ((l.fuel ≡ l.fn.fuel) × (length l.self.ready.entries ≤ length l.fn.self.ready.entries));
   setup : setup_of g.M.FlowMaker.functions l.self ≡ setup_of g.M.FlowMaker.functions l.fn.self;

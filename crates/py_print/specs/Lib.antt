@@ -1,0 +1,4 @@
+pub mod TreeText
+pub mod CallText
+pub mod StatementText
+pub mod ModuleText

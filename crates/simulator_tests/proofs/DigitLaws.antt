@@ -1,0 +1,37 @@
+-- Digits as a text.
+use Rattle.std.proofs.Common.{◌≡◌, ◌<◌, ◌-◌, ◌++◌, ◌∷◌, [], ℕ, List, map, reverse, take, min, length, replicate, refl, ap, ◌∙◌, lit<}
+use Rattle.std.proofs.lemmas.List.{length-map, length-reverse, take_at, take_min}
+use Rattle.std.proofs.lemmas.Str.{encode_ascii}
+use Rattle.table_rows.specs.Shown.{latin}
+use Rattle.four_value.specs.Vector.{digit_byte, text}
+use Rattle.four_value.specs.declared.Digit.{Digit}
+use Rattle.four_value.specs.declared.Digit.TheVariants.{Zero, One, X, Z}
+use Rattle.simulator_tests.specs.Digits.{digits_text, short_vector, vector_of}
+
+ascii_first : (b : ℕ) → b < 128 → (bs cs : List ℕ) → latin bs ≡ cs → latin (b ∷ bs) ≡ b ∷ cs
+ascii_first b h bs cs e = ap (λ (front : List ℕ). front ++ latin bs) (encode_ascii b h) ∙ ap (λ (ds : List ℕ). b ∷ ds) e
+
+-- digits are ASCII
+latin_digits : (ds : List Digit) → latin (map digit_byte ds) ≡ map digit_byte ds
+latin_digits [] = refl
+latin_digits (Zero ∷ ds) = ascii_first 48 (lit< tt) _ _ (latin_digits ds)
+latin_digits (One ∷ ds) = ascii_first 49 (lit< tt) _ _ (latin_digits ds)
+latin_digits (X ∷ ds) = ascii_first 120 (lit< tt) _ _ (latin_digits ds)
+latin_digits (Z ∷ ds) = ascii_first 122 (lit< tt) _ _ (latin_digits ds)
+
+-- a text begins with the digits
+text_front : (ds : List Digit) → take (length ds) (text ds) ≡ map digit_byte (reverse ds)
+text_front ds =
+    take_at (map digit_byte (reverse ds)) (replicate (128 - length ds) 32) (length ds) (length-map (reverse ds) digit_byte ∙ length-reverse ds)
+
+-- the front of a text, as characters, is its digits
+pub digits_shown : (ds : List Digit) (n : ℕ) → n ≡ length ds → latin (take n (text ds)) ≡ digits_text ds
+digits_shown ds n e =
+    ap (λ (k : ℕ). latin (take k (text ds))) e ∙ ap (λ (bs : List ℕ). latin bs) (text_front ds) ∙ latin_digits (reverse ds)
+
+-- the first digits of a text that may have fewer
+pub first_digits : (text : List ℕ) (n : ℕ) → n ≡ min 128 (length text) → take n text ≡ take 128 text
+first_digits text n e = ap (λ (k : ℕ). take k text) e ∙ take_min 128 text
+
+pub vector_short : (text front : List ℕ) (bits : List Digit) → bits ≡ short_vector front → front ≡ take 128 text → bits ≡ vector_of text
+vector_short text front bits is e = is ∙ ap (λ (bytes : List ℕ). short_vector bytes) e

@@ -1,0 +1,122 @@
+-- The design of a row, and what is shown of it.
+use Rattle.std.specs.Prelude.{◌≡◌, ℕ, ◌==◌, List, [], ◌∷◌, ◌++◌, Option, Some, None, length, map, reverse, find, min, max, codes}
+use Rattle.std.specs.List.{flat_map}
+use Rattle.four_value.specs.Vector.{all_x}
+use Rattle.four_value.specs.declared.Digit.{Digit}
+use Rattle.four_value.specs.declared.Digit.TheVariants.{One, X}
+use Rattle.gpi.specs.Activation.{MakesAct, SoundList, run_list}
+use Rattle.gpi.specs.declared.acts.Act.{Act}
+use Rattle.gpi.specs.declared.acts.Act.TheVariants.{Blocking}
+use Rattle.gpi.specs.declared.design.Flat.{Flat}
+use Rattle.gpi.specs.declared.design.Kind.{Kind}
+use Rattle.gpi.specs.declared.design.Kind.TheVariants.{Assign, Always, Initial}
+use Rattle.gpi.specs.declared.design.Node.{Node}
+use Rattle.gpi.specs.declared.design.Process.{Process}
+use Rattle.gpi.specs.declared.design.Signal.{Signal}
+use Rattle.gpi.specs.declared.design.Wake.{Wake}
+use Rattle.gpi.specs.declared.design.WakeEdge.TheVariants.{Any}
+use Rattle.gpi.specs.declared.targets.Object.TheVariants as object
+use Rattle.gpi.specs.declared.targets.Target.TheVariants.{Whole}
+use Rattle.gpi.specs.declared.terms.Term.TheVariants.{Const}
+use Rattle.gpi.specs.declared.types.Told.{Told}
+use Rattle.table_rows.specs.Rows.{decimal, part_at}
+use Rattle.simulator_tests.specs.Digits.{digits_text, vector_of}
+use Rattle.simulator_tests.specs.Rests.{ComesTo}
+
+-- ---- the design
+
+-- the width of `y` in a row: 1 to 128
+abbrev pub width_of : List ℕ → ℕ
+width_of row = max 1 (min (decimal (part_at 6 row)) 128)
+
+-- a register without a name
+abbrev pub register : ℕ → Signal
+register width = record { path = []; width = width; start = X }
+
+-- `a`, `b`, `c`, `go`, the four words of `m`, `y` and `z`
+abbrev pub registers : ℕ → List Signal
+registers width = map register (8 ∷ 8 ∷ 4 ∷ 1 ∷ 8 ∷ 8 ∷ 8 ∷ 8 ∷ width ∷ 8 ∷ [])
+
+-- a top in which nothing is declared
+abbrev pub bare_top : List Node
+bare_top = record { path = []; children = [] } ∷ []
+
+-- each change of a signal
+abbrev pub change_of : ℕ → Wake
+change_of sig = record { sig = record { 0 = sig }; edge = Any }
+
+-- `assign` runs after each change of a signal that may be read, `always @(go)` after each one of `go`
+abbrev pub wakes_of : Kind → List Wake
+wakes_of Assign = map change_of (0 ∷ 1 ∷ 2 ∷ 3 ∷ 4 ∷ 5 ∷ 6 ∷ 7 ∷ [])
+wakes_of _ = change_of 3 ∷ []
+
+-- a signal is given a constant of its width
+abbrev pub sets : ℕ → List Digit → Act
+sets sig bits = Blocking (Whole (object.Signal (record { 0 = sig }) (length bits))) (Const bits)
+
+-- `a = ..; b = ..; m[2] = ..; c = ..; go = 1;`
+abbrev pub settings : List ℕ → List Act
+settings row =
+    sets 0 (vector_of (part_at 3 row)) ∷ sets 1 (vector_of (part_at 4 row)) ∷ sets 5 (vector_of (part_at 4 row))
+    ∷ sets 2 (vector_of (part_at 5 row)) ∷ sets 3 (One ∷ []) ∷ []
+
+-- `initial` with these settings
+pub record IsGiven (row : List ℕ) (given : Process) : Type 0 where
+  pub kind : given.kind ≡ Initial
+  pub wakes : given.wakes ≡ []
+  pub body : MakesAct given.body (run_list (settings row)) (SoundList (settings row))
+
+-- a process of this kind
+pub record IsAsked (sort : Kind) (asked : Process) : Type 0 where
+  pub kind : asked.kind ≡ sort
+  pub wakes : asked.wakes ≡ wakes_of sort
+
+-- The row's process first, and then that of the inputs.
+pub record AreProcesses (row : List ℕ) (kind : Kind) (processes : List Process) : Type 0 where
+  pub asked : Process
+  pub given : Process
+  pub is_asked : IsAsked kind asked
+  pub is_given : IsGiven row given
+  pub both : processes ≡ asked ∷ given ∷ []
+
+pub record IsDesign (row : List ℕ) (kind : Kind) (width : ℕ) (flat : Flat) : Type 0 where
+  pub signals : flat.signals ≡ registers width
+  pub nodes : flat.nodes ≡ bare_top
+  pub processes : AreProcesses row kind flat.processes
+  pub step : flat.step_fs ≡ 1
+
+-- ---- what is shown
+
+-- the last change that was told of a signal
+abbrev pub last_told : List Told → ℕ → Option Told
+last_told told sig = find (λ (t : Told). t.sig.0 == sig) (reverse told)
+
+-- the digits of a change, or so many that are x
+abbrev pub told_bits : Option Told → ℕ → List Digit
+told_bits (Some told) width = told.bits
+told_bits None width = all_x width
+
+-- the last value that was told of a signal with so many digits, all x where none was told
+abbrev pub last_value : List Told → ℕ → ℕ → List Digit
+last_value told sig width = told_bits (last_told told sig) width
+
+-- a space, and the last value of a signal with eight digits
+abbrev pub other_text : List Told → ℕ → List ℕ
+other_text told sig = 32 ∷ digits_text (last_value told sig 8)
+
+-- the value of `y`, and for an `always` those of `z` and the words of `m`
+abbrev pub values_text : Kind → List Told → ℕ → List ℕ
+values_text Always told width = digits_text (last_value told 8 width) ++ flat_map (other_text told) (9 ∷ 4 ∷ 5 ∷ 6 ∷ 7 ∷ [])
+values_text _ told width = digits_text (last_value told 8 width)
+
+abbrev pub outcome_text : Kind → ℕ → Option (List Told) → List ℕ
+outcome_text kind width (Some told) = values_text kind told width
+outcome_text kind width None = codes "no rest"
+
+-- The text is what a design of the row comes to.
+pub record ShowsDesign (row : List ℕ) (kind : Kind) (text : List ℕ) : Type 0 where
+  pub flat : Flat
+  pub is_design : IsDesign row kind (width_of row) flat
+  pub told : Option (List Told)
+  pub comes : ComesTo flat told
+  pub shows : text ≡ outcome_text kind (width_of row) told
