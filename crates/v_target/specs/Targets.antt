@@ -33,7 +33,8 @@ pub record GetsAsName (s : Scope) (sel : SelectsTree) (x : Option Meaning) (c : 
   pub sound : (ws : List ℕ) → IsNameOf x ws → SelectsNamesOf s sel ws → IsSoundTarget c.target ws
 
 -- the same rule is broken first as in the definition, with the same width; and where none is, it gets the same updates
-pub record IsNamedTarget (how : Manner) (s : Scope) (p : ℕ) (sel : SelectsTree) (x : Option Meaning) (f : Found CheckedTarget) : Type 0 where
+pub record IsNamedTarget (how : Manner) (s : Scope) (p : ℕ) (sel : SelectsTree) (x : Option Meaning)
+    (f : Found CheckedTarget) : Type 0 where
   pub finds : each (λ (c : CheckedTarget). c.width) f ≡ each counted_width (named_target how s p sel x)
   pub holds : Holds (λ (c : CheckedTarget). GetsAsName s sel x c) f
 

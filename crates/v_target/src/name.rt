@@ -164,8 +164,8 @@ fn object(place: usize, object: DataObject, selects: CheckedSelects) -> Found<Ch
 }
 
 /// A name that is assigned to, with selects whose expressions were checked, where `place` is the number of the name (IEEE 1364-2005,
-/// clauses 6.1 and 9.2). Where it is no object of the right kind, BadTarget is broken at it, and there is no target; but what is broken in
-/// its selects counts too, also in those of a constant, for which signal 0 stands in the target that is dropped.
+/// clauses 6.1 and 9.2). Where it is not of the right kind, BadTarget is broken at it, and there is no target; but what is broken in its
+/// selects counts too, also in those of a constant, for which signal 0 stands in the target that is dropped.
 pub fn named(
     scope: &Scope,
     manner: Manner,

@@ -33,7 +33,8 @@ returns-in-Some-Later c = λ sel h.
     let p = c.args.place in
     let e : s c.args.name.now ≡ Some Later = search rules in
     subst (λ (x : Option Meaning). IsNamedTarget how s p sel x c.broken-in-Some-Later.result) (sym e)
-    (subst (λ (f : Found CheckedTarget). IsNamedTarget how s p sel (Some Later) f) (sym c.broken-in-Some-Later.ensures) (later_named how s p sel))
+    (subst (λ (f : Found CheckedTarget). IsNamedTarget how s p sel (Some Later) f) (sym c.broken-in-Some-Later.ensures)
+    (later_named how s p sel))
 
 pub returns-in-Some-Constant : goal.returns-in-Some-Constant
 returns-in-Some-Constant c = λ sel h.
@@ -50,7 +51,7 @@ returns-in-Some-Constant c = λ sel h.
     (let low = c.width-width.ensures.low in let high = c.width-width.ensures.high in (omega (arith, low, i), omega (arith, high, i))) in
     subst (λ (x : Option Meaning). IsNamedTarget how s p sel x c.needs.result) (sym e)
     (subst (λ (f : Found CheckedTarget). IsNamedTarget how s p sel (Some (Constant ds b)) f)
-    (sym (c.needs.ensures ∙ ap (λ (f : Found CheckedTarget). needs false rule.BadTarget p f) c.found-vector.ensures))
+    (sym (c.needs.ensures ∙ ap (λ (f : Found CheckedTarget). needs false rule.BadTarget p f) c.vector-found.ensures))
     (constant_named how s p sel ds b (Signal (record { 0 = 0 }) w) c.args.selects i proper h))
 
 pub returns-in-Some-Object : goal.returns-in-Some-Object
@@ -59,12 +60,14 @@ returns-in-Some-Object c = λ sel h.
     let how = manner_of c.args.manner in
     let p = c.args.place in
     let o = c.in-Some-Object.declared in
-    let f = c.found-object.result in
+    let f = c.object-found.result in
     let e : s c.args.name.now ≡ Some (meant.Object o) = search rules in
-    let wide : IsWidth (width_of o.bounds) × HasFewWords o.words = subst (λ (x : Option Meaning). IsProper x) e (c.requires c.args.name.now) in
-    let made : c.needs-in-Some-Object.result ≡ needs (fits_kind how o.kind o.words) rule.BadTarget p (object_target p o o.words c.args.selects) =
+    let wide : IsWidth (width_of o.bounds) × HasFewWords o.words = subst (λ (x : Option Meaning). IsProper x) e
+    (c.requires c.args.name.now) in
+    let made : c.needs-in-Some-Object.result ≡ needs (fits_kind how o.kind o.words) rule.BadTarget p
+    (object_target p o o.words c.args.selects) =
     c.needs-in-Some-Object.ensures ∙ ap (λ (ok : Bool). needs ok rule.BadTarget p f) c.fits.ensures
-    ∙ ap (λ (g : Found CheckedTarget). needs (fits_kind how o.kind o.words) rule.BadTarget p g) c.found-object.ensures in
+    ∙ ap (λ (g : Found CheckedTarget). needs (fits_kind how o.kind o.words) rule.BadTarget p g) c.object-found.ensures in
     subst (λ (x : Option Meaning). IsNamedTarget how s p sel x c.needs-in-Some-Object.result) (sym e)
     (subst (λ (g : Found CheckedTarget). IsNamedTarget how s p sel (Some (meant.Object o)) g) (sym made)
     (object_named how s p sel o c.args.selects wide.0 h))
