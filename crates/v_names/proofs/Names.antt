@@ -1,5 +1,5 @@
 -- What is found in a name with selects.
-use Rattle.std.proofs.Common.{◌≡◌, ℕ, List, Option, Some, None, false, refl, sym, ap, ◌∙◌, subst, arith}
+use Rattle.std.proofs.Common.{◌≡◌, ℕ, List, Option, Some, None, Bool, false, refl, sym, ap, ◌∙◌, subst, arith}
 use Rattle.four_value.specs.declared.Digit.{Digit}
 use Rattle.four_value.specs.Vector.{number, resize}
 use Rattle.gpi.specs.declared.selects.Words.{Words}
@@ -41,16 +41,16 @@ use Rattle.v_names.proofs.Choices.{chosen}
 abbrev asked : Scope → ℕ → SelectsTree → Nature → Found ℕ
 asked s p sel n = by_nature p n (λ b. of_vector false s p b sel) (λ b. of_memory false s p b sel)
 
-place_is : (s : Scope) (sel : SelectTree) (x : CheckedSelect) → IsSelect false s sel x → select_at sel ≡ place_of x
-place_is s (Bit q i) (code.Bit o x) h = h.0
-place_is s (Part q l r) (code.Part o x y) h = h.0
-place_is s (IndexedPart q c n) (code.IndexedPart o x w) h = h.0
-place_is s (Bit q i) (code.Part o x y) h = absurd h
-place_is s (Bit q i) (code.IndexedPart o x w) h = absurd h
-place_is s (Part q l r) (code.Bit o x) h = absurd h
-place_is s (Part q l r) (code.IndexedPart o x w) h = absurd h
-place_is s (IndexedPart q c n) (code.Bit o x) h = absurd h
-place_is s (IndexedPart q c n) (code.Part o x y) h = absurd h
+pub place_is : (fixed : Bool) (s : Scope) (sel : SelectTree) (x : CheckedSelect) → IsSelect fixed s sel x → select_at sel ≡ place_of x
+place_is fixed s (Bit q i) (code.Bit o x) h = h.0
+place_is fixed s (Part q l r) (code.Part o x y) h = h.0
+place_is fixed s (IndexedPart q c n) (code.IndexedPart o x w) h = h.0
+place_is fixed s (Bit q i) (code.Part o x y) h = absurd h
+place_is fixed s (Bit q i) (code.IndexedPart o x w) h = absurd h
+place_is fixed s (Part q l r) (code.Bit o x) h = absurd h
+place_is fixed s (Part q l r) (code.IndexedPart o x w) h = absurd h
+place_is fixed s (IndexedPart q c n) (code.Bit o x) h = absurd h
+place_is fixed s (IndexedPart q c n) (code.Part o x y) h = absurd h
 
 -- ---- vectors
 
@@ -94,7 +94,7 @@ twice_named : (s : Scope) (p q : ℕ) (i : Tree) (sel : SelectTree) (x : Option 
 twice_named s p q i sel x t b y z v h k = record {
   finds = each_then (λ (c : Checked). c.width) (λ (u : Unit {0}). broken rule.BadRange (place_of z)) (each (λ (t : Term). tt) y)
       ∙ ap (λ (w : Found (Unit {0})). and_then w (λ (u : Unit {0}). (let r : Found ℕ = broken rule.BadRange (place_of z) in r))) h.finds
-      ∙ ap (λ (n : ℕ). and_then (index false s i (checked s i)) (λ (u : Unit {0}). (let r : Found ℕ = broken rule.BadRange n in r))) (sym (place_is s sel z k))
+      ∙ ap (λ (n : ℕ). and_then (index false s i (checked s i)) (λ (u : Unit {0}). (let r : Found ℕ = broken rule.BadRange n in r))) (sym (place_is false s sel z k))
       ∙ sym (each_then counted_width (λ (u : Unit {0}). (let r : Found ℕ = broken rule.BadRange (select_at sel) in r)) (index false s i (checked s i)))
       ∙ ap (λ (n : Nature). each counted_width (asked s p (OfWord q i sel) n)) (sym v.nature);
   holds = never (λ (c : Checked). StandsForName s (OfWord q i sel) x c) (place_of z) (each (λ (t : Term). tt) y);

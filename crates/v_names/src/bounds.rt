@@ -21,8 +21,8 @@ pub fn index_count(bounds: Bounds) -> u32
     }
 }
 
-/// The width of a vector that has this range.
-pub(crate) fn width(bounds: Bounds) -> u8
+/// The width of a vector of 1 to 128 digits that has this range (clause 4.3.1).
+pub fn width(bounds: Bounds) -> u8
     requires { IsWidth (width_of bounds) }
     ensures { result ≡ width_of bounds }
 {
@@ -43,8 +43,8 @@ pub(crate) fn falls(bounds: Bounds) -> bool
     bounds.right <= bounds.left
 }
 
-/// The range of a vector.
-pub(crate) fn range(bounds: Bounds) -> Range
+/// The range of a vector: its least index, and which way its indices go (clause 4.3.1).
+pub fn range(bounds: Bounds) -> Range
     ensures { result ≡ range_of bounds }
 {
     let order = if falls(bounds) {
@@ -58,8 +58,8 @@ pub(crate) fn range(bounds: Bounds) -> Range
     }
 }
 
-/// The words of a memory, from their first signal on.
-pub(crate) fn words(first: u32, bounds: Bounds) -> Words
+/// The words of a memory of at most 65,536, from their first signal on (clause 4.9).
+pub fn words(first: u32, bounds: Bounds) -> Words
     requires { width_of bounds ≤ most_words }
     ensures { result ≡ words_of first bounds }
 {

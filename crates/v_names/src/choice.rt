@@ -123,8 +123,8 @@ fn found_part(at: usize, place: usize, bounds: Bounds, found: Found<(Bits, Bits)
     }
 }
 
-/// What a select chooses from a range, where `place` is the number of the name.
-pub(crate) fn chosen(place: usize, bounds: Bounds, select: CheckedSelect) -> Found<Choice>
+/// What a select chooses from a range, where `place` is the number of the name (clause 5.2).
+pub fn chosen(place: usize, bounds: Bounds, select: CheckedSelect) -> Found<Choice>
     ensures { result ≡ choice_from place bounds select }
 {
     match select {

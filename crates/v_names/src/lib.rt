@@ -10,6 +10,7 @@ mod choice;
 mod name;
 mod selects;
 
-pub use bounds::index_count;
+pub use bounds::{index_count, range, width, words};
+pub use choice::{Choice, chosen};
 pub use name::named;
 pub use selects::{CheckedSelect, CheckedSelects, by_itself, fixed_index};

@@ -48,7 +48,7 @@ pub enum CheckedSelects {
 
 impl CheckedSelect {
     /// The number of its `[`.
-    pub(crate) fn place(&self) -> usize
+    pub fn place(&self) -> usize
         ensures { result ≡ place_of self.now }
     {
         match self {

@@ -1,0 +1,317 @@
+-- What is found in a name that is assigned to.
+use Rattle.std.proofs.Common.{◌≡◌, ℕ, List, length, Option, Some, None, Bool, true, false, refl, sym, ap, ◌∙◌, subst, arith}
+use Rattle.four_value.specs.declared.Digit.{Digit}
+use Rattle.four_value.specs.Vector.{number}
+use Rattle.gpi.specs.declared.selects.Words.{Words}
+use Rattle.gpi.specs.declared.terms.Term.{Term}
+use Rattle.gpi.specs.declared.targets.Object.{Object}
+use Rattle.gpi.specs.declared.targets.Object.TheVariants.{Signal, Word}
+use Rattle.gpi.specs.Selects.{overlap_of, word_at}
+use Rattle.gpi.specs.Targets.{object_width, part_update, whole_update}
+use Rattle.gpi.specs.Terms.{value, IsWidth}
+use Rattle.v_syntax.specs.ExpressionTrees.{Tree, SelectsTree, Whole, One, OfWord, SelectTree, Bit, Part, IndexedPart}
+use Rattle.v_scope.specs.declared.rule.ElabRule.TheVariants as rule
+use Rattle.v_scope.specs.declared.found.Found.{Found}
+use Rattle.v_scope.specs.declared.found.Found.TheVariants.{Sound}
+use Rattle.v_scope.specs.Found.{each, both, and_then, broken, needs, Holds}
+use Rattle.v_scope.specs.declared.meaning.Bounds.{Bounds}
+use Rattle.v_scope.specs.declared.meaning.DataObject.{DataObject}
+use Rattle.v_scope.specs.declared.meaning.Meaning.{Meaning}
+use Rattle.v_scope.specs.declared.meaning.Meaning.TheVariants.{Constant, Later}
+use Rattle.v_scope.specs.declared.meaning.Meaning.TheVariants as meant
+use Rattle.v_scope.specs.Rules.{at}
+use Rattle.v_scope.specs.Limits.{counted_width}
+use Rattle.v_scope.specs.Scope.{Scope, width_of}
+use Rattle.v_scope.proofs.Gathered.{each_each, each_same, each_then, each_needs}
+use Rattle.v_flat.specs.Objects.{Nature, nature_of, range_of, words_of}
+use Rattle.v_flat.specs.Expressions.{own_value, select_base, select_width}
+use Rattle.v_flat.specs.Checks.{checked, index, part, by_nature, of_vector, of_memory, select_at}
+use Rattle.v_flat.specs.Targets.{Manner, fits_kind, is_fixed, object_update}
+use Rattle.v_flat.proofs.Holds.{holds_any, holds_both, holds_each, holds_lost, holds_needs, holds_then}
+use Rattle.v_names.specs.declared.choice.Choice.{Choice}
+use Rattle.v_names.specs.declared.selects.CheckedSelect.{CheckedSelect}
+use Rattle.v_names.specs.declared.selects.CheckedSelect.TheVariants as code
+use Rattle.v_names.specs.declared.selects.CheckedSelects.{CheckedSelects}
+use Rattle.v_names.specs.declared.selects.CheckedSelects.TheVariants as code_selects
+use Rattle.v_names.specs.Selects.{StandsAlone, IsIndex, IsSelect, AreSelects}
+use Rattle.v_names.specs.Made.{Chooses, choice_from, place_of}
+use Rattle.v_names.proofs.Choices.{chosen}
+use Rattle.v_names.proofs.Founds.{second_of}
+use Rattle.v_names.proofs.Names.{object_memory, object_vector, place_is}
+use Rattle.v_target.specs.declared.checked.CheckedTarget.{CheckedTarget}
+use Rattle.v_target.specs.Made.{whole_target, part_target, twice_at, vector_target, word_target, memory_target, object_target}
+use Rattle.v_target.specs.Targets.{GetsAsName, IsNamedTarget}
+
+-- ---- the first broken rule, and the width
+
+abbrev width_found : Found CheckedTarget → Found ℕ
+width_found f = each (λ (c : CheckedTarget). c.width) f
+
+abbrev sound_width : ℕ → Found ℕ
+sound_width n = Sound n
+
+whole_found : (w n : ℕ) → w ≡ n → IsWidth n → sound_width w ≡ sound_width (counted_width n)
+whole_found w n e h = ap sound_width (let k = h.1 in omega (arith, e, k))
+
+twice_found : (fixed : Bool) (s : Scope) (i : Tree) (sel : SelectTree) (x : Found Term) (z : CheckedSelect) → IsIndex fixed s i x
+    → IsSelect fixed s sel z
+    → width_found (twice_at x (place_of z))
+    ≡ each counted_width (and_then (index fixed s i (checked s i)) (λ (u : Unit {0}). broken rule.BadRange (select_at sel)))
+twice_found fixed s i sel x z h k =
+    each_then (λ (c : CheckedTarget). c.width) (λ (u : Unit {0}). broken rule.BadRange (place_of z)) (each (λ (t : Term). tt) x)
+    ∙ ap (λ (w : Found (Unit {0})). and_then w (λ (u : Unit {0}). (let r : Found ℕ = broken rule.BadRange (place_of z) in r))) h.finds
+    ∙ ap (λ (n : ℕ). and_then (index fixed s i (checked s i)) (λ (u : Unit {0}). (let r : Found ℕ = broken rule.BadRange n in r)))
+    (sym (place_is fixed s sel z k))
+    ∙ sym (each_then counted_width (λ (u : Unit {0}). (let r : Found ℕ = broken rule.BadRange (select_at sel) in r))
+    (index fixed s i (checked s i)))
+
+part_found : (fixed : Bool) (s : Scope) (p : ℕ) (o : Object) (b : Bounds) (sel : SelectTree) (y : CheckedSelect) → IsSelect fixed s sel y
+    → width_found (each (λ (x : Choice). part_target o (range_of b) x) (choice_from p b y)) ≡ each counted_width (part fixed s p b sel)
+part_found fixed s p o b sel y h =
+    each_each (λ (c : CheckedTarget). c.width) (λ (x : Choice). part_target o (range_of b) x) (choice_from p b y)
+    ∙ (chosen fixed s p b sel y h).finds
+
+vector_found : (fixed : Bool) (s : Scope) (p : ℕ) (sel : SelectsTree) (o : Object) (b : Bounds) (y : CheckedSelects)
+    → object_width o ≡ width_of b → IsWidth (width_of b) → AreSelects fixed s sel y
+    → width_found (vector_target p o b y) ≡ each counted_width (of_vector fixed s p b sel)
+vector_found fixed s p Whole o b code_selects.Whole e w h = whole_found (object_width o) (width_of b) e w
+vector_found fixed s p (One sel) o b (code_selects.One y) e w h = part_found fixed s p o b sel y h
+vector_found fixed s p (OfWord q i sel) o b (code_selects.OfWord x z) e w h = twice_found fixed s i sel x z h.0 h.1
+vector_found fixed s p Whole o b (code_selects.One y) e w h = absurd h
+vector_found fixed s p Whole o b (code_selects.OfWord y z) e w h = absurd h
+vector_found fixed s p (One sel) o b code_selects.Whole e w h = absurd h
+vector_found fixed s p (One sel) o b (code_selects.OfWord y z) e w h = absurd h
+vector_found fixed s p (OfWord q i sel) o b code_selects.Whole e w h = absurd h
+vector_found fixed s p (OfWord q i sel) o b (code_selects.One y) e w h = absurd h
+
+word_found : (fixed : Bool) (s : Scope) (i : Tree) (words : Words) (b : Bounds) (x : Found Term) → IsWidth (width_of b)
+    → IsIndex fixed s i x
+    → width_found (each (λ (t : Term). whole_target (Word words t (width_of b))) x)
+    ≡ each counted_width (each (λ (u : Unit {0}). width_of b) (index fixed s i (checked s i)))
+word_found fixed s i words b x w h =
+    each_each (λ (c : CheckedTarget). c.width) (λ (t : Term). whole_target (Word words t (width_of b))) x
+    ∙ sym (each_each (λ (u : Unit {0}). width_of b) (λ (t : Term). tt) x)
+    ∙ ap (λ (y : Found (Unit {0})). each (λ (u : Unit {0}). width_of b) y) h.finds
+    ∙ each_same (λ (u : Unit {0}). width_of b) (λ (u : Unit {0}). counted_width (width_of b)) (index fixed s i (checked s i))
+    (λ u. let k = w.1 in omega (arith, k))
+    ∙ sym (each_each counted_width (λ (u : Unit {0}). width_of b) (index fixed s i (checked s i)))
+
+broken_found : (q o : ℕ) → q ≡ o → width_found (broken rule.BadRange o) ≡ each counted_width (broken rule.BadRange q)
+broken_found q o e = ap (λ (n : ℕ). (let r : Found ℕ = broken rule.BadRange n in r)) (sym e)
+
+one_found : (fixed : Bool) (s : Scope) (p : ℕ) (sel : SelectTree) (words : Words) (b : Bounds) (y : CheckedSelect) → IsWidth (width_of b)
+    → IsSelect fixed s sel y → width_found (word_target words (width_of b) y) ≡ each counted_width (of_memory fixed s p b (One sel))
+one_found fixed s p (Bit q i) words b (code.Bit o y) w h = word_found fixed s i words b y w h.1
+one_found fixed s p (Part q l r) words b (code.Part o y z) w h = broken_found q o h.0
+one_found fixed s p (IndexedPart q c n) words b (code.IndexedPart o y z) w h = broken_found q o h.0
+one_found fixed s p (Bit q i) words b (code.Part o y z) w h = absurd h
+one_found fixed s p (Bit q i) words b (code.IndexedPart o y z) w h = absurd h
+one_found fixed s p (Part q l r) words b (code.Bit o y) w h = absurd h
+one_found fixed s p (Part q l r) words b (code.IndexedPart o y z) w h = absurd h
+one_found fixed s p (IndexedPart q c n) words b (code.Bit o y) w h = absurd h
+one_found fixed s p (IndexedPart q c n) words b (code.Part o y z) w h = absurd h
+
+-- digits of a word
+abbrev of_word : Words → Bounds → Term × Choice → CheckedTarget
+of_word words b y = part_target (Word words y.0 (width_of b)) (range_of b) y.1
+
+word_part_found : (fixed : Bool) (s : Scope) (p : ℕ) (i : Tree) (sel : SelectTree) (words : Words) (b : Bounds) (x : Found Term)
+    (z : CheckedSelect)
+    → IsIndex fixed s i x → IsSelect fixed s sel z
+    → width_found (each (λ (y : Term × Choice). of_word words b y) (both x (choice_from p b z)))
+    ≡ each counted_width (each {A = Unit {0} × ℕ} (λ (y : Unit {0} × ℕ). y.1)
+    (both (index fixed s i (checked s i)) (part fixed s p b sel)))
+word_part_found fixed s p i sel words b x z h k =
+    each_each {A = Term × Choice} (λ (c : CheckedTarget). c.width) (λ (y : Term × Choice). of_word words b y) (both x (choice_from p b z))
+    ∙ second_of x (index fixed s i (checked s i)) (choice_from p b z) (λ (c : Choice). c.width) (part fixed s p b sel) h.finds
+    (chosen fixed s p b sel z k).finds
+
+memory_found : (fixed : Bool) (s : Scope) (p : ℕ) (sel : SelectsTree) (words : Words) (b : Bounds) (y : CheckedSelects)
+    → IsWidth (width_of b)
+    → AreSelects fixed s sel y → width_found (memory_target p words (width_of b) b y) ≡ each counted_width (of_memory fixed s p b sel)
+memory_found fixed s p Whole words b code_selects.Whole w h = refl
+memory_found fixed s p (One sel) words b (code_selects.One y) w h = one_found fixed s p sel words b y w h
+memory_found fixed s p (OfWord q i sel) words b (code_selects.OfWord x z) w h = word_part_found fixed s p i sel words b x z h.0 h.1
+memory_found fixed s p Whole words b (code_selects.One y) w h = absurd h
+memory_found fixed s p Whole words b (code_selects.OfWord y z) w h = absurd h
+memory_found fixed s p (One sel) words b code_selects.Whole w h = absurd h
+memory_found fixed s p (One sel) words b (code_selects.OfWord y z) w h = absurd h
+memory_found fixed s p (OfWord q i sel) words b code_selects.Whole w h = absurd h
+memory_found fixed s p (OfWord q i sel) words b (code_selects.One y) w h = absurd h
+
+-- ---- the updates of a vector
+
+whole_gets : (s : Scope) (o : DataObject) → o.words ≡ None → IsWidth (width_of o.bounds)
+    → GetsAsName s Whole (Some (meant.Object o)) (whole_target (Signal (record { 0 = o.first }) (width_of o.bounds)))
+whole_gets s o e w = let v = object_vector o (width_of o.bounds) refl e w in record {
+  proper = w;
+  own = v.whole_width;
+  width_is = refl;
+  gets = λ m ds l. sym (ap (λ (r : Option Bounds). object_update o r s Whole m ds) e);
+  sound = λ ws h k. (let g = v.sound ws h in (g.0, g.1, w));
+}
+
+part_gets : (s : Scope) (o : DataObject) (sel : SelectTree) (x : Choice) → o.words ≡ None → IsWidth (width_of o.bounds) → Chooses s sel x
+    → GetsAsName s (One sel) (Some (meant.Object o))
+    (part_target (Signal (record { 0 = o.first }) (width_of o.bounds)) (range_of o.bounds) x)
+part_gets s o sel x e w k = let v = object_vector o (width_of o.bounds) refl e w in record {
+  proper = k.proper;
+  own = v.one_width (select_width s sel) ∙ k.own;
+  width_is = refl;
+  gets = λ m ds l.
+      ap (λ (base : Option ℕ). part_update (Some o.first) (overlap_of (range_of o.bounds) (width_of o.bounds) base x.width) ds) (k.base m)
+      ∙ ap (λ (n : ℕ). part_update (Some o.first) (overlap_of (range_of o.bounds) (width_of o.bounds) (select_base s sel m) n) ds)
+      (sym k.own)
+      ∙ sym (ap (λ (r : Option Bounds). object_update o r s (One sel) m ds) e);
+  sound = λ ws h q. (let g = v.sound ws h in ((g.0, g.1, w), k.sound ws q, k.proper));
+}
+
+never : {A : Type 0} (R : CheckedTarget → Type 0) (p : ℕ) (x : Found A) → Holds R (and_then x (λ a. broken rule.BadRange p))
+never {A} R p x = holds_then (λ (a : A). Unit {0}) R x (λ a. broken rule.BadRange p) (holds_any x) (λ a k. tt)
+
+vector_gets : (fixed : Bool) (s : Scope) (p : ℕ) (sel : SelectsTree) (o : DataObject) (y : CheckedSelects) → o.words ≡ None
+    → IsWidth (width_of o.bounds)
+    → AreSelects fixed s sel y
+    → Holds (λ (c : CheckedTarget). GetsAsName s sel (Some (meant.Object o)) c)
+    (vector_target p (Signal (record { 0 = o.first }) (width_of o.bounds)) o.bounds y)
+vector_gets fixed s p Whole o code_selects.Whole e w h = whole_gets s o e w
+vector_gets fixed s p (One sel) o (code_selects.One y) e w h =
+    holds_each (λ (x : Choice). Chooses s sel x) (λ (c : CheckedTarget). GetsAsName s (One sel) (Some (meant.Object o)) c)
+    (λ (x : Choice). part_target (Signal (record { 0 = o.first }) (width_of o.bounds)) (range_of o.bounds) x) (choice_from p o.bounds y)
+    (chosen fixed s p o.bounds sel y h).holds (λ x k. part_gets s o sel x e w k)
+vector_gets fixed s p (OfWord q i sel) o (code_selects.OfWord x z) e w h =
+    never (λ (c : CheckedTarget). GetsAsName s (OfWord q i sel) (Some (meant.Object o)) c) (place_of z) (each (λ (t : Term). tt) x)
+vector_gets fixed s p Whole o (code_selects.One y) e w h = absurd h
+vector_gets fixed s p Whole o (code_selects.OfWord y z) e w h = absurd h
+vector_gets fixed s p (One sel) o code_selects.Whole e w h = absurd h
+vector_gets fixed s p (One sel) o (code_selects.OfWord y z) e w h = absurd h
+vector_gets fixed s p (OfWord q i sel) o code_selects.Whole e w h = absurd h
+vector_gets fixed s p (OfWord q i sel) o (code_selects.One y) e w h = absurd h
+
+-- ---- the updates of a word
+
+word_gets : (s : Scope) (q : ℕ) (i : Tree) (o : DataObject) (r : Bounds) (t : Term) → o.words ≡ Some r → IsWidth (width_of o.bounds)
+    → StandsAlone s i t
+    → GetsAsName s (One (Bit q i)) (Some (meant.Object o)) (whole_target (Word (words_of o.first r) t (width_of o.bounds)))
+word_gets s q i o r t e w k = let v = object_memory o r e w in record {
+  proper = w;
+  own = v.one_width 1;
+  width_is = refl;
+  gets = λ m ds l.
+      ap (λ (es : List Digit). whole_update (word_at (words_of o.first r) (number es)) ds) (k.means m)
+      ∙ sym (ap (λ (r : Option Bounds). object_update o r s (One (Bit q i)) m ds) e);
+  sound = λ ws h g. (k.sound ws g, v.sound ws h);
+}
+
+word_part_gets : (s : Scope) (q : ℕ) (i : Tree) (sel : SelectTree) (o : DataObject) (r : Bounds) (y : Term × Choice) → o.words ≡ Some r
+    → IsWidth (width_of o.bounds) → StandsAlone s i y.0 → Chooses s sel y.1
+    → GetsAsName s (OfWord q i sel) (Some (meant.Object o)) (of_word (words_of o.first r) o.bounds y)
+word_part_gets s q i sel o r y e w st k = let v = object_memory o r e w in record {
+  proper = k.proper;
+  own = k.own;
+  width_is = refl;
+  gets = λ m ds l.
+      ap (λ (es : List Digit). part_update (word_at (words_of o.first r) (number es))
+      (overlap_of (range_of o.bounds) (width_of o.bounds) (number (value y.1.index m)) y.1.width) ds) (st.means m)
+      ∙ ap (λ (base : Option ℕ). part_update (word_at (words_of o.first r) (number (own_value s i m)))
+      (overlap_of (range_of o.bounds) (width_of o.bounds) base y.1.width) ds) (k.base m)
+      ∙ ap (λ (n : ℕ). part_update (word_at (words_of o.first r) (number (own_value s i m)))
+      (overlap_of (range_of o.bounds) (width_of o.bounds) (select_base s sel m) n) ds) (sym k.own)
+      ∙ sym (ap (λ (r : Option Bounds). object_update o r s (OfWord q i sel) m ds) e);
+  sound = λ ws h g. ((st.sound ws g.0, v.sound ws h), k.sound ws g.1, k.proper);
+}
+
+one_gets : (fixed : Bool) (s : Scope) (sel : SelectTree) (o : DataObject) (r : Bounds) (y : CheckedSelect) → o.words ≡ Some r
+    → IsWidth (width_of o.bounds)
+    → IsSelect fixed s sel y
+    → Holds (λ (c : CheckedTarget). GetsAsName s (One sel) (Some (meant.Object o)) c)
+    (word_target (words_of o.first r) (width_of o.bounds) y)
+one_gets fixed s (Bit q i) o r (code.Bit p y) e w h =
+    holds_each (λ (t : Term). StandsAlone s i t) (λ (c : CheckedTarget). GetsAsName s (One (Bit q i)) (Some (meant.Object o)) c)
+    (λ (t : Term). whole_target (Word (words_of o.first r) t (width_of o.bounds))) y h.1.holds (λ t k. word_gets s q i o r t e w k)
+one_gets fixed s (Part q l m) o r (code.Part p y z) e w h = tt
+one_gets fixed s (IndexedPart q c n) o r (code.IndexedPart p y z) e w h = tt
+one_gets fixed s (Bit q i) o r (code.Part p y z) e w h = absurd h
+one_gets fixed s (Bit q i) o r (code.IndexedPart p y z) e w h = absurd h
+one_gets fixed s (Part q l m) o r (code.Bit p y) e w h = absurd h
+one_gets fixed s (Part q l m) o r (code.IndexedPart p y z) e w h = absurd h
+one_gets fixed s (IndexedPart q c n) o r (code.Bit p y) e w h = absurd h
+one_gets fixed s (IndexedPart q c n) o r (code.Part p y z) e w h = absurd h
+
+memory_gets : (fixed : Bool) (s : Scope) (p : ℕ) (sel : SelectsTree) (o : DataObject) (r : Bounds) (y : CheckedSelects) → o.words ≡ Some r
+    → IsWidth (width_of o.bounds) → AreSelects fixed s sel y
+    → Holds (λ (c : CheckedTarget). GetsAsName s sel (Some (meant.Object o)) c)
+    (memory_target p (words_of o.first r) (width_of o.bounds) o.bounds y)
+memory_gets fixed s p Whole o r code_selects.Whole e w h = tt
+memory_gets fixed s p (One sel) o r (code_selects.One y) e w h = one_gets fixed s sel o r y e w h
+memory_gets fixed s p (OfWord q i sel) o r (code_selects.OfWord x z) e w h =
+    holds_each (λ (y : Term × Choice). StandsAlone s i y.0 × Chooses s sel y.1)
+    (λ (c : CheckedTarget). GetsAsName s (OfWord q i sel) (Some (meant.Object o)) c)
+    (λ (y : Term × Choice). of_word (words_of o.first r) o.bounds y)
+    (both x (choice_from p o.bounds z))
+    (holds_both (λ (t : Term). StandsAlone s i t) (λ (c : Choice). Chooses s sel c) x (choice_from p o.bounds z) h.0.holds
+    (chosen fixed s p o.bounds sel z h.1).holds)
+    (λ y k. word_part_gets s q i sel o r y e w k.0 k.1)
+memory_gets fixed s p Whole o r (code_selects.One y) e w h = absurd h
+memory_gets fixed s p Whole o r (code_selects.OfWord y z) e w h = absurd h
+memory_gets fixed s p (One sel) o r code_selects.Whole e w h = absurd h
+memory_gets fixed s p (One sel) o r (code_selects.OfWord y z) e w h = absurd h
+memory_gets fixed s p (OfWord q i sel) o r code_selects.Whole e w h = absurd h
+memory_gets fixed s p (OfWord q i sel) o r (code_selects.One y) e w h = absurd h
+
+-- ---- what a name is
+
+-- a name with selects, by what it is
+abbrev asked : Bool → Scope → ℕ → SelectsTree → Nature → Found ℕ
+asked fixed s p sel n = by_nature p n (λ b. of_vector fixed s p b sel) (λ b. of_memory fixed s p b sel)
+
+object_found : (fixed : Bool) (s : Scope) (p : ℕ) (sel : SelectsTree) (o : DataObject) (r : Option Bounds) (y : CheckedSelects)
+    → o.words ≡ r
+    → IsWidth (width_of o.bounds) → AreSelects fixed s sel y
+    → width_found (object_target p o r y) ≡ each counted_width (asked fixed s p sel (nature_of (Some (meant.Object o))))
+object_found fixed s p sel o None y e w h =
+    vector_found fixed s p sel (Signal (record { 0 = o.first }) (width_of o.bounds)) o.bounds y refl w h
+    ∙ ap (λ (n : Nature). each counted_width (asked fixed s p sel n)) (sym (object_vector o (width_of o.bounds) refl e w).nature)
+object_found fixed s p sel o (Some r) y e w h =
+    memory_found fixed s p sel (words_of o.first r) o.bounds y w h
+    ∙ ap (λ (n : Nature). each counted_width (asked fixed s p sel n)) (sym (object_memory o r e w).nature)
+
+object_gets : (fixed : Bool) (s : Scope) (p : ℕ) (sel : SelectsTree) (o : DataObject) (r : Option Bounds) (y : CheckedSelects)
+    → o.words ≡ r → IsWidth (width_of o.bounds) → AreSelects fixed s sel y
+    → Holds (λ (c : CheckedTarget). GetsAsName s sel (Some (meant.Object o)) c) (object_target p o r y)
+object_gets fixed s p sel o None y e w h = vector_gets fixed s p sel o y e w h
+object_gets fixed s p sel o (Some r) y e w h = memory_gets fixed s p sel o r y e w h
+
+pub object_named : (how : Manner) (s : Scope) (p : ℕ) (sel : SelectsTree) (o : DataObject) (y : CheckedSelects)
+    → IsWidth (width_of o.bounds)
+    → AreSelects (is_fixed how) s sel y
+    → IsNamedTarget how s p sel (Some (meant.Object o))
+    (needs (fits_kind how o.kind o.words) rule.BadTarget p (object_target p o o.words y))
+object_named how s p sel o y w h =
+    let fixed = is_fixed how in
+    let ok = fits_kind how o.kind o.words in
+    let f = object_target p o o.words y in record {
+      finds = each_needs (λ (c : CheckedTarget). c.width) ok rule.BadTarget p f
+          ∙ ap (λ (x : Found ℕ). needs ok rule.BadTarget p x) (object_found fixed s p sel o o.words y refl w h)
+          ∙ sym (each_needs counted_width ok rule.BadTarget p (asked fixed s p sel (nature_of (Some (meant.Object o)))));
+      holds = holds_needs (λ (c : CheckedTarget). GetsAsName s sel (Some (meant.Object o)) c) ok rule.BadTarget p f
+          (λ fit. object_gets fixed s p sel o o.words y refl w h);
+    }
+
+pub constant_named : (how : Manner) (s : Scope) (p : ℕ) (sel : SelectsTree) (ds : List Digit) (b : Bounds) (o : Object)
+    (y : CheckedSelects)
+    → object_width o ≡ width_of b → IsWidth (width_of b) → AreSelects (is_fixed how) s sel y
+    → IsNamedTarget how s p sel (Some (Constant ds b)) (needs false rule.BadTarget p (vector_target p o b y))
+constant_named how s p sel ds b o y e w h = record {
+  finds = each_needs (λ (c : CheckedTarget). c.width) false rule.BadTarget p (vector_target p o b y)
+      ∙ ap (λ (x : Found ℕ). needs false rule.BadTarget p x) (vector_found (is_fixed how) s p sel o b y e w h)
+      ∙ sym (each_needs counted_width false rule.BadTarget p (of_vector (is_fixed how) s p b sel));
+  holds = holds_lost (λ (c : CheckedTarget). GetsAsName s sel (Some (Constant ds b)) c) (at rule.BadTarget p) (vector_target p o b y);
+}
+
+pub unknown_named : (how : Manner) (s : Scope) (p : ℕ) (sel : SelectsTree) → IsNamedTarget how s p sel None (broken rule.UnknownName p)
+unknown_named how s p sel = record { finds = refl; holds = tt }
+
+pub later_named : (how : Manner) (s : Scope) (p : ℕ) (sel : SelectsTree)
+    → IsNamedTarget how s p sel (Some Later) (broken rule.NotConstant p)
+later_named how s p sel = record { finds = refl; holds = tt }

@@ -1,0 +1,43 @@
+-- What it means that the name in a target was found (IEEE 1364-2005, clauses 6.1 and 9.2): the first broken rule, its width, and the
+-- updates that it gets.
+use Rattle.std.specs.Prelude.{◌≡◌, ℕ, List, length, Option}
+use Rattle.four_value.specs.declared.Digit.{Digit}
+use Rattle.gpi.specs.Targets.{target_width, updates_of, IsSoundTarget}
+use Rattle.gpi.specs.Terms.{IsWidth}
+use Rattle.v_syntax.specs.ExpressionTrees.{SelectsTree}
+use Rattle.v_scope.specs.declared.found.Found.{Found}
+use Rattle.v_scope.specs.Found.{each, Holds}
+use Rattle.v_scope.specs.declared.meaning.Meaning.{Meaning}
+use Rattle.v_scope.specs.Limits.{counted_width}
+use Rattle.v_scope.specs.Scope.{Scope, find}
+use Rattle.v_flat.specs.Expressions.{named_width}
+use Rattle.v_flat.specs.Targets.{Manner, Procedural, Continuous, named_target, name_update, is_fixed}
+use Rattle.v_operator.specs.Checked.{IsNameOf, SelectsNamesOf}
+use Rattle.v_names.specs.declared.selects.CheckedSelects.{CheckedSelects}
+use Rattle.v_names.specs.Selects.{AreSelects}
+use Rattle.v_target.specs.declared.manner.Manner as code
+use Rattle.v_target.specs.declared.manner.Manner.TheVariants as code_manner
+use Rattle.v_target.specs.declared.checked.CheckedTarget.{CheckedTarget}
+
+abbrev pub manner_of : code.Manner → Manner
+manner_of code_manner.Procedural = Procedural
+manner_of code_manner.Continuous = Continuous
+
+-- a name with selects, whose meaning is x: it gets the same updates by digits of its width, on every map of the signals, and is sound
+-- wherever the names are signals of the design
+pub record GetsAsName (s : Scope) (sel : SelectsTree) (x : Option Meaning) (c : CheckedTarget) : Type 0 where
+  pub proper : IsWidth c.width
+  pub own : named_width s sel x ≡ c.width
+  pub width_is : target_width c.target ≡ c.width
+  pub gets : (m : ℕ → List Digit) (ds : List Digit) → length ds ≡ c.width → updates_of c.target m ds ≡ name_update x s sel m ds
+  pub sound : (ws : List ℕ) → IsNameOf x ws → SelectsNamesOf s sel ws → IsSoundTarget c.target ws
+
+-- the same rule is broken first as in the definition, with the same width; and where none is, it gets the same updates
+pub record IsNamedTarget (how : Manner) (s : Scope) (p : ℕ) (sel : SelectsTree) (x : Option Meaning)
+    (f : Found CheckedTarget) : Type 0 where
+  pub finds : each (λ (c : CheckedTarget). c.width) f ≡ each counted_width (named_target how s p sel x)
+  pub holds : Holds (λ (c : CheckedTarget). GetsAsName s sel x c) f
+
+-- p is the place of the name n
+abbrev pub ChecksTargetName : Manner → Scope → List ℕ → ℕ → CheckedSelects → Found CheckedTarget → Type 0
+ChecksTargetName how s n p y f = (sel : SelectsTree) → AreSelects (is_fixed how) s sel y → IsNamedTarget how s p sel (find n s) f
