@@ -1,5 +1,5 @@
 -- The book stays that of the simulator.
-use Rattle.std.proofs.Common.{◌≡◌, ◌≤◌, ◌&&◌, ◌||◌, not, Bool, true, false, ℕ, suc, List, [], ◌∷◌, ◌++◌, Option, Some, None, length, refl, ap, sym, ◌∙◌, append-nil, if◌then◌else◌, subst}
+use Rattle.std.proofs.Common.{◌≡◌, ◌≤◌, ◌&&◌, ◌||◌, not, Bool, false, suc, List, [], ◌∷◌, ◌++◌, Option, Some, None, length, refl, ap, sym, ◌∙◌, append-nil, subst}
 use Rattle.std.specs.List.{list_any}
 use Rattle.four_value.specs.declared.Digit.{Digit}
 use Rattle.gpi.specs.Content.{Content, Answers, Does, Registers, Removes, opening}
@@ -16,7 +16,6 @@ use Rattle.gpi.specs.declared.types.Key.{Key}
 use Rattle.gpi.specs.declared.types.Key.TheVariants.{At, Rise, Fall, Change, ReadWrite, ReadOnly, NextStep}
 use Rattle.gpi.specs.declared.types.Moved.{Moved}
 use Rattle.gpi.specs.declared.types.SigId.{SigId}
-use Rattle.rig_model.specs.Fires.{Fires, PutFires}
 use Rattle.rig_model.specs.Keys.{keys_in, without, without_all}
 use Rattle.rig_model.proofs.CountLaws.{among-more}
 use Rattle.rig_model.proofs.FireLaws.{event_fires, put_fires, told_back}
@@ -85,7 +84,7 @@ fired_out e fired before after book new b few is does widths signals keys = reco
   keys = λ x.
       does.keys x ∙ ap (λ (h : Bool). h && not (among x e.fired)) (b.keys x)
       ∙ sym (ap (among x) keys ∙ among_without_all x (keys_in fired) book.keys.items
-        ∙ ap (λ (ks : List Key). among x book.keys.items && not (among x ks)) (ap keys_in is ∙ told_back e.fired few));
+      ∙ ap (λ (ks : List Key). among x book.keys.items && not (among x ks)) (ap keys_in is ∙ told_back e.fired few));
 }
 
 -- by a deposit

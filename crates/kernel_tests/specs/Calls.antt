@@ -42,7 +42,7 @@ call_of row =
     if bytes_eq (part_at 0 row) (codes "register") then option_map call.Register (named_key row)
     else (if bytes_eq (part_at 0 row) (codes "remove") then option_map call.Remove (named_key row)
     else (if bytes_eq (part_at 0 row) (codes "deposit")
-        then Some (call.Deposit (signal_of (decimal (part_at 2 row))) (decimal (part_at 3 row)))
+    then Some (call.Deposit (signal_of (decimal (part_at 2 row))) (decimal (part_at 3 row)))
     else (if bytes_eq (part_at 0 row) (codes "advance") then Some call.Advance
     else None)))
 

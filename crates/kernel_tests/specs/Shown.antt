@@ -1,5 +1,5 @@
 -- How the answer to a row is shown.
-use Rattle.std.specs.Prelude.{ℕ, List, [], ◌∷◌, ◌++◌, Option, None, Some, codes, length, take, Bool, true, false, ◌||◌, ◌≡◌}
+use Rattle.std.specs.Prelude.{ℕ, List, [], ◌++◌, Option, None, Some, codes, length, take, Bool, true, false, ◌||◌, ◌≡◌}
 use Rattle.std.specs.Fmt.{decimal}
 use Rattle.std.specs.Str.{bytes_eq}
 use Rattle.four_value.specs.declared.Digit.{Digit}
@@ -9,7 +9,6 @@ use Rattle.gpi.specs.Soundness.{IsSoundFlat}
 use Rattle.gpi.specs.State.{State}
 use Rattle.gpi.specs.declared.types.Counts.{Counts}
 use Rattle.gpi.specs.declared.design.Flat.{Flat}
-use Rattle.gpi.specs.declared.types.Advance.{Advance}
 use Rattle.gpi.specs.declared.types.Advance.TheVariants.{Moved, Idle}
 use Rattle.gpi.specs.declared.types.Fired.{Fired}
 use Rattle.gpi.specs.declared.types.Key.{Key}

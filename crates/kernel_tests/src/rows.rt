@@ -16,7 +16,12 @@ use std::alloc::Global;
 use table_rows::Row;
 
 /// What is shown of a design that the simulator takes. Only want of memory is an error, and that the design isn't sound.
-fn design_text<K: Gpi>(alloc: Global, flat: &Flat, kernel: &mut K, book: &mut Book) -> Result<Vec<u8>>
+fn design_text<K: Gpi>(
+    alloc: Global,
+    flat: &Flat,
+    kernel: &mut K,
+    book: &mut Book,
+) -> Result<Vec<u8>>
     ensures loaded { OnOk result (K.is_loaded kernel.new) }
     ensures book { OnOk result (IsBook book.new (K.content kernel.new)) }
     ensures shows { IfOk result (λ shown. ShowsDesign shown.items (K.content kernel.new)) }
@@ -29,7 +34,12 @@ fn design_text<K: Gpi>(alloc: Global, flat: &Flat, kernel: &mut K, book: &mut Bo
 }
 
 /// What is shown of a call that a row asks for. Only want of memory is an error.
-fn call_text<K: Gpi>(alloc: Global, row: &Row<'_>, kernel: &mut K, book: &mut Book) -> Result<Vec<u8>, NoMemory>
+fn call_text<K: Gpi>(
+    alloc: Global,
+    row: &Row<'_>,
+    kernel: &mut K,
+    book: &mut Book,
+) -> Result<Vec<u8>, NoMemory>
     requires loaded { K.is_loaded kernel.old }
     requires book { IsBook book.old (K.content kernel.old) }
     ensures loaded { K.is_loaded kernel.new }
@@ -49,7 +59,12 @@ fn call_text<K: Gpi>(alloc: Global, row: &Row<'_>, kernel: &mut K, book: &mut Bo
 }
 
 /// What is shown of a row.
-fn row_text<K: Gpi>(alloc: Global, row: &Row<'_>, kernel: &mut K, book: &mut Book) -> Result<Vec<u8>>
+fn row_text<K: Gpi>(
+    alloc: Global,
+    row: &Row<'_>,
+    kernel: &mut K,
+    book: &mut Book,
+) -> Result<Vec<u8>>
     requires loaded { K.is_loaded kernel.old }
     requires book { IsBook book.old (K.content kernel.old) }
     ensures loaded { OnOk result (K.is_loaded kernel.new) }
@@ -67,7 +82,12 @@ fn row_text<K: Gpi>(alloc: Global, row: &Row<'_>, kernel: &mut K, book: &mut Boo
 }
 
 /// The rule of a row, and behind `: ` what is shown of it.
-pub fn answer<K: Gpi>(alloc: Global, line: &[u8], kernel: &mut K, book: &mut Book) -> Result<Vec<u8>>
+pub fn answer<K: Gpi>(
+    alloc: Global,
+    line: &[u8],
+    kernel: &mut K,
+    book: &mut Book,
+) -> Result<Vec<u8>>
     requires loaded { K.is_loaded kernel.old }
     requires book { IsBook book.old (K.content kernel.old) }
     ensures loaded { OnOk result (K.is_loaded kernel.new) }
