@@ -1,5 +1,5 @@
 -- What is found in a name that is assigned to.
-use Rattle.std.proofs.Common.{◌≡◌, ℕ, List, length, Option, Some, None, Bool, true, false, refl, sym, ap, ◌∙◌, subst, arith}
+use Rattle.std.proofs.Common.{◌≡◌, ℕ, List, Option, Some, None, Bool, false, refl, sym, ap, ◌∙◌, arith}
 use Rattle.four_value.specs.declared.Digit.{Digit}
 use Rattle.four_value.specs.Vector.{number}
 use Rattle.gpi.specs.declared.selects.Words.{Words}
@@ -16,7 +16,6 @@ use Rattle.v_scope.specs.declared.found.Found.TheVariants.{Sound}
 use Rattle.v_scope.specs.Found.{each, both, and_then, broken, needs, Holds}
 use Rattle.v_scope.specs.declared.meaning.Bounds.{Bounds}
 use Rattle.v_scope.specs.declared.meaning.DataObject.{DataObject}
-use Rattle.v_scope.specs.declared.meaning.Meaning.{Meaning}
 use Rattle.v_scope.specs.declared.meaning.Meaning.TheVariants.{Constant, Later}
 use Rattle.v_scope.specs.declared.meaning.Meaning.TheVariants as meant
 use Rattle.v_scope.specs.Rules.{at}

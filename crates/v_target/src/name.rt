@@ -1,7 +1,6 @@
 //! What is found in a name with selects, where it is assigned to.
 
 ghost use Rattle.std.specs.Prelude.{◌≡◌, Some};
-ghost use Rattle.gpi.specs.Terms.{IsWidth};
 ghost use Rattle.gpi.specs.declared.targets.Object.TheVariants.{Word};
 ghost use Rattle.v_scope.specs.Found.{each};
 ghost use Rattle.v_scope.specs.Scope.{means};
