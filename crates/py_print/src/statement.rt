@@ -3,7 +3,6 @@
 ghost use Rattle.std.specs.Prelude.{◌≡◌, ◌++◌, ◌∷◌, [], IfOk, codes, map};
 ghost use Rattle.std.specs.List.{concat, flat_map};
 ghost use Rattle.py_syntax.specs.ExpressionTrees.{view};
-ghost use Rattle.py_syntax.specs.StatementTables.{action_name, level_name};
 ghost use Rattle.py_syntax.specs.StatementTrees as node;
 ghost use Rattle.py_syntax.specs.StatementTrees.{optional, view_awaited, view_caught, view_header, view_logger, view_right, view_span, view_statement};
 ghost use Rattle.py_print.specs.CallText.{spaced_text};
@@ -19,29 +18,6 @@ use py_syntax::{
     Statement,
 };
 use std::alloc::{AllocError, Global};
-
-/// The name of an action.
-fn action_name(action: Action) -> &'static [u8]
-    ensures { result.now ≡ action_name action }
-{
-    match action {
-        Action::Set => b"set",
-        Action::Clear => b"clear",
-        Action::Release => b"release",
-        Action::Kill => b"kill",
-    }
-}
-
-/// The name of a level.
-fn level_name(level: LogLevel) -> &'static [u8]
-    ensures { result.now ≡ level_name level }
-{
-    match level {
-        LogLevel::Info => b"info",
-        LogLevel::Warning => b"warning",
-        LogLevel::Error => b"error",
-    }
-}
 
 /// What is returned, behind a space, if anything is.
 fn returned_text(alloc: Global, right: &Option<RightSide>) -> Result<Vec<u8>, AllocError>
@@ -172,7 +148,7 @@ fn act_text(alloc: Global, base: &Expression, action: Action) -> Result<Vec<u8>,
     ensures { IfOk result (λ text. text.items ≡ statement_text (node.Act (view base.now) action)) }
 {
     let base = expression_text(alloc, base)?;
-    member_call_text(alloc, &base, action_name(action), b"")
+    member_call_text(alloc, &base, action.name(), b"")
 }
 
 /// What a line is logged for.
@@ -210,7 +186,7 @@ fn log_text(
 {
     let logger = logger_text(alloc, logger)?;
     let values = values_text(alloc, first, others)?;
-    member_call_text(alloc, &logger, level_name(level), &values)
+    member_call_text(alloc, &logger, level.name(), &values)
 }
 
 /// A statement that is an expression alone.

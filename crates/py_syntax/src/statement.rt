@@ -1,5 +1,8 @@
 //! Statements, and the headers of blocks.
 
+ghost use Rattle.std.specs.Prelude.{◌≡◌};
+ghost use Rattle.py_syntax.specs.StatementTables.{action_name, level_name};
+
 use crate::{Awaited, BinOp, Const, Expression, FaultKind, RightSide, StartedCall};
 use port_io::Name;
 
@@ -16,12 +19,39 @@ pub enum Action {
     Kill,
 }
 
+impl Action {
+    /// The method's name.
+    pub fn name(self) -> &'static [u8]
+        ensures { result.now ≡ action_name self }
+    {
+        match self {
+            Action::Set => b"set",
+            Action::Clear => b"clear",
+            Action::Release => b"release",
+            Action::Kill => b"kill",
+        }
+    }
+}
+
 /// The level of a line in the log.
 #[derive(Clone, Copy, Debug, PartialEq, Eq)]
 pub enum LogLevel {
     Info,
     Warning,
     Error,
+}
+
+impl LogLevel {
+    /// The name of the logger's method that writes at this level.
+    pub fn name(self) -> &'static [u8]
+        ensures { result.now ≡ level_name self }
+    {
+        match self {
+            LogLevel::Info => b"info",
+            LogLevel::Warning => b"warning",
+            LogLevel::Error => b"error",
+        }
+    }
 }
 
 /// What a line is logged for.
