@@ -2,6 +2,7 @@
 use Rattle.std.proofs.Common.{◌≡◌, ℕ, map, List, [], ◌∷◌, ◌++◌, refl, sym, ap, ◌∙◌}
 use Rattle.std.proofs.lemmas.List.{append-nil}
 use Rattle.std.specs.List.{flat_map}
+use Rattle.hex.specs.Hex.{encode_lower}
 use Rattle.py_syntax.specs.ExpressionTrees.{Parts, NoPart, view, view_part, view_row, view_parts}
 use Rattle.py_syntax.specs.declared.expression.Expression.{Row_of-Expression, end_of-Expression, more_of-Expression, Row_of-FormatPart, end_of-FormatPart, more_of-FormatPart}
 use Rattle.py_syntax.specs.declared.expression.Expression.TheBlock.{items-the_row-Expression, items-the_row-FormatPart}
@@ -12,7 +13,7 @@ use Rattle.py_syntax.specs.declared.tree.BlockItem as code
 use Rattle.py_syntax.specs.declared.tree.BlockItem.{Row_of-BlockItem, end_of-BlockItem, more_of-BlockItem}
 use Rattle.py_syntax.specs.declared.tree.BlockItem.TheBlock.{items-the_row-BlockItem}
 use Rattle.py_print.specs.ModuleText.{block_text, item_text}
-use Rattle.py_print.specs.TreeText.{hex_text, parts_text, row_text, tree_text}
+use Rattle.py_print.specs.TreeText.{parts_text, row_text, tree_text}
 use Rattle.py_print.specs.CallText.{spaced_text}
 
 pub row_of_texts : (n : _) (k : Row_of-Expression n) → row_text (view_row k) ≡ flat_map spaced_text (map view (items-the_row-Expression n k))
@@ -21,7 +22,7 @@ row_of_texts n (more_of-Expression e rest) = ap (λ (bs : List ℕ). spaced_text
 
 part_and : (p : FormatPart) (bs : List ℕ) (ps : Parts) → parts_text ps ≡ bs → parts_text (view_part p ps) ≡ parts_text (view_part p NoPart) ++ bs
 part_and (part.Text t) bs ps e =
-    ap (λ (cs : List ℕ). hex_text t ++ cs) e ∙ ap (λ (cs : List ℕ). cs ++ bs) (sym (append-nil (hex_text t)))
+    ap (λ (cs : List ℕ). encode_lower t ++ cs) e ∙ ap (λ (cs : List ℕ). cs ++ bs) (sym (append-nil (encode_lower t)))
 part_and (part.Formatted' p e) bs ps q =
     ap (λ (cs : List ℕ). (123 ∷ (tree_text (view e) ++ 125 ∷ [])) ++ cs) q
     ∙ ap (λ (cs : List ℕ). cs ++ bs) (sym (append-nil (123 ∷ (tree_text (view e) ++ 125 ∷ []))))

@@ -2,6 +2,7 @@
 use Rattle.std.specs.Prelude.{ℕ, ◌+◌, ◌/◌, ◌%◌, true, false, List, [], ◌∷◌, ◌++◌, if◌then◌else◌, nat_lt, codes}
 use Rattle.std.specs.Fmt.{signed_decimal}
 use Rattle.std.specs.List.{concat, flat_map}
+use Rattle.hex.specs.Hex.{encode_lower}
 use Rattle.py_syntax.specs.ExpressionTables.{function_name, method_name}
 use Rattle.py_syntax.specs.ExpressionTrees.{Tree, Trees, NoTree, Then, Parts, NoPart, TextThen, FormattedThen}
 use Rattle.py_syntax.specs.ExpressionTrees as tree
@@ -16,20 +17,9 @@ use Rattle.py_syntax.specs.declared.expression.BoolOp.TheVariants as choice
 use Rattle.py_syntax.specs.declared.expression.Operation.{Operation}
 use Rattle.py_syntax.specs.declared.expression.Operation.TheVariants as operation
 
--- a hexadecimal digit, in lower case
-abbrev pub hex_digit : ℕ → ℕ
-hex_digit value = if nat_lt value 10 then 48 + value else 87 + value
-
--- both digits of a byte
-abbrev pub hex_byte : ℕ → List ℕ
-hex_byte byte = hex_digit (byte / 16) ∷ hex_digit (byte % 16) ∷ []
-
-abbrev pub hex_text : List ℕ → List ℕ
-hex_text bytes = flat_map hex_byte bytes
-
--- a text between its quotes
+-- a text in hexadecimal digits, between its quotes
 abbrev pub quoted_text : List ℕ → List ℕ
-quoted_text bytes = concat (codes "'" ∷ hex_text bytes ∷ codes "'" ∷ [])
+quoted_text bytes = concat (codes "'" ∷ encode_lower bytes ∷ codes "'" ∷ [])
 
 abbrev pub constant_text : Const → List ℕ
 constant_text constant.Absent = codes "None"
@@ -101,5 +91,5 @@ abbrev mutual
   -- what stands for itself in hexadecimal digits, and expressions between braces
   pub parts_text : Parts → List ℕ
   parts_text NoPart = []
-  parts_text (TextThen t ps) = hex_text t ++ parts_text ps
+  parts_text (TextThen t ps) = encode_lower t ++ parts_text ps
   parts_text (FormattedThen e ps) = concat (codes "{" ∷ tree_text e ∷ codes "}" ∷ []) ++ parts_text ps

@@ -122,7 +122,7 @@ fn part_text(alloc: Global, part: &FormatPart) -> Result<Vec<u8>, AllocError>
     ensures { IfOk result (λ text. text.items ≡ parts_text (view_part part.now NoPart)) }
 {
     match part {
-        FormatPart::Text(text) => hex_text(alloc, text.bytes()),
+        FormatPart::Text(text) => hex_text(alloc, text),
         FormatPart::Formatted(tree) => enclosed_text(alloc, b"{", tree, b"}"),
     }
 }

@@ -225,7 +225,7 @@ fn function_text(
 }
 
 /// An item of a module, behind a space; nothing of a docstring.
-fn item_text(alloc: Global, item: &ModuleItem) -> Result<Vec<u8>, AllocError>
+fn module_item_text(alloc: Global, item: &ModuleItem) -> Result<Vec<u8>, AllocError>
     ensures { IfOk result (λ text. text.items ≡ module_item_text (view_module_item item.now)) }
 {
     match item {
@@ -252,7 +252,7 @@ fn items_text(alloc: Global, items: &[ModuleItem]) -> Result<Vec<u8>, AllocError
 {
     let mut text = Vec::new(alloc);
     for item in items {
-        let more = item_text(alloc, item)?;
+        let more = module_item_text(alloc, item)?;
         text.extend_from_slice(&more)?;
     }
     Ok(text)

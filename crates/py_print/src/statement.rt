@@ -323,7 +323,7 @@ fn caught_text(alloc: Global, caught: &Caught) -> Result<Vec<u8>, AllocError>
 }
 
 /// A word, and an expression behind a space.
-fn test_text(alloc: Global, word: &[u8], tree: &Expression) -> Result<Vec<u8>, AllocError>
+fn headed_text(alloc: Global, word: &[u8], tree: &Expression) -> Result<Vec<u8>, AllocError>
     ensures { IfOk result (λ text. text.items ≡ word.now ++ spaced_text (view tree.now)) }
 {
     let tree = spaced_text(alloc, tree)?;
@@ -335,10 +335,10 @@ pub fn header_text(alloc: Global, header: &Header) -> Result<Vec<u8>, AllocError
     ensures { IfOk result (λ text. text.items ≡ header_text (view_header header.now)) }
 {
     match header {
-        Header::If(condition) => test_text(alloc, b"(if", condition),
-        Header::Elif(condition) => test_text(alloc, b"(elif", condition),
+        Header::If(condition) => headed_text(alloc, b"(if", condition),
+        Header::Elif(condition) => headed_text(alloc, b"(elif", condition),
         Header::Else => joined(alloc, &[b"(else"]),
-        Header::While(condition) => test_text(alloc, b"(while", condition),
+        Header::While(condition) => headed_text(alloc, b"(while", condition),
         Header::For(name, span) => {
             let span = span_text(alloc, span)?;
             joined(alloc, &[b"(for ", name.bytes(), b" ", &span])
@@ -348,6 +348,6 @@ pub fn header_text(alloc: Global, header: &Header) -> Result<Vec<u8>, AllocError
             let caught = caught_text(alloc, caught)?;
             joined(alloc, &[b"(except", &caught])
         }
-        Header::With(lock) => test_text(alloc, b"(with", lock),
+        Header::With(lock) => headed_text(alloc, b"(with", lock),
     }
 }
