@@ -2,7 +2,7 @@
 use Rattle.std.proofs.Common.{◌≡◌, ℕ, zero, suc, ◌+◌, ◌-◌, ◌≤◌, ◌<◌, Bool, true, List, [], ◌∷◌, ◌++◌, None, refl, ap, sym, subst, arith, ◌∙◌, append_assoc, append-nil}
 use Rattle.rig_model.specs.Rig.{Rig, Setup}
 use Rattle.rig_model.specs.Step.{Stepped, rig_step, resumed}
-use Rattle.rig_model.specs.FitSteps.{FitSteps, TurnSteps, anywhere, in_turn, Moves, Short, NoFit}
+use Rattle.rig_model.specs.FitSteps.{FitSteps, TurnSteps, anywhere, in_turn, Moves, Short, NoFit, behind}
 use Rattle.rig_model.specs.declared.task.Entry.{Entry}
 
 module _ (from : Rig → Bool) (setup : Setup) where
@@ -63,14 +63,20 @@ pub turn_one : (setup : Setup) (fuel : ℕ) (c : Rig) (s : Stepped) → c.outcom
 unfolding FitSteps TurnSteps
 turn_one setup fuel c s o e h = let h' : (rig_step setup c).cost ≤ fuel = rw e h in record { count = zero; steps = ([], o, h', rw (e, append-nil) refl, (refl, rw e refl, rw e refl)) }
 
--- no step fits
-pub turn_none : (setup : Setup) (fuel : ℕ) (c : Rig) (s : Stepped) → c.outcome ≡ None → rig_step setup c ≡ s → fuel < s.cost → Short (TurnSteps setup) setup fuel c [] fuel c
+-- no step fits, and it is none of a ready task
+pub turn_none : (setup : Setup) (fuel : ℕ) (c : Rig) (s : Stepped) → c.outcome ≡ None → behind c.running c.ready ≡ c.ready → rig_step setup c ≡ s → fuel < s.cost
+    → Short (TurnSteps setup) setup fuel c [] fuel c
 unfolding TurnSteps
-turn_none setup fuel c s o e h = record {
+turn_none setup fuel c s o b e h = record {
   count = zero;
   last = c;
   steps = (refl, refl, refl);
-  no_fit = record { runs = o; short = rw e h; rest = record { sim = refl; waiting = refl; staged = refl; fired = refl; counts = refl } };
+  no_fit = record {
+    runs = o;
+    short = rw e h;
+    rest = record { sim = refl; waiting = refl; staged = refl; fired = refl; counts = refl };
+    tasks = record { tasks = refl; started = refl; ready = b };
+  };
 }
 
 module _ (setup : Setup) (c : Rig) (e : Entry) (es : List Entry) (runs : c.running ≡ None) (first : c.ready ≡ e ∷ es) (goes : c.outcome ≡ None) where
@@ -91,21 +97,16 @@ module _ (setup : Setup) (c : Rig) (e : Entry) (es : List Entry) (runs : c.runni
     where
       by_count : (n : ℕ) (last : Rig) → FitSteps in_turn setup n fuel (resumed e es c) lines fuel' last → NoFit setup fuel' last d → Short (TurnSteps setup) setup fuel c lines fuel' d
       by_count zero last h f =
-          let is : rig_step setup c ≡ rig_step setup last = same_step ∙ ap (rig_step setup) (sym h.2) in
+          let g : NoFit setup fuel' (resumed e es c) d = subst (λ (x : Rig). NoFit setup fuel' x d) h.2 f in
           record {
             count = zero;
             last = c;
             steps = (h.0, h.1, refl);
             no_fit = record {
               runs = goes;
-              short = rw is f.short;
-              rest = record {
-                sim = ap (λ (x : Rig). x.sim) (sym h.2) ∙ f.rest.sim;
-                waiting = ap (λ (x : Rig). x.waiting) (sym h.2) ∙ f.rest.waiting;
-                staged = ap (λ (x : Rig). x.staged) (sym h.2) ∙ f.rest.staged;
-                fired = ap (λ (x : Rig). x.fired) (sym h.2) ∙ f.rest.fired;
-                counts = ap (λ (x : Rig). x.counts) (sym h.2) ∙ f.rest.counts;
-              };
+              short = rw same_step g.short;
+              rest = record { sim = g.rest.sim; waiting = g.rest.waiting; staged = g.rest.staged; fired = g.rest.fired; counts = g.rest.counts };
+              tasks = record { tasks = g.tasks.tasks; started = g.tasks.started; ready = rw (runs, first) g.tasks.ready };
             };
           }
       by_count (suc n) last h f = record { count = suc n; last = last; steps = resumed_steps n fuel lines fuel' last h; no_fit = f }

@@ -5,7 +5,7 @@ use Rattle.rig_model.specs.Poll.{Wants, RunsOut, GoesBy, Polls, Polled}
 use Rattle.rig_model.specs.Rig.{Rig, Setup, view_of}
 use Rattle.rig_model.specs.Effect.{goes_on, is_numbered, effect, effect_of}
 use Rattle.rig_model.specs.Step.{Stepped, costing, task_at, stored, kept, rig_step}
-use Rattle.rig_model.specs.FitSteps.{FitSteps, in_turn, Moves, Short, NoFit, SameRest}
+use Rattle.rig_model.specs.FitSteps.{FitSteps, in_turn, Moves, Short}
 use Rattle.rig_model.proofs.PollLaws.{next_number, polled_number, next_spent}
 use Rattle.rig_model.proofs.StepLaws.{moves_then, moves_short, moves_one}
 use Rattle.rig_model.specs.declared.task.TaskNo.{TaskNo}
@@ -42,11 +42,27 @@ stored-stored (t ∷ ts) a b e = decided (is_numbered b.number t) refl (stored-s
         let q' : is_numbered a.number t ≡ false = ap (λ (n : TaskNo). is_numbered n t) e ∙ q in
         rw q' (rw q (ap (λ (xs : List Task). t ∷ xs) more))
 
+-- a task that is stored as it was changes nothing
+stored-same : (number : TaskNo) (tasks : List Task) (task : Task) → task_at number tasks ≡ Some task → task.number ≡ number → stored task tasks ≡ tasks
+stored-same number [] task h e = refl
+stored-same number (t ∷ ts) task h e = decided (is_numbered number t) refl (λ k. stored-same number ts task k e)
+  where
+    decided : (b : Bool) → is_numbered number t ≡ b → (task_at number ts ≡ Some task → stored task ts ≡ ts) → stored task (t ∷ ts) ≡ t ∷ ts
+    decided true q more =
+        let q' : is_numbered task.number t ≡ true = ap (λ (n : TaskNo). is_numbered n t) e ∙ q in
+        let found : Some t ≡ Some task = rw q at h in
+        let same : t ≡ task = cc in
+        rw q' (ap (λ (x : Task). x ∷ ts) (sym same))
+    decided false q more =
+        let q' : is_numbered task.number t ≡ false = ap (λ (n : TaskNo). is_numbered n t) e ∙ q in
+        let h' : task_at number ts ≡ Some task = rw q at h in
+        rw q' (ap (λ (xs : List Task). t ∷ xs) (more h'))
+
 -- A poll is steps up to the effect of what the task wants, or up to where the next step doesn't fit.
 abbrev pub PollSteps : Setup → TaskNo → ℕ → Option Given → Rig → Turned → ℕ → Task → Type 0
 PollSteps setup number fuel g b t fuel' task' =
     ((t ≡ Spent → ⊥) × Moves (FitSteps in_turn setup) fuel (goes_on number g b) (effect setup number t (kept task' b)).lines fuel' (effect setup number t (kept task' b)).rig)
-    ⊎ ((t ≡ Spent) × Short (FitSteps in_turn setup) setup fuel (goes_on number g b) [] fuel' b)
+    ⊎ ((t ≡ Spent) × Short (FitSteps in_turn setup) setup fuel (goes_on number g b) [] fuel' (kept task' b))
 
 module _ (setup : Setup) (number : TaskNo) where
   -- the step of the task in whose turn we are
@@ -73,30 +89,20 @@ module _ (setup : Setup) (number : TaskNo) where
       moves_one in_turn setup fuel (goes_on number g b) (record { rig = goes_on number None (kept mid b); lines = []; cost = next_cost task g }) refl o is p.fits
 
   runs_short : (b : Rig) (fuel : ℕ) (task : Task) (g : Option Given) (t : Turned) (fuel' : ℕ) (task' : Task)
-      → task_at number b.tasks ≡ Some task → b.outcome ≡ None → RunsOut fuel task g t fuel' task' → Short (FitSteps in_turn setup) setup fuel (goes_on number g b) [] fuel' b
+      → task_at number b.tasks ≡ Some task → task.number ≡ number → b.outcome ≡ None → RunsOut fuel task g t fuel' task'
+      → Short (FitSteps in_turn setup) setup fuel (goes_on number g b) [] fuel' (kept task' b)
   unfolding FitSteps
-  runs_short b fuel task g t fuel' task' h o r =
+  runs_short b fuel task g t fuel' task' h e o r =
       let is : (rig_step setup (goes_on number g b)).cost ≡ next_cost task g = ap (λ (s : Stepped). s.cost) (task_step_is g b task h) in
       record {
         count = zero;
         last = goes_on number g b;
         steps = (refl, r.fuel_is, refl);
-        no_fit = record { runs = o; short = rw (is, r.fuel_is) r.short; rest = record { sim = refl; waiting = refl; staged = refl; fired = refl; counts = refl } };
-      }
-
-  short_from : (fuel : ℕ) (c : Rig) (f : ℕ) (d : Rig) (fuel' : ℕ) (e e' : Rig)
-      → Moves (FitSteps in_turn setup) fuel c [] f d → Short (FitSteps in_turn setup) setup f d [] fuel' e' → SameRest e' e → Short (FitSteps in_turn setup) setup fuel c [] fuel' e
-  short_from fuel c f d fuel' e e' w s r =
-      let t : Short (FitSteps in_turn setup) setup fuel c [] fuel' e' = moves_short in_turn setup fuel c [] f d [] fuel' e' w s in
-      let n : NoFit setup fuel' t.last e' = t.no_fit in
-      record {
-        count = t.count;
-        last = t.last;
-        steps = t.steps;
         no_fit = record {
-          runs = n.runs;
-          short = n.short;
-          rest = record { sim = n.rest.sim ∙ r.sim; waiting = n.rest.waiting ∙ r.waiting; staged = n.rest.staged ∙ r.staged; fired = n.rest.fired ∙ r.fired; counts = n.rest.counts ∙ r.counts };
+          runs = o;
+          short = rw (is, r.fuel_is) r.short;
+          rest = record { sim = refl; waiting = refl; staged = refl; fired = refl; counts = refl };
+          tasks = record { tasks = sym (ap (λ (x : Task). stored x b.tasks) r.task_is ∙ stored-same number b.tasks task h e); started = refl; ready = refl };
         };
       }
 
@@ -109,7 +115,7 @@ module _ (setup : Setup) (number : TaskNo) where
       (λ s. next_spent task g (view_of b) (ap (λ (x : Next). x.turned) w.next_is ∙ ap Some s)),
       wants_moves b fuel task g t fuel' task' h o w,
     )
-    | inr r ↦ inr (r.spent, runs_short b fuel task g t fuel' task' h o r)
+    | inr r ↦ inr (r.spent, runs_short b fuel task g t fuel' task' h e o r)
   ]
   poll_steps (suc n) b fuel task g t fuel' task' h e o p =
       let mid : Task = (next task g (view_of b)).task in
@@ -127,8 +133,8 @@ module _ (setup : Setup) (number : TaskNo) where
         )
         | inr s ↦ inr (
           s.0,
-          short_from fuel (goes_on number g b) (fuel - next_cost task g) (goes_on number None (kept mid b)) fuel' b (kept mid b) first s.1
-              (record { sim = refl; waiting = refl; staged = refl; fired = refl; counts = refl }),
+          subst (λ (c : Rig). Short (FitSteps in_turn setup) setup fuel (goes_on number g b) [] fuel' c) same
+              (moves_short in_turn setup fuel (goes_on number g b) [] (fuel - next_cost task g) (goes_on number None (kept mid b)) [] fuel' (kept task' (kept mid b)) first s.1),
         )
       ]
 

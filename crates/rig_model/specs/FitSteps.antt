@@ -1,7 +1,8 @@
 -- Steps within a test, each of which fits the fuel; and the steps of one turn.
-use Rattle.std.specs.Prelude.{◌≡◌, ℕ, zero, suc, ◌-◌, ◌≤◌, ◌<◌, Bool, true, List, [], ◌++◌, None, is_some}
-use Rattle.rig_model.specs.Rig.{Rig, Setup}
+use Rattle.std.specs.Prelude.{◌≡◌, ℕ, zero, suc, ◌-◌, ◌≤◌, ◌<◌, Bool, true, List, [], ◌∷◌, ◌++◌, Option, None, Some, is_some}
+use Rattle.rig_model.specs.Rig.{Rig, Setup, Running}
 use Rattle.rig_model.specs.Step.{rig_step}
+use Rattle.rig_model.specs.declared.task.Entry.{Entry}
 
 -- So many steps lead from one rig to the other, write these lines and leave so much of the fuel. Each begins at a rig that passes the test.
 unfoldable pub FitSteps : (Rig → Bool) → Setup → ℕ → ℕ → Rig → List (List ℕ) → ℕ → Rig → Type 0
@@ -33,11 +34,25 @@ pub record SameRest (d e : Rig) : Type 0 where
   pub fired : d.fired ≡ e.fired
   pub counts : d.counts ≡ e.counts
 
--- The next step doesn't fit the fuel, and what stays is e's.
+-- the ready tasks but the one whose step comes next: where no task has its turn, that is the first that is ready
+abbrev pub behind : Option Running → List Entry → List Entry
+behind (Some r) ready = ready
+behind None (e ∷ es) = es
+behind None [] = []
+
+-- No task is lost when a turn is broken off: e has the same live tasks, each with all that it has still to do, has started as many,
+-- and those are ready that stand behind the one whose step comes next.
+pub record SameTasks (d e : Rig) : Type 0 where
+  pub tasks : d.tasks ≡ e.tasks
+  pub started : d.started ≡ e.started
+  pub ready : behind d.running d.ready ≡ e.ready
+
+-- The next step doesn't fit the fuel, what stays is e's, and e has lost no task.
 pub record NoFit (setup : Setup) (fuel : ℕ) (last e : Rig) : Type 0 where
   pub runs : last.outcome ≡ None
   pub short : fuel < (rig_step setup last).cost
   pub rest : SameRest last e
+  pub tasks : SameTasks last e
 
 -- One step or more, of those of some kind.
 pub record Moves (kind : ℕ → ℕ → Rig → List (List ℕ) → ℕ → Rig → Type 0) (fuel : ℕ) (c : Rig) (lines : List (List ℕ)) (fuel' : ℕ) (d : Rig) : Type 0 where

@@ -64,7 +64,7 @@ module _ {O : Type 0} (sink : SinkMeans O) (setup : Setup) (p : Parts) (k : Cont
     spent_turning fuel out h f =
         let some : (e : Event) × (event k.procs k.state k.keys ≡ Some e) = some_event (event k.procs k.state k.keys) h in
         let is : event_of setup c ≡ Some some.0 = sym (event_stands [] setup k c s) ∙ some.1 in
-        record { lines = []; turns = turn_none setup fuel c (evented setup some.0 c) refl (step_is (Some some.0) is) (omega arith); puts = refl }
+        record { lines = []; turns = turn_none setup fuel c (evented setup some.0 c) refl (rw none refl) (step_is (Some some.0) is) (omega arith); puts = refl }
 
   -- memory was short before the event
   pub short_turning : (fuel : ℕ) (out : O) (r : Result Turn NoMemory) (fuel' : ℕ) (e : Rig) (out' : O) → IsErr r → out' ≡ out → Turning sink (TurnSteps setup) setup fuel c out r fuel' e out'

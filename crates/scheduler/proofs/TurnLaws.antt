@@ -10,7 +10,7 @@ use Rattle.rig_model.specs.Task.{Task}
 use Rattle.rig_model.specs.Rig.{Rig, Setup, view_of}
 use Rattle.rig_model.specs.Effect.{effect, goes_on, awaits, refusal, write_by, stages, starts, is_full, function_at}
 use Rattle.rig_model.specs.Step.{kept, resumed}
-use Rattle.rig_model.specs.FitSteps.{FitSteps, TurnSteps, in_turn, Moves, Short, Begins, NoFit}
+use Rattle.rig_model.specs.FitSteps.{FitSteps, TurnSteps, in_turn, Moves, Short, Begins}
 use Rattle.rig_model.proofs.StepLaws.{fit_then, moves_then, moves_short, resumed_steps, resumed_moves, resumed_short}
 use Rattle.rig_model.proofs.TaskLaws.{PollSteps, polled_steps}
 use Rattle.rig_model.specs.declared.task.TaskNo.{TaskNo}
@@ -186,14 +186,9 @@ module _ (setup : Setup) (number : TaskNo) (p : Parts) (k : Content) where
       | inr s ↦ absurd (n s.0)
     ]
 
-    -- what stays is that of the engine after the poll
+    -- what stays, and the tasks, are those of the engine after the poll
     pub poll_short : t ≡ turned.Spent → Short (FitSteps in_turn setup) setup fuel (goes_on number (Some g) before) [] fuel' (after tasks' started')
     poll_short e = elim poll [
       | inl w ↦ absurd (w.0 e)
-      | inr s ↦ (let h : NoFit setup fuel' s.1.last before = s.1.no_fit in record {
-        count = s.1.count;
-        last = s.1.last;
-        steps = s.1.steps;
-        no_fit = record { runs = h.runs; short = h.short; rest = record { sim = h.rest.sim; waiting = h.rest.waiting; staged = h.rest.staged; fired = h.rest.fired; counts = h.rest.counts } };
-      })
+      | inr s ↦ subst (λ (b : Rig). Short (FitSteps in_turn setup) setup fuel (goes_on number (Some g) before) [] fuel' b) kept_is s.1
     ]

@@ -155,7 +155,8 @@ impl<'a, M: FlowMaker + Drop, W: Awaits> Engine<'a, M, W> {
     /// the wakes of the keys that it fires. With `trace` each change that the simulator tells gives a line.
     ///
     /// The fuel falls by one for each statement that begins and for each event. The lines are put in order, one put each.
-    /// `Spent` comes exactly where the next step costs more than the fuel that is left; `Over` where the test gets its
+    /// `Spent` comes exactly where the next step costs more than the fuel that is left, and no task is lost then: each is live that was,
+    /// with all that it has still to do, and those are ready that stand behind the one whose step comes next. `Over` comes where the test gets its
     /// outcome, with its parts left in place until `end_test`; `WriteFault` where the put of the next line fails, and nothing
     /// is put after it. Whatever becomes of the lines, all keys that an event fired are served.
     /// A test runs: it was begun, and has no outcome. It runs on after `Went` alone, and after `Over`, `Spent`, `WriteFault` or `NoMemory`
