@@ -1,20 +1,19 @@
 -- What a run leaves, known from what the engine's calls keep.
-use Rattle.std.proofs.Common.{◌≡◌, ◌≢◌, true, false, List, [], Option, None, Some, Result, Ok, Err, IsErr, refl, ap, sym, ◌∙◌}
+use Rattle.std.proofs.Common.{◌≡◌, true, false, List, [], Option, None, Some, Result, Ok, Err, IsErr, refl, ap, sym, ◌∙◌}
 use Rattle.gpi.specs.Content.{Content}
+use Rattle.gpi.specs.State.{State}
 use Rattle.gpi.specs.declared.types.Key.{Key}
 use Rattle.port_io.specs.declared.ports.NoMemory.{NoMemory}
 use Rattle.port_io.specs.declared.ports.SinkFault.{SinkFault}
 use Rattle.port_io.specs.declared.ports.SinkFault.TheVariants as fault
 use Rattle.rig_model.specs.Keys.{AreKeys}
 use Rattle.rig_model.specs.Rig.{Rig, named}
+use Rattle.rig_model.specs.Run.{emptied}
 use Rattle.rig_model.specs.declared.file.Function.{Function}
 use Rattle.rig_model.specs.declared.tree.Waiting.{Waiting}
-use Rattle.scheduler.specs.Engine.{runs_test, setup_of}
+use Rattle.scheduler.specs.Engine.{rig_of, runs_test, setup_of}
 use Rattle.scheduler.specs.Fits.{FitsKernel, Keeps}
-use Rattle.scheduler.specs.Turns.{has_gone}
 use Rattle.scheduler.specs.declared.engine.Engine.{Engine}
-use Rattle.scheduler.specs.declared.turn.Turn.{Turn}
-use Rattle.scheduler.specs.declared.turn.Turn.TheVariants as turn
 use Rattle.regression.specs.Leaves.{Leaves, IsCleared, has_verdict}
 use Rattle.regression.specs.Runs.{status_in}
 use Rattle.regression.specs.Status.{put_status}
@@ -39,7 +38,7 @@ module _ {M W F K : Type 0} (functions : M → List Function) (waiting : W → L
   pub leaves_amid : (s : Status) (before after : Engine M W F) (k : K) → has_verdict s ≡ false
       → Keeps functions waiting held is_loaded content before after k → runs_test after ≡ false → FitsKernel functions waiting held after (content k)
       → Leaves functions waiting held is_loaded content s before after k
-  leaves_amid s before after k no keeps idle fits = record { keeps = keeps; idle = idle; fits = λ n. fits; cleared = λ v. let e : true ≡ false = sym v ∙ no in cc }
+  leaves_amid s before after k none keeps idle fits = record { keeps = keeps; idle = idle; fits = λ n. fits; cleared = λ v. let e : true ≡ false = sym v ∙ none in cc }
 
   -- where nothing is held or registered, the named keys are the registered ones
   keys_cleared : (e : Engine M W F) (now : Content) → IsCleared waiting held e now → AreKeys now.keys (named (waiting e.awaits) (held e.awaits))
@@ -67,9 +66,7 @@ no_verdict (Some fault.OutOfMemory) = refl
 pub short_verdict : (s : Status) (fault : Option SinkFault) → s ≡ put_status status.Budget fault → has_verdict s ≡ false
 short_verdict s fault is = ap has_verdict is ∙ no_verdict fault
 
--- no turn follows but one that goes
-pub not_gone : (t : Turn) → t ≢ turn.Went → has_gone (Ok t) ≡ false
-not_gone turn.Went n = absurd (n refl)
-not_gone (turn.Over outcome) n = refl
-not_gone turn.Spent n = refl
-not_gone turn.WriteFault n = refl
+-- the state is the one that the simulator holds
+pub own_state : {M W F : Type 0} (waiting : W → List Waiting) (e : Engine M W F) (now : Content) (state : State)
+    → rig_of waiting e now ≡ emptied state now.counts → rig_of waiting e now ≡ emptied now.state now.counts
+own_state waiting e now state h = h ∙ ap (λ (x : State). emptied x now.counts) (sym (ap (λ (d : Rig). d.sim) h))

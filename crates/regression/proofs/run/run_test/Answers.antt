@@ -5,7 +5,7 @@ use Rattle.scheduler.specs.Engine.{rig_of, setup_of}
 use Rattle.scheduler.specs.Fits.{Keeps}
 use Rattle.scheduler.specs.Turns.{has_gone}
 use Rattle.scheduler.specs.declared.turn.Turn.{Turn}
-use Rattle.regression.proofs.LeaveLaws.{keeps_on, leaves_short, leaves_amid, leaves_cleared, short_verdict}
+use Rattle.regression.proofs.LeaveLaws.{keeps_on, leaves_short, leaves_amid, leaves_cleared, own_state, short_verdict}
 use Rattle.regression.proofs.RunTurns.{begin_broken, begin_cut, turns_broken, turns_cut, run_short, run_over}
 use Rattle.regression.proofs.Stands.{begins_empty, stands_as}
 use Rattle.regression.proofs.TestRuns.{runs_err, begun_goes, begun_went, begun_broke, turning_as, turning_short}
@@ -86,7 +86,7 @@ returns-in-Over-clause-leaves g c =
     leaves_cleared g.M.FlowMaker.functions g.W.Awaits.waiting g.W.Awaits.held g.K.Gpi.is_loaded g.K.Gpi.content _ _ _ _
     (c.end_test.ensures.setup ∙ c.run_turns.ensures.keeps.setup ∙ c.begin_test.ensures.setup) c.end_test.ensures.loaded c.end_test.ensures.runs
     (c.end_test.ensures.fits c.in_ok-turn.ensures.fits)
-    (record { empty = c.end_test.ensures.empty; none_held = c.end_test.ensures.held; none_registered = c.end_test.ensures.keys })
+    (record { empty = own_state g.W.Awaits.waiting c.end_test.new.self (g.K.Gpi.content c.end_test.new.kernel) _ c.end_test.ensures.empty; none_held = c.end_test.ensures.held; none_registered = c.end_test.ensures.keys })
 
 pub returns-in-Spent-clause-leaves : goal.returns-in-Spent-clause-leaves
 returns-in-Spent-clause-leaves g c =
