@@ -1,4 +1,4 @@
-//! The run of a test, from its begin to the closing line.
+//! The run of a test, from its beginning to the closing line.
 ghost use Rattle.std.specs.Prelude.{◌≡◌, ◌≢◌, ◌<◌, [], ◌∷◌, length, IfOk, OnOk, Ok, true, false};
 ghost use Rattle.std.specs.Result.{result_err};
 ghost use Rattle.port_io.specs.Means.{PutsTo, sink_means};
@@ -87,7 +87,7 @@ fn end_run<O: Sink>(
 }
 
 /// Turns of a test that runs, until one does anything but go. Only want of memory is an error. Then, and after a failed put, the registered
-/// keys are still those that are named.
+/// keys are still those that are named, and of the fuel nothing is said.
 fn run_turns<O: Sink, K: Gpi, M: FlowMaker + Drop, W: Awaits, L: Ledger>(
     alloc: Global,
     engine: &mut Engine<'_, M, W>,
@@ -124,7 +124,7 @@ fn end_short<O: Sink>(alloc: Global, budget: u64, out: &mut O) -> Result<Status,
     Ok(Status::Budget.after(put))
 }
 
-/// Runs the test within a budget. Only want of memory is an error, and leaves the two as the status for it does.
+/// Runs the test within a budget. Only want of memory is an error, which leaves engine and simulator as the status `NoMemory` does.
 fn run_test<O: Sink, K: Gpi, M: FlowMaker + Drop, W: Awaits, L: Ledger>(
     alloc: Global,
     case: &TestCase,
