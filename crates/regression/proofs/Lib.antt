@@ -2,3 +2,4 @@ pub mod LineLaws
 pub mod Stands
 pub mod RunTurns
 pub mod TestRuns
+pub mod LeaveLaws

@@ -1,5 +1,5 @@
 -- From turns to a run.
-use Rattle.std.proofs.Common.{◌≡◌, ℕ, suc, ◌+◌, Bool, true, false, List, [], ◌∷◌, ◌++◌, Option, None, Some, Result, Ok, Err, refl, ap, sym, subst, ◌∙◌, arith, append-nil}
+use Rattle.std.proofs.Common.{◌≡◌, ℕ, suc, ◌+◌, Bool, true, false, List, [], ◌∷◌, ◌++◌, Option, None, Some, Ok, Err, refl, ap, sym, subst, ◌∙◌, arith, rules, append-nil}
 use Rattle.std.specs.Prelude.{◌&&◌}
 use Rattle.port_io.specs.Ports.{TakesAll}
 use Rattle.port_io.specs.PutsPart.{PutsPart}
@@ -177,7 +177,7 @@ module _ {O : Type 0} (sink : SinkMeans O) (setup : Setup) (case : TestCase) (bu
         is_run = over_is;
         status_is = one_verdict (passes o);
         puts = takes_then sink.takes sink.breaks out (first ++ t.lines) mid two out' over_taken p;
-        rest = rw r (record { sim = refl; waiting = refl; staged = refl; fired = refl; counts = refl });
+        rest = rw r (search rules);
         stands = subst (StandsFor setup content) r k;
       }
 

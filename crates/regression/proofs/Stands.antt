@@ -1,19 +1,14 @@
 -- The configuration that a simulator stands for, known from an engine's.
-use Rattle.std.proofs.Common.{◌≡◌, List, [], refl, ap, sym, subst, ◌∙◌}
+use Rattle.std.proofs.Common.{◌≡◌, [], refl, ap, sym, subst, ◌∙◌}
 use Rattle.gpi.specs.Content.{Content, no_counts, opening}
-use Rattle.gpi.specs.Keys.{among}
 use Rattle.gpi.specs.State.{State}
 use Rattle.gpi.specs.declared.design.Flat.{Flat}
 use Rattle.gpi.specs.declared.types.Counts.{Counts}
-use Rattle.gpi.specs.declared.types.Key.{Key}
 use Rattle.rig_model.specs.FitSteps.{SameRest}
 use Rattle.rig_model.specs.Kernel.{ahead, StandsFor}
 use Rattle.rig_model.specs.Keys.{AreKeys}
-use Rattle.rig_model.specs.Rig.{Rig, Setup, awaited, named, staged_key}
+use Rattle.rig_model.specs.Rig.{Rig, Setup, awaited}
 use Rattle.rig_model.specs.Run.{emptied, opening_sim}
-use Rattle.rig_model.proofs.KernelLaws.{awaited_named}
-use Rattle.rig_model.proofs.KeyLaws.{named_same}
-use Rattle.scheduler.specs.Parts.{FitsContent}
 
 same_awaited : (d e : Rig) → SameRest d e → awaited d ≡ awaited e
 same_awaited d e r = rw (r.waiting, r.staged, r.fired) refl
@@ -41,8 +36,3 @@ begins_empty setup content c s k new =
 -- a simulator that was just handed the design, and a configuration without a test
 pub opening_begins : (flat of : Flat) (content : Content) (c : Rig) → of ≡ flat → content ≡ opening flat → c ≡ emptied content.state content.counts → c ≡ emptied (opening of).state no_counts
 opening_begins flat of content c f o e = e ∙ ap (λ (k : Content). emptied k.state k.counts) o ∙ ap (λ (x : Flat). emptied (opening x).state no_counts) (sym f)
-
--- the registered keys are those that are named
-pub named_keys : (setup : Setup) (content : Content) (held : List Key) (c : Rig) → c.fired ≡ [] → FitsContent setup held content c → AreKeys content.keys (named c.waiting held)
-named_keys setup content held c n f = λ x.
-    f.stands.keys_are x ∙ ap (among x) (awaited_named c n) ∙ sym (named_same x c.waiting held (staged_key c.staged) (f.held_is.same x))

@@ -1,5 +1,5 @@
 -- How a test begins, turns and ends, known from the answers.
-use Rattle.std.proofs.Common.{◌≡◌, ◌≢◌, ℕ, List, Option, Result, Ok, Err, IsErr, refl, subst, true}
+use Rattle.std.proofs.Common.{◌≡◌, ◌≢◌, ℕ, Result, Ok, Err, IsErr, refl, subst, true}
 use Rattle.port_io.specs.Means.{SinkMeans}
 use Rattle.port_io.specs.declared.ports.NoMemory.{NoMemory}
 use Rattle.port_io.specs.declared.ports.SinkFault.TheVariants.{OutOfMemory}

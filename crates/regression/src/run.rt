@@ -1,5 +1,5 @@
-//! A whole run.
-ghost use Rattle.std.specs.Prelude.{◌≡◌, ◌≢◌, ◌<◌, [], ◌∷◌, length, IfOk, OnOk, Ok, true};
+//! The run of a test, from its beginning to the closing line.
+ghost use Rattle.std.specs.Prelude.{◌≡◌, ◌≢◌, ◌<◌, [], ◌∷◌, length, IfOk, OnOk, Ok, true, false};
 ghost use Rattle.std.specs.Result.{result_err};
 ghost use Rattle.port_io.specs.Means.{PutsTo, sink_means};
 ghost use Rattle.gpi.specs.Content.{no_counts};
@@ -7,8 +7,9 @@ ghost use Rattle.rig_model.specs.FitSteps.{FitSteps, anywhere};
 ghost use Rattle.rig_model.specs.Line.{passes, verdict_line, budget_line};
 ghost use Rattle.rig_model.specs.Run.{emptied, opening_sim, report_of};
 ghost use Rattle.scheduler.specs.Engine.{rig_of, runs_test, setup_of};
-ghost use Rattle.scheduler.specs.Fits.{FitsKernel};
+ghost use Rattle.scheduler.specs.Fits.{FitsKernel, Keeps};
 ghost use Rattle.scheduler.specs.Turns.{Turning};
+ghost use Rattle.regression.specs.Leaves.{Leaves};
 ghost use Rattle.regression.specs.Runs.{RunsTo, EndsTo, status_in, verdict_status};
 
 use crate::status::Status;
@@ -85,7 +86,8 @@ fn end_run<O: Sink>(
     Ok(verdict_of(passed).after(put))
 }
 
-/// Turns of a test that runs, until one does anything but go.
+/// Turns of a test that runs, until one does anything but go. Only want of memory is an error. Then, and after a failed put, the registered
+/// keys are still those that are named, and of the fuel nothing is said.
 fn run_turns<O: Sink, K: Gpi, M: FlowMaker + Drop, W: Awaits, L: Ledger>(
     alloc: Global,
     engine: &mut Engine<'_, M, W>,
@@ -100,9 +102,9 @@ fn run_turns<O: Sink, K: Gpi, M: FlowMaker + Drop, W: Awaits, L: Ledger>(
     ensures turning { Turning (sink_means O.Sink) (FitSteps anywhere (setup_of M.functions engine.old)) (setup_of M.functions engine.old)
         fuel.old (rig_of W.waiting engine.old (K.content kernel.old)) out.old result fuel.new (rig_of W.waiting engine.new (K.content kernel.new)) out.new }
     ensures stops { result ≢ Ok Turn.Went }
-    ensures setup { setup_of M.functions engine.new ≡ setup_of M.functions engine.old }
     ensures fits { OnOk result (FitsKernel M.functions W.waiting W.held engine.new (K.content kernel.new)) }
-    ensures loaded { K.is_loaded kernel.new }
+    ensures keeps { Keeps M.functions W.waiting W.held K.is_loaded K.content engine.old engine.new kernel.new }
+    ensures idle { runs_test engine.new ≡ false }
 {
     'turns: loop {
         let turn = engine.turn(alloc, kernel, out, fuel, steps)?;
@@ -122,7 +124,7 @@ fn end_short<O: Sink>(alloc: Global, budget: u64, out: &mut O) -> Result<Status,
     Ok(Status::Budget.after(put))
 }
 
-/// Runs the test within a budget.
+/// Runs the test within a budget. Only want of memory is an error, which leaves engine and simulator as the status `NoMemory` does.
 fn run_test<O: Sink, K: Gpi, M: FlowMaker + Drop, W: Awaits, L: Ledger>(
     alloc: Global,
     case: &TestCase,
@@ -138,7 +140,7 @@ fn run_test<O: Sink, K: Gpi, M: FlowMaker + Drop, W: Awaits, L: Ledger>(
     requires new { rig_of W.waiting engine.old (K.content kernel.old) ≡ emptied (opening_sim (setup_of M.functions engine.old)) no_counts }
     ensures runs { RunsTo (sink_means O.Sink) (setup_of M.functions engine.old) case.now budget (status_in result)
         (rig_of W.waiting engine.new (K.content kernel.new)) (K.content kernel.new) out.old out.new }
-    ensures loaded { K.is_loaded kernel.new }
+    ensures leaves { Leaves M.functions W.waiting W.held K.is_loaded K.content (status_in result) engine.old engine.new kernel.new }
 {
     let begun = engine.begin_test(alloc, kernel, case, out, steps)?;
     if let Turn::WriteFault = begun {
@@ -159,10 +161,16 @@ fn run_test<O: Sink, K: Gpi, M: FlowMaker + Drop, W: Awaits, L: Ledger>(
 }
 
 /// Runs the test within a budget: its lines, its verdict and the closing line are put in order, one put each. `Passed` and `Failed`
-/// come where the run is over, `Budget` where it isn't, with the line `BUDGET <budget>` in place of the closing line. After these
-/// three, engine and simulator stand where the run stops: at the end of a run the test is dropped and no key is registered any
-/// more, and at the budget nothing is dropped. `WriteFault` comes where the put of the next line fails, and `NoMemory` where memory
-/// is short; then nothing is said of the two, but that the simulator holds a design.
+/// come where the run is over. `Budget` comes where it isn't, with the line `BUDGET <budget>` in place of the verdict and the closing
+/// line. `WriteFault` comes where the put of the next line fails, and nothing is put after it. `NoMemory` comes where memory is short,
+/// and then a front of the lines was put.
+///
+/// Before, nothing of a test is left in the engine, and the simulator is in the opening state of the design. Whatever the status is, no test
+/// runs afterwards, the functions, the design and the choice of trace are the same, the simulator holds a design, and the registered
+/// keys are exactly those that the engine's waiting part names: `end_test` asks no more. Unless memory was short, engine and simulator
+/// fit. After `Passed`, `Failed` and `Budget` they stand for the place where the run stops, by the state, the waiting tasks, the staged
+/// writes, the registered keys and the counts. After `Passed` and `Failed` nothing of the test is left, and another one may begin.
+/// `steps` counts the steps of work of the parts.
 pub fn run_all<O: Sink, K: Gpi, M: FlowMaker + Drop, W: Awaits, L: Ledger>(
     alloc: Global,
     case: &TestCase,
@@ -178,7 +186,7 @@ pub fn run_all<O: Sink, K: Gpi, M: FlowMaker + Drop, W: Awaits, L: Ledger>(
     requires new { rig_of W.waiting engine.old (K.content kernel.old) ≡ emptied (opening_sim (setup_of M.functions engine.old)) no_counts }
     ensures runs { RunsTo (sink_means O.Sink) (setup_of M.functions engine.old) case.now budget result
         (rig_of W.waiting engine.new (K.content kernel.new)) (K.content kernel.new) out.old out.new }
-    ensures loaded { K.is_loaded kernel.new }
+    ensures leaves { Leaves M.functions W.waiting W.held K.is_loaded K.content result engine.old engine.new kernel.new }
 {
     match run_test(alloc, case, engine, kernel, out, budget, steps) {
         Ok(status) => status,

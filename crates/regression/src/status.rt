@@ -8,9 +8,9 @@ use port_io::SinkFault;
 /// How a run of the program ends.
 #[derive(Clone, Copy, Debug, PartialEq, Eq)]
 pub enum Status {
-    /// All tests passed or were skipped.
+    /// The test passed.
     Passed,
-    /// At least one test failed.
+    /// The test failed.
     Failed,
     /// The words have no reading.
     Usage,
@@ -24,7 +24,7 @@ pub enum Status {
     WriteFault,
     /// Memory was short.
     NoMemory,
-    /// The budget was reached.
+    /// The budget was reached before the run was over.
     Budget,
 }
 

@@ -1,11 +1,18 @@
-use Rattle.std.proofs.Common.{◌≡◌, ◌≤◌, ◌∙◌, ap, Ok, None, length, arith, inl, inr}
+use Rattle.std.proofs.Common.{◌≤◌, ◌∙◌, ap, Ok, None, length, arith, inl, inr}
 use Rattle.port_io.specs.Means.{sink_means}
 use Rattle.scheduler.specs.Engine.{setup_of, parts_of}
 use Rattle.scheduler.specs.Turns.{has_gone}
 use Rattle.scheduler.specs.declared.turn.Turn.{Turn}
 use Rattle.scheduler.proofs.FitLaws.{few_ready}
 use Rattle.scheduler.proofs.ManyTurns.{went_then, turning_anywhere, turning_err}
+use Rattle.regression.proofs.LeaveLaws.{keeps_on}
 use Rattle.regression.proofs.run.run_turns.Goals as goal
+
+pub returns-in_err-turn-clause-keeps : goal.returns-in_err-turn-clause-keeps
+returns-in_err-turn-clause-keeps g c = keeps_on g.M.FlowMaker.functions g.W.Awaits.waiting g.W.Awaits.held g.K.Gpi.is_loaded g.K.Gpi.content _ _ _ _ c.turns.invariant.setup c.turn.ensures.keeps
+
+pub returns-in-turns-clause-keeps : goal.returns-in-turns-clause-keeps
+returns-in-turns-clause-keeps g c = keeps_on g.M.FlowMaker.functions g.W.Awaits.waiting g.W.Awaits.held g.K.Gpi.is_loaded g.K.Gpi.content _ _ _ _ c.turns.invariant.setup c.turn.ensures.keeps
 
 pub returns-in_err-turn-clause-turning : goal.returns-in_err-turn-clause-turning
 returns-in_err-turn-clause-turning g c = c.turns.invariant.turning _ _ _ _
