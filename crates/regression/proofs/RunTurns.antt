@@ -128,6 +128,7 @@ module _ {O : Type 0} (sink : SinkMeans O) (setup : Setup) (case : TestCase) (bu
         status_is = refl;
         puts = subst (λ (ls : List (List ℕ)). TakesAll sink.takes out ls out') (sym short_written) (takes_then sink.takes sink.breaks out (first ++ t.lines) mid (budget_line budget ∷ []) out' short_taken p);
         rest = short.no_fit.rest;
+        tasks = short.no_fit.tasks;
         stands = stands_rest setup content short.last e short.no_fit.rest s;
       }
       short_ends content (Some fault) out' s p = start_runs status.Budget fault e content out' (record {
@@ -178,6 +179,7 @@ module _ {O : Type 0} (sink : SinkMeans O) (setup : Setup) (case : TestCase) (bu
         status_is = one_verdict (passes o);
         puts = takes_then sink.takes sink.breaks out (first ++ t.lines) mid two out' over_taken p;
         rest = rw r (search rules);
+        tasks = rw r (record { tasks = refl; started = refl; ready = refl });
         stands = subst (StandsFor setup content) r k;
       }
 

@@ -8,7 +8,7 @@ use Rattle.port_io.specs.declared.ports.SinkFault.TheVariants.{Failed, OutOfMemo
 use Rattle.gpi.specs.Content.{Content}
 use Rattle.rig_model.specs.Kernel.{StandsFor}
 use Rattle.rig_model.specs.Rig.{Rig, Setup}
-use Rattle.rig_model.specs.FitSteps.{SameRest}
+use Rattle.rig_model.specs.FitSteps.{SameRest, SameTasks}
 use Rattle.rig_model.specs.Run.{Run, IsRun, IsStart, is_over, written}
 use Rattle.rig_model.specs.declared.file.TestCase.{TestCase}
 use Rattle.regression.specs.Status.{put_status}
@@ -36,6 +36,7 @@ pub record Whole {O : Type 0} (sink : SinkMeans O) (setup : Setup) (case : TestC
   pub status_is : s ≡ status_of run
   pub puts : PutsTo sink out (written setup budget run) None out'
   pub rest : SameRest run.rig e
+  pub tasks : SameTasks run.rig e
   pub stands : StandsFor setup content run.rig
 
 -- The first lines of the run are put in order, up to a put that fails so.
