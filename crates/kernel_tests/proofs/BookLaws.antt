@@ -1,5 +1,6 @@
 -- The book stays that of the simulator.
-use Rattle.std.proofs.Common.{◌≡◌, ◌≤◌, ◌&&◌, ◌||◌, not, Bool, false, suc, List, [], ◌∷◌, ◌++◌, Option, Some, None, length, refl, ap, sym, ◌∙◌, append-nil, subst}
+use Rattle.std.proofs.Common.{◌≡◌, ◌≤◌, ◌&&◌, ◌||◌, not, Bool, false, suc, List, [], ◌∷◌, ◌++◌, Option, Some, None, length, take, refl, ap, sym, ◌∙◌, append-nil, subst}
+use Rattle.std.proofs.Math.Seq.{take-append_seam}
 use Rattle.std.specs.List.{list_any}
 use Rattle.four_value.specs.declared.Digit.{Digit}
 use Rattle.gpi.specs.Content.{Content, Answers, Does, Registers, Removes, no_design, opening}
@@ -68,6 +69,14 @@ kept_book before after book new b is signals keys = record {
   signals = signals ∙ b.signals ∙ sym (ap (λ (c : Content). length c.state.signals) is);
   keys = λ key. ap (λ (c : Content). has key c.keys) is ∙ b.keys key ∙ sym (ap (among key) keys);
 }
+
+-- a key was put into the book and taken out again
+pub undone : (key : Key) (before after : Content) (book new : Book) (kept : List Key)
+    → IsBook book before → after ≡ before → new.signals ≡ book.signals → kept ≡ book.keys.items ++ key ∷ []
+    → new.keys.items ≡ take (length book.keys.items) kept → IsBook new after
+undone key before after book new kept b is signals more keys =
+    kept_book before after book new b is signals
+    (keys ∙ ap (take (length book.keys.items)) more ∙ take-append_seam book.keys.items (key ∷ []))
 
 -- a key is registered
 pub noted : (key : Key) (before after : Content) (book new : Book)

@@ -118,11 +118,13 @@ fn registered<K: Gpi>(kernel: &mut K, book: &mut Book, key: Key) -> Result<Answe
     }
     let count = book.keys.len();
     book.keys.push(key)?;
-    if let Err(fault) = kernel.register(key) {
-        book.keys.truncate(count);
-        return Err(fault);
+    match kernel.register(key) {
+        Ok(()) => Ok(Answer::Done),
+        Err(fault) => {
+            book.keys.truncate(count);
+            Err(fault)
+        }
     }
-    Ok(Answer::Done)
 }
 
 /// A key is removed.

@@ -4,11 +4,11 @@ ghost use Rattle.std.specs.Prelude.{◌≡◌, [], ◌∷◌, IfOk};
 ghost use Rattle.gpi.specs.Soundness.{IsSoundFlat};
 ghost use Rattle.kernel_tests.specs.Designs.{IsDesign, IsEnabledInverse, IsFeedback, IsOscillator, design_named, clocked_copy, flip_flops, one_process, reg, value_of, wake, whole, wire};
 
+use four_value::Digit;
 use gpi::{
     Act, Arith, Flat, Kind, Node, Object, Process, SigId, Signal, Target, Term, Unary, Wake,
     WakeEdge,
 };
-use four_value::Digit;
 use port_io::{Name, NoMemory, Sequence};
 use std::alloc::Global;
 
@@ -95,11 +95,7 @@ fn whole(sig: u32, width: u8) -> Target
 }
 
 /// The design of one process over these signals, whose top has no names. A step is 1 ns.
-fn one_process(
-    alloc: Global,
-    signals: Sequence<Signal>,
-    process: Process,
-) -> Result<Flat, NoMemory>
+fn one_process(alloc: Global, signals: Sequence<Signal>, process: Process) -> Result<Flat, NoMemory>
     ensures { IfOk result (λ flat. flat ≡ one_process signals process) }
 {
     let mut processes = Sequence::new(alloc);

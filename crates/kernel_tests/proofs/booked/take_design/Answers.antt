@@ -7,5 +7,5 @@ returns-in_err-load-clause-book g c =
 
 pub returns-clause-book : goal.returns-clause-book
 returns-clause-book g c =
-    opening_book c.args.flat.now (g.K.Gpi.content c.load.new.self) (record { signals = c.len.result; keys = c.new.result.keys })
-    c.in_ok-load.ensures.opening c.len.ensures c.new.ensures.keys
+    opening_book c.args.flat.now (g.K.Gpi.content c.load.new.self) (record { signals = c.len-book.result; keys = c.new.result.keys })
+    c.in_ok-load.ensures.opening c.len-book.ensures c.new.ensures.keys
