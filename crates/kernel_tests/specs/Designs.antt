@@ -72,7 +72,7 @@ pub record IsFeedback (process : Process) : Type 0 where
   pub is_value : IsEnabledInverse value
   pub body : process.body ≡ Blocking (whole 1 1) value
 
--- The whole: no other value is free in it than where its expression lies in memory.
+-- All of it is told, but for the form of its expression, of which the value on every map is told.
 pub record IsOscillator (flat : Flat) : Type 0 where
   pub process : Process
   pub is_feedback : IsFeedback process
