@@ -1,4 +1,4 @@
--- Both designs are sound.
+-- What the two designs consist of, and that both are sound.
 use Rattle.std.proofs.Common.{◌≡◌, ◌≤◌, ◌<◌, ℕ, zero, suc, List, [], ◌∷◌, length, IsTrue, refl, ap, sym, ◌∙◌, subst, arith, Result, Ok, Err, IfOk}
 use Rattle.gpi.specs.Activation.{IsSound}
 use Rattle.gpi.specs.Design.{widths}
@@ -6,7 +6,6 @@ use Rattle.gpi.specs.Limits.{most_elements}
 use Rattle.gpi.specs.Made.{MakesArith, MakesUnary}
 use Rattle.gpi.specs.Operators.{arith_value}
 use Rattle.gpi.specs.Soundness.{IsPlaced, IsSoundFlat, IsTree, are_wakes, are_wide}
-use Rattle.gpi.specs.Terms as term
 use Rattle.gpi.specs.declared.acts.Act.{Act}
 use Rattle.gpi.specs.declared.acts.Act.TheVariants.{Blocking}
 use Rattle.gpi.specs.declared.design.Flat.{Flat}
