@@ -1,8 +1,9 @@
 -- The book stays that of the simulator.
-use Rattle.std.proofs.Common.{◌≡◌, ◌≤◌, ◌&&◌, ◌||◌, not, Bool, false, suc, List, [], ◌∷◌, ◌++◌, Option, Some, None, length, refl, ap, sym, ◌∙◌, append-nil, subst}
+use Rattle.std.proofs.Common.{◌≡◌, ◌≤◌, ◌&&◌, ◌||◌, not, Bool, false, suc, List, [], ◌∷◌, ◌++◌, Option, Some, None, length, take, refl, ap, sym, ◌∙◌, append-nil, subst}
+use Rattle.std.proofs.Math.Seq.{take-append_seam}
 use Rattle.std.specs.List.{list_any}
 use Rattle.four_value.specs.declared.Digit.{Digit}
-use Rattle.gpi.specs.Content.{Content, Answers, Does, Registers, Removes, opening}
+use Rattle.gpi.specs.Content.{Content, Answers, Does, Registers, Removes, no_design, opening}
 use Rattle.gpi.specs.Design.{start_map}
 use Rattle.gpi.specs.Events.{Event, event, put}
 use Rattle.gpi.specs.Keys.{among, fired_of, has, no_keys, same_key}
@@ -38,21 +39,44 @@ same_length m n w = sym (counted m) ∙ ap length w ∙ counted n
     counted [] = refl
     counted (bits ∷ m) = ap suc (counted m)
 
+none_has : (key : Key) → has key no_keys ≡ false
+none_has (At time) = refl
+none_has (Rise sig) = refl
+none_has (Fall sig) = refl
+none_has (Change sig) = refl
+none_has ReadWrite = refl
+none_has ReadOnly = refl
+none_has NextStep = refl
+
 pub opening_book : (flat : Flat) (after : Content) (book : Book)
     → after ≡ opening flat → book.signals ≡ length flat.signals → book.keys.items ≡ [] → IsBook book after
 opening_book flat after book is signals keys = record {
   signals = signals ∙ sym (ap (λ (c : Content). length c.state.signals) is ∙ start_length flat.signals);
-  keys = λ key. ap (λ (c : Content). has key c.keys) is ∙ none key ∙ sym (ap (among key) keys);
+  keys = λ key. ap (λ (c : Content). has key c.keys) is ∙ none_has key ∙ sym (ap (among key) keys);
 }
-  where
-    none : (key : Key) → has key no_keys ≡ false
-    none (At time) = refl
-    none (Rise sig) = refl
-    none (Fall sig) = refl
-    none (Change sig) = refl
-    none ReadWrite = refl
-    none ReadOnly = refl
-    none NextStep = refl
+
+-- no design
+pub no_book : (after : Content) (book : Book) → after ≡ no_design → book.signals ≡ 0 → book.keys.items ≡ [] → IsBook book after
+no_book after book is signals keys = record {
+  signals = signals ∙ sym (ap (λ (c : Content). length c.state.signals) is);
+  keys = λ key. ap (λ (c : Content). has key c.keys) is ∙ none_has key ∙ sym (ap (among key) keys);
+}
+
+-- nothing has changed
+pub kept_book : (before after : Content) (book new : Book)
+    → IsBook book before → after ≡ before → new.signals ≡ book.signals → new.keys.items ≡ book.keys.items → IsBook new after
+kept_book before after book new b is signals keys = record {
+  signals = signals ∙ b.signals ∙ sym (ap (λ (c : Content). length c.state.signals) is);
+  keys = λ key. ap (λ (c : Content). has key c.keys) is ∙ b.keys key ∙ sym (ap (among key) keys);
+}
+
+-- a key was put into the book and taken out again
+pub undone : (key : Key) (before after : Content) (book new : Book) (kept : List Key)
+    → IsBook book before → after ≡ before → new.signals ≡ book.signals → kept ≡ book.keys.items ++ key ∷ []
+    → new.keys.items ≡ take (length book.keys.items) kept → IsBook new after
+undone key before after book new kept b is signals more keys =
+    kept_book before after book new b is signals
+    (keys ∙ ap (take (length book.keys.items)) more ∙ take-append_seam book.keys.items (key ∷ []))
 
 -- a key is registered
 pub noted : (key : Key) (before after : Content) (book new : Book)

@@ -1,1 +1,3 @@
+pub mod DesignLaws
 pub mod BookLaws
+pub mod RowLaws

@@ -1,25 +1,25 @@
 -- How the answer to a row is shown.
-use Rattle.std.specs.Prelude.{ℕ, List, [], ◌++◌, Option, None, Some, codes, length, take, Bool, true, false, ◌||◌, ◌≡◌}
+use Rattle.std.specs.Prelude.{ℕ, List, [], ◌++◌, Option, None, Some, codes, length, take, ◌≡◌, ◌⊎◌}
 use Rattle.std.specs.Fmt.{decimal}
-use Rattle.std.specs.Str.{bytes_eq}
 use Rattle.four_value.specs.declared.Digit.{Digit}
 use Rattle.four_value.specs.Vector.{text}
-use Rattle.gpi.specs.Content.{Content, opening}
-use Rattle.gpi.specs.Soundness.{IsSoundFlat}
+use Rattle.gpi.specs.Content.{Content, no_design}
 use Rattle.gpi.specs.State.{State}
 use Rattle.gpi.specs.declared.types.Counts.{Counts}
-use Rattle.gpi.specs.declared.design.Flat.{Flat}
-use Rattle.gpi.specs.declared.types.Advance.TheVariants.{Moved, Idle}
+use Rattle.gpi.specs.declared.types.Advance.TheVariants as advance
 use Rattle.gpi.specs.declared.types.Fired.{Fired}
 use Rattle.gpi.specs.declared.types.Key.{Key}
 use Rattle.gpi.specs.declared.types.Key.TheVariants.{At, Rise, Fall, Change, ReadWrite, ReadOnly, NextStep}
+use Rattle.gpi.specs.declared.types.Moved.{Moved}
 use Rattle.gpi.specs.declared.types.Region.{Region}
 use Rattle.gpi.specs.declared.types.Region.TheVariants as region
 use Rattle.gpi.specs.declared.types.Told.{Told}
 use Rattle.kernel_tests.specs.Calls.{IsAnswered, call_of}
+use Rattle.kernel_tests.specs.Designs.{IsOpening, design_named}
 use Rattle.kernel_tests.specs.declared.calls.Answer.{Answer}
 use Rattle.kernel_tests.specs.declared.calls.Answer.TheVariants as answer
 use Rattle.kernel_tests.specs.declared.calls.Call.{Call}
+use Rattle.kernel_tests.specs.declared.designs.Design.{Design}
 use Rattle.table_rows.specs.Rows.{part_at}
 
 -- the letters of digits, that of the highest first
@@ -48,12 +48,16 @@ abbrev pub change_text : Option Told → List ℕ
 change_text None = []
 change_text (Some told) = codes " " ++ decimal told.sig.0 ++ codes "=" ++ letters told.bits
 
+-- an event: the change that it tells, and the keys that it fired
+abbrev pub event_text : Moved → List ℕ
+event_text moved = codes "event" ++ change_text moved.change ++ fired_text moved.fired
+
 abbrev pub answer_text : Answer → List ℕ
 answer_text answer.Refused = codes "refused"
 answer_text answer.Done = codes "done"
 answer_text (answer.Fired fired) = codes "fired" ++ fired_text fired
-answer_text (answer.Advanced Idle) = codes "idle"
-answer_text (answer.Advanced (Moved moved)) = codes "event" ++ change_text moved.change ++ fired_text moved.fired
+answer_text (answer.Advanced advance.Idle) = codes "idle"
+answer_text (answer.Advanced (advance.Moved moved)) = event_text moved
 
 abbrev pub region_name : Region → List ℕ
 region_name region.Begin = codes "Begin"
@@ -80,21 +84,40 @@ ShowsCall before (Some call) shown after =
     (a : Answer) × IsAnswered before call a after × (shown ≡ answer_text a ++ standing_text after)
 
 -- what is shown of a design that the simulator takes: where it stands in the design's opening state
-abbrev pub ShowsDesign : List ℕ → Content → Type 0
-ShowsDesign shown after = (flat : Flat) × IsSoundFlat flat × (after ≡ opening flat) × (shown ≡ codes "loaded" ++ standing_text after)
+abbrev pub ShowsDesign : Design → List ℕ → Content → Type 0
+ShowsDesign asked shown after = IsOpening asked after × (shown ≡ codes "loaded" ++ standing_text after)
 
 -- a row names a design, or else may ask for a call
-abbrev pub is_design : List ℕ → Bool
-is_design name = bytes_eq name (codes "oscillator") || bytes_eq name (codes "flip_flops")
-
-abbrev pub ShowsAsked : Bool → Content → Option Call → List ℕ → Content → Type 0
-ShowsAsked true before call shown after = ShowsDesign shown after
-ShowsAsked false before call shown after = ShowsCall before call shown after
+abbrev pub ShowsAsked : Option Design → Content → Option Call → List ℕ → Content → Type 0
+ShowsAsked (Some asked) before call shown after = ShowsDesign asked shown after
+ShowsAsked None before call shown after = ShowsCall before call shown after
 
 abbrev pub ShowsRow : Content → List ℕ → List ℕ → Content → Type 0
-ShowsRow before row shown after = ShowsAsked (is_design (part_at 0 row)) before (call_of row) shown after
+ShowsRow before row shown after = ShowsAsked (design_named (part_at 0 row)) before (call_of row) shown after
 
 -- the rule of a row, and behind `: ` what is shown
 abbrev pub RowGives : Content → List ℕ → List ℕ → Content → Type 0
 RowGives before row text after =
     (shown : List ℕ) × ShowsRow before row shown after × (text ≡ part_at 1 row ++ codes ": " ++ shown)
+
+-- ---- where memory runs out
+
+-- a design was not taken: the simulator is as it was, or holds no design
+abbrev pub IsUntaken : Content → Content → Type 0
+IsUntaken before after = (after ≡ before) ⊎ (after ≡ no_design)
+
+-- a design was not taken, or it was and is not shown
+abbrev pub LeavesDesign : Design → Content → Content → Type 0
+LeavesDesign asked before after = IsUntaken before after ⊎ IsOpening asked after
+
+-- a call was not made, or its answer is not shown
+abbrev pub LeavesCall : Content → Option Call → Content → Type 0
+LeavesCall before call after = (after ≡ before) ⊎ ((shown : List ℕ) × ShowsCall before call shown after)
+
+abbrev pub LeavesAsked : Option Design → Content → Option Call → Content → Type 0
+LeavesAsked (Some asked) before call after = LeavesDesign asked before after
+LeavesAsked None before call after = LeavesCall before call after
+
+-- nothing of a row was done, or what it leaves is not shown
+abbrev pub LeavesRow : Content → List ℕ → Content → Type 0
+LeavesRow before row after = LeavesAsked (design_named (part_at 0 row)) before (call_of row) after

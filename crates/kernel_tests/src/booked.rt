@@ -3,8 +3,8 @@
 //! The interface doesn't tell which keys are registered, so a book is kept of them beside the simulator.
 
 ghost use Rattle.std.specs.List.{list_any};
-ghost use Rattle.std.specs.Prelude.{◌≡◌, Bool, true, false, length, IfOk, OnOk};
-ghost use Rattle.gpi.specs.Content.{IsAsked, opening};
+ghost use Rattle.std.specs.Prelude.{◌≡◌, Bool, true, false, [], length, IfOk, OnOk, OnErr};
+ghost use Rattle.gpi.specs.Content.{IsAsked, no_design, opening};
 ghost use Rattle.gpi.specs.Soundness.{IsSoundFlat};
 ghost use Rattle.gpi.specs.Keys.{among, same_key};
 ghost use Rattle.rig_model.specs.Keys.{keys_in, without, without_all};
@@ -32,6 +32,17 @@ fn is_same(key: Key, other: Key) -> bool
 }
 
 impl Book {
+    /// The book of a simulator that holds no design. It takes no memory.
+    pub fn new(alloc: Global) -> Book
+        ensures signals { result.signals ≡ 0 }
+        ensures keys { result.keys.items ≡ [] }
+    {
+        Book {
+            signals: 0,
+            keys: Vec::new(alloc),
+        }
+    }
+
     /// Whether the key is registered.
     fn has(&self, key: Key) -> bool
         ensures { result ≡ list_any (same_key key) self.now.keys.items }
@@ -61,18 +72,23 @@ impl Book {
     }
 }
 
-/// The simulator in the opening state of a design, and its book. Only want of memory is an error.
-pub fn opened<K: Gpi>(alloc: Global, flat: &Flat, kernel: &mut K) -> Result<Book, NoMemory>
+/// The simulator takes a design, whose opening state it then is in. Only want of memory is an error, and then it holds no design.
+pub fn take_design<K: Gpi>(
+    alloc: Global,
+    flat: &Flat,
+    kernel: &mut K,
+    book: &mut Book,
+) -> Result<(), NoMemory>
     requires { IsSoundFlat flat.now }
     ensures loaded { OnOk result (K.is_loaded kernel.new) }
-    ensures book { IfOk result (λ book. IsBook book (K.content kernel.new)) }
+    ensures book { IsBook book.new (K.content kernel.new) }
     ensures opening { OnOk result (K.content kernel.new ≡ opening flat.now) }
+    ensures none { OnErr result (K.content kernel.new ≡ no_design) }
 {
+    *book = Book::new(alloc);
     kernel.load(alloc, flat)?;
-    Ok(Book {
-        signals: flat.signals.len(),
-        keys: Vec::new(alloc),
-    })
+    book.signals = flat.signals.len();
+    Ok(())
 }
 
 /// Whether a simulator of so many signals could register a key, if it isn't registered.
@@ -88,20 +104,27 @@ fn may_register<K: Gpi>(kernel: &K, signals: usize, key: Key) -> bool
     }
 }
 
-/// A key is registered. Only want of memory is an error, here and below.
+/// A key is registered. Only want of memory is an error, here and below, and then nothing has changed.
 fn registered<K: Gpi>(kernel: &mut K, book: &mut Book, key: Key) -> Result<Answer, NoMemory>
     requires loaded { K.is_loaded kernel.old }
     requires book { IsBook book.old (K.content kernel.old) }
     ensures loaded { K.is_loaded kernel.new }
-    ensures book { OnOk result (IsBook book.new (K.content kernel.new)) }
+    ensures book { IsBook book.new (K.content kernel.new) }
     ensures is { IfOk result (λ answer. IsAnswered (K.content kernel.old) (call.Register key) answer (K.content kernel.new)) }
+    ensures kept { OnErr result (K.content kernel.new ≡ K.content kernel.old) }
 {
     if book.has(key) || !may_register(kernel, book.signals, key) {
         return Ok(Answer::Refused);
     }
-    kernel.register(key)?;
+    let count = book.keys.len();
     book.keys.push(key)?;
-    Ok(Answer::Done)
+    match kernel.register(key) {
+        Ok(()) => Ok(Answer::Done),
+        Err(fault) => {
+            book.keys.truncate(count);
+            Err(fault)
+        }
+    }
 }
 
 /// A key is removed.
@@ -142,8 +165,9 @@ fn advanced<K: Gpi>(kernel: &mut K, book: &mut Book) -> Result<Answer, NoMemory>
     requires loaded { K.is_loaded kernel.old }
     requires book { IsBook book.old (K.content kernel.old) }
     ensures loaded { K.is_loaded kernel.new }
-    ensures book { OnOk result (IsBook book.new (K.content kernel.new)) }
+    ensures book { IsBook book.new (K.content kernel.new) }
     ensures is { IfOk result (λ answer. IsAnswered (K.content kernel.old) call.Advance answer (K.content kernel.new)) }
+    ensures kept { OnErr result (K.content kernel.new ≡ K.content kernel.old) }
 {
     match kernel.advance()? {
         Advance::Idle => Ok(Answer::Advanced(Advance::Idle)),
@@ -159,8 +183,9 @@ pub fn asked<K: Gpi>(kernel: &mut K, book: &mut Book, call: Call) -> Result<Answ
     requires loaded { K.is_loaded kernel.old }
     requires book { IsBook book.old (K.content kernel.old) }
     ensures loaded { K.is_loaded kernel.new }
-    ensures book { OnOk result (IsBook book.new (K.content kernel.new)) }
+    ensures book { IsBook book.new (K.content kernel.new) }
     ensures is { IfOk result (λ answer. IsAnswered (K.content kernel.old) call answer (K.content kernel.new)) }
+    ensures kept { OnErr result (K.content kernel.new ≡ K.content kernel.old) }
 {
     match call {
         Call::Register(key) => registered(kernel, book, key),

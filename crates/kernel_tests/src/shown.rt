@@ -1,6 +1,6 @@
-//! How answers are shown.
+//! How answers are shown. Only want of memory is an error.
 
-ghost use Rattle.std.specs.Prelude.{◌≡◌, ◌++◌, OnOk, codes};
+ghost use Rattle.std.specs.Prelude.{◌≡◌, ◌++◌, IfOk};
 ghost use Rattle.std.specs.Fmt.{decimal};
 ghost use Rattle.kernel_tests.specs.Shown as meaning;
 
@@ -9,86 +9,104 @@ use four_value::Bits;
 use gpi::{Advance, Counts, Fired, Gpi, Key, Moved, Region, Told};
 use std::alloc::{AllocError, Global};
 
-/// Adds a word and a number.
-fn add_number(alloc: Global, out: &mut Vec<u8>, word: &[u8], number: u64) -> Result<(), AllocError>
-    ensures { OnOk result (out.new.items ≡ out.old.items ++ word.now ++ decimal number) }
+/// A word, and a number behind it.
+fn number_text(alloc: Global, word: &[u8], number: u64) -> Result<Vec<u8>, AllocError>
+    ensures { IfOk result (λ text. text.items ≡ word.now ++ decimal number) }
 {
-    out.extend_from_slice(word)?;
+    let mut text = word.to_vec(alloc)?;
     let digits = number.to_string(alloc)?;
-    out.extend_from_slice(digits.as_bytes())
+    text.extend_from_slice(digits.as_bytes())?;
+    Ok(text)
 }
 
-/// Adds the digits of a value, the highest first.
-fn add_letters(out: &mut Vec<u8>, bits: Bits) -> Result<(), AllocError>
-    ensures { OnOk result (out.new.items ≡ out.old.items ++ meaning.letters bits) }
+/// The digits of a value, the highest first.
+fn letters(alloc: Global, bits: Bits) -> Result<Vec<u8>, AllocError>
+    ensures { IfOk result (λ text. text.items ≡ meaning.letters bits) }
 {
     let text = bits.text();
     let width = bits.width() as usize;
-    out.extend_from_slice(&text[..width])
+    text[..width].to_vec(alloc)
 }
 
-/// Adds a key.
-fn add_key(alloc: Global, out: &mut Vec<u8>, key: Key) -> Result<(), AllocError>
-    ensures { OnOk result (out.new.items ≡ out.old.items ++ meaning.key_text key) }
+/// A key, behind a space.
+fn key_text(alloc: Global, key: Key) -> Result<Vec<u8>, AllocError>
+    ensures { IfOk result (λ text. text.items ≡ meaning.key_text key) }
 {
     match key {
-        Key::At(time) => add_number(alloc, out, b" at ", time),
-        Key::Rise(sig) => add_number(alloc, out, b" rise ", u64::from(sig.0)),
-        Key::Fall(sig) => add_number(alloc, out, b" fall ", u64::from(sig.0)),
-        Key::Change(sig) => add_number(alloc, out, b" change ", u64::from(sig.0)),
-        Key::ReadWrite => out.extend_from_slice(b" read_write"),
-        Key::ReadOnly => out.extend_from_slice(b" read_only"),
-        Key::NextStep => out.extend_from_slice(b" next_step"),
+        Key::At(time) => number_text(alloc, b" at ", time),
+        Key::Rise(sig) => number_text(alloc, b" rise ", u64::from(sig.0)),
+        Key::Fall(sig) => number_text(alloc, b" fall ", u64::from(sig.0)),
+        Key::Change(sig) => number_text(alloc, b" change ", u64::from(sig.0)),
+        Key::ReadWrite => b" read_write".to_vec(alloc),
+        Key::ReadOnly => b" read_only".to_vec(alloc),
+        Key::NextStep => b" next_step".to_vec(alloc),
     }
 }
 
-/// Adds the keys that fired, in order.
-fn add_fired(alloc: Global, out: &mut Vec<u8>, fired: Fired) -> Result<(), AllocError>
-    ensures { OnOk result (out.new.items ≡ out.old.items ++ meaning.fired_text fired) }
+/// A key, if there is one.
+fn if_key(alloc: Global, key: Option<Key>) -> Result<Vec<u8>, AllocError>
+    ensures { IfOk result (λ text. text.items ≡ meaning.if_key key) }
 {
-    if let Some(key) = fired.first {
-        add_key(alloc, out, key)?;
+    match key {
+        Some(key) => key_text(alloc, key),
+        None => Ok(Vec::new(alloc)),
     }
-    if let Some(key) = fired.second {
-        add_key(alloc, out, key)?;
-    }
-    Ok(())
 }
 
-/// Adds the signal that changed, and its value, if one did.
-fn add_change(alloc: Global, out: &mut Vec<u8>, change: Option<Told>) -> Result<(), AllocError>
-    ensures { OnOk result (out.new.items ≡ out.old.items ++ meaning.change_text change) }
+/// The keys that fired, in order.
+fn fired_text(alloc: Global, fired: Fired) -> Result<Vec<u8>, AllocError>
+    ensures { IfOk result (λ text. text.items ≡ meaning.fired_text fired) }
 {
-    if let Some(told) = change {
-        add_number(alloc, out, b" ", u64::from(told.sig.0))?;
-        out.push(b'=')?;
-        add_letters(out, told.bits)?;
-    }
-    Ok(())
+    let mut text = if_key(alloc, fired.first)?;
+    let second = if_key(alloc, fired.second)?;
+    text.extend_from_slice(&second)?;
+    Ok(text)
 }
 
-/// Adds an event.
-fn add_event(alloc: Global, out: &mut Vec<u8>, moved: Moved) -> Result<(), AllocError>
-    ensures { OnOk result (out.new.items ≡ out.old.items ++ codes "event" ++ meaning.change_text moved.change ++ meaning.fired_text moved.fired) }
+/// The signal that changed, and its value, if one did.
+fn change_text(alloc: Global, change: Option<Told>) -> Result<Vec<u8>, AllocError>
+    ensures { IfOk result (λ text. text.items ≡ meaning.change_text change) }
 {
-    out.extend_from_slice(b"event")?;
-    add_change(alloc, out, moved.change)?;
-    add_fired(alloc, out, moved.fired)
+    let Some(told) = change else {
+        return Ok(Vec::new(alloc));
+    };
+    let mut text = number_text(alloc, b" ", u64::from(told.sig.0))?;
+    text.push(b'=')?;
+    let value = letters(alloc, told.bits)?;
+    text.extend_from_slice(&value)?;
+    Ok(text)
 }
 
-/// Adds an answer.
-pub fn add_answer(alloc: Global, out: &mut Vec<u8>, answer: Answer) -> Result<(), AllocError>
-    ensures { OnOk result (out.new.items ≡ out.old.items ++ meaning.answer_text answer) }
+/// A word, and the keys that fired behind it.
+fn fired_behind(alloc: Global, word: &[u8], fired: Fired) -> Result<Vec<u8>, AllocError>
+    ensures { IfOk result (λ text. text.items ≡ word.now ++ meaning.fired_text fired) }
+{
+    let mut text = word.to_vec(alloc)?;
+    let keys = fired_text(alloc, fired)?;
+    text.extend_from_slice(&keys)?;
+    Ok(text)
+}
+
+/// An event: the change that it tells, and the keys that it fired.
+fn event_text(alloc: Global, moved: Moved) -> Result<Vec<u8>, AllocError>
+    ensures { IfOk result (λ text. text.items ≡ meaning.event_text moved) }
+{
+    let mut text = b"event".to_vec(alloc)?;
+    let change = change_text(alloc, moved.change)?;
+    text.extend_from_slice(&change)?;
+    fired_behind(alloc, &text, moved.fired)
+}
+
+/// What a call is answered.
+pub fn answer_text(alloc: Global, answer: Answer) -> Result<Vec<u8>, AllocError>
+    ensures { IfOk result (λ text. text.items ≡ meaning.answer_text answer) }
 {
     match answer {
-        Answer::Refused => out.extend_from_slice(b"refused"),
-        Answer::Done => out.extend_from_slice(b"done"),
-        Answer::Fired(fired) => {
-            out.extend_from_slice(b"fired")?;
-            add_fired(alloc, out, fired)
-        }
-        Answer::Advanced(Advance::Idle) => out.extend_from_slice(b"idle"),
-        Answer::Advanced(Advance::Moved(moved)) => add_event(alloc, out, moved),
+        Answer::Refused => b"refused".to_vec(alloc),
+        Answer::Done => b"done".to_vec(alloc),
+        Answer::Fired(fired) => fired_behind(alloc, b"fired", fired),
+        Answer::Advanced(Advance::Idle) => b"idle".to_vec(alloc),
+        Answer::Advanced(Advance::Moved(moved)) => event_text(alloc, moved),
     }
 }
 
@@ -104,29 +122,40 @@ fn region_name(region: Region) -> &'static [u8]
     }
 }
 
-/// Adds the time in steps and the region.
-fn add_place<K: Gpi>(alloc: Global, out: &mut Vec<u8>, kernel: &K) -> Result<(), AllocError>
-    ensures { OnOk result (out.new.items ≡ out.old.items ++ meaning.place_text (K.content kernel.now).state) }
+/// The time in steps, and the region.
+fn place_text<K: Gpi>(alloc: Global, kernel: &K) -> Result<Vec<u8>, AllocError>
+    ensures { IfOk result (λ text. text.items ≡ meaning.place_text (K.content kernel.now).state) }
 {
-    let name = region_name(kernel.region());
-    add_number(alloc, out, b", ", kernel.now())?;
-    out.push(b' ')?;
-    out.extend_from_slice(name)
+    let mut text = number_text(alloc, b", ", kernel.now())?;
+    text.push(b' ')?;
+    text.extend_from_slice(region_name(kernel.region()))?;
+    Ok(text)
 }
 
-/// Adds how many keys were registered, removed and fired.
-fn add_counts(alloc: Global, out: &mut Vec<u8>, counts: Counts) -> Result<(), AllocError>
-    ensures { OnOk result (out.new.items ≡ out.old.items ++ meaning.counts_text counts) }
+/// How many keys were registered, removed and fired.
+fn counts_text(alloc: Global, counts: Counts) -> Result<Vec<u8>, AllocError>
+    ensures { IfOk result (λ text. text.items ≡ meaning.counts_text counts) }
 {
-    add_number(alloc, out, b", ", counts.primed)?;
-    add_number(alloc, out, b" ", counts.removed)?;
-    add_number(alloc, out, b" ", counts.fired)
+    let mut text = number_text(alloc, b", ", counts.primed)?;
+    let removed = number_text(alloc, b" ", counts.removed)?;
+    text.extend_from_slice(&removed)?;
+    let fired = number_text(alloc, b" ", counts.fired)?;
+    text.extend_from_slice(&fired)?;
+    Ok(text)
 }
 
-/// Adds where a simulator stands, and how many keys were registered, removed and fired.
-pub fn add_standing<K: Gpi>(alloc: Global, out: &mut Vec<u8>, kernel: &K) -> Result<(), AllocError>
-    ensures { OnOk result (out.new.items ≡ out.old.items ++ meaning.standing_text (K.content kernel.now)) }
+/// A text, and behind it where a simulator stands, and how many keys were registered, removed and fired.
+pub fn standing_behind<K: Gpi>(
+    alloc: Global,
+    front: &[u8],
+    kernel: &K,
+) -> Result<Vec<u8>, AllocError>
+    ensures { IfOk result (λ text. text.items ≡ front.now ++ meaning.standing_text (K.content kernel.now)) }
 {
-    add_place(alloc, out, kernel)?;
-    add_counts(alloc, out, kernel.counts())
+    let mut text = front.to_vec(alloc)?;
+    let place = place_text(alloc, kernel)?;
+    text.extend_from_slice(&place)?;
+    let counts = counts_text(alloc, kernel.counts())?;
+    text.extend_from_slice(&counts)?;
+    Ok(text)
 }

@@ -12,10 +12,10 @@ abbrev pub times_in : List ℕ → ℕ
 times_in row = min (decimal (part_at 2 row)) most_times
 
 -- part i of a row, so many times behind itself
-abbrev pub repeated_part : List ℕ → ℕ → List ℕ
-repeated_part row i = repeat (times_in row) (written (part_at i row))
+abbrev pub repeated_at : ℕ → List ℕ → List ℕ
+repeated_at i row = repeat (times_in row) (written (part_at i row))
 
 -- a front, a part so many times, a middle, another part as many times, and a back
 abbrev pub repeated : List ℕ → List ℕ
 repeated row =
-    written (part_at 3 row) ++ repeated_part row 4 ++ written (part_at 5 row) ++ repeated_part row 6 ++ written (part_at 7 row)
+    written (part_at 3 row) ++ repeated_at 4 row ++ written (part_at 5 row) ++ repeated_at 6 row ++ written (part_at 7 row)

@@ -1,6 +1,6 @@
 //! The text of a row that is put together of repeated parts.
 ghost use Rattle.std.specs.Prelude.{◌≡◌, IfOk};
-ghost use Rattle.python_tests.specs.Row.{repeated, repeated_part, times_in};
+ghost use Rattle.python_tests.specs.Row.{repeated, repeated_at, times_in};
 
 use std::alloc::{AllocError, Global};
 use table_rows::Row;
@@ -16,8 +16,8 @@ fn times_in(row: &Row<'_>) -> usize
 }
 
 /// Part `i` of a row, so many times behind itself. Only want of memory is an error, here and below.
-fn repeated_part(alloc: Global, row: &Row<'_>, i: usize) -> Result<Vec<u8>, AllocError>
-    ensures { IfOk result (λ text. text.items ≡ repeated_part row.now i) }
+fn repeated_at(alloc: Global, i: usize, row: &Row<'_>) -> Result<Vec<u8>, AllocError>
+    ensures { IfOk result (λ text. text.items ≡ repeated_at i row.now) }
 {
     row.text(alloc, i)?.repeat(alloc, times_in(row))
 }
@@ -27,9 +27,9 @@ pub fn repeated(alloc: Global, row: &Row<'_>) -> Result<Vec<u8>, AllocError>
     ensures { IfOk result (λ text. text.items ≡ repeated row.now) }
 {
     let mut text = row.text(alloc, 3)?;
-    text.extend_from_slice(&repeated_part(alloc, row, 4)?)?;
+    text.extend_from_slice(&repeated_at(alloc, 4, row)?)?;
     text.extend_from_slice(&row.text(alloc, 5)?)?;
-    text.extend_from_slice(&repeated_part(alloc, row, 6)?)?;
+    text.extend_from_slice(&repeated_at(alloc, 6, row)?)?;
     text.extend_from_slice(&row.text(alloc, 7)?)?;
     Ok(text)
 }
