@@ -4,11 +4,12 @@ use Rattle.std.specs.Str.{bytes_eq}
 use Rattle.four_value.specs.Vector.{vector}
 use Rattle.gpi.specs.Content.{Content, Answers, Does, IsAsked, Registers, Removes}
 use Rattle.gpi.specs.Events.{event, put, value_at}
-use Rattle.gpi.specs.Keys.{among, fired_of, has}
+use Rattle.gpi.specs.Keys.{fired_of, has}
 use Rattle.gpi.specs.State.{is_end}
 use Rattle.gpi.specs.declared.types.Key.{Key}
 use Rattle.gpi.specs.declared.types.Key.TheVariants.{At, Rise, Fall, Change, ReadWrite, ReadOnly, NextStep}
 use Rattle.gpi.specs.declared.types.SigId.{SigId}
+use Rattle.rig_model.specs.Keys.{AreKeys}
 use Rattle.table_rows.specs.Rows.{decimal, part_at}
 use Rattle.kernel_tests.specs.declared.booked.Book.{Book}
 use Rattle.kernel_tests.specs.declared.calls.Call.{Call}
@@ -53,18 +54,19 @@ IsAllowed c (call.Remove key) = has key c.keys ≡ true
 IsAllowed c (call.Deposit sig number) = (sig.0 < length c.state.signals) × (is_end c.state.region ≡ false)
 IsAllowed c call.Advance = Unit {0}
 
--- What a call is answered, and what it leaves. A number is written in as many digits as the signal has.
+-- What a call is answered, and what it leaves: it is made where it is allowed, and nowhere else. A number is written in as many digits as
+-- the signal has.
 abbrev pub IsAnswered : Content → Call → Answer → Content → Type 0
 IsAnswered before call answer.Refused after = (after ≡ before) × (IsAllowed before call → ⊥)
-IsAnswered before (call.Register key) answer.Done after = Registers before key after
-IsAnswered before (call.Remove key) answer.Done after = Removes before key after
+IsAnswered before (call.Register key) answer.Done after = IsAllowed before (call.Register key) × Registers before key after
+IsAnswered before (call.Remove key) answer.Done after = IsAllowed before (call.Remove key) × Removes before key after
 IsAnswered before (call.Deposit sig number) (answer.Fired fired) after =
     let e = put before.procs before.state before.keys sig (vector (length (value_at before.state sig)) number) in
-    (fired ≡ fired_of e.fired) × Does before e after
+    IsAllowed before (call.Deposit sig number) × (fired ≡ fired_of e.fired) × Does before e after
 IsAnswered before call.Advance (answer.Advanced a) after = Answers before (event before.procs before.state before.keys) a after
 IsAnswered _ _ _ _ = ⊥
 
 -- the book has the number of the signals, and the keys that are registered
 pub record IsBook (book : Book) (c : Content) : Type 0 where
   pub signals : book.signals ≡ length c.state.signals
-  pub keys : (key : Key) → has key c.keys ≡ among key book.keys.items
+  pub keys : AreKeys c.keys book.keys.items

@@ -1,8 +1,7 @@
 -- How the answer to a row is shown.
-use Rattle.std.specs.Prelude.{ℕ, List, [], ◌++◌, Option, None, Some, codes, length, take, ◌≡◌, ◌⊎◌}
+use Rattle.std.specs.Prelude.{ℕ, List, [], ◌++◌, Option, None, Some, codes, ◌≡◌, ◌⊎◌}
 use Rattle.std.specs.Fmt.{decimal}
-use Rattle.four_value.specs.declared.Digit.{Digit}
-use Rattle.four_value.specs.Vector.{text}
+use Rattle.four_value.specs.Vector.{digit_letters}
 use Rattle.gpi.specs.Content.{Content, no_design}
 use Rattle.gpi.specs.State.{State}
 use Rattle.gpi.specs.declared.types.Counts.{Counts}
@@ -21,10 +20,6 @@ use Rattle.kernel_tests.specs.declared.calls.Answer.TheVariants as answer
 use Rattle.kernel_tests.specs.declared.calls.Call.{Call}
 use Rattle.kernel_tests.specs.declared.designs.Design.{Design}
 use Rattle.table_rows.specs.Rows.{part_at}
-
--- the letters of digits, that of the highest first
-abbrev pub letters : List Digit → List ℕ
-letters digits = take (length digits) (text digits)
 
 abbrev pub key_text : Key → List ℕ
 key_text (At time) = codes " at " ++ decimal time
@@ -46,7 +41,7 @@ fired_text fired = if_key fired.first ++ if_key fired.second
 -- the signal that changed, and its value
 abbrev pub change_text : Option Told → List ℕ
 change_text None = []
-change_text (Some told) = codes " " ++ decimal told.sig.0 ++ codes "=" ++ letters told.bits
+change_text (Some told) = codes " " ++ decimal told.sig.0 ++ codes "=" ++ digit_letters told.bits
 
 -- an event: the change that it tells, and the keys that it fired
 abbrev pub event_text : Moved → List ℕ

@@ -6,14 +6,14 @@ ghost use Rattle.std.specs.List.{list_any};
 ghost use Rattle.std.specs.Prelude.{◌≡◌, Bool, true, false, [], length, IfOk, OnOk, OnErr};
 ghost use Rattle.gpi.specs.Content.{IsAsked, no_design, opening};
 ghost use Rattle.gpi.specs.Soundness.{IsSoundFlat};
-ghost use Rattle.gpi.specs.Keys.{among, same_key};
+ghost use Rattle.gpi.specs.Keys.{same_key};
 ghost use Rattle.rig_model.specs.Keys.{keys_in, without, without_all};
 ghost use Rattle.kernel_tests.specs.Calls.{IsAnswered, IsBook};
 ghost use Rattle.kernel_tests.specs.declared.calls.Call.TheVariants as call;
 
 use crate::calls::{Answer, Call};
 use four_value::Bits;
-use gpi::{Advance, Fired, Flat, Gpi, Key, Region, SigId};
+use gpi::{Advance, Fired, Flat, Gpi, Key, LATEST_TIME, Region, SigId};
 use port_io::NoMemory;
 use std::alloc::Global;
 
@@ -97,7 +97,7 @@ fn may_register<K: Gpi>(kernel: &K, signals: usize, key: Key) -> bool
     ensures no { result ≡ false → IsAsked signals (K.content kernel.now).state key → ⊥ }
 {
     match key {
-        Key::At(time) => kernel.now() < time && time <= 9_223_372_036_854_775_808,
+        Key::At(time) => kernel.now() < time && time <= LATEST_TIME,
         Key::Rise(sig) | Key::Fall(sig) | Key::Change(sig) => (sig.0 as usize) < signals,
         Key::ReadWrite | Key::ReadOnly => kernel.region() != Region::End,
         Key::NextStep => true,

@@ -34,7 +34,7 @@ pub enum Answer {
 fn signal_of(number: u64) -> SigId
     ensures { result ≡ signal_of number }
 {
-    SigId(number.min(4_294_967_295) as u32)
+    SigId(u32::try_from(number).unwrap_or(u32::MAX))
 }
 
 /// The key of this name and number, if there is one.

@@ -2,6 +2,7 @@
 
 ghost use Rattle.std.specs.Prelude.{◌≡◌, ◌++◌, IfOk};
 ghost use Rattle.std.specs.Fmt.{decimal};
+ghost use Rattle.four_value.specs.Vector.{digit_letters};
 ghost use Rattle.kernel_tests.specs.Shown as meaning;
 
 use crate::calls::Answer;
@@ -21,7 +22,7 @@ fn number_text(alloc: Global, word: &[u8], number: u64) -> Result<Vec<u8>, Alloc
 
 /// The digits of a value, the highest first.
 fn letters(alloc: Global, bits: Bits) -> Result<Vec<u8>, AllocError>
-    ensures { IfOk result (λ text. text.items ≡ meaning.letters bits) }
+    ensures { IfOk result (λ text. text.items ≡ digit_letters bits) }
 {
     let text = bits.text();
     let width = bits.width() as usize;
