@@ -491,3 +491,13 @@ takes_further s place b bs last h =
     let inside = body_at t at b.body around is s.conditionals h.1 (first_at s place b.directive h.0) in
     moved_on s place b bs (around && not (takes_one s place (b ∷ bs))) last
     (chain (behind_branch s place b) (branch_end place b) around is s.conditionals bs last inside h.2)
+
+none_after : (around before t : Bool) → before ≡ true → (around && not before) && t ≡ false
+none_after true before t e = rw e refl
+none_after false before t e = refl
+
+-- behind a branch that is taken none is
+pub takes_none : (s : State) (place : ℕ) (first : Branch) (bs : List Branch) (last : Part) → IsConditional first bs last → takes_one s place (first ∷ bs) ≡ true
+    → is_branch_taken (state_after s place (written (first ∷ bs))) (place_behind place (written (first ∷ bs))) last ≡ false
+takes_none s place b bs last h e =
+    takes_further s place b bs last h ∙ none_after (is_taken s.conditionals) (takes_one s place (b ∷ bs)) (holds (state_after s place (written (b ∷ bs))) last.content) e

@@ -19,7 +19,7 @@ pub fn one_row()
 /// before it say (`stands`); what isn't taken holds no token, and no directive but those of conditionals (`skipped`). A name is
 /// defined where the last `define` or `undef` of it says so, and COCOTB_SIM where there is none (`defined`). Of a conditional the
 /// first branch is taken where what stands around the conditional is and its condition holds (`first`); a further one where
-/// besides none before it was, and an `else` has no condition (`further`). Inside of what isn't taken nothing is (`inside`), and
+/// besides none before it was, and an `else` has no condition (`further`): so at most one is (`at_most_one`). Inside of what isn't taken nothing is (`inside`), and
 /// behind whole conditionals what is taken is as before them (`closed`). Just the rows whose parts are unbroken and whose
 /// conditionals are whole break no rule (`balanced`), and whole conditionals are closed ones (`grouped`).
 pub fn conditionals()
@@ -37,6 +37,9 @@ pub fn conditionals()
         → is_branch_taken (state_after s place (written (first ∷ more))) (place_behind place (written (first ∷ more))) last
         ≡ (is_taken s.conditionals && not (takes_one s place (first ∷ more)))
         && holds (state_after s place (written (first ∷ more))) last.content }
+    ensures at_most_one { (s : State) (place : ℕ) (first : Branch) (more : List Branch) (last : Part) → IsConditional first more last
+        → takes_one s place (first ∷ more) ≡ true
+        → is_branch_taken (state_after s place (written (first ∷ more))) (place_behind place (written (first ∷ more))) last ≡ false }
     ensures inside { (s : State) (place : ℕ) (before rest : List Part) → is_taken s.conditionals ≡ false
         → IsClosed false (before ++ rest) → is_taken (state_after s place before).conditionals ≡ false }
     ensures closed { (s : State) (place : ℕ) (parts : List Part) → IsClosed false parts

@@ -1,5 +1,5 @@
 use Rattle.v_lex.specs.Lexing.{start}
-use Rattle.v_lex.proofs.ConditionalLaws.{stands_at, skipped_at, takes_first, takes_further, off_inside, closed}
+use Rattle.v_lex.proofs.ConditionalLaws.{stands_at, skipped_at, takes_first, takes_further, takes_none, off_inside, closed}
 use Rattle.v_lex.proofs.DefineLaws.{is_defined, defined_is}
 use Rattle.v_lex.proofs.GroupLaws.{is_balanced, breaks_none, is_closed}
 use Rattle.v_lex.proofs.laws.conditionals.Goals as goal
@@ -18,6 +18,9 @@ returns-clause-first c = λ s place part o. takes_first s place part o
 
 pub returns-clause-further : goal.returns-clause-further
 returns-clause-further c = λ s place first more last h. takes_further s place first more last h
+
+pub returns-clause-at_most_one : goal.returns-clause-at_most_one
+returns-clause-at_most_one c = λ s place first more last h e. takes_none s place first more last h e
 
 pub returns-clause-inside : goal.returns-clause-inside
 returns-clause-inside c = λ s place before rest o h. off_inside s place before rest o h
