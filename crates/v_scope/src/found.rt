@@ -4,6 +4,7 @@ ghost use Rattle.std.specs.Prelude.{◌≡◌};
 ghost use Rattle.v_scope.specs.Found.{both, broken, ended, lost, needs, noted, settled, wants};
 
 use crate::{Broken, ElabRule, earlier};
+use v_syntax::TokenNumber;
 
 /// What is found, and what is broken first.
 #[derive(Drop)]
@@ -18,7 +19,7 @@ pub enum Found<A> {
 
 impl<A: Drop> Found<A> {
     /// Nothing, since this rule is broken at this token.
-    pub fn broken(rule: ElabRule, place: usize) -> Found<A>
+    pub fn broken(rule: ElabRule, place: TokenNumber) -> Found<A>
         ensures { result ≡ broken rule place }
     {
         Found::Lost(Broken { rule, place })
@@ -47,7 +48,7 @@ impl<A: Drop> Found<A> {
     }
 
     /// The rule holds only where the test does.
-    pub fn wants(self, holds: bool, rule: ElabRule, place: usize) -> Found<A>
+    pub fn wants(self, holds: bool, rule: ElabRule, place: TokenNumber) -> Found<A>
         ensures { result ≡ wants holds rule place self }
     {
         if holds {
@@ -58,7 +59,7 @@ impl<A: Drop> Found<A> {
     }
 
     /// The rule holds only where the test does, and there is a value only where the rule holds.
-    pub fn needs(self, holds: bool, rule: ElabRule, place: usize) -> Found<A>
+    pub fn needs(self, holds: bool, rule: ElabRule, place: TokenNumber) -> Found<A>
         ensures { result ≡ needs holds rule place self }
     {
         if holds {
