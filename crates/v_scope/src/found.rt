@@ -41,8 +41,8 @@ impl<A: Drop> Found<A> {
         ensures { result ≡ lost fault self }
     {
         match self {
-            Found::Sound(_) => Found::Lost(fault),
-            Found::Noted(other, _) => Found::Lost(earlier(fault, other)),
+            Found::Sound(_value) => Found::Lost(fault),
+            Found::Noted(other, _value) => Found::Lost(earlier(fault, other)),
             Found::Lost(other) => Found::Lost(earlier(fault, other)),
         }
     }
@@ -74,7 +74,7 @@ impl<A: Drop> Found<A> {
         ensures { result ≡ settled self }
     {
         match self {
-            Found::Noted(fault, _) => Found::Lost(fault),
+            Found::Noted(fault, _value) => Found::Lost(fault),
             other => other,
         }
     }
@@ -85,7 +85,7 @@ impl<A: Drop> Found<A> {
     {
         match self {
             Found::Sound(a) => Ok(a),
-            Found::Noted(fault, _) => Err(fault),
+            Found::Noted(fault, _value) => Err(fault),
             Found::Lost(fault) => Err(fault),
         }
     }
@@ -106,8 +106,8 @@ impl<A: Drop> Found<A> {
                 Found::Lost(fault) => Found::Lost(earlier(first, fault)),
             },
             Found::Lost(first) => match other {
-                Found::Sound(_) => Found::Lost(first),
-                Found::Noted(fault, _) => Found::Lost(earlier(first, fault)),
+                Found::Sound(_value) => Found::Lost(first),
+                Found::Noted(fault, _value) => Found::Lost(earlier(first, fault)),
                 Found::Lost(fault) => Found::Lost(earlier(first, fault)),
             },
         }
