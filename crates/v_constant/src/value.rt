@@ -18,7 +18,7 @@ use port_io::NoMemory;
 use std::alloc::Global;
 use v_operator::Checked;
 use v_scope::{ElabRule, Found, Scope, TOO_WIDE};
-use v_syntax::Expression;
+use v_syntax::{Expression, TokenNumber};
 
 /// The value of an expression without a signal, in a context of `least` digits or its own width, whichever is greater. Only want
 /// of memory is an error.
@@ -33,7 +33,7 @@ fn evaluated(alloc: Global, least: u8, checked: Checked) -> Result<Bits, NoMemor
 }
 
 /// No digit is x or z, or else NotConstant is broken at this token.
-fn known(place: usize, value: Bits) -> Found<Bits>
+fn known(place: TokenNumber, value: Bits) -> Found<Bits>
     ensures { result ≡ known place value }
 {
     match value.to_number() {
@@ -110,7 +110,7 @@ fn cut(value: Bits) -> u8
 }
 
 /// A count is at least 1, or else BadRange is broken at this token; [`TOO_WIDE`] stands for more than 128.
-fn at_least_one(place: usize, value: Bits) -> Found<u8>
+fn at_least_one(place: TokenNumber, value: Bits) -> Found<u8>
     ensures { result ≡ each counted_width (counted place value) }
 {
     let count = cut(value);
@@ -119,7 +119,7 @@ fn at_least_one(place: usize, value: Bits) -> Found<u8>
 
 /// A count, where `place` is the number of its first token: that of a replication (clause 5.1.14) or the width of an indexed
 /// part-select (clause 5.2.1). It is at least 1, or else BadRange is broken there; [`TOO_WIDE`] stands for more than 128.
-pub fn counted(place: usize, value: Found<Bits>) -> Found<u8>
+pub fn counted(place: TokenNumber, value: Found<Bits>) -> Found<u8>
     ensures { result ≡ each counted_width (and_then value (counted place)) }
 {
     match value {

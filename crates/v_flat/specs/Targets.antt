@@ -31,17 +31,17 @@ pub data Manner : Type 0 where
   Procedural : Manner
   Continuous : Manner
 
-abbrev pub fits_kind : Manner → DataKind → Option Bounds → Bool
-fits_kind Procedural Register words = true
-fits_kind Procedural Net words = false
-fits_kind Procedural Input words = false
-fits_kind Continuous Register words = false
-fits_kind Continuous Net words = true
-fits_kind Continuous Input words = true
+abbrev pub fits_kind : Manner → DataKind → Bool
+fits_kind Procedural Register = true
+fits_kind Procedural Net = false
+fits_kind Procedural Input = false
+fits_kind Continuous Register = false
+fits_kind Continuous Net = true
+fits_kind Continuous Input = true
 
 abbrev pub fits : Manner → Option Meaning → Bool
 fits how (Some (Constant ds b)) = false
-fits how (Some (Object o)) = fits_kind how o.kind o.words
+fits how (Some (Object o)) = fits_kind how o.kind
 fits how (Some Later) = true
 fits how None = true
 

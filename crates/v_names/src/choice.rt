@@ -14,6 +14,7 @@ use four_value::Bits;
 use gpi::Term;
 use v_constant::number_or_zero;
 use v_scope::{Bounds, ElabRule, Found, MOST_DIGITS};
+use v_syntax::TokenNumber;
 
 /// So many digits, from an index upwards.
 #[derive(Drop)]
@@ -36,7 +37,7 @@ fn bit(index: Found<Term>) -> Found<Choice>
 }
 
 /// At most 128 digits, or else TooWide is broken at this token.
-fn narrowed(place: usize, width: Found<u8>) -> Found<u8>
+fn narrowed(place: TokenNumber, width: Found<u8>) -> Found<u8>
     ensures { result ≡ and_then width (narrow place) }
 {
     match width {
@@ -95,7 +96,13 @@ fn goes_with(bounds: Bounds, left: u128, right: u128) -> bool
 }
 
 /// The digits of a part-select with constant bounds.
-fn part_select(at: usize, place: usize, bounds: Bounds, left: Bits, right: Bits) -> Found<Choice>
+fn part_select(
+    at: TokenNumber,
+    place: TokenNumber,
+    bounds: Bounds,
+    left: Bits,
+    right: Bits,
+) -> Found<Choice>
     ensures { result ≡ range_choice at place bounds left right }
 {
     let i = number_or_zero(left);
@@ -111,7 +118,12 @@ fn part_select(at: usize, place: usize, bounds: Bounds, left: Bits, right: Bits)
 }
 
 /// The digits of a part-select, where both constants are known.
-fn found_part(at: usize, place: usize, bounds: Bounds, found: Found<(Bits, Bits)>) -> Found<Choice>
+fn found_part(
+    at: TokenNumber,
+    place: TokenNumber,
+    bounds: Bounds,
+    found: Found<(Bits, Bits)>,
+) -> Found<Choice>
     ensures { result ≡ and_then found (λ x. range_choice at place bounds x.0 x.1) }
 {
     match found {
@@ -124,7 +136,7 @@ fn found_part(at: usize, place: usize, bounds: Bounds, found: Found<(Bits, Bits)
 }
 
 /// What a select chooses from a range, where `place` is the number of the name (clause 5.2).
-pub fn chosen(place: usize, bounds: Bounds, select: CheckedSelect) -> Found<Choice>
+pub fn chosen(place: TokenNumber, bounds: Bounds, select: CheckedSelect) -> Found<Choice>
     ensures { result ≡ choice_from place bounds select }
 {
     match select {

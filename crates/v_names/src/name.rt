@@ -17,6 +17,7 @@ use std::alloc::Global;
 use v_context::Contextual;
 use v_operator::Checked;
 use v_scope::{Bounds, DataObject, ElabRule, Found, Meaning, Scope};
+use v_syntax::TokenNumber;
 
 /// Digits of a vector. Only want of memory is an error.
 fn chosen_digits(
@@ -54,12 +55,12 @@ fn chosen_from_vector(
 }
 
 /// Two selects on what is no memory: BadRange is broken at the second one.
-fn second_select<A: Drop>(word: Found<A>, place: usize) -> Found<Checked>
+fn second_select<A: Drop>(word: Found<A>, place: TokenNumber) -> Found<Checked>
     ensures { result ≡ twice_at word place }
 {
     match word {
-        Found::Sound(_) => Found::broken(ElabRule::BadRange, place),
-        Found::Noted(fault, _) => Found::broken(ElabRule::BadRange, place).noted(fault),
+        Found::Sound(_value) => Found::broken(ElabRule::BadRange, place),
+        Found::Noted(fault, _value) => Found::broken(ElabRule::BadRange, place).noted(fault),
         Found::Lost(fault) => Found::Lost(fault),
     }
 }
@@ -67,7 +68,7 @@ fn second_select<A: Drop>(word: Found<A>, place: usize) -> Found<Checked>
 /// A vector with selects, where `place` is the number of its name. Only want of memory is an error.
 fn vector(
     alloc: Global,
-    place: usize,
+    place: TokenNumber,
     from: Term,
     width: u8,
     bounds: Bounds,
@@ -168,7 +169,7 @@ fn chosen_from_word(
 /// A memory with selects, where `place` is the number of its name. Only want of memory is an error.
 fn memory(
     alloc: Global,
-    place: usize,
+    place: TokenNumber,
     words: Words,
     width: u8,
     bounds: Bounds,
@@ -189,7 +190,7 @@ fn memory(
 /// A net, a register or a memory with selects, where `place` is the number of its name. Only want of memory is an error.
 fn object(
     alloc: Global,
-    place: usize,
+    place: TokenNumber,
     object: DataObject,
     selects: CheckedSelects,
 ) -> Result<Found<Checked>, NoMemory>
@@ -216,7 +217,7 @@ pub fn named(
     alloc: Global,
     scope: &Scope,
     name: &[u8],
-    place: usize,
+    place: TokenNumber,
     selects: CheckedSelects,
 ) -> Result<Found<Checked>, NoMemory>
     requires { AreProper (means scope.now) }

@@ -12,24 +12,25 @@ use port_io::NoMemory;
 use std::alloc::Global;
 use v_operator::Checked;
 use v_scope::Found;
+use v_syntax::TokenNumber;
 
 /// A select whose expressions were checked (IEEE 1364-2005, clause 5.2). Each `at` is the number of its `[`.
 #[derive(Drop)]
 pub enum CheckedSelect {
     /// `[ index ]`
     Bit {
-        at: usize,
+        at: TokenNumber,
         index: Found<Term>,
     },
     /// `[ left : right ]`, with the values of both constants.
     Part {
-        at: usize,
+        at: TokenNumber,
         left: Found<Bits>,
         right: Found<Bits>,
     },
     /// `[ base +: width ]`, where `TOO_WIDE` of `v_scope` stands for a width of more than 128.
     IndexedPart {
-        at: usize,
+        at: TokenNumber,
         base: Found<Term>,
         width: Found<u8>,
     },
@@ -48,7 +49,7 @@ pub enum CheckedSelects {
 
 impl CheckedSelect {
     /// The number of its `[`.
-    pub fn place(&self) -> usize
+    pub fn place(&self) -> TokenNumber
         ensures { result ≡ place_of self.now }
     {
         match self {

@@ -13,11 +13,11 @@ use std::alloc::Global;
 use v_context::Contextual;
 use v_flat::{BinaryClass, UnaryClass, binary_class, unary_class};
 use v_scope::{ElabRule, Found, MOST_DIGITS};
-use v_syntax::{BinaryOperator, UnaryOperator};
+use v_syntax::{BinaryOperator, TokenNumber, UnaryOperator};
 
 /// What is found has at most [`MOST_DIGITS`] digits, or else TooWide is broken too, at this token. IEEE 1364-2005, clause 5.4.1,
 /// gives the widths, and the limit is narrower than that of clause 4.3.1.
-pub fn sized(place: usize, found: Found<Checked>) -> Found<Checked>
+pub fn sized(place: TokenNumber, found: Found<Checked>) -> Found<Checked>
     ensures { result ≡ sized_at place found }
 {
     match found {
@@ -91,7 +91,7 @@ pub fn number(value: Bits) -> Found<Checked>
 }
 
 /// `( inner )`, where `place` is the number of its first token.
-pub fn bracketed(place: usize, inner: Found<Checked>) -> Found<Checked>
+pub fn bracketed(place: TokenNumber, inner: Found<Checked>) -> Found<Checked>
     ensures { ChecksBracketed place inner result }
 {
     sized(place, inner)
@@ -100,7 +100,7 @@ pub fn bracketed(place: usize, inner: Found<Checked>) -> Found<Checked>
 /// An operator at the token `place` before its operand. Only want of memory is an error.
 pub fn unary(
     alloc: Global,
-    place: usize,
+    place: TokenNumber,
     operator: UnaryOperator,
     operand: Found<Checked>,
 ) -> Result<Found<Checked>, NoMemory>
@@ -112,7 +112,7 @@ pub fn unary(
 /// An operator between its operands, where `place` is the number of the first token. Only want of memory is an error.
 pub fn binary(
     alloc: Global,
-    place: usize,
+    place: TokenNumber,
     operator: BinaryOperator,
     left: Found<Checked>,
     right: Found<Checked>,
@@ -126,7 +126,7 @@ pub fn binary(
 /// `condition ? yes : no`, where `place` is the number of the first token. Only want of memory is an error.
 pub fn conditional(
     alloc: Global,
-    place: usize,
+    place: TokenNumber,
     condition: Found<Checked>,
     yes: Found<Checked>,
     no: Found<Checked>,

@@ -13,9 +13,10 @@ use std::alloc::Global;
 use v_context::Contextual;
 use v_operator::{Checked, sized};
 use v_scope::{ElabRule, Found, TOO_WIDE};
+use v_syntax::TokenNumber;
 
 /// Something stands in the braces, or else BadRange is broken at this token.
-fn filled(place: usize, parts: Found<Parts>) -> Found<Parts>
+fn filled(place: TokenNumber, parts: Found<Parts>) -> Found<Parts>
     ensures { result ≡ filled_at place parts }
 {
     match parts {
@@ -98,7 +99,7 @@ fn of_copies(alloc: Global, found: Found<(u8, Parts)>) -> Result<Found<Checked>,
 /// `{ part , .. }`, where `place` is the number of its first token (clause 5.1.14). Only want of memory is an error.
 pub fn concatenation(
     alloc: Global,
-    place: usize,
+    place: TokenNumber,
     parts: Found<Parts>,
 ) -> Result<Found<Checked>, NoMemory>
     ensures { IfOk result (ChecksConcatenation place parts) }
@@ -110,7 +111,7 @@ pub fn concatenation(
 /// of more than 128. Only want of memory is an error.
 pub fn replication(
     alloc: Global,
-    place: usize,
+    place: TokenNumber,
     count: Found<u8>,
     parts: Found<Parts>,
 ) -> Result<Found<Checked>, NoMemory>

@@ -4,6 +4,7 @@ ghost use Rattle.std.specs.Prelude.{◌≡◌};
 ghost use Rattle.v_scope.specs.Found.{both, broken, ended, lost, needs, noted, settled, wants};
 
 use crate::{Broken, ElabRule, earlier};
+use v_syntax::TokenNumber;
 
 /// What is found, and what is broken first.
 #[derive(Drop)]
@@ -18,7 +19,7 @@ pub enum Found<A> {
 
 impl<A: Drop> Found<A> {
     /// Nothing, since this rule is broken at this token.
-    pub fn broken(rule: ElabRule, place: usize) -> Found<A>
+    pub fn broken(rule: ElabRule, place: TokenNumber) -> Found<A>
         ensures { result ≡ broken rule place }
     {
         Found::Lost(Broken { rule, place })
@@ -40,14 +41,14 @@ impl<A: Drop> Found<A> {
         ensures { result ≡ lost fault self }
     {
         match self {
-            Found::Sound(_) => Found::Lost(fault),
-            Found::Noted(other, _) => Found::Lost(earlier(fault, other)),
+            Found::Sound(_value) => Found::Lost(fault),
+            Found::Noted(other, _value) => Found::Lost(earlier(fault, other)),
             Found::Lost(other) => Found::Lost(earlier(fault, other)),
         }
     }
 
     /// The rule holds only where the test does.
-    pub fn wants(self, holds: bool, rule: ElabRule, place: usize) -> Found<A>
+    pub fn wants(self, holds: bool, rule: ElabRule, place: TokenNumber) -> Found<A>
         ensures { result ≡ wants holds rule place self }
     {
         if holds {
@@ -58,7 +59,7 @@ impl<A: Drop> Found<A> {
     }
 
     /// The rule holds only where the test does, and there is a value only where the rule holds.
-    pub fn needs(self, holds: bool, rule: ElabRule, place: usize) -> Found<A>
+    pub fn needs(self, holds: bool, rule: ElabRule, place: TokenNumber) -> Found<A>
         ensures { result ≡ needs holds rule place self }
     {
         if holds {
@@ -73,7 +74,7 @@ impl<A: Drop> Found<A> {
         ensures { result ≡ settled self }
     {
         match self {
-            Found::Noted(fault, _) => Found::Lost(fault),
+            Found::Noted(fault, _value) => Found::Lost(fault),
             other => other,
         }
     }
@@ -84,7 +85,7 @@ impl<A: Drop> Found<A> {
     {
         match self {
             Found::Sound(a) => Ok(a),
-            Found::Noted(fault, _) => Err(fault),
+            Found::Noted(fault, _value) => Err(fault),
             Found::Lost(fault) => Err(fault),
         }
     }
@@ -105,8 +106,8 @@ impl<A: Drop> Found<A> {
                 Found::Lost(fault) => Found::Lost(earlier(first, fault)),
             },
             Found::Lost(first) => match other {
-                Found::Sound(_) => Found::Lost(first),
-                Found::Noted(fault, _) => Found::Lost(earlier(first, fault)),
+                Found::Sound(_value) => Found::Lost(first),
+                Found::Noted(fault, _value) => Found::Lost(earlier(first, fault)),
                 Found::Lost(fault) => Found::Lost(earlier(first, fault)),
             },
         }

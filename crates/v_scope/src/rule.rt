@@ -3,6 +3,8 @@
 ghost use Rattle.std.specs.Prelude.{◌≡◌};
 ghost use Rattle.v_scope.specs.Rules.{earlier, number_of};
 
+use v_syntax::TokenNumber;
+
 /// A rule that a design may break, in the order of their table.
 #[derive(Clone, Copy, Debug, PartialEq, Eq)]
 pub enum ElabRule {
@@ -39,8 +41,8 @@ pub enum ElabRule {
 #[derive(Clone, Copy, Debug, PartialEq, Eq)]
 pub struct Broken {
     pub rule: ElabRule,
-    /// The number of the token at which it is broken, from 0.
-    pub place: usize,
+    /// The token at which it is broken.
+    pub place: TokenNumber,
 }
 
 /// The place of a rule in the table, from 1.
@@ -69,9 +71,9 @@ fn number_of(rule: ElabRule) -> u8
 pub fn earlier(a: Broken, b: Broken) -> Broken
     ensures { result ≡ earlier a b }
 {
-    if b.place < a.place {
+    if b.place.number() < a.place.number() {
         b
-    } else if a.place < b.place {
+    } else if a.place.number() < b.place.number() {
         a
     } else if number_of(b.rule) < number_of(a.rule) {
         b

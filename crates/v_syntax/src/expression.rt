@@ -7,6 +7,7 @@
 ghost use Rattle.std.specs.Prelude.{◌≡◌};
 ghost use Rattle.v_syntax.specs.ExpressionTrees.{view, first_at};
 
+use crate::TokenNumber;
 use four_value::Bits;
 use port_io::Name;
 
@@ -16,19 +17,19 @@ use port_io::Name;
 pub enum Expression {
     /// A number (clause 3.5).
     Number {
-        at: usize,
+        at: TokenNumber,
         value: Bits,
     },
     /// The name of a net, register, memory or parameter, and the selects behind it (clause 5.2).
     Operand(Operand),
     /// `( inner )`
     Bracketed {
-        at: usize,
+        at: TokenNumber,
         inner: Box<Expression>,
     },
     /// A unary operator before its operand (clause 5.1).
     Unary {
-        at: usize,
+        at: TokenNumber,
         operator: UnaryOperator,
         operand: Box<Expression>,
     },
@@ -46,12 +47,12 @@ pub enum Expression {
     },
     /// `{ part , .. }` (clause 5.1.14)
     Concatenation {
-        at: usize,
+        at: TokenNumber,
         parts: Vec<Expression>,
     },
     /// `{ count { part , .. } }` (clause 5.1.14)
     Replication {
-        at: usize,
+        at: TokenNumber,
         count: Box<Expression>,
         parts: Vec<Expression>,
     },
@@ -60,7 +61,7 @@ pub enum Expression {
 impl Expression {
     /// The number of the expression's first token.
     #[tactic(auto, unfolding(crate::specs::ExpressionTrees::first_at))]
-    pub fn first(&self) -> usize
+    pub fn first(&self) -> TokenNumber
         ensures { result ≡ first_at (view self.now) }
     {
         match self {
@@ -80,7 +81,7 @@ impl Expression {
 #[cycle(expressions)]
 #[derive(Drop)]
 pub struct Operand {
-    pub at: usize,
+    pub at: TokenNumber,
     pub name: Name,
     pub selects: Selects,
 }
@@ -95,7 +96,7 @@ pub enum Selects {
     One(Select),
     /// A bit or a part of a word of a memory: `[ word ]`, and the select behind it.
     OfWord {
-        at: usize,
+        at: TokenNumber,
         word: Box<Expression>,
         select: Select,
     },
@@ -107,18 +108,18 @@ pub enum Selects {
 pub enum Select {
     /// `[ index ]`: a bit-select (clause 5.2.1), or a word of a memory (clause 5.2.2).
     Bit {
-        at: usize,
+        at: TokenNumber,
         index: Box<Expression>,
     },
     /// `[ left : right ]`: a part-select (clause 5.2.1).
     Part {
-        at: usize,
+        at: TokenNumber,
         left: Box<Expression>,
         right: Box<Expression>,
     },
     /// `[ base +: width ]`: an indexed part-select (clause 5.2.1).
     IndexedPart {
-        at: usize,
+        at: TokenNumber,
         base: Box<Expression>,
         width: Box<Expression>,
     },
@@ -130,7 +131,7 @@ pub enum Target {
     /// A name and the selects behind it.
     Operand(Operand),
     /// `{ part , .. }`
-    Concatenation { at: usize, parts: Vec<Target> },
+    Concatenation { at: TokenNumber, parts: Vec<Target> },
 }
 
 /// A unary operator (clause 5.1, table 5-1).

@@ -1,11 +1,11 @@
 //! Module items.
 
-use crate::{Expression, Identifier, Statement, Target};
+use crate::{Expression, Identifier, Statement, Target, TokenNumber};
 
 /// `[ left : right ]` (IEEE 1364-2005, clause 4.3.1 and annex A.2.5). `at` is the number of the `[`.
 #[derive(Drop)]
 pub struct Range {
-    pub at: usize,
+    pub at: TokenNumber,
     pub left: Expression,
     pub right: Expression,
 }
@@ -102,7 +102,7 @@ pub enum EventControl {
 /// `. port ( [value] )` (IEEE 1364-2005, clause 12.3.6). `at` is the number of the `.`.
 #[derive(Drop)]
 pub struct NamedConnection {
-    pub at: usize,
+    pub at: TokenNumber,
     pub port: Identifier,
     pub value: Option<Expression>,
 }
@@ -161,7 +161,7 @@ pub enum ItemKind {
 /// A module item, and the number of its first token.
 #[derive(Drop)]
 pub struct Item {
-    pub at: usize,
+    pub at: TokenNumber,
     pub kind: ItemKind,
 }
 

@@ -12,6 +12,7 @@ mod mark;
 mod source;
 mod statement;
 mod token;
+mod token_number;
 mod word;
 
 pub use expression::{BinaryOperator, Expression, Operand, Select, Selects, Target, UnaryOperator};
@@ -27,4 +28,5 @@ pub use statement::{
     StatementPlace, TaskArgument, VariableAssignment,
 };
 pub use token::Token;
+pub use token_number::TokenNumber;
 pub use word::{KEYWORDS, Keyword, RESERVED_WORDS, ReservedWord, SYSTEM_TASKS, SystemTask};

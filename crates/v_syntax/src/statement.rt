@@ -3,14 +3,14 @@
 //! A node keeps the numbers of the tokens at which a later rule points: those of names, of a `for`, and of the number of a
 //! delay. Expressions and targets keep their own.
 
-use crate::{Expression, SystemTask, Target};
+use crate::{Expression, SystemTask, Target, TokenNumber};
 use four_value::Bits;
 use port_io::Name;
 
 /// A name, and the number of its token.
 #[derive(Drop)]
 pub struct Identifier {
-    pub at: usize,
+    pub at: TokenNumber,
     pub name: Name,
 }
 
@@ -93,7 +93,7 @@ pub enum Statement {
     },
     /// `for header body` (clause 9.6). `at` is the number of the `for`.
     For {
-        at: usize,
+        at: TokenNumber,
         header: ForHeader,
         body: Box<Statement>,
     },
@@ -104,7 +104,7 @@ pub enum Statement {
     },
     /// `# delay ;` (clause 9.7.1). `at` is the number of the token of the delay's number.
     Delay {
-        at: usize,
+        at: TokenNumber,
         delay: Bits,
     },
 }

@@ -285,10 +285,10 @@ pub object_named : (how : Manner) (s : Scope) (p : ℕ) (sel : SelectsTree) (o :
     → IsWidth (width_of o.bounds)
     → AreSelects (is_fixed how) s sel y
     → IsNamedTarget how s p sel (Some (meant.Object o))
-    (needs (fits_kind how o.kind o.words) rule.BadTarget p (object_target p o o.words y))
+    (needs (fits_kind how o.kind) rule.BadTarget p (object_target p o o.words y))
 object_named how s p sel o y w h =
     let fixed = is_fixed how in
-    let ok = fits_kind how o.kind o.words in
+    let ok = fits_kind how o.kind in
     let f = object_target p o o.words y in record {
       finds = each_needs (λ (c : CheckedTarget). c.width) ok rule.BadTarget p f
           ∙ ap (λ (x : Found ℕ). needs ok rule.BadTarget p x) (object_found fixed s p sel o o.words y refl w h)

@@ -4,7 +4,7 @@ ghost use Rattle.std.specs.Prelude.{◌≡◌};
 ghost use Rattle.v_flat.specs.Targets.{fits_kind};
 ghost use Rattle.v_target.specs.Targets.{manner_of};
 
-use v_scope::{DataKind, DataObject};
+use v_scope::DataKind;
 
 /// How a value comes to a target.
 #[derive(Clone, Copy)]
@@ -16,16 +16,17 @@ pub enum Manner {
 }
 
 impl Manner {
-    /// Whether an object may be a target of an assignment in this manner. That an input is driven from outside is another rule.
-    pub(crate) fn fits(self, object: DataObject) -> bool
-        ensures { result ≡ fits_kind (manner_of self) object.kind object.words }
+    /// Whether an object of this kind may be a target of an assignment in this manner. That an input is driven from outside is another
+    /// rule.
+    pub(crate) fn fits(self, kind: DataKind) -> bool
+        ensures { result ≡ fits_kind (manner_of self) kind }
     {
         match self {
-            Manner::Procedural => match object.kind {
+            Manner::Procedural => match kind {
                 DataKind::Register => true,
                 DataKind::Net | DataKind::Input => false,
             },
-            Manner::Continuous => match object.kind {
+            Manner::Continuous => match kind {
                 DataKind::Net | DataKind::Input => true,
                 DataKind::Register => false,
             },

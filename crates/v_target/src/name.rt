@@ -14,6 +14,7 @@ use crate::{CheckedTarget, Manner};
 use gpi::{Object, SigId, Target, Term, Words};
 use v_names::{CheckedSelect, CheckedSelects, Choice, chosen, range, width, words};
 use v_scope::{Bounds, DataObject, ElabRule, Found, Meaning, Scope};
+use v_syntax::TokenNumber;
 
 /// All digits of an object.
 fn whole(object: Object) -> CheckedTarget
@@ -48,19 +49,19 @@ fn chosen_digits(object: Object, bounds: Bounds, found: Found<Choice>) -> Found<
 }
 
 /// Two selects on what is no memory: BadRange is broken at the second one.
-fn second_select(word: Found<Term>, place: usize) -> Found<CheckedTarget>
+fn second_select(word: Found<Term>, place: TokenNumber) -> Found<CheckedTarget>
     ensures { result ≡ twice_at word place }
 {
     match word {
-        Found::Sound(_) => Found::broken(ElabRule::BadRange, place),
-        Found::Noted(fault, _) => Found::broken(ElabRule::BadRange, place).noted(fault),
+        Found::Sound(_value) => Found::broken(ElabRule::BadRange, place),
+        Found::Noted(fault, _value) => Found::broken(ElabRule::BadRange, place).noted(fault),
         Found::Lost(fault) => Found::Lost(fault),
     }
 }
 
 /// A vector with selects, where `place` is the number of its name.
 fn vector(
-    place: usize,
+    place: TokenNumber,
     object: Object,
     bounds: Bounds,
     selects: CheckedSelects,
@@ -122,7 +123,7 @@ fn digits_of_word(
 
 /// A memory with selects, where `place` is the number of its name.
 fn memory(
-    place: usize,
+    place: TokenNumber,
     words: Words,
     width: u8,
     bounds: Bounds,
@@ -145,7 +146,7 @@ fn memory(
 }
 
 /// A net, a register or a memory with selects, where `place` is the number of its name.
-fn object(place: usize, object: DataObject, selects: CheckedSelects) -> Found<CheckedTarget>
+fn object(place: TokenNumber, object: DataObject, selects: CheckedSelects) -> Found<CheckedTarget>
     requires { IsProper (Some (meant.Object object)) }
     ensures { result ≡ object_target place object object.words selects }
 {
@@ -169,7 +170,7 @@ pub fn named(
     scope: &Scope,
     manner: Manner,
     name: &[u8],
-    place: usize,
+    place: TokenNumber,
     selects: CheckedSelects,
 ) -> Found<CheckedTarget>
     requires { AreProper (means scope.now) }
@@ -185,7 +186,7 @@ pub fn named(
         }
         Some(Meaning::Object(declared)) => {
             let found = object(place, *declared, selects);
-            found.needs(manner.fits(*declared), ElabRule::BadTarget, place)
+            found.needs(manner.fits(declared.kind), ElabRule::BadTarget, place)
         }
     }
 }

@@ -64,10 +64,10 @@ returns-in-Some-Object c = λ sel h.
     let e : s c.args.name.now ≡ Some (meant.Object o) = search rules in
     let wide : IsWidth (width_of o.bounds) × HasFewWords o.words = subst (λ (x : Option Meaning). IsProper x) e
     (c.requires c.args.name.now) in
-    let made : c.needs-in-Some-Object.result ≡ needs (fits_kind how o.kind o.words) rule.BadTarget p
+    let made : c.needs-in-Some-Object.result ≡ needs (fits_kind how o.kind) rule.BadTarget p
     (object_target p o o.words c.args.selects) =
     c.needs-in-Some-Object.ensures ∙ ap (λ (ok : Bool). needs ok rule.BadTarget p f) c.fits.ensures
-    ∙ ap (λ (g : Found CheckedTarget). needs (fits_kind how o.kind o.words) rule.BadTarget p g) c.object-found.ensures in
+    ∙ ap (λ (g : Found CheckedTarget). needs (fits_kind how o.kind) rule.BadTarget p g) c.object-found.ensures in
     subst (λ (x : Option Meaning). IsNamedTarget how s p sel x c.needs-in-Some-Object.result) (sym e)
     (subst (λ (g : Found CheckedTarget). IsNamedTarget how s p sel (Some (meant.Object o)) g) (sym made)
     (object_named how s p sel o c.args.selects wide.0 h))
