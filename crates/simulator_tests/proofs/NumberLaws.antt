@@ -1,6 +1,5 @@
 -- Numbers that are written one after the other.
-use Rattle.std.proofs.Common.{◌≡◌, ℕ, suc, ◌+◌, List, [], ◌∷◌, ◌++◌, map, drop, Bor, Some, refl, ap, sym, ◌∙◌, append_assoc, add-one}
-use Rattle.std.proofs.lemmas.List.{drop-cons}
+use Rattle.std.proofs.Common.{◌≡◌, ℕ, suc, ◌+◌, List, [], ◌∷◌, ◌++◌, map, drop, drop-cons, Bor, Some, refl, ap, sym, ◌∙◌, append_assoc, add-one}
 use Rattle.std.proofs.lemmas.Option.{get_or_from_slice_get, slice_get_within}
 use Rattle.std.specs.List.{flat_map, slice_get}
 use Rattle.simulator_tests.specs.Lines.{number_text}

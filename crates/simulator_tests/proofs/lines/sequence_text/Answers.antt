@@ -13,8 +13,8 @@ sequence_is : {T : Type 0} (bytes : T → List ℕ) (row part : List ℕ) (words
     → IfOk r (λ text. bytes text ≡ numbers_text numbers) → IfOk r (λ text. bytes text ≡ sequence_text row)
 sequence_is {T} bytes row part words items numbers r are same split is shows =
     let words_are : map (λ (word : Bor (List ℕ)). word.now) words ≡ slice_split (is_byte 32) (part_at 2 row) =
-        ap (λ (ws : List (Bor (List ℕ))). map (λ (word : Bor (List ℕ)). word.now) ws) same ∙ split
-        ∙ ap (λ (l : List ℕ). slice_split (is_byte 32) l) is in
+    ap (λ (ws : List (Bor (List ℕ))). map (λ (word : Bor (List ℕ)). word.now) ws) same ∙ split
+    ∙ ap (λ (l : List ℕ). slice_split (is_byte 32) l) is in
     subst (λ (ns : List ℕ). IfOk r (λ (text : T). bytes text ≡ numbers_text ns))
     (are ∙ of_words decimal words ∙ ap (λ (ws : List (List ℕ)). map decimal ws) words_are) shows
 
