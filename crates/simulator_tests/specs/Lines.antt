@@ -1,5 +1,5 @@
 -- What rows of a sink, a name, a sequence and a place come to.
-use Rattle.std.specs.Prelude.{ℕ, ◌+◌, Bool, true, false, not, ◌||◌, nat_lt, List, [], ◌∷◌, ◌++◌, length, map, fold, codes, if◌then◌else◌}
+use Rattle.std.specs.Prelude.{◌≡◌, ℕ, ◌+◌, Bool, true, false, not, ◌||◌, nat_lt, List, [], ◌∷◌, ◌++◌, length, map, fold, codes, if◌then◌else◌}
 use Rattle.std.specs.Fmt.{decimal}
 use Rattle.std.specs.List.{flat_map, slice_split}
 use Rattle.port_io.specs.Memory.{Lines, fails_at}
@@ -14,6 +14,17 @@ abbrev pub PutsAs : {O : Type 0} → (O → List ℕ → O → Type 0) → (O �
 PutsAs takes breaks before line true after = takes before line after
 PutsAs takes breaks before line false after = breaks before line after
 
+-- whether a put was taken, in words
+abbrev pub word_of : Bool → List ℕ
+word_of true = codes "taken "
+word_of false = codes "Failed "
+
+-- Whether a put was taken, and some bytes.
+pub record ShowsPut (text : List ℕ) : Type 0 where
+  pub taken : Bool
+  pub bytes : List ℕ
+  pub shows : text ≡ word_of taken ++ in_quotes bytes
+
 -- ---- a sink in memory
 
 -- a put that is one of those that fail takes nothing
@@ -22,11 +33,6 @@ after_put sink line =
     if fails_at sink.failing sink.calls
     then record sink { calls = next_count sink.calls; faults = next_count sink.faults }
     else record sink { bytes = sink.bytes ++ line; calls = next_count sink.calls }
-
--- whether a put was taken, in words
-abbrev pub word_of : Bool → List ℕ
-word_of true = codes "taken "
-word_of false = codes "Failed "
 
 -- what is told of a put
 abbrev pub put_word : Lines → List ℕ → List ℕ

@@ -3,7 +3,7 @@ ghost use Rattle.std.specs.Prelude.{◌≡◌, ◌<◌, ◌++◌, codes, fold, m
 ghost use Rattle.std.specs.List.{flat_map, slice_split};
 ghost use Rattle.table_rows.specs.Rows.{decimal as number, is_byte};
 ghost use Rattle.simulator_tests.specs.Calls.{told};
-ghost use Rattle.simulator_tests.specs.Lines.{PutsAs, after_put, line_at, name_text, number_text, numbers_text, place_text, position_text, put_word, sink_text, sequence_text, third_fails, word_of};
+ghost use Rattle.simulator_tests.specs.Lines.{PutsAs, ShowsPut, after_put, line_at, name_text, number_text, numbers_text, place_text, position_text, put_word, sink_text, sequence_text, third_fails, word_of};
 
 use port_io::{MemSink, Name, NoMemory, Sequence, Sink, SinkFault, WriteSink, line_of};
 use std::alloc::{AllocError, Global};
@@ -108,8 +108,11 @@ impl<'a> Write for Narrow<'a> {
     }
 }
 
-/// A put into a narrow writer: whether it was taken, and the bytes that were.
-pub fn writer_text(alloc: Global, row: &Row<'_>) -> Result<String, NoMemory> {
+/// A put into a narrow writer: whether it was taken, and the bytes that were. Which those are only the rows show, since no clause of
+/// `WriteSink` ties the writer that it holds to the bytes behind it.
+pub fn writer_text(alloc: Global, row: &Row<'_>) -> Result<String, NoMemory>
+    ensures { IfOk result (λ text. ShowsPut (string_bytes text)) }
+{
     let line = row.text(alloc, 2)?;
     let mut taken = Vec::new(alloc);
     let mut sink = WriteSink::new(Narrow {
