@@ -3,6 +3,7 @@ use Rattle.std.proofs.Common.{◌≡◌, ◌<◌, ◌-◌, ◌++◌, ◌∷◌, 
 use Rattle.std.proofs.lemmas.List.{length-map, length-reverse, take_at, take_min}
 use Rattle.std.proofs.lemmas.Str.{encode_ascii}
 use Rattle.table_rows.specs.Shown.{latin}
+use Rattle.four_value.specs.Limits.{most_digits}
 use Rattle.four_value.specs.Vector.{digit_byte, text}
 use Rattle.four_value.specs.declared.Digit.{Digit}
 use Rattle.four_value.specs.declared.Digit.TheVariants.{Zero, One, X, Z}
@@ -31,8 +32,8 @@ digits_shown ds n e =
     ap (λ (k : ℕ). latin (take k (text ds))) e ∙ ap (λ (bs : List ℕ). latin bs) (text_front ds) ∙ latin_digits (reverse ds)
 
 -- the first digits of a text that may have fewer
-pub first_digits : (text : List ℕ) (n : ℕ) → n ≡ min 128 (length text) → take n text ≡ take 128 text
-first_digits text n e = ap (λ (k : ℕ). take k text) e ∙ take_min 128 text
+pub first_digits : (text : List ℕ) (n : ℕ) → n ≡ min most_digits (length text) → take n text ≡ take most_digits text
+first_digits text n e = ap (λ (k : ℕ). take k text) e ∙ take_min most_digits text
 
-pub vector_short : (text front : List ℕ) (bits : List Digit) → bits ≡ short_vector front → front ≡ take 128 text → bits ≡ vector_of text
+pub vector_short : (text front : List ℕ) (bits : List Digit) → bits ≡ short_vector front → front ≡ take most_digits text → bits ≡ vector_of text
 vector_short text front bits is e = is ∙ ap (λ (bytes : List ℕ). short_vector bytes) e

@@ -1,3 +1,5 @@
-mod Registered
 mod DigitLaws
 mod EventLaws
+mod CallLaws
+mod FolderLaws
+mod NumberLaws

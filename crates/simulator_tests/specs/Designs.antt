@@ -1,6 +1,7 @@
 -- The design of a row, and what is shown of it.
 use Rattle.std.specs.Prelude.{◌≡◌, ℕ, ◌==◌, List, [], ◌∷◌, ◌++◌, Option, Some, None, length, map, reverse, find, min, max, codes}
 use Rattle.std.specs.List.{flat_map}
+use Rattle.four_value.specs.Limits.{most_digits}
 use Rattle.four_value.specs.Vector.{all_x}
 use Rattle.four_value.specs.declared.Digit.{Digit}
 use Rattle.four_value.specs.declared.Digit.TheVariants.{One, X}
@@ -25,9 +26,9 @@ use Rattle.simulator_tests.specs.Rests.{ComesTo}
 
 -- ---- the design
 
--- the width of `y` in a row: 1 to 128
+-- the width of `y` in a row, from 1 to the most that a vector may have
 abbrev pub width_of : List ℕ → ℕ
-width_of row = max 1 (min (decimal (part_at 6 row)) 128)
+width_of row = max 1 (min (decimal (part_at 6 row)) most_digits)
 
 -- a register without a name
 abbrev pub register : ℕ → Signal

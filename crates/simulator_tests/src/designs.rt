@@ -2,14 +2,15 @@
 //!
 //! In Verilog: `reg [7:0] a, b; reg [3:0] c; reg go; reg [7:0] m [1:4]; reg [7:0] y, z;`, where `y` may have another width,
 //! and `a`, `y` and the words another range.
-ghost use Rattle.std.specs.Prelude.{◌≡◌, ◌≤◌, ◌∷◌, ◌++◌, length, map, reverse, IfOk, OnOk, OnErr, option_map, option_to_list, string_bytes};
+ghost use Rattle.std.specs.Prelude.{◌≡◌, ◌≤◌, ◌<◌, ◌∷◌, ◌++◌, length, map, reverse, IfOk, OnOk, OnErr, option_map, option_to_list, string_bytes};
 ghost use Rattle.std.specs.List.{flat_map};
+ghost use Rattle.four_value.specs.Limits.{most_digits};
 ghost use Rattle.simulator_tests.specs.Digits.{digit_of, digits_text, short_vector, vector_of};
 ghost use Rattle.simulator_tests.specs.Rests.{ComesTo, Settles};
 ghost use Rattle.simulator_tests.specs.Designs.{AreProcesses, IsAsked, IsDesign, IsGiven, ShowsDesign, bare_top, change_of, last_told, last_value, other_text, register, registers, sets, values_text, wakes_of};
 
 use crate::parts::Parts;
-use four_value::{Bits, Digit};
+use four_value::{Bits, Digit, MOST_DIGITS};
 use gpi::{
     Act, Acts, Advance, Flat, Gpi, Kind, Node, Object, Order, Process, Range, SigId, Signal,
     Target, Term, Told, Wake, WakeEdge, Words,
@@ -41,19 +42,17 @@ pub const MEMORY: Words = Words {
     count: 4,
 };
 
-/// How many digits a vector has at most.
-const MOST_DIGITS: usize = 128;
-
-/// The vector of these digits, highest first: of more than 128 the first 128, and one x where there is none. It takes no memory.
+/// The vector of these digits, highest first: of more than `MOST_DIGITS` the first ones, and one x where there is none. It takes no
+/// memory.
 pub fn vector(text: &[u8]) -> Bits
     ensures { result ≡ vector_of text.now }
 {
-    short_vector(&text[..MOST_DIGITS.min(text.len())])
+    short_vector(&text[..(MOST_DIGITS as usize).min(text.len())])
 }
 
-/// The vector of at most 128 digits.
+/// The vector of no more than the most digits.
 fn short_vector(text: &[u8]) -> Bits
-    requires { length text.now ≤ 128 }
+    requires { length text.now ≤ most_digits }
     ensures { result ≡ short_vector text.now }
 {
     match text {
@@ -64,7 +63,7 @@ fn short_vector(text: &[u8]) -> Bits
 
 /// The vector of a digit and those below it.
 fn joined(highest: u8, rest: &[u8]) -> Bits
-    requires { length rest.now ≤ 127 }
+    requires { length rest.now < most_digits }
     ensures { result ≡ reverse (map digit_of (highest ∷ rest.now)) }
 {
     let mut bits = Bits::all(1, digit(highest));
@@ -294,7 +293,7 @@ fn last_told(told: &[Told], sig: SigId) -> Option<Told>
 /// The last value that was told of a signal with so many digits; all x where none was told.
 fn last_value(told: &[Told], sig: SigId, width: u8) -> Bits
     requires low { 1 ≤ width }
-    requires high { width ≤ 128 }
+    requires high { width ≤ most_digits }
     ensures { result ≡ last_value told.now sig.0 width }
 {
     match last_told(told, sig) {
@@ -319,7 +318,7 @@ fn other_texts(alloc: Global, told: &[Told], signals: &[u32]) -> Result<String, 
 /// The values that a kind of row shows: `y`, or that and `z` and the words of the memory.
 fn values_text(alloc: Global, kind: Kind, told: &[Told], width: u8) -> Result<String, NoMemory>
     requires low { 1 ≤ width }
-    requires high { width ≤ 128 }
+    requires high { width ≤ most_digits }
     ensures { IfOk result (λ text. string_bytes text ≡ values_text kind told.now width) }
 {
     let mut out = digits(alloc, last_value(told, Y, width))?;
@@ -335,7 +334,7 @@ fn values_text(alloc: Global, kind: Kind, told: &[Told], width: u8) -> Result<St
 pub fn design_text(alloc: Global, row: &Row<'_>, kind: Kind) -> Result<String, NoMemory>
     ensures { IfOk result (λ text. ShowsDesign row.now kind (string_bytes text)) }
 {
-    let width = row.number(6).clamp(1, 128) as u8;
+    let width = row.number(6).clamp(1, u64::from(MOST_DIGITS)) as u8;
     let flat = design(alloc, row, kind, width)?;
     match rest(alloc, &flat)? {
         Some(told) => values_text(alloc, kind, &told, width),

@@ -7,7 +7,6 @@
 //! - `assign`, `always`: what a design comes to, whose process `assign y = ..` or `always @(go) ..` is; the rule is what Verilog
 //!   writes for it, and given are the range of `a`, `y` and the words, the values of `a`, `b` and `c`, the width of `y`, and the
 //!   process (`word.rt` tells how it is written);
-//! - `oscillator`, `flip_flop`: the events of these two designs;
 //! - `reductions`, `rem`, `shl`, `ne`: operators on vectors;
 //! - `store`, `sink`: reads of a store in memory (names and limits), and puts into a sink in memory; `current`, `folder`: a read
 //!   of the current folder, and of one whose reader gives so many bytes at a time and fails at that read; `writer`: a put into
@@ -19,7 +18,6 @@
 
 mod designs;
 mod files;
-mod kernel;
 mod lines;
 mod parts;
 mod vectors;
@@ -29,7 +27,6 @@ use anyhow::{Result, ensure};
 use designs::design_text;
 use files::{current_text, folder_text, store_text};
 use gpi::Kind;
-use kernel::{flip_flop_text, oscillator_text};
 use lines::{name_text, place_text, sequence_text, sink_text, writer_text};
 use port_io::NoMemory;
 use std::alloc::Global;
@@ -43,8 +40,6 @@ fn simulated(alloc: Global, row: &Row<'_>) -> Result<String, NoMemory> {
     match row.part(0) {
         b"assign" => design_text(alloc, row, Kind::Assign),
         b"always" => design_text(alloc, row, Kind::Always),
-        b"oscillator" => oscillator_text(alloc),
-        b"flip_flop" => flip_flop_text(alloc),
         _ => vector_text(alloc, row),
     }
 }

@@ -2,6 +2,7 @@
 use crate::designs::{A, B, C, GO, MEMORY, Y, Z, vector};
 use crate::word;
 use crate::word::{Expression, Statement, Word};
+use four_value::MOST_DIGITS;
 use gpi::{Act, Acts, Arith, CaseKind, Compare, Label, Logic, Object, Range, Shift, Target, Term};
 use port_io::{NoMemory, Sequence};
 use std::alloc::Global;
@@ -90,7 +91,7 @@ impl Parts {
 
     /// The number on top, as a width or a count.
     fn small(&mut self) -> u8 {
-        self.number().min(128) as u8
+        self.number().min(u32::from(MOST_DIGITS)) as u8
     }
 
     /// The expression on top.

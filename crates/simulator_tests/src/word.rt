@@ -9,6 +9,9 @@
 //! - objects: `.y`, `.z`, `.m I`; targets: `whole O`, `part W O I`, `join T T`;
 //! - statements: `empty`, `blocking T E`, `nonblocking T E`, `if E S S`, `block N S ..`, and `case E L E K .. N S .. S` with L
 //!   labels, each with the number of its item, N items, and the statement where no label agrees (`casez` and `casex` likewise).
+ghost use Rattle.std.specs.Prelude.{◌≡◌};
+ghost use Rattle.simulator_tests.specs.Words.{arith_words, compare_words, entry, expression_of, left_words, operand_words, operator_words, reduce_words, statement_words, word_of};
+
 use gpi::{Arith, CaseKind, Compare, Logic, Reduce, Shift, Unary};
 
 /// What a word means.
@@ -72,7 +75,9 @@ pub enum Statement {
 
 impl Word {
     /// What a word means that is neither a number nor a vector; none where it means nothing.
-    pub fn of(text: &[u8]) -> Option<Word> {
+    pub fn of(text: &[u8]) -> Option<Word>
+        ensures { result ≡ word_of text.now }
+    {
         if let Some(expression) = expression_of(text) {
             return Some(Word::Expression(expression));
         }
@@ -84,7 +89,9 @@ impl Word {
 }
 
 /// A word of the left side of an assignment.
-fn left_of(text: &[u8]) -> Option<Word> {
+fn left_of(text: &[u8]) -> Option<Word>
+    ensures { result ≡ entry left_words text.now }
+{
     match text {
         b".y" => Some(Word::Object(Object::Y)),
         b".z" => Some(Word::Object(Object::Z)),
@@ -97,22 +104,34 @@ fn left_of(text: &[u8]) -> Option<Word> {
 }
 
 /// A statement.
-fn statement_of(text: &[u8]) -> Option<Statement> {
-    match text {
-        b"empty" => Some(Statement::Empty),
-        b"blocking" => Some(Statement::Blocking),
-        b"nonblocking" => Some(Statement::Nonblocking),
-        b"if" => Some(Statement::If),
-        b"block" => Some(Statement::Block),
-        b"case" => Some(Statement::Case(CaseKind::Exact)),
-        b"casez" => Some(Statement::Case(CaseKind::AnyZ)),
-        b"casex" => Some(Statement::Case(CaseKind::AnyXz)),
-        _ => None,
+fn statement_of(text: &[u8]) -> Option<Statement>
+    ensures { result ≡ entry statement_words text.now }
+{
+    if text == b"empty".as_slice() {
+        Some(Statement::Empty)
+    } else if text == b"blocking".as_slice() {
+        Some(Statement::Blocking)
+    } else if text == b"nonblocking".as_slice() {
+        Some(Statement::Nonblocking)
+    } else if text == b"if".as_slice() {
+        Some(Statement::If)
+    } else if text == b"block".as_slice() {
+        Some(Statement::Block)
+    } else if text == b"case".as_slice() {
+        Some(Statement::Case(CaseKind::Exact))
+    } else if text == b"casez".as_slice() {
+        Some(Statement::Case(CaseKind::AnyZ))
+    } else if text == b"casex".as_slice() {
+        Some(Statement::Case(CaseKind::AnyXz))
+    } else {
+        None
     }
 }
 
 /// An expression.
-fn expression_of(text: &[u8]) -> Option<Expression> {
+fn expression_of(text: &[u8]) -> Option<Expression>
+    ensures { result ≡ expression_of text.now }
+{
     if let Some(op) = arith_of(text) {
         return Some(Expression::Arith(op));
     }
@@ -129,7 +148,9 @@ fn expression_of(text: &[u8]) -> Option<Expression> {
 }
 
 /// A signal, or a word of the memory.
-fn operand_of(text: &[u8]) -> Option<Expression> {
+fn operand_of(text: &[u8]) -> Option<Expression>
+    ensures { result ≡ entry operand_words text.now }
+{
     match text {
         b"a" => Some(Expression::A),
         b"b" => Some(Expression::B),
@@ -143,26 +164,42 @@ fn operand_of(text: &[u8]) -> Option<Expression> {
 }
 
 /// An operator that isn't of the three large groups.
-fn operator_of(text: &[u8]) -> Option<Expression> {
-    match text {
-        b"plus" => Some(Expression::Unary(Unary::Plus)),
-        b"minus" => Some(Expression::Unary(Unary::Minus)),
-        b"invert" => Some(Expression::Unary(Unary::Invert)),
-        b"&&" => Some(Expression::Logic(Logic::Both)),
-        b"||" => Some(Expression::Logic(Logic::Either)),
-        b"<<" => Some(Expression::Shift(Shift::Up)),
-        b">>" => Some(Expression::Shift(Shift::Down)),
-        b"select" => Some(Expression::Select),
-        b"cond" => Some(Expression::Cond),
-        b"concat" => Some(Expression::Concat),
-        b"repeat" => Some(Expression::Repeat),
-        b"resize" => Some(Expression::Resize),
-        _ => None,
+fn operator_of(text: &[u8]) -> Option<Expression>
+    ensures { result ≡ entry operator_words text.now }
+{
+    if text == b"plus".as_slice() {
+        Some(Expression::Unary(Unary::Plus))
+    } else if text == b"minus".as_slice() {
+        Some(Expression::Unary(Unary::Minus))
+    } else if text == b"invert".as_slice() {
+        Some(Expression::Unary(Unary::Invert))
+    } else if text == b"&&".as_slice() {
+        Some(Expression::Logic(Logic::Both))
+    } else if text == b"||".as_slice() {
+        Some(Expression::Logic(Logic::Either))
+    } else if text == b"<<".as_slice() {
+        Some(Expression::Shift(Shift::Up))
+    } else if text == b">>".as_slice() {
+        Some(Expression::Shift(Shift::Down))
+    } else if text == b"select".as_slice() {
+        Some(Expression::Select)
+    } else if text == b"cond".as_slice() {
+        Some(Expression::Cond)
+    } else if text == b"concat".as_slice() {
+        Some(Expression::Concat)
+    } else if text == b"repeat".as_slice() {
+        Some(Expression::Repeat)
+    } else if text == b"resize".as_slice() {
+        Some(Expression::Resize)
+    } else {
+        None
     }
 }
 
 /// An operator on two that keeps their width.
-fn arith_of(text: &[u8]) -> Option<Arith> {
+fn arith_of(text: &[u8]) -> Option<Arith>
+    ensures { result ≡ entry arith_words text.now }
+{
     match text {
         b"&" => Some(Arith::And),
         b"|" => Some(Arith::Or),
@@ -178,7 +215,9 @@ fn arith_of(text: &[u8]) -> Option<Arith> {
 }
 
 /// A comparison.
-fn compare_of(text: &[u8]) -> Option<Compare> {
+fn compare_of(text: &[u8]) -> Option<Compare>
+    ensures { result ≡ entry compare_words text.now }
+{
     match text {
         b"==" => Some(Compare::Equal),
         b"!=" => Some(Compare::Differ),
@@ -193,15 +232,24 @@ fn compare_of(text: &[u8]) -> Option<Compare> {
 }
 
 /// An operator on one that gives one digit.
-fn reduce_of(text: &[u8]) -> Option<Reduce> {
-    match text {
-        b"all" => Some(Reduce::All),
-        b"any" => Some(Reduce::Any),
-        b"parity" => Some(Reduce::Parity),
-        b"not_all" => Some(Reduce::NotAll),
-        b"not_any" => Some(Reduce::NotAny),
-        b"not_parity" => Some(Reduce::NotParity),
-        b"not" => Some(Reduce::Not),
-        _ => None,
+fn reduce_of(text: &[u8]) -> Option<Reduce>
+    ensures { result ≡ entry reduce_words text.now }
+{
+    if text == b"all".as_slice() {
+        Some(Reduce::All)
+    } else if text == b"any".as_slice() {
+        Some(Reduce::Any)
+    } else if text == b"parity".as_slice() {
+        Some(Reduce::Parity)
+    } else if text == b"not_all".as_slice() {
+        Some(Reduce::NotAll)
+    } else if text == b"not_any".as_slice() {
+        Some(Reduce::NotAny)
+    } else if text == b"not_parity".as_slice() {
+        Some(Reduce::NotParity)
+    } else if text == b"not".as_slice() {
+        Some(Reduce::Not)
+    } else {
+        None
     }
 }
