@@ -1,10 +1,11 @@
 -- Names one after the other, and what the scene knows of them.
 use Rattle.std.proofs.Common.{◌≡◌, ℕ, Bool, true, false, List, [], ◌∷◌, ◌++◌, if◌then◌else◌, Some, refl, ap}
+use Rattle.std.specs.Prelude.{IfSome}
 use Rattle.std.specs.List.{find}
 use Rattle.std.specs.Option.{option_and_then}
 use Rattle.std.specs.Str.{bytes_eq}
 use Rattle.py_attribute.specs.Look.{View, Names, Local, local}
-use Rattle.py_attribute.specs.Knows.{KnowsNames, KnowsOption}
+use Rattle.py_attribute.specs.Knows.{KnowsNames, Knows}
 use Rattle.evaluate_tests.specs.declared.variables.Variable.{Variable}
 use Rattle.evaluate_tests.specs.Variables.{local_of, locals_of}
 
@@ -15,10 +16,10 @@ locals_more (w ∷ ws) v = ap (λ ls. local_of w ∷ ls) (locals_more ws v)
 -- the value of each name, the first of that name or not
 abbrev pub EachKnown : View → Names → Type 0
 EachKnown view [] = Unit {0}
-EachKnown view (l ∷ ls) = KnowsOption view l.value × EachKnown view ls
+EachKnown view (l ∷ ls) = IfSome l.value (Knows view) × EachKnown view ls
 
-at : (view : View) (l : Local) (ls : Names) (n : List ℕ) (t : Bool) → KnowsOption view l.value → KnowsOption view (local ls n)
-    → KnowsOption view (option_and_then (λ (m : Local). m.value) (if t then Some l else find (λ (m : Local). bytes_eq m.name n) ls))
+at : (view : View) (l : Local) (ls : Names) (n : List ℕ) (t : Bool) → IfSome l.value (Knows view) → IfSome (local ls n) (Knows view)
+    → IfSome (option_and_then (λ (m : Local). m.value) (if t then Some l else find (λ (m : Local). bytes_eq m.name n) ls)) (Knows view)
 at view l ls n true h k = h
 at view l ls n false h k = k
 

@@ -1,6 +1,6 @@
 -- Which values a view knows: each signal and node in them is of its design, each task, event and lock was made in its test, each trigger
 -- is sound, and each clock can run.
-use Rattle.std.specs.Prelude.{◌≡◌, ℕ, ◌+◌, ◌<◌, ◌≤◌, length, List, [], ◌∷◌, Option, Some, None}
+use Rattle.std.specs.Prelude.{◌≡◌, ℕ, ◌+◌, ◌<◌, ◌≤◌, length, List, [], ◌∷◌, IfSome}
 use Rattle.gpi.specs.declared.types.SigId.{SigId}
 use Rattle.py_value.specs.Limits.{signal_numbers}
 use Rattle.py_value.specs.Trigger.{Trig, Made, Form, Trigs, NoTrig, Then, Rise, Fall, Change, Cycles, Event, Lock, Join, First, Combine, Limit, AreSteps, IsSound}
@@ -61,14 +61,10 @@ Knows view (value.Lock l) = l.0 < length view.locks
 Knows view (value.Clock s h) = KnowsClock view s h
 Knows view _ = Unit {0}
 
-abbrev pub KnowsOption : View → Option Value → Type 0
-KnowsOption view (Some v) = Knows view v
-KnowsOption view None = Unit {0}
-
 abbrev pub KnowsAll : View → List Value → Type 0
 KnowsAll view [] = Unit {0}
 KnowsAll view (v ∷ vs) = Knows view v × KnowsAll view vs
 
 -- the values of all names
 abbrev pub KnowsNames : View → Names → Type 0
-KnowsNames view names = (n : List ℕ) → KnowsOption view (local names n)
+KnowsNames view names = (n : List ℕ) → IfSome (local names n) (Knows view)

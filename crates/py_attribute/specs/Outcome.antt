@@ -1,5 +1,5 @@
 -- What an evaluation gives: a value or the kind of a fault, and the number of the task's next trigger.
-use Rattle.std.specs.Prelude.{◌≡◌, ◌≤◌, ℕ, Result, Ok, Err}
+use Rattle.std.specs.Prelude.{◌≡◌, ◌≤◌, ℕ, Result, Ok, Err, IfOk}
 use Rattle.py_syntax.specs.declared.fault_kind.FaultKind.{FaultKind}
 use Rattle.py_value.specs.Answer.{Answer}
 use Rattle.py_value.specs.declared.trigger.TaskNo.{TaskNo}
@@ -40,23 +40,23 @@ pub record Scope : Type 0 where
 
 -- ---- what a function of the code returned, beside the next number that it left
 
--- the value, or the fault, of the outcome; after want of memory there is none
+-- the fault of the outcome; after want of memory there is none
+abbrev pub EndsByFault : {A : Type 0} → OperationFault → ℕ → Outcome A → Type 0
+EndsByFault (faults.Raised kind) k o = o ≡ refuses kind k
+EndsByFault faults.OutOfMemory k o = Unit {0}
+
+-- what f reads off the value is that of the outcome, or the fault is
+abbrev pub EndsAs : {A B : Type 0} → Result B OperationFault → (B → A) → ℕ → Outcome A → Type 0
+EndsAs (Ok b) f k o = o ≡ gives (f b) k
+EndsAs (Err fault) f k o = EndsByFault fault k o
+
+-- the value, or the fault, is that of the outcome
 abbrev pub Ends : {A : Type 0} → Result A OperationFault → ℕ → Outcome A → Type 0
-Ends (Ok a) k o = o ≡ gives a k
-Ends (Err (faults.Raised kind)) k o = o ≡ refuses kind k
-Ends (Err faults.OutOfMemory) k o = Unit {0}
-
-abbrev pub AnswerKnown : View → Answer Value → Type 0
-AnswerKnown view (Ok v) = Knows view v
-AnswerKnown view (Err kind) = Unit {0}
-
-abbrev pub IfKnown : View → Result Value OperationFault → Type 0
-IfKnown view (Ok v) = Knows view v
-IfKnown view (Err fault) = Unit {0}
+Ends result k o = EndsAs result (λ a. a) k o
 
 -- an outcome, whose value the view knows; the next number never falls; and memory runs out only as told
 pub record Evaluates (view : View) (result : Result Value OperationFault) (old k : ℕ) (o : Outcome Value) (Wants : Type 0) : Type 0 where
   pub ends : Ends result k o
-  pub known : IfKnown view result
+  pub known : IfOk result (Knows view)
   pub rises : old ≤ k
   pub want : IfWant result Wants

@@ -3,7 +3,6 @@ ghost use Rattle.std.specs.Prelude.{◌≡◌, ◌<◌, length, IfOk};
 ghost use Rattle.py_attribute.specs.Gives.{Gives, IfWant, MakesText};
 ghost use Rattle.py_attribute.specs.Look as meaning;
 ghost use Rattle.py_attribute.specs.Knows.{Knows, KnowsNode, KnowsSignal};
-ghost use Rattle.py_attribute.specs.Outcome.{AnswerKnown, IfKnown};
 
 use crate::{Look, OperationFault, path_attribute, signal_of, vector_attribute};
 use gpi::{SigId, Spot};
@@ -33,7 +32,7 @@ fn place_attribute<V: Look>(
     requires { KnowsNode (V.view view.now) node }
     ensures gives { Gives (meaning.attribute (V.view view.now) (Value.Place node) name.now) result }
     ensures want { IfWant result (MakesText (meaning.attribute (V.view view.now) (Value.Place node) name.now)) }
-    ensures known { IfKnown (V.view view.now) result }
+    ensures known { IfOk result (Knows (V.view view.now)) }
 {
     match view.child(node, name) {
         Some(spot) => Ok(spot_value(spot)),
@@ -51,7 +50,7 @@ fn signal_attribute<V: Look>(
     requires { KnowsSignal (V.view view.now) sig.0 }
     ensures gives { Gives (meaning.signal_attribute (V.view view.now) sig name.now) result }
     ensures want { IfWant result (MakesText (meaning.signal_attribute (V.view view.now) sig name.now)) }
-    ensures known { IfKnown (V.view view.now) result }
+    ensures known { IfOk result (Knows (V.view view.now)) }
 {
     if name.bytes() == b"value".as_slice() {
         Ok(Value::Vector(view.read(sig)))
@@ -86,7 +85,7 @@ pub fn attribute<V: Look>(
     requires { Knows (V.view view.now) v.now }
     ensures gives { Gives (meaning.attribute (V.view view.now) v.now name.now) result }
     ensures want { IfWant result (MakesText (meaning.attribute (V.view view.now) v.now name.now)) }
-    ensures known { IfKnown (V.view view.now) result }
+    ensures known { IfOk result (Knows (V.view view.now)) }
 {
     match v {
         Value::Place(node) => place_attribute(alloc, view, *node, name),
@@ -117,7 +116,7 @@ pub fn one_bit<V: Look>(view: &V, v: &Value) -> Result<SigId, FaultKind>
 pub fn len<V: Look>(view: &V, v: &Value) -> Result<Value, FaultKind>
     requires { Knows (V.view view.now) v.now }
     ensures is { result ≡ meaning.len (V.view view.now) v.now }
-    ensures known { AnswerKnown (V.view view.now) result }
+    ensures known { IfOk result (Knows (V.view view.now)) }
 {
     let signal = signal_of(v)?;
     Ok(Value::Whole(view.width(signal) as i128))

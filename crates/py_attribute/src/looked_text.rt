@@ -4,9 +4,8 @@ ghost use Rattle.py_value.specs.Shown.{shown};
 ghost use Rattle.py_attribute.specs.Attribute.{str_value};
 ghost use Rattle.py_attribute.specs.Gives.{Gives};
 ghost use Rattle.py_attribute.specs.Knows.{Knows};
-ghost use Rattle.py_attribute.specs.Outcome.{IfKnown};
 
-use crate::{Look, OperationFault, text_value};
+use crate::{Look, OperationFault, str_value};
 use port_io::{Name, NoMemory};
 use py_value::{Value, show};
 use std::alloc::Global;
@@ -19,13 +18,12 @@ pub fn shown_text<V: Look>(alloc: Global, view: &V, v: &Value) -> Result<Name, N
     show(alloc, v, view)
 }
 
-/// `str(v)` (the library reference, "Built-in Functions"): the text as which a value is shown. One of over 65,536 bytes is an OverflowError;
-/// want of memory is the other error.
+/// `str(v)` as [`str_value`] gives it, by the paths that the view tells: a text of over 65,536 bytes is an OverflowError, and want of memory
+/// is the other error.
 pub fn str_text<V: Look>(alloc: Global, view: &V, v: &Value) -> Result<Value, OperationFault>
     requires { Knows (V.view view.now) v.now }
     ensures gives { Gives (str_value (V.view view.now).places v.now) result }
-    ensures known { IfKnown (V.view view.now) result }
+    ensures known { IfOk result (Knows (V.view view.now)) }
 {
-    let text = shown_text(alloc, view, v)?;
-    text_value(alloc, text.bytes())
+    str_value(alloc, v, view)
 }

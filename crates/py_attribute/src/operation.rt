@@ -1,9 +1,8 @@
 //! Operators beside signals.
-ghost use Rattle.std.specs.Prelude.{◌≡◌};
+ghost use Rattle.std.specs.Prelude.{◌≡◌, IfOk};
 ghost use Rattle.py_operator.specs.Operation.{binary_value};
 ghost use Rattle.py_attribute.specs.Look as meaning;
 ghost use Rattle.py_attribute.specs.Knows.{Knows, KnowsSignal};
-ghost use Rattle.py_attribute.specs.Outcome.{AnswerKnown};
 
 use crate::Look;
 use gpi::SigId;
@@ -75,7 +74,7 @@ pub fn operated<V: Look>(view: &V, op: BinOp, a: &Value, b: &Value) -> Result<Va
     requires left { Knows (V.view view.now) a.now }
     requires right { Knows (V.view view.now) b.now }
     ensures is { result ≡ meaning.operated (V.view view.now) op a.now b.now }
-    ensures known { AnswerKnown (V.view view.now) result }
+    ensures known { IfOk result (Knows (V.view view.now)) }
 {
     match op {
         BinOp::Equal | BinOp::NotEqual => compared(view, op, a, b),

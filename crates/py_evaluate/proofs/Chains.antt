@@ -1,19 +1,19 @@
 -- One evaluation after another.
 use Rattle.std.proofs.Common.{◌≡◌, ℕ, ◌≤◌, Ok, Err, ap, sym, subst, inl, inr, ◌⊎◌, arith}
-use Rattle.std.specs.Prelude.{Result}
+use Rattle.std.specs.Prelude.{Result, IfOk}
 use Rattle.py_value.specs.Answer.{Answer}
 use Rattle.py_value.specs.declared.value.Value.{Value}
 use Rattle.py_attribute.specs.declared.fault.OperationFault.{OperationFault}
 use Rattle.py_attribute.specs.declared.fault.OperationFault.TheVariants as faults
 use Rattle.py_attribute.specs.Gives.{Gives, IfWant, OnWant}
+use Rattle.py_attribute.specs.Knows.{Knows}
 use Rattle.py_attribute.specs.Look.{View}
-use Rattle.py_attribute.specs.Outcome.{Outcome, Ends, Evaluates, IfKnown, gives, lift, bind}
+use Rattle.py_attribute.specs.Outcome.{Outcome, EndsByFault, Ends, Evaluates, gives, lift, bind}
 use Rattle.py_attribute.proofs.Want.{want_map, want_on}
-use Rattle.py_evaluate.specs.Rows.{EndsAs}
 use Rattle.py_evaluate.specs.Wants.{Behind}
 
 -- a fault of the first is the fault of both
-pub fault_first : {A B : Type 0} (o : Outcome A) (f : A → ℕ → Outcome B) (fault : OperationFault) (j : ℕ) → Ends {A = A} (Err fault) j o → Ends {A = B} (Err fault) j (bind o f)
+pub fault_first : {A B : Type 0} (o : Outcome A) (f : A → ℕ → Outcome B) (fault : OperationFault) (j : ℕ) → EndsByFault fault j o → EndsByFault fault j (bind o f)
 fault_first o f (faults.Raised kind) j e = ap (λ p. bind p f) e
 fault_first o f faults.OutOfMemory j e = tt
 
@@ -29,18 +29,18 @@ answer_ends answer (Err (faults.Raised kind)) j e = ap (λ a. lift a j) e
 answer_ends answer (Err faults.OutOfMemory) j e = tt
 
 pub answer_evaluates : (view : View) (answer : Answer Value) (result : Result Value OperationFault) (old j : ℕ) (W : Type 0)
-    → Gives answer result → IfKnown view result → old ≤ j → IfWant result W → Evaluates view result old j (lift answer j) W
+    → Gives answer result → IfOk result (Knows view) → old ≤ j → IfWant result W → Evaluates view result old j (lift answer j) W
 answer_evaluates view answer result old j W e k h w = record { ends = answer_ends answer result j e; known = k; rises = h; want = w }
 
 -- ---- a fault of the first, or want of memory in it
 
 pub fault_evaluates : {A : Type 0} (view : View) (o : Outcome A) (f : A → ℕ → Outcome Value) (fault : OperationFault) (old j : ℕ) (P Q : Type 0)
-    → Ends {A = A} (Err fault) j o → old ≤ j → OnWant fault P → Evaluates view (Err fault) old j (bind o f) (P ⊎ Q)
+    → EndsByFault fault j o → old ≤ j → OnWant fault P → Evaluates view (Err fault) old j (bind o f) (P ⊎ Q)
 fault_evaluates view o f fault old j P Q e h w = record { ends = fault_first o f fault j e; known = tt; rises = h; want = want_on fault P (P ⊎ Q) inl w }
 
 -- where the second takes no memory
 pub fault_alone : {A : Type 0} (view : View) (o : Outcome A) (f : A → ℕ → Outcome Value) (fault : OperationFault) (old j : ℕ) (P : Type 0)
-    → Ends {A = A} (Err fault) j o → old ≤ j → OnWant fault P → Evaluates view (Err fault) old j (bind o f) P
+    → EndsByFault fault j o → old ≤ j → OnWant fault P → Evaluates view (Err fault) old j (bind o f) P
 fault_alone view o f fault old j P e h w = record { ends = fault_first o f fault j e; known = tt; rises = h; want = want_on fault P P (λ p. p) w }
 
 -- ---- a value of the first
@@ -73,12 +73,3 @@ value_alone view o f a old j result k P e h r =
 pub waits_evaluates : {A : Type 0} (view : View) (o : Outcome A) (f : A → ℕ → Outcome Value) (a : A) (old j : ℕ) (P : Type 0) (Q : A → ℕ → Type 0)
     → o ≡ gives a j → old ≤ j → Q a j → Evaluates view (Err faults.OutOfMemory) old j (bind o f) (P ⊎ Behind o Q)
 waits_evaluates view o f a old j P Q e h q = record { ends = tt; known = tt; rises = h; want = inr (behind_at o Q a j e q) }
-
--- lists and texts
-pub faults_same : {A B : Type 0} (f : B → A) (fault : OperationFault) (j : ℕ) (o : Outcome A) → EndsAs {A = A} {B = B} (Err fault) f j o → Ends {A = A} (Err fault) j o
-faults_same f (faults.Raised kind) j o e = e
-faults_same f faults.OutOfMemory j o e = tt
-
-pub same_faults : {A B : Type 0} (f : B → A) (fault : OperationFault) (j : ℕ) (o : Outcome A) → Ends {A = A} (Err fault) j o → EndsAs {A = A} {B = B} (Err fault) f j o
-same_faults f (faults.Raised kind) j o e = e
-same_faults f faults.OutOfMemory j o e = tt

@@ -107,7 +107,7 @@ mutual
       let f : List ℕ → ℕ → Outcome Value = λ bytes i. lift (text_value bytes) i in
       either (λ p. in_first (eval_parts s ps k) k j f (λ bytes i. same i) (parts_between s ps k j p))
       (λ b. behind_first (eval_parts s ps k) k j f (λ bytes i. TextWants (text_value bytes) j i) (parts_rise s ps k) (λ bytes i q. at_once i j i (same i) q.1) b) w
-  eval_between s (Name n) k j w = at_once k j k (same k) w
+  eval_between s (Name n) k j w = at_once k j k (same k) w.1
   eval_between s (Bracketed e) k j w = eval_between s e k j w
   eval_between s (Attribute e n) k j w =
       let f : Value → ℕ → Outcome Value = λ v i. lift (attribute s.view v n) i in
@@ -123,7 +123,7 @@ mutual
   eval_between s (Call f es) k j w =
       let g : List Value → ℕ → Outcome Value = λ vs i. called s.task s.view f vs i in
       either (λ p. in_first (eval_row s es k) k j g (λ vs i. called_rises s.task s.view f vs i) (row_between s es k j p))
-      (λ b. behind_first (eval_row s es k) k j g (λ vs i. MayWant f i j (called s.task s.view f vs i)) (row_rises s es k) (λ vs i q. (q.from, q.to)) b) w
+      (λ b. behind_first (eval_row s es k) k j g (λ vs i. MayWant f vs i j (called s.task s.view f vs i)) (row_rises s es k) (λ vs i q. (q.from, q.to)) b) w
   eval_between s (MethodCall e m) k j w =
       in_first (eval s e k) k j (λ v i. method_value s.task s.view v m i) (λ v i. method_rises s.task s.view v m i) (eval_between s e k j w)
   eval_between s (Unary o e) k j w = in_first (eval s e k) k j (λ v i. lift (unary_value o v) i) (λ v i. same i) (eval_between s e k j w)

@@ -1,6 +1,6 @@
 -- What operators on one value give names nothing of a design, and a word of a known memory is known.
 use Rattle.std.proofs.Common.{◌≡◌, ℕ, ◌+◌, ◌-◌, ◌<◌, Bool, true, false, Ok, Err, nat_lt, nat_le, length, if◌then◌else◌, refl, arith}
-use Rattle.std.specs.Prelude.{ℤ, pos, negsuc, ◌&&◌, ◌-ℤ◌, neg_ℤ}
+use Rattle.std.specs.Prelude.{ℤ, pos, negsuc, ◌&&◌, ◌-ℤ◌, neg_ℤ, IfOk}
 use Rattle.gpi.specs.declared.types.SigId.{SigId}
 use Rattle.py_syntax.specs.declared.expression.UnOp.{UnOp}
 use Rattle.py_syntax.specs.declared.expression.UnOp.TheVariants as unop
@@ -13,10 +13,9 @@ use Rattle.py_operator.specs.Operation.{unary_value}
 use Rattle.py_attribute.specs.Attribute.{indexed, word_at}
 use Rattle.py_attribute.specs.Look.{View}
 use Rattle.py_attribute.specs.Knows.{Knows, KnowsWords}
-use Rattle.py_attribute.specs.Outcome.{AnswerKnown}
 use Rattle.py_attribute.proofs.Plain.{chained, whole_plain}
 
-pub unary_plain : (view : View) (o : UnOp) (a : Value) → AnswerKnown view (unary_value o a)
+pub unary_plain : (view : View) (o : UnOp) (a : Value) → IfOk (unary_value o a) (Knows view)
 unary_plain view unop.Not a = tt
 unary_plain view unop.Negative a = chained view (one_number a) (λ z. whole (held (neg_ℤ z))) (λ z. whole_plain view (held (neg_ℤ z)))
 unary_plain view unop.Positive a = chained view (one_number a) (λ z. whole (held z)) (λ z. whole_plain view (held z))
@@ -27,7 +26,7 @@ there : (low n count : ℕ) → (nat_le low n && nat_lt n (low + count)) ≡ tru
 there low n count h = grind arith
 
 word_known : (view : View) (first : SigId) (low count n : ℕ) (t : Bool) → (nat_le low n && nat_lt n (low + count)) ≡ t → KnowsWords view first.0 count
-    → AnswerKnown view (if t then Ok (value.Signal (record { 0 = first.0 + (n - low) })) else Err IndexError)
+    → IfOk (if t then Ok (value.Signal (record { 0 = first.0 + (n - low) })) else Err IndexError) (Knows view)
 word_known view first low count n true e k =
     let h = there low n count e in let p = k.signals in let q = k.places in
     let inside : first.0 + (n - low) < length view.signals = omega (arith, h, p) in
@@ -35,10 +34,10 @@ word_known view first low count n true e k =
     (inside, told)
 word_known view first low count n false e k = tt
 
-at_known : (view : View) (first : SigId) (low count : ℕ) (z : ℤ) → KnowsWords view first.0 count → AnswerKnown view (word_at first low count z)
+at_known : (view : View) (first : SigId) (low count : ℕ) (z : ℤ) → KnowsWords view first.0 count → IfOk (word_at first low count z) (Knows view)
 at_known view first low count (pos n) k = word_known view first low count n (nat_le low n && nat_lt n (low + count)) refl k
 at_known view first low count (negsuc n) k = tt
 
-pub word_plain : (view : View) (v i : Value) → Knows view v → AnswerKnown view (indexed v i)
+pub word_plain : (view : View) (v i : Value) → Knows view v → IfOk (indexed v i) (Knows view)
 word_plain view (value.Words first low count) i k = chained view (one_number i) (word_at first low count) (λ z. at_known view first low count z k)
 word_plain view _ i k = tt

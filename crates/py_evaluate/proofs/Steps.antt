@@ -14,7 +14,7 @@ use Rattle.py_attribute.specs.declared.fault.OperationFault.{OperationFault}
 use Rattle.py_attribute.specs.declared.fault.OperationFault.TheVariants as faults
 use Rattle.py_attribute.specs.Look.{View}
 use Rattle.py_attribute.specs.Knows.{Knows, KnowsAll}
-use Rattle.py_attribute.specs.Outcome.{Outcome, Scope, Ends, gives, bind, after}
+use Rattle.py_attribute.specs.Outcome.{Outcome, Scope, EndsByFault, gives, bind, after}
 use Rattle.py_evaluate.specs.Eval.{eval, eval_row, eval_parts}
 use Rattle.py_evaluate.specs.Rows.{trees_of, parts_of, part_bytes, PartWants}
 use Rattle.py_evaluate.specs.Wants.{Wants, RowWants, PartsWant, Behind}
@@ -71,8 +71,8 @@ values_step s es n e vs k j v whole h is w g =
     ∙ (sym (ap (behind vs) (from_place s es n e k h is)) ∙ w))
 
 pub values_fault : (s : Scope) (es : List Expression) (n : ℕ) (e : Expression) (vs : List Value) (k j : ℕ) (fault : OperationFault) (whole : Outcome (List Value))
-    → n < length es → e ≡ get_or es n e → behind vs (eval_row s (trees_of (drop n es)) k) ≡ whole → Ends {A = Value} (Err fault) j (eval s (view e) k)
-    → Ends {A = List Value} (Err fault) j whole
+    → n < length es → e ≡ get_or es n e → behind vs (eval_row s (trees_of (drop n es)) k) ≡ whole → EndsByFault fault j (eval s (view e) k)
+    → EndsByFault fault j whole
 unfolding behind
 values_fault s es n e vs k j (faults.Raised kind) whole h is w g =
     sym w ∙ (ap (behind vs) (from_place s es n e k h is) ∙ ap (λ (p : Outcome Value). behind vs (and_others s (drop (n + 1) es) p)) g)
@@ -122,8 +122,8 @@ text_step s ps n p bs k j shown whole h is w g =
     ∙ (sym (ap (behind bs) (part_at s ps n p k h is)) ∙ w))
 
 pub text_fault : (s : Scope) (ps : List FormatPart) (n : ℕ) (p : FormatPart) (bs : List ℕ) (k j : ℕ) (fault : OperationFault) (whole : Outcome (List ℕ))
-    → n < length ps → p ≡ get_or ps n p → behind bs (eval_parts s (parts_of (drop n ps)) k) ≡ whole → Ends {A = List ℕ} (Err fault) j (part_bytes s p k)
-    → Ends {A = List ℕ} (Err fault) j whole
+    → n < length ps → p ≡ get_or ps n p → behind bs (eval_parts s (parts_of (drop n ps)) k) ≡ whole → EndsByFault fault j (part_bytes s p k)
+    → EndsByFault fault j whole
 unfolding behind
 text_fault s ps n p bs k j (faults.Raised kind) whole h is w g =
     sym w ∙ (ap (behind bs) (part_at s ps n p k h is) ∙ ap (λ (q : Outcome (List ℕ)). behind bs (and_parts s (drop (n + 1) ps) q)) g)

@@ -1,13 +1,11 @@
--- A means of proof: lists of the code's trees, and what functions of the code returned that go over them.
-use Rattle.std.specs.Prelude.{◌≡◌, ◌⊎◌, ℕ, List, [], ◌∷◌, Result, Ok, Err}
+-- A means of proof: lists of the code's trees.
+use Rattle.std.specs.Prelude.{◌≡◌, ◌⊎◌, ℕ, List, [], ◌∷◌}
 use Rattle.py_syntax.specs.ExpressionTrees.{Trees, NoTree, Then, Parts, NoPart, view, view_part}
 use Rattle.py_syntax.specs.declared.expression.Expression.{Expression}
 use Rattle.py_syntax.specs.declared.expression.FormatPart.{FormatPart}
 use Rattle.py_syntax.specs.declared.expression.FormatPart.TheVariants as part
 use Rattle.py_value.specs.Shown.{shown}
-use Rattle.py_attribute.specs.declared.fault.OperationFault.{OperationFault}
-use Rattle.py_attribute.specs.declared.fault.OperationFault.TheVariants as faults
-use Rattle.py_attribute.specs.Outcome.{Outcome, Scope, gives, refuses, bind}
+use Rattle.py_attribute.specs.Outcome.{Outcome, Scope, gives, bind}
 use Rattle.py_evaluate.specs.Eval.{eval}
 use Rattle.py_evaluate.specs.Wants.{Wants, Behind}
 
@@ -27,9 +25,3 @@ part_bytes s (part.Formatted' p e) k = bind (eval s (view e) k) (λ v j. gives (
 abbrev pub PartWants : Scope → FormatPart → ℕ → ℕ → Type 0
 PartWants s (part.Text t) k j = j ≡ k
 PartWants s (part.Formatted' p e) k j = Wants s (view e) k j ⊎ Behind (eval s (view e) k) (λ v i. j ≡ i)
-
--- a list or a text, which f reads off
-abbrev pub EndsAs : {A B : Type 0} → Result B OperationFault → (B → A) → ℕ → Outcome A → Type 0
-EndsAs (Ok b) f k o = o ≡ gives (f b) k
-EndsAs (Err (faults.Raised kind)) f k o = o ≡ refuses kind k
-EndsAs (Err faults.OutOfMemory) f k o = Unit {0}

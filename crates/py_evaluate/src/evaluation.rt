@@ -4,7 +4,7 @@ ghost use Rattle.py_syntax.specs.ExpressionTrees as tree;
 ghost use Rattle.py_syntax.specs.declared.expression.Operation.TheVariants as operation;
 ghost use Rattle.py_attribute.specs.Knows.{KnowsNames, KnowsAll};
 ghost use Rattle.py_attribute.specs.Gives.{IfWant};
-ghost use Rattle.py_attribute.specs.Outcome.{Ends};
+ghost use Rattle.py_attribute.specs.Outcome.{Ends, EndsAs};
 ghost use Rattle.py_evaluate.specs.Eval.{eval_row, eval_parts};
 ghost use Rattle.py_evaluate.specs.Wants.{RowWants, PartsWant};
 ghost use Rattle.py_evaluate.specs.Gives as told;
@@ -133,7 +133,7 @@ fn values_of<N: Locals, V: Look>(
     next: &mut u64,
 ) -> Result<Vec<Value>, OperationFault>
     requires { KnowsNames (V.view view.now) (N.names names.now) }
-    ensures ends { rows.EndsAs result (λ values. values.items) next.new (eval_row (told.scope task (N.names names.now) (V.view view.now)) (rows.trees_of arguments.now) next.old) }
+    ensures ends { EndsAs result (λ values. values.items) next.new (eval_row (told.scope task (N.names names.now) (V.view view.now)) (rows.trees_of arguments.now) next.old) }
     ensures known { IfOk result (λ values. KnowsAll (V.view view.now) values.items) }
     ensures rises { next.old ≤ next.new }
     ensures want { IfWant result (RowWants (told.scope task (N.names names.now) (V.view view.now)) (rows.trees_of arguments.now) next.old next.new) }
@@ -254,7 +254,7 @@ fn text_of<N: Locals, V: Look>(
     next: &mut u64,
 ) -> Result<Vec<u8>, OperationFault>
     requires { KnowsNames (V.view view.now) (N.names names.now) }
-    ensures ends { rows.EndsAs result (λ text. text.items) next.new (eval_parts (told.scope task (N.names names.now) (V.view view.now)) (rows.parts_of parts.now) next.old) }
+    ensures ends { EndsAs result (λ text. text.items) next.new (eval_parts (told.scope task (N.names names.now) (V.view view.now)) (rows.parts_of parts.now) next.old) }
     ensures rises { next.old ≤ next.new }
     ensures want { IfWant result (PartsWant (told.scope task (N.names names.now) (V.view view.now)) (rows.parts_of parts.now) next.old next.new) }
 {
@@ -300,8 +300,11 @@ fn part_text<N: Locals, V: Look>(
 /// TypeError, ValueError, OverflowError or RuntimeError (`py_function::called`); of a method AttributeError or RuntimeError
 /// (`py_function::method_value`); of a text of over 65,536 bytes, an f-string's among them, OverflowError.
 ///
-/// Each trigger that is made takes the next number, which never falls. `OutOfMemory` may come where a text is made, a name's value is
-/// copied, a value waits for another one, or a call takes memory; the next number is then what the triggers made until there leave.
+/// Each trigger that is made takes the next number, which never falls. `OutOfMemory` may come only where a text is made, a part of an f-string
+/// among them; where a name's value is copied that is a text, a caught fault or a trigger that holds others; where a value is kept while
+/// others are evaluated, as the left operand of an operator but `or` and `and`, the base of an index, and each argument of a call; and in a
+/// call of `str`, `First` or `Combine` whose arguments are of the right kinds. The next number is then what the triggers made until there
+/// leave; amid a call of `First` or `Combine` it may be any from there to what the call would leave.
 pub fn evaluate<N: Locals, V: Look>(
     alloc: Global,
     e: &Expression,

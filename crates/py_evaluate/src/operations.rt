@@ -1,12 +1,12 @@
 //! Expressions without parts, and what is done with the values of parts.
-ghost use Rattle.std.specs.Prelude.{◌≡◌};
+ghost use Rattle.std.specs.Prelude.{◌≡◌, IfOk};
 ghost use Rattle.py_operator.specs.Operation as operator;
 ghost use Rattle.py_attribute.specs.Attribute as attribute;
 ghost use Rattle.py_attribute.specs.Gives.{Gives, IfWant, MakesText};
 ghost use Rattle.py_attribute.specs.Look as look;
 ghost use Rattle.py_attribute.specs.Knows.{Knows, KnowsNames};
-ghost use Rattle.py_attribute.specs.Outcome.{AnswerKnown, IfKnown};
 ghost use Rattle.py_evaluate.specs.Eval as meaning;
+ghost use Rattle.py_evaluate.specs.Wants.{CopyTakesMemory};
 
 use port_io::Name;
 use py_attribute::{Locals, Look, OperationFault, indexed, text_value};
@@ -23,7 +23,7 @@ pub(crate) fn constant_value<V: Look>(
 ) -> Result<Value, OperationFault>
     ensures gives { Gives (meaning.constant_value constant.now) result }
     ensures want { IfWant result (MakesText (meaning.constant_value constant.now)) }
-    ensures known { IfKnown (V.view view.now) result }
+    ensures known { IfOk result (Knows (V.view view.now)) }
 {
     match constant {
         Const::Absent => Ok(Value::Absent),
@@ -34,7 +34,7 @@ pub(crate) fn constant_value<V: Look>(
     }
 }
 
-/// The value of a name. One that is unassigned is an UnboundLocalError.
+/// The value of a name. One that is unassigned is an UnboundLocalError; want of memory is an error where the copy of the value takes some.
 pub(crate) fn name_value<N: Locals, V: Look>(
     alloc: Global,
     names: &N,
@@ -43,7 +43,8 @@ pub(crate) fn name_value<N: Locals, V: Look>(
 ) -> Result<Value, OperationFault>
     requires { KnowsNames (V.view view.now) (N.names names.now) }
     ensures gives { Gives (look.name_value (look.local (N.names names.now) name.now)) result }
-    ensures known { IfKnown (V.view view.now) result }
+    ensures want { IfWant result (CopyTakesMemory (look.local (N.names names.now) name.now)) }
+    ensures known { IfOk result (Knows (V.view view.now)) }
 {
     match names.local(name) {
         Some(v) => Ok(copy(alloc, v)?),
@@ -55,7 +56,7 @@ pub(crate) fn name_value<N: Locals, V: Look>(
 pub(crate) fn word_value<V: Look>(view: &V, v: &Value, index: &Value) -> Result<Value, FaultKind>
     requires { Knows (V.view view.now) v.now }
     ensures is { result ≡ attribute.indexed v.now index.now }
-    ensures known { AnswerKnown (V.view view.now) result }
+    ensures known { IfOk result (Knows (V.view view.now)) }
 {
     indexed(v, index)
 }
@@ -63,7 +64,7 @@ pub(crate) fn word_value<V: Look>(view: &V, v: &Value, index: &Value) -> Result<
 /// The value of an operator with one operand. The faults are those of `unary`.
 pub(crate) fn unary_value<V: Look>(view: &V, op: UnOp, v: Value) -> Result<Value, FaultKind>
     ensures is { result ≡ operator.unary_value op v }
-    ensures known { AnswerKnown (V.view view.now) result }
+    ensures known { IfOk result (Knows (V.view view.now)) }
 {
     match unary(op, v) {
         Ok(v) => Ok(v),

@@ -1,6 +1,6 @@
 -- The view knows what calls give, where it knows their arguments, and the triggers in it are sound.
 use Rattle.std.proofs.Common.{◌≡◌, ℕ, zero, suc, Bool, true, false, List, [], ◌∷◌, Ok, Err, Some, None, nat_lt, nat_le, if◌then◌else◌, ◌<◌, ◌≤◌, length, get_or, refl, subst, sym, arith}
-use Rattle.std.specs.Prelude.{Option, IfOk, IsTrue, ℤ, negsuc, slice_get, ◌*◌, ◌%◌, ◌/◌, ◌==◌, pos}
+use Rattle.std.specs.Prelude.{Option, IfOk, IsTrue, ℤ, negsuc, slice_get, ◌*◌, ◌%◌, ◌/◌, ◌==◌, pos, IfSome}
 use Rattle.std.specs.List.{list_all}
 use Rattle.gpi.specs.declared.types.SigId.{SigId}
 use Rattle.py_syntax.specs.declared.expression.Function.{Function}
@@ -23,8 +23,8 @@ use Rattle.py_time.specs.Times.{in_unit, steps_of, half_steps}
 use Rattle.py_time.proofs.Sound.{steps_sound, half_sound}
 use Rattle.std.proofs.lemmas.Bool.Decides.{nat_tests}
 use Rattle.py_attribute.specs.Look.{View, len, one_bit, width}
-use Rattle.py_attribute.specs.Knows.{Knows, KnowsAll, KnowsOption, KnowsSignal, KnowsForm, KnowsTrig, KnowsTrigs}
-use Rattle.py_attribute.specs.Outcome.{Outcome, AnswerKnown, gives, refuses, bind, after}
+use Rattle.py_attribute.specs.Knows.{Knows, KnowsAll, KnowsSignal, KnowsForm, KnowsTrig, KnowsTrigs}
+use Rattle.py_attribute.specs.Outcome.{Outcome, gives, refuses, bind, after}
 use Rattle.py_attribute.proofs.Plain.{either, chained, whole_plain, text_plain}
 use Rattle.py_function.specs.Making.{trigger_limit, new_trigger, new_tree, new_value, trigger_value, as_trigger, as_triggers, is_waitable, parts, several}
 use Rattle.py_function.specs.Functions as meaning
@@ -64,19 +64,19 @@ unfolding Holds
 held_by P (Ok x) h = h
 held_by P (Err kind) h = tt
 
-to_known : (view : View) (a : Answer Value) → Holds (Knows view) a → AnswerKnown view a
+to_known : (view : View) (a : Answer Value) → Holds (Knows view) a → IfOk a (Knows view)
 unfolding Holds
 to_known view (Ok v) h = h
 to_known view (Err kind) h = tt
 
 -- ---- arguments and signals
 
-get_known : (view : View) (vs : List Value) (n : ℕ) → KnowsAll view vs → KnowsOption view (slice_get vs n)
+get_known : (view : View) (vs : List Value) (n : ℕ) → KnowsAll view vs → IfSome (slice_get vs n) (Knows view)
 get_known view [] n h = tt
 get_known view (v ∷ vs) zero h = h.0
 get_known view (v ∷ vs) (suc n) h = get_known view vs n h.1
 
-given_known : (view : View) (o : Option Value) → KnowsOption view o → Holds (Knows view) (meaning.given o)
+given_known : (view : View) (o : Option Value) → IfSome o (Knows view) → Holds (Knows view) (meaning.given o)
 unfolding Holds
 given_known view (Some v) h = h
 given_known view None h = tt
@@ -186,7 +186,7 @@ parts_known view task vs k h = at (list_all is_waitable vs)
     at false = tt
 
 several_known : (view : View) (task : TaskNo) (form : Trigs → Form) (vs : List Value) (k : ℕ) → KnowsAll view vs → ((ts : Trigs) → TrigsKnown view ts → IsTrue (is_small (form ts)) → FormKnown view (form ts))
-    → AnswerKnown view (several task form vs k).answer
+    → IfOk (several task form vs k).answer (Knows view)
 several_known view task form vs k h f =
     to_known view (several task form vs k).answer
     (value_known view (bind (parts task vs k) (λ ts j. new_tree task (form ts) j))
@@ -195,7 +195,7 @@ several_known view task form vs k h f =
 
 -- ---- calls
 
-form_known : (view : View) (task : TaskNo) (form : Answer Form) (k : ℕ) → Holds (FormKnown view) form → AnswerKnown view (new_value task form k).answer
+form_known : (view : View) (task : TaskNo) (form : Answer Form) (k : ℕ) → Holds (FormKnown view) form → IfOk (new_value task form k).answer (Knows view)
 form_known view task form k h = to_known view (new_value task form k).answer (new_known view task form k h)
 
 edge_known : (view : View) (vs : List Value) (form : SigId → Form) → KnowsAll view vs → ((s : SigId) → SignalKnown view s → FormKnown view (form s))
@@ -256,13 +256,13 @@ clock_known view vs h =
     (λ s q. mapped AreSteps (Knows view) (half period) (λ h. value.Clock s h)
     (held_by AreSteps (half period) (half_sound view.step_fs period (meaning.unit_argument view vs 2))) (λ n x. record { signal = q.0; bit = q.1; steps = x }))))
 
-time_known : (view : View) (vs : List Value) → AnswerKnown view (meaning.sim_time view vs)
+time_known : (view : View) (vs : List Value) → IfOk (meaning.sim_time view vs) (Knows view)
 time_known view vs =
     chained view (meaning.unit_argument view vs 0) (in_unit (view.time * view.step_fs))
     (λ unit. either view (((view.time * view.step_fs) % unit) == 0) (whole (held (pos ((view.time * view.step_fs) / unit)))) (Err ValueError)
     (whole_plain view (held (pos ((view.time * view.step_fs) / unit)))) tt)
 
-pub called_known : (task : TaskNo) (view : View) (f : Function) (vs : List Value) (k : ℕ) → KnowsAll view vs → AnswerKnown view (meaning.called task view f vs k).answer
+pub called_known : (task : TaskNo) (view : View) (f : Function) (vs : List Value) (k : ℕ) → KnowsAll view vs → IfOk (meaning.called task view f vs k).answer (Knows view)
 unfolding SignalKnown Holds
 called_known task view function.Int vs k h = chained view (meaning.argument vs 0) meaning.int (λ v. chained view (one_number v) (λ z. whole (held z)) (λ z. whole_plain view (held z)))
 called_known task view function.Str vs k h = chained view (meaning.argument vs 0) (str_value view.places) (λ v. text_plain view (shown view.places v))
@@ -291,15 +291,15 @@ waits view (value.Lock l) method.Acquire h = (h, tt)
 waits view (value.Task t) method.Join h = (h, tt)
 waits view _ _ h = tt
 
-set_known : (view : View) (v : Value) → AnswerKnown view (meaning.set_state view v)
+set_known : (view : View) (v : Value) → IfOk (meaning.set_state view v) (Knows view)
 set_known view (value.Event e) = tt
 set_known view _ = tt
 
-done_known : (view : View) (v : Value) → AnswerKnown view (meaning.done_state view v)
+done_known : (view : View) (v : Value) → IfOk (meaning.done_state view v) (Knows view)
 done_known view (value.Task t) = tt
 done_known view _ = tt
 
-pub method_known : (task : TaskNo) (view : View) (v : Value) (m : Method) (k : ℕ) → Knows view v → AnswerKnown view (meaning.method_value task view v m k).answer
+pub method_known : (task : TaskNo) (view : View) (v : Value) (m : Method) (k : ℕ) → Knows view v → IfOk (meaning.method_value task view v m k).answer (Knows view)
 method_known task view v method.IsSet k h = set_known view v
 method_known task view v method.Done k h = done_known view v
 method_known task view v method.Wait k h = form_known view task (meaning.method_form v method.Wait) k (waits view v method.Wait h)

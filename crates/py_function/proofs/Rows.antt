@@ -9,10 +9,9 @@ use Rattle.py_value.specs.declared.trigger.TaskNo.{TaskNo}
 use Rattle.py_value.specs.declared.value.Value.{Value}
 use Rattle.py_attribute.specs.declared.fault.OperationFault.{OperationFault}
 use Rattle.py_attribute.specs.declared.fault.OperationFault.TheVariants as faults
-use Rattle.py_attribute.specs.Outcome.{Outcome, Ends, gives, refuses, bind, after}
+use Rattle.py_attribute.specs.Outcome.{Outcome, EndsByFault, gives, refuses, bind, after}
 use Rattle.py_attribute.proofs.Onward.{bind_rises}
 use Rattle.py_function.specs.Making.{as_trigger, as_triggers}
-use Rattle.py_function.specs.Rows.{EndsRow}
 use Rattle.py_function.proofs.Onward.{all_rise}
 
 -- triggers in front of others
@@ -79,8 +78,8 @@ triggers_step task ts vs n v k j t whole h is w e =
     sym (behind_step task ts v (drop (n + 1) vs) k j t e) ∙ (sym (from_place task ts vs n v k h is) ∙ w)
 
 pub triggers_fault : (task : TaskNo) (ts : List Trig) (vs : List Value) (n : ℕ) (v : Value) (k j : ℕ) (fault : OperationFault) (whole : Outcome Trigs)
-    → n < length vs → v ≡ get_or vs n v → behind ts (as_triggers task (drop n vs) k) ≡ whole → Ends {A = Trig} (Err fault) j (as_trigger task v k)
-    → EndsRow (Err fault) j whole
+    → n < length vs → v ≡ get_or vs n v → behind ts (as_triggers task (drop n vs) k) ≡ whole → EndsByFault fault j (as_trigger task v k)
+    → EndsByFault fault j whole
 triggers_fault task ts vs n v k j (faults.Raised kind) whole h is w e =
     sym w ∙ (from_place task ts vs n v k h is ∙ behind_fault task ts v (drop (n + 1) vs) k j kind e)
 triggers_fault task ts vs n v k j faults.OutOfMemory whole h is w e = tt

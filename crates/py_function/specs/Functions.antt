@@ -1,5 +1,6 @@
 -- What functions and methods give (the library reference, "Built-in Functions"; cocotb 1.8, "Triggers", `Clock` and `get_sim_time`).
-use Rattle.std.specs.Prelude.{ℕ, zero, suc, ◌-◌, ◌^◌, ◌≤◌, nat_le, Bool, true, false, IsTrue, List, Option, Some, None, Ok, Err, if◌then◌else◌, slice_get, slice_index_or, ℤ, pos, negsuc}
+use Rattle.std.specs.Prelude.{ℕ, zero, suc, ◌-◌, ◌^◌, ◌≤◌, nat_le, Bool, true, false, is_ok, IsTrue, List, Option, Some, None, Ok, Err, if◌then◌else◌, slice_get, slice_index_or, ℤ, pos, negsuc}
+use Rattle.std.specs.List.{list_all}
 use Rattle.gpi.specs.declared.types.SigId.{SigId}
 use Rattle.py_syntax.specs.declared.expression.Function.{Function}
 use Rattle.py_syntax.specs.declared.expression.Function.TheVariants as function
@@ -19,7 +20,7 @@ use Rattle.py_attribute.specs.Attribute.{signal_of, str_value}
 use Rattle.py_time.specs.Times.{unit_of, steps_of, half_steps, time_in}
 use Rattle.py_attribute.specs.Look.{View, len, one_bit}
 use Rattle.py_attribute.specs.Outcome.{Outcome, lift}
-use Rattle.py_function.specs.Making.{new_value, several}
+use Rattle.py_function.specs.Making.{is_waitable, new_value, several}
 
 -- ---- arguments, by their places; a call has as many as the grammar asks for, and others aren't looked at
 
@@ -124,9 +125,16 @@ takes_memory function.First = true
 takes_memory function.Combine = true
 takes_memory _ = false
 
+-- a text is made of an argument that is given, and a tree of triggers where all arguments can be waited for
+abbrev pub takes_memory_of : Function → List Value → Bool
+takes_memory_of function.Str vs = is_ok (argument vs 0)
+takes_memory_of function.First vs = list_all is_waitable vs
+takes_memory_of function.Combine vs = list_all is_waitable vs
+takes_memory_of _ vs = false
+
 -- memory may run out in a call when the next number, once k, is j: no higher than that of the outcome
-pub record MayWant (f : Function) (k j : ℕ) (o : Outcome Value) : Type 0 where
-  pub takes : IsTrue (takes_memory f)
+pub record MayWant (f : Function) (vs : List Value) (k j : ℕ) (o : Outcome Value) : Type 0 where
+  pub takes : IsTrue (takes_memory_of f vs)
   pub from : k ≤ j
   pub to : j ≤ o.next
 

@@ -1,5 +1,5 @@
 //! Calls of functions.
-ghost use Rattle.std.specs.Prelude.{◌≡◌, ◌≤◌, Ok, false};
+ghost use Rattle.std.specs.Prelude.{◌≡◌, ◌≤◌, Ok, false, is_ok, IsTrue};
 ghost use Rattle.py_value.specs.Answer.{and_then};
 ghost use Rattle.py_value.specs.Truth.{truth};
 ghost use Rattle.py_attribute.specs.Attribute.{str_value};
@@ -46,7 +46,8 @@ fn len_call<V: Look>(view: &V, values: &[Value]) -> Result<Value, FaultKind>
 /// `str(value)`
 fn str_call<V: Look>(alloc: Global, view: &V, values: &[Value]) -> Result<Value, OperationFault>
     requires { KnowsAll (V.view view.now) values.now }
-    ensures { Gives (and_then (meaning.argument values.now 0) (str_value (V.view view.now).places)) result }
+    ensures gives { Gives (and_then (meaning.argument values.now 0) (str_value (V.view view.now).places)) result }
+    ensures want { IfWant result (IsTrue (is_ok (meaning.argument values.now 0))) }
 {
     str_text(alloc, view, argument(values, 0)?)
 }
@@ -102,7 +103,7 @@ fn call<V: Look>(
     requires { KnowsAll (V.view view.now) values.now }
     ensures ends { Ends result next.new (meaning.called task (V.view view.now) function values.now next.old) }
     ensures rises { next.old ≤ next.new }
-    ensures want { IfWant result (meaning.MayWant function next.old next.new (meaning.called task (V.view view.now) function values.now next.old)) }
+    ensures want { IfWant result (meaning.MayWant function values.now next.old next.new (meaning.called task (V.view view.now) function values.now next.old)) }
 {
     match function {
         Function::Str => str_call(alloc, view, values),
@@ -128,7 +129,8 @@ fn call<V: Look>(
 ///
 /// A new trigger takes the next number, and so does the join of a task among the arguments of `First` and `Combine`, before a ValueError
 /// or a RuntimeError of the whole: where that join finds no number left, its RuntimeError comes before the ValueError of the whole. Want of
-/// memory is an error of `str`, `First` and `Combine` alone; the next number is then from the old one to that which the call would leave.
+/// memory is an error of `str`, `First` and `Combine` alone, and comes behind the TypeError; the next number is then from the old one to that
+/// which the call would leave.
 pub fn called<V: Look>(
     alloc: Global,
     view: &V,
@@ -139,7 +141,7 @@ pub fn called<V: Look>(
 ) -> Result<Value, OperationFault>
     requires { KnowsAll (V.view view.now) values.now }
     ensures { let o = meaning.called task (V.view view.now) function values.now next.old in
-        Evaluates (V.view view.now) result next.old next.new o (meaning.MayWant function next.old next.new o) }
+        Evaluates (V.view view.now) result next.old next.new o (meaning.MayWant function values.now next.old next.new o) }
 {
     call(alloc, view, task, function, values, next)
 }

@@ -1,9 +1,9 @@
 //! Calls of methods.
-ghost use Rattle.std.specs.Prelude.{◌≡◌, ◌≤◌};
+ghost use Rattle.std.specs.Prelude.{◌≡◌, ◌≤◌, IfOk};
 ghost use Rattle.py_value.specs.Answer.{answer_map};
 ghost use Rattle.py_value.specs.TriggerView.{view_form};
 ghost use Rattle.py_attribute.specs.Knows.{Knows};
-ghost use Rattle.py_attribute.specs.Outcome.{AnswerKnown, lift};
+ghost use Rattle.py_attribute.specs.Outcome.{lift};
 ghost use Rattle.py_function.specs.Functions as meaning;
 
 use crate::making::new_value;
@@ -78,7 +78,7 @@ pub fn method_value<V: Look>(
 ) -> Result<Value, FaultKind>
     requires { Knows (V.view view.now) v.now }
     ensures is { lift result next.new ≡ meaning.method_value task (V.view view.now) v.now method next.old }
-    ensures known { AnswerKnown (V.view view.now) result }
+    ensures known { IfOk result (Knows (V.view view.now)) }
     ensures rises { next.old ≤ next.new }
 {
     method_call(view, task, v, method, next)

@@ -1,11 +1,10 @@
 //! Triggers that hold others.
-ghost use Rattle.std.specs.Prelude.{◌≡◌, ◌≤◌};
+ghost use Rattle.std.specs.Prelude.{◌≡◌, ◌≤◌, IsTrue};
 ghost use Rattle.std.specs.List.{list_all};
 ghost use Rattle.py_value.specs.Trigger as trigger;
 ghost use Rattle.py_attribute.specs.Gives.{IfWant};
-ghost use Rattle.py_attribute.specs.Outcome.{Ends};
+ghost use Rattle.py_attribute.specs.Outcome.{Ends, EndsAs};
 ghost use Rattle.py_function.specs.Making as meaning;
-ghost use Rattle.py_function.specs.Rows.{EndsRow};
 
 use crate::making::{new_tree, new_trigger, trigger_value};
 use py_attribute::OperationFault;
@@ -56,7 +55,7 @@ fn as_triggers(
     values: &[Value],
     next: &mut u64,
 ) -> Result<Trigs, OperationFault>
-    ensures ends { EndsRow result next.new (meaning.as_triggers task values.now next.old) }
+    ensures ends { EndsAs result (λ trigs. trigger.row trigs.list.items) next.new (meaning.as_triggers task values.now next.old) }
     ensures rises { next.old ≤ next.new }
     ensures want { IfWant result (next.new ≤ (meaning.as_triggers task values.now next.old).next) }
 {
@@ -74,9 +73,9 @@ fn parts(
     values: &[Value],
     next: &mut u64,
 ) -> Result<Trigs, OperationFault>
-    ensures ends { EndsRow result next.new (meaning.parts task values.now next.old) }
+    ensures ends { EndsAs result (λ trigs. trigger.row trigs.list.items) next.new (meaning.parts task values.now next.old) }
     ensures rises { next.old ≤ next.new }
-    ensures want { IfWant result (next.new ≤ (meaning.parts task values.now next.old).next) }
+    ensures want { IfWant result (IsTrue (list_all meaning.is_waitable values.now) × (next.new ≤ (meaning.parts task values.now next.old).next)) }
 {
     if are_waitable(values) {
         as_triggers(alloc, task, values, next)
@@ -94,7 +93,7 @@ pub(crate) fn first(
 ) -> Result<Value, OperationFault>
     ensures ends { Ends result next.new (meaning.several task trigger.First values.now next.old) }
     ensures rises { next.old ≤ next.new }
-    ensures want { IfWant result (next.new ≤ (meaning.several task trigger.First values.now next.old).next) }
+    ensures want { IfWant result (IsTrue (list_all meaning.is_waitable values.now) × (next.new ≤ (meaning.several task trigger.First values.now next.old).next)) }
 {
     let parts = parts(alloc, task, values, next)?;
     Ok(trigger_value(new_tree(task, Form::First(parts), next))?)
@@ -109,7 +108,7 @@ pub(crate) fn combine(
 ) -> Result<Value, OperationFault>
     ensures ends { Ends result next.new (meaning.several task trigger.Combine values.now next.old) }
     ensures rises { next.old ≤ next.new }
-    ensures want { IfWant result (next.new ≤ (meaning.several task trigger.Combine values.now next.old).next) }
+    ensures want { IfWant result (IsTrue (list_all meaning.is_waitable values.now) × (next.new ≤ (meaning.several task trigger.Combine values.now next.old).next)) }
 {
     let parts = parts(alloc, task, values, next)?;
     Ok(trigger_value(new_tree(task, Form::Combine(parts), next))?)

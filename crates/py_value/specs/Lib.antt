@@ -8,3 +8,4 @@ pub mod Answer
 pub mod Places
 pub mod Shown
 pub mod Truth
+pub mod Memory

@@ -1,14 +1,18 @@
 //! Copies of values.
-ghost use Rattle.std.specs.Prelude.{◌≡◌, IfOk};
+ghost use Rattle.std.specs.Prelude.{◌≡◌, IfOk, OnErr, IsTrue};
+ghost use Rattle.py_value.specs.Memory.{copy_takes_memory, holds_triggers};
+ghost use Rattle.py_value.specs.Trigger.{form_of};
 ghost use Rattle.py_value.specs.TriggerView.{view_form};
 
 use crate::{Fault, Form, Trig, Trigs, Value};
 use port_io::{Name, NoMemory};
 use std::alloc::Global;
 
-/// An equal value; of a trigger one of the same number, however deep it is. Only want of memory is an error.
+/// An equal value; of a trigger one of the same number, however deep it is. Only want of memory is an error, and only of a text, of a caught
+/// fault, whose text it is, and of a trigger that holds others.
 pub fn copy(alloc: Global, v: &Value) -> Result<Value, NoMemory>
-    ensures { IfOk result (λ copied. copied ≡ v.now) }
+    ensures is { IfOk result (λ copied. copied ≡ v.now) }
+    ensures want { OnErr result (IsTrue (copy_takes_memory v.now)) }
 {
     match v {
         Value::Absent => Ok(Value::Absent),
@@ -54,16 +58,19 @@ fn copy_caught(alloc: Global, fault: &Fault) -> Result<Value, NoMemory>
 
 /// A copy of a trigger, as a value.
 fn copy_trigger(alloc: Global, trig: &Trig) -> Result<Value, NoMemory>
-    ensures { IfOk result (λ copied. copied ≡ Value.Trigger trig.now) }
+    ensures is { IfOk result (λ copied. copied ≡ Value.Trigger trig.now) }
+    ensures want { OnErr result (IsTrue (holds_triggers (form_of trig.now))) }
 {
     Ok(Value::Trigger(trig.copy(alloc)?))
 }
 
 impl Trig {
-    /// An equal trigger, of the same number. It goes as deep as triggers stand inside one another. Only want of memory is an error.
+    /// An equal trigger, of the same number. It goes as deep as triggers stand inside one another. Only want of memory is an error, and only
+    /// of a trigger that holds others.
     #[cycle(copying)]
     pub fn copy(&self, alloc: Global) -> Result<Trig, NoMemory>
-        ensures { IfOk result (λ copied. copied ≡ self.now) }
+        ensures is { IfOk result (λ copied. copied ≡ self.now) }
+        ensures want { OnErr result (IsTrue (holds_triggers (form_of self.now))) }
     {
         Ok(Trig {
             id: self.id,
@@ -75,7 +82,8 @@ impl Trig {
 /// A copy of what a trigger waits for.
 #[cycle(copying)]
 fn copy_form(alloc: Global, form: &Form) -> Result<Form, NoMemory>
-    ensures { IfOk result (λ copied. view_form copied ≡ view_form form.now) }
+    ensures is { IfOk result (λ copied. view_form copied ≡ view_form form.now) }
+    ensures want { OnErr result (IsTrue (holds_triggers (view_form form.now))) }
 {
     match form {
         Form::Time(steps) => Ok(Form::Time(*steps)),

@@ -8,7 +8,6 @@ use Rattle.py_evaluate.specs.Rows.{trees_of, parts_of, PartWants}
 use Rattle.py_evaluate.specs.Wants.{Wants, RowWants, PartsWant}
 use Rattle.py_attribute.proofs.Want.{wants, want_on}
 use Rattle.py_evaluate.proofs.Steps.{row_trees, row_parts, behind_none, values_step, values_fault, values_end, known_more, argument_wants, others_want, part_wants, parts_want, text_step, text_fault, text_end}
-use Rattle.py_evaluate.proofs.Chains.{same_faults}
 use Rattle.py_evaluate.proofs.evaluation.+evaluating.Goals as goal
 
 pub value_of-returns-in-FormatString : goal.value_of-returns-in-FormatString
@@ -32,9 +31,8 @@ values_of-returns-in_err-v-clause-ends g t c =
     let whole = eval_row s (trees_of c.args.arguments.now) c.args.next.now in
     let p = err_from_is_err_and c.from_residual.result c.from_residual.ensures.1 in
     rw (p.1, p.2)
-    (same_faults _ c.in_err-v.field-0.0 c.value_of.new.next whole
     (values_fault s c.args.arguments.now c.loop-e.e-index c.e-item.result c.loop-e.values.items c.loop-e.next c.value_of.new.next c.in_err-v.field-0.0 whole
-    c.loop-e-test.true c.e-item.is c.loop-e.invariant.0 c.in_err-v.ensures.ends))
+    c.loop-e-test.true c.e-item.is c.loop-e.invariant.0 c.in_err-v.ensures.ends)
 
 pub values_of-loop-e-preserved : goal.values_of-loop-e-preserved
 values_of-loop-e-preserved g t c =
@@ -89,9 +87,8 @@ text_of-returns-in_err-shown-clause-ends g t c =
     let whole = eval_parts s (parts_of c.args.parts.now) c.args.next.now in
     let p = err_from_is_err_and c.from_residual.result c.from_residual.ensures.1 in
     rw (p.1, p.2)
-    (same_faults _ c.in_err-shown.field-0.0 c.part_text.new.next whole
     (text_fault s c.args.parts.now c.loop-part.part-index c.part-item.result c.loop-part.text.items c.loop-part.next c.part_text.new.next c.in_err-shown.field-0.0 whole
-    c.loop-part-test.true c.part-item.is c.loop-part.invariant.0 c.in_err-shown.ensures.ends))
+    c.loop-part-test.true c.part-item.is c.loop-part.invariant.0 c.in_err-shown.ensures.ends)
 
 pub text_of-loop-part-preserved : goal.text_of-loop-part-preserved
 text_of-loop-part-preserved g t c =

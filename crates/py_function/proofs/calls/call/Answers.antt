@@ -10,7 +10,9 @@ plain_call-requires g c = record { known = c.requires; plain = others c.args.fun
 
 pub returns-in-Str-clause-want : goal.returns-in-Str-clause-want
 returns-in-Str-clause-want g c =
-    rw c.in-Str.is (text_wants c.str_call.result (and_then (argument c.args.values.now 0) (str_value (g.V.Look.view c.args.view.now).places)) c.args.next.now)
+    rw c.in-Str.is
+    (text_wants c.str_call.result c.args.values.now (and_then (argument c.args.values.now 0) (str_value (g.V.Look.view c.args.view.now).places)) c.args.next.now
+    c.str_call.ensures.want)
 
 pub returns-in-First-clause-want : goal.returns-in-First-clause-want
 returns-in-First-clause-want g c =
