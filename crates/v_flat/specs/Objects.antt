@@ -1,5 +1,5 @@
 -- Nets, registers and memories, and what selects from them (IEEE 1364-2005, clauses 4.2, 4.9 and 5.2).
-use Rattle.std.specs.Prelude.{ℕ, List, Option, None, Some, if◌then◌else◌}
+use Rattle.std.specs.Prelude.{ℕ, Option, None, Some, if◌then◌else◌}
 use Rattle.gpi.specs.declared.selects.Range.{Range}
 use Rattle.gpi.specs.declared.selects.Words.{Words}
 use Rattle.gpi.specs.declared.selects.Order.TheVariants.{Falling, Rising}

@@ -25,8 +25,8 @@ use Rattle.v_constant.proofs.Unsignalled.{one_meaning}
 use Rattle.v_names.specs.declared.choice.Choice.{Choice}
 use Rattle.v_names.specs.declared.selects.CheckedSelect.{CheckedSelect}
 use Rattle.v_names.specs.declared.selects.CheckedSelect.TheVariants as code
-use Rattle.v_names.specs.Selects.{StandsAlone, IsIndex, IsSelect}
-use Rattle.v_names.specs.Made.{Chooses, IsChosen, bit_choice, pair_choice, lesser_by, lesser_of, range_of_numbers, range_choice, choice_from}
+use Rattle.v_names.specs.Selects.{StandsAlone, IsIndex, IsSelect, Chooses, IsChosen}
+use Rattle.v_names.specs.Made.{bit_choice, pair_choice, lesser_by, lesser_of, range_of_numbers, range_choice, choice_from}
 use Rattle.v_names.proofs.Founds.{second_of, IsValue, constant_is, constant_then, narrow_counted}
 
 -- ---- bits

@@ -32,8 +32,8 @@ use Rattle.v_names.specs.declared.selects.CheckedSelect.{CheckedSelect}
 use Rattle.v_names.specs.declared.selects.CheckedSelect.TheVariants as code
 use Rattle.v_names.specs.declared.selects.CheckedSelects.{CheckedSelects}
 use Rattle.v_names.specs.declared.selects.CheckedSelects.TheVariants as code_selects
-use Rattle.v_names.specs.Selects.{StandsAlone, IsIndex, IsSelect, AreSelects}
-use Rattle.v_names.specs.Made.{Chooses, IsVector, IsMemory, StandsForName, IsName, MakesPart, MakesWord, MakesWordPart, AreParts, AreWordsOf, AreWordParts, VectorMade, WordMade, MemoryMade, choice_from, place_of}
+use Rattle.v_names.specs.Selects.{StandsAlone, IsIndex, IsSelect, AreSelects, Chooses, place_of}
+use Rattle.v_names.specs.Made.{IsVector, IsMemory, StandsForName, IsName, MakesPart, MakesWord, MakesWordPart, AreParts, AreWordsOf, AreWordParts, VectorMade, WordMade, MemoryMade, choice_from}
 use Rattle.v_names.proofs.Founds.{second_of}
 use Rattle.v_names.proofs.Choices.{chosen}
 

@@ -1,5 +1,5 @@
 -- A means of proof: what is chosen by a select, and what a name is.
-use Rattle.std.specs.Prelude.{◌≡◌, ℕ, List, Option, None, Some, Bool, false, nat_le, if◌then◌else◌}
+use Rattle.std.specs.Prelude.{◌≡◌, ℕ, List, Option, None, Some, false, nat_le, if◌then◌else◌}
 use Rattle.four_value.specs.declared.Digit.{Digit}
 use Rattle.four_value.specs.Vector.{number, resize}
 use Rattle.gpi.specs.declared.selects.Range.{Range}
@@ -9,7 +9,7 @@ use Rattle.gpi.specs.declared.terms.Term.TheVariants.{Const}
 use Rattle.gpi.specs.Selects.{selected, word_at}
 use Rattle.gpi.specs.Terms.{value, word_value, IsWidth, AreWords}
 use Rattle.gpi.specs.Terms as term
-use Rattle.v_syntax.specs.ExpressionTrees.{SelectsTree, SelectTree}
+use Rattle.v_syntax.specs.ExpressionTrees.{SelectsTree}
 use Rattle.v_scope.specs.declared.rule.ElabRule.TheVariants as rule
 use Rattle.v_scope.specs.declared.found.Found.{Found}
 use Rattle.v_scope.specs.declared.found.Found.TheVariants.{Sound}
@@ -23,33 +23,19 @@ use Rattle.v_scope.specs.Limits.{counted_width, most_digits}
 use Rattle.v_context.specs.declared.contextual.Contextual.TheVariants.{Settled}
 use Rattle.v_context.specs.Contexts.{value_in, IsSound, IsLowered}
 use Rattle.v_flat.specs.Objects.{Vector, Memory, nature_of, range_of}
-use Rattle.v_flat.specs.Expressions.{whole_width, whole_value, one_width, one_value, part_of_word, select_base, select_width, named_width, named_value, number_or}
+use Rattle.v_flat.specs.Expressions.{whole_width, whole_value, one_width, one_value, part_of_word, named_width, named_value, number_or}
 use Rattle.v_flat.specs.Checks.{by_nature, of_vector, of_memory, part, narrow, go_with}
 use Rattle.v_operator.specs.declared.checked.Checked.{Checked}
-use Rattle.v_operator.specs.Checked.{IsNameOf, SelectsNamesOf, SelectNamesOf}
+use Rattle.v_operator.specs.Checked.{IsNameOf, SelectsNamesOf}
 use Rattle.v_operator.specs.Made.{Makes, EachIs}
 use Rattle.v_names.specs.declared.selects.CheckedSelect.{CheckedSelect}
 use Rattle.v_names.specs.declared.selects.CheckedSelect.TheVariants as code
 use Rattle.v_names.specs.declared.selects.CheckedSelects.{CheckedSelects}
 use Rattle.v_names.specs.declared.selects.CheckedSelects.TheVariants as code_selects
 use Rattle.v_names.specs.declared.choice.Choice.{Choice}
-use Rattle.v_names.specs.Selects.{AreSelects}
+use Rattle.v_names.specs.Selects.{AreSelects, place_of, twice_at}
 
--- ---- what is chosen by a select
-
--- the least index, and so many digits
-pub record Chooses (s : Scope) (sel : SelectTree) (x : Choice) : Type 0 where
-  pub proper : IsWidth x.width
-  pub own : select_width s sel ≡ x.width
-  pub base : (m : ℕ → List Digit) → number (value x.index m) ≡ select_base s sel m
-  pub sound : (ws : List ℕ) → SelectNamesOf s sel ws → term.IsSound x.index ws
-
--- p is the place of the name, and b the range that is selected from; indices are constants where the select is fixed
-pub record IsChosen (fixed : Bool) (s : Scope) (p : ℕ) (b : Bounds) (sel : SelectTree) (f : Found Choice) : Type 0 where
-  pub finds : each (λ (x : Choice). x.width) f ≡ each counted_width (part fixed s p b sel)
-  pub holds : Holds (λ (x : Choice). Chooses s sel x) f
-
--- ---- how it is found
+-- ---- how what a select chooses is found
 
 abbrev pub bit_choice : Term → Choice
 bit_choice t = record { index = t; width = 1 }
@@ -78,11 +64,6 @@ abbrev pub choice_from : ℕ → Bounds → CheckedSelect → Found Choice
 choice_from p b (code.Bit q x) = each bit_choice x
 choice_from p b (code.Part q x y) = and_then (both x y) (λ z. range_choice q p b z.0 z.1)
 choice_from p b (code.IndexedPart q x w) = each pair_choice (both x (and_then w (narrow p)))
-
-abbrev pub place_of : CheckedSelect → ℕ
-place_of (code.Bit q x) = q
-place_of (code.Part q x y) = q
-place_of (code.IndexedPart q x w) = q
 
 -- ---- what a name is
 
@@ -138,10 +119,6 @@ MakesWordPart words n b x c =
 
 abbrev pub AreWordParts : Words → ℕ → Bounds → Found (Term × Choice) → Found Checked → Type 0
 AreWordParts words n b x f = EachIs (λ (y : Term × Choice) (c : Checked). MakesWordPart words n b y c) x f
-
--- two selects on what is no memory
-abbrev pub twice_at : {A : Type 0} → Found A → ℕ → Found Checked
-twice_at {A} x p = and_then {A = Unit {0}} (each {B = Unit {0}} (λ (a : A). tt) x) (λ (u : Unit {0}). broken rule.BadRange p)
 
 -- ---- what is made of a vector and of a memory with selects; p is the place of the name, and n the width
 

@@ -7,6 +7,7 @@ ghost use Rattle.v_scope.specs.Scope.{span};
 ghost use Rattle.v_scope.specs.Limits.{counted_width};
 ghost use Rattle.v_flat.specs.Checks.{go_with, narrow};
 ghost use Rattle.v_names.specs.Made.{bit_choice, choice_from, lesser_of, pair_choice, range_choice};
+ghost use Rattle.v_names.specs.Selects.{ChecksChoice};
 
 use crate::CheckedSelect;
 use crate::bounds::falls;
@@ -137,7 +138,8 @@ fn found_part(
 
 /// What a select chooses from a range, where `place` is the number of the name (clause 5.2).
 pub fn chosen(place: TokenNumber, bounds: Bounds, select: CheckedSelect) -> Found<Choice>
-    ensures { result ≡ choice_from place bounds select }
+    ensures is { result ≡ choice_from place bounds select }
+    ensures checks { ChecksChoice place bounds select result }
 {
     match select {
         CheckedSelect::Bit { index, .. } => bit(index),

@@ -12,5 +12,5 @@ mod selects;
 
 pub use bounds::{index_count, range, width, words};
 pub use choice::{Choice, chosen};
-pub use name::named;
+pub use name::{named, second_select};
 pub use selects::{CheckedSelect, CheckedSelects, by_itself, fixed_index};

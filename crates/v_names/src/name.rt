@@ -5,8 +5,8 @@ ghost use Rattle.gpi.specs.Terms.{IsWidth};
 ghost use Rattle.v_scope.specs.Scope.{means, width_of};
 ghost use Rattle.v_scope.specs.declared.meaning.Meaning.TheVariants.{Object};
 ghost use Rattle.v_names.specs.Proper.{AreProper, IsProper};
-ghost use Rattle.v_names.specs.Made.{AreParts, AreWordParts, AreWordsOf, MakesPart, MakesWord, MakesWordPart, MemoryMade, NamesObject, VectorMade, WordMade, twice_at};
-ghost use Rattle.v_names.specs.Selects.{ChecksName};
+ghost use Rattle.v_names.specs.Made.{AreParts, AreWordParts, AreWordsOf, MakesPart, MakesWord, MakesWordPart, MemoryMade, NamesObject, VectorMade, WordMade};
+ghost use Rattle.v_names.specs.Selects.{ChecksName, twice_at};
 
 use crate::bounds::{range, width, words};
 use crate::choice::{Choice, chosen};
@@ -54,8 +54,8 @@ fn chosen_from_vector(
     }
 }
 
-/// Two selects on what is no memory: BadRange is broken at the second one.
-fn second_select<A: Drop>(word: Found<A>, place: TokenNumber) -> Found<Checked>
+/// Two selects on what is no memory: BadRange is broken at the second one, at `place`, unless there is no value of the first.
+pub fn second_select<A: Drop, B: Drop>(word: Found<A>, place: TokenNumber) -> Found<B>
     ensures { result ≡ twice_at word place }
 {
     match word {

@@ -3,8 +3,8 @@
 ghost use Rattle.std.specs.Prelude.{◌≡◌, IfOk};
 ghost use Rattle.gpi.specs.declared.terms.Term.TheVariants.{Const};
 ghost use Rattle.v_scope.specs.Found.{each};
-ghost use Rattle.v_names.specs.Made.{AreAlone, place_of};
-ghost use Rattle.v_names.specs.Selects.{ChecksFixedIndex, ChecksIndex};
+ghost use Rattle.v_names.specs.Made.{AreAlone};
+ghost use Rattle.v_names.specs.Selects.{ChecksFixedIndex, ChecksIndex, place_of};
 
 use four_value::Bits;
 use gpi::Term;

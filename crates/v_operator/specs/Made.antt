@@ -5,7 +5,7 @@ use Rattle.gpi.specs.declared.terms.Term.{Term}
 use Rattle.gpi.specs.Operators.{truth, choose}
 use Rattle.gpi.specs.Terms.{IsWidth}
 use Rattle.v_scope.specs.declared.found.Found.{Found}
-use Rattle.v_scope.specs.declared.found.Found.TheVariants.{Sound, Noted, Lost}
+pub use Rattle.v_scope.specs.Found.{EachIs}
 use Rattle.v_context.specs.declared.contextual.Contextual.{Contextual}
 use Rattle.v_context.specs.Contexts.{value_in, IsSound, IsLowered}
 use Rattle.v_flat.specs.declared.operators.UnaryClass.{UnaryClass}
@@ -38,18 +38,6 @@ MakesConditional t a b c = Makes c (max a.width b.width)
 
 abbrev pub AreLowered : Contextual → ℕ → Contextual → ℕ → Term × Term → Type 0
 AreLowered a v b w x = IsLowered a v x.0 × IsLowered b w x.1
-
--- the same rule is broken first, and each value was made of the other
-abbrev pub EachIs : {A B : Type 0} → (A → B → Type 0) → Found A → Found B → Type 0
-EachIs P (Sound a) (Sound b) = P a b
-EachIs P (Sound a) (Noted y b) = ⊥
-EachIs P (Sound a) (Lost y) = ⊥
-EachIs P (Noted x a) (Noted y b) = (x ≡ y) × P a b
-EachIs P (Noted x a) (Sound b) = ⊥
-EachIs P (Noted x a) (Lost y) = ⊥
-EachIs P (Lost x) (Lost y) = x ≡ y
-EachIs P (Lost x) (Sound b) = ⊥
-EachIs P (Lost x) (Noted y b) = ⊥
 
 abbrev pub AreUnary : UnaryClass → Found Checked → Found Checked → Type 0
 AreUnary o x f = EachIs (λ (a c : Checked). MakesUnary o a c) x f

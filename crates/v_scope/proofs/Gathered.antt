@@ -1,10 +1,10 @@
 -- What is made of a value that is found, through the ways of putting parts together.
-use Rattle.std.proofs.Common.{◌≡◌, ℕ, Bool, true, false, refl, ap}
+use Rattle.std.proofs.Common.{◌≡◌, ℕ, Bool, true, false, refl, sym, ap, ◌∙◌}
 use Rattle.v_scope.specs.declared.rule.Broken.{Broken}
 use Rattle.v_scope.specs.declared.rule.ElabRule.{ElabRule}
 use Rattle.v_scope.specs.declared.found.Found.{Found}
 use Rattle.v_scope.specs.declared.found.Found.TheVariants.{Sound, Noted, Lost}
-use Rattle.v_scope.specs.Found.{noted, lost, each, both, and_then, wants, needs, Holds}
+use Rattle.v_scope.specs.Found.{noted, lost, each, both, and_then, wants, needs, Holds, EachIs}
 
 pub same_each : {A : Type 0} (x : Found A) → each (λ (a : A). a) x ≡ x
 same_each (Sound a) = refl
@@ -20,6 +20,20 @@ pub each_same : {A B : Type 0} (f g : A → B) (x : Found A) → ((a : A) → f 
 each_same {A} {B} f g (Sound a) h = ap (λ (b : B). (let r : Found B = Sound b in r)) (h a)
 each_same {A} {B} f g (Noted c a) h = ap (λ (b : B). (let r : Found B = Noted c b in r)) (h a)
 each_same f g (Lost c) h = refl
+
+-- what was made of the value by a function is what the function makes of it
+pub made_each : {A B : Type 0} (P : A → B → Type 0) (f : A → B) (x : Found A) (y : Found B) → ((a : A) (b : B) → P a b → b ≡ f a) → EachIs P x y
+    → y ≡ each f x
+made_each {A} {B} P f (Sound a) (Sound b) h k = ap (λ (c : B). (let r : Found B = Sound c in r)) (h a b k)
+made_each {A} {B} P f (Noted x a) (Noted y b) h k =
+    ap (λ (z : Broken). (let r : Found B = Noted z b in r)) (sym k.0) ∙ ap (λ (c : B). (let r : Found B = Noted x c in r)) (h a b k.1)
+made_each {A} {B} P f (Lost x) (Lost y) h k = ap (λ (z : Broken). (let r : Found B = Lost z in r)) (sym k)
+made_each P f (Sound a) (Noted y b) h k = absurd k
+made_each P f (Sound a) (Lost y) h k = absurd k
+made_each P f (Noted x a) (Sound b) h k = absurd k
+made_each P f (Noted x a) (Lost y) h k = absurd k
+made_each P f (Lost x) (Sound b) h k = absurd k
+made_each P f (Lost x) (Noted y b) h k = absurd k
 
 pub each_noted : {A B : Type 0} (f : A → B) (c : Broken) (x : Found A) → each f (noted c x) ≡ noted c (each f x)
 each_noted f c (Sound a) = refl

@@ -1,6 +1,6 @@
 -- What a part of a text gives: its value, or the first rule that is broken in it. Inside of one item all broken rules are
 -- gathered, and the earliest counts; between items the first one that has a broken rule ends the walk.
-use Rattle.std.specs.Prelude.{ℕ, Bool, true, false, Result, Ok, Err}
+use Rattle.std.specs.Prelude.{◌≡◌, ℕ, Bool, true, false, Result, Ok, Err}
 use Rattle.v_scope.specs.declared.rule.Broken.{Broken}
 use Rattle.v_scope.specs.declared.rule.ElabRule.{ElabRule}
 pub use Rattle.v_scope.specs.declared.found.Found.{Found}
@@ -28,6 +28,24 @@ abbrev pub each : {A B : Type 0} → (A → B) → Found A → Found B
 each f (Sound a) = Sound (f a)
 each f (Noted b a) = Noted b (f a)
 each f (Lost b) = Lost b
+
+-- it is so of the value, where there is one
+abbrev pub ForValue : {A : Type 0} → (A → Type 0) → Found A → Type 0
+ForValue P (Sound a) = P a
+ForValue P (Noted b a) = P a
+ForValue P (Lost b) = Unit {0}
+
+-- the same rule is broken first, and each value was made of the other
+abbrev pub EachIs : {A B : Type 0} → (A → B → Type 0) → Found A → Found B → Type 0
+EachIs P (Sound a) (Sound b) = P a b
+EachIs P (Sound a) (Noted y b) = ⊥
+EachIs P (Sound a) (Lost y) = ⊥
+EachIs P (Noted x a) (Noted y b) = (x ≡ y) × P a b
+EachIs P (Noted x a) (Sound b) = ⊥
+EachIs P (Noted x a) (Lost y) = ⊥
+EachIs P (Lost x) (Lost y) = x ≡ y
+EachIs P (Lost x) (Sound b) = ⊥
+EachIs P (Lost x) (Noted y b) = ⊥
 
 -- both, with all that is broken in either
 abbrev pub both : {A B : Type 0} → Found A → Found B → Found (A × B)

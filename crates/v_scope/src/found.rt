@@ -1,7 +1,7 @@
 //! What a part of a text gives: its value, or the first rule that is broken in it.
 
 ghost use Rattle.std.specs.Prelude.{◌≡◌};
-ghost use Rattle.v_scope.specs.Found.{both, broken, ended, lost, needs, noted, settled, wants};
+ghost use Rattle.v_scope.specs.Found.{EachIs, ForValue, both, broken, ended, lost, needs, noted, settled, wants};
 
 use crate::{Broken, ElabRule, earlier};
 use v_syntax::TokenNumber;
@@ -66,6 +66,18 @@ impl<A: Drop> Found<A> {
             self
         } else {
             self.lost(Broken { rule, place })
+        }
+    }
+
+    /// What the call makes of the value, where there is one; the same rules are broken.
+    pub fn each<B, F: FnOnce(A) -> B>(self, make: F) -> Found<B>
+        requires { ForValue (F.pre make) self }
+        ensures { EachIs (F.post make) self result }
+    {
+        match self {
+            Found::Sound(a) => Found::Sound(make(a)),
+            Found::Noted(fault, a) => Found::Noted(fault, make(a)),
+            Found::Lost(fault) => Found::Lost(fault),
         }
     }
 

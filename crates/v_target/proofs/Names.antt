@@ -1,5 +1,5 @@
 -- What is found in a name that is assigned to.
-use Rattle.std.proofs.Common.{◌≡◌, ℕ, List, Option, Some, None, Bool, false, refl, sym, ap, ◌∙◌, arith}
+use Rattle.std.proofs.Common.{◌≡◌, ℕ, List, Option, Some, None, Bool, false, refl, sym, ap, ◌∙◌, subst, arith}
 use Rattle.four_value.specs.declared.Digit.{Digit}
 use Rattle.four_value.specs.Vector.{number}
 use Rattle.gpi.specs.declared.selects.Words.{Words}
@@ -32,13 +32,11 @@ use Rattle.v_names.specs.declared.selects.CheckedSelect.{CheckedSelect}
 use Rattle.v_names.specs.declared.selects.CheckedSelect.TheVariants as code
 use Rattle.v_names.specs.declared.selects.CheckedSelects.{CheckedSelects}
 use Rattle.v_names.specs.declared.selects.CheckedSelects.TheVariants as code_selects
-use Rattle.v_names.specs.Selects.{StandsAlone, IsIndex, IsSelect, AreSelects}
-use Rattle.v_names.specs.Made.{Chooses, choice_from, place_of}
-use Rattle.v_names.proofs.Choices.{chosen}
+use Rattle.v_names.specs.Selects.{StandsAlone, IsIndex, IsSelect, AreSelects, Chooses, ChecksChoice, place_of, twice_at}
 use Rattle.v_names.proofs.Founds.{second_of}
 use Rattle.v_names.proofs.Names.{object_memory, object_vector, place_is}
 use Rattle.v_target.specs.declared.checked.CheckedTarget.{CheckedTarget}
-use Rattle.v_target.specs.Made.{whole_target, part_target, twice_at, vector_target, word_target, memory_target, object_target}
+use Rattle.v_target.specs.Made.{whole_target, part_target, word_part_target, word_target, VectorMade, MemoryMade, ObjectMade}
 use Rattle.v_target.specs.Targets.{GetsAsName, IsNamedTarget}
 
 -- ---- the first broken rule, and the width
@@ -64,24 +62,24 @@ twice_found fixed s i sel x z h k =
     ∙ sym (each_then counted_width (λ (u : Unit {0}). (let r : Found ℕ = broken rule.BadRange (select_at sel) in r))
     (index fixed s i (checked s i)))
 
-part_found : (fixed : Bool) (s : Scope) (p : ℕ) (o : Object) (b : Bounds) (sel : SelectTree) (y : CheckedSelect) → IsSelect fixed s sel y
-    → width_found (each (λ (x : Choice). part_target o (range_of b) x) (choice_from p b y)) ≡ each counted_width (part fixed s p b sel)
-part_found fixed s p o b sel y h =
-    each_each (λ (c : CheckedTarget). c.width) (λ (x : Choice). part_target o (range_of b) x) (choice_from p b y)
-    ∙ (chosen fixed s p b sel y h).finds
+part_found : (fixed : Bool) (s : Scope) (p : ℕ) (o : Object) (b : Bounds) (sel : SelectTree) (y : CheckedSelect) (x : Found Choice)
+    → ChecksChoice p b y x → IsSelect fixed s sel y
+    → width_found (each (λ (z : Choice). part_target o (range_of b) z) x) ≡ each counted_width (part fixed s p b sel)
+part_found fixed s p o b sel y x k h =
+    each_each (λ (c : CheckedTarget). c.width) (λ (z : Choice). part_target o (range_of b) z) x ∙ (k fixed s sel h).finds
 
-vector_found : (fixed : Bool) (s : Scope) (p : ℕ) (sel : SelectsTree) (o : Object) (b : Bounds) (y : CheckedSelects)
-    → object_width o ≡ width_of b → IsWidth (width_of b) → AreSelects fixed s sel y
-    → width_found (vector_target p o b y) ≡ each counted_width (of_vector fixed s p b sel)
-vector_found fixed s p Whole o b code_selects.Whole e w h = whole_found (object_width o) (width_of b) e w
-vector_found fixed s p (One sel) o b (code_selects.One y) e w h = part_found fixed s p o b sel y h
-vector_found fixed s p (OfWord q i sel) o b (code_selects.OfWord x z) e w h = twice_found fixed s i sel x z h.0 h.1
-vector_found fixed s p Whole o b (code_selects.One y) e w h = absurd h
-vector_found fixed s p Whole o b (code_selects.OfWord y z) e w h = absurd h
-vector_found fixed s p (One sel) o b code_selects.Whole e w h = absurd h
-vector_found fixed s p (One sel) o b (code_selects.OfWord y z) e w h = absurd h
-vector_found fixed s p (OfWord q i sel) o b code_selects.Whole e w h = absurd h
-vector_found fixed s p (OfWord q i sel) o b (code_selects.One y) e w h = absurd h
+vector_found : (fixed : Bool) (s : Scope) (p : ℕ) (sel : SelectsTree) (o : Object) (b : Bounds) (y : CheckedSelects) (f : Found CheckedTarget)
+    → object_width o ≡ width_of b → IsWidth (width_of b) → AreSelects fixed s sel y → VectorMade p o b y f
+    → width_found f ≡ each counted_width (of_vector fixed s p b sel)
+vector_found fixed s p Whole o b code_selects.Whole f e w h k = ap width_found k ∙ whole_found (object_width o) (width_of b) e w
+vector_found fixed s p (One sel) o b (code_selects.One y) f e w h k = ap width_found k.1.1 ∙ part_found fixed s p o b sel y k.0 k.1.0 h
+vector_found fixed s p (OfWord q i sel) o b (code_selects.OfWord x z) f e w h k = ap width_found k ∙ twice_found fixed s i sel x z h.0 h.1
+vector_found fixed s p Whole o b (code_selects.One y) f e w h k = absurd h
+vector_found fixed s p Whole o b (code_selects.OfWord y z) f e w h k = absurd h
+vector_found fixed s p (One sel) o b code_selects.Whole f e w h k = absurd h
+vector_found fixed s p (One sel) o b (code_selects.OfWord y z) f e w h k = absurd h
+vector_found fixed s p (OfWord q i sel) o b code_selects.Whole f e w h k = absurd h
+vector_found fixed s p (OfWord q i sel) o b (code_selects.One y) f e w h k = absurd h
 
 word_found : (fixed : Bool) (s : Scope) (i : Tree) (words : Words) (b : Bounds) (x : Found Term) → IsWidth (width_of b)
     → IsIndex fixed s i x
@@ -110,33 +108,30 @@ one_found fixed s p (Part q l r) words b (code.IndexedPart o y z) w h = absurd h
 one_found fixed s p (IndexedPart q c n) words b (code.Bit o y) w h = absurd h
 one_found fixed s p (IndexedPart q c n) words b (code.Part o y z) w h = absurd h
 
--- digits of a word
-abbrev of_word : Words → Bounds → Term × Choice → CheckedTarget
-of_word words b y = part_target (Word words y.0 (width_of b)) (range_of b) y.1
-
 word_part_found : (fixed : Bool) (s : Scope) (p : ℕ) (i : Tree) (sel : SelectTree) (words : Words) (b : Bounds) (x : Found Term)
-    (z : CheckedSelect)
-    → IsIndex fixed s i x → IsSelect fixed s sel z
-    → width_found (each (λ (y : Term × Choice). of_word words b y) (both x (choice_from p b z)))
+    (z : CheckedSelect) (y : Found Choice)
+    → ChecksChoice p b z y → IsIndex fixed s i x → IsSelect fixed s sel z
+    → width_found (each (λ (y : Term × Choice). word_part_target words (width_of b) b y) (both x y))
     ≡ each counted_width (each {A = Unit {0} × ℕ} (λ (y : Unit {0} × ℕ). y.1)
     (both (index fixed s i (checked s i)) (part fixed s p b sel)))
-word_part_found fixed s p i sel words b x z h k =
-    each_each {A = Term × Choice} (λ (c : CheckedTarget). c.width) (λ (y : Term × Choice). of_word words b y) (both x (choice_from p b z))
-    ∙ second_of x (index fixed s i (checked s i)) (choice_from p b z) (λ (c : Choice). c.width) (part fixed s p b sel) h.finds
-    (chosen fixed s p b sel z k).finds
+word_part_found fixed s p i sel words b x z y c h k =
+    each_each {A = Term × Choice} (λ (c : CheckedTarget). c.width) (λ (y : Term × Choice). word_part_target words (width_of b) b y) (both x y)
+    ∙ second_of x (index fixed s i (checked s i)) y (λ (c : Choice). c.width) (part fixed s p b sel) h.finds (c fixed s sel k).finds
 
 memory_found : (fixed : Bool) (s : Scope) (p : ℕ) (sel : SelectsTree) (words : Words) (b : Bounds) (y : CheckedSelects)
+    (f : Found CheckedTarget)
     → IsWidth (width_of b)
-    → AreSelects fixed s sel y → width_found (memory_target p words (width_of b) b y) ≡ each counted_width (of_memory fixed s p b sel)
-memory_found fixed s p Whole words b code_selects.Whole w h = refl
-memory_found fixed s p (One sel) words b (code_selects.One y) w h = one_found fixed s p sel words b y w h
-memory_found fixed s p (OfWord q i sel) words b (code_selects.OfWord x z) w h = word_part_found fixed s p i sel words b x z h.0 h.1
-memory_found fixed s p Whole words b (code_selects.One y) w h = absurd h
-memory_found fixed s p Whole words b (code_selects.OfWord y z) w h = absurd h
-memory_found fixed s p (One sel) words b code_selects.Whole w h = absurd h
-memory_found fixed s p (One sel) words b (code_selects.OfWord y z) w h = absurd h
-memory_found fixed s p (OfWord q i sel) words b code_selects.Whole w h = absurd h
-memory_found fixed s p (OfWord q i sel) words b (code_selects.One y) w h = absurd h
+    → AreSelects fixed s sel y → MemoryMade p words (width_of b) b y f → width_found f ≡ each counted_width (of_memory fixed s p b sel)
+memory_found fixed s p Whole words b code_selects.Whole f w h k = ap width_found k
+memory_found fixed s p (One sel) words b (code_selects.One y) f w h k = ap width_found k ∙ one_found fixed s p sel words b y w h
+memory_found fixed s p (OfWord q i sel) words b (code_selects.OfWord x z) f w h k =
+    ap width_found k.1.1 ∙ word_part_found fixed s p i sel words b x z k.0 k.1.0 h.0 h.1
+memory_found fixed s p Whole words b (code_selects.One y) f w h k = absurd h
+memory_found fixed s p Whole words b (code_selects.OfWord y z) f w h k = absurd h
+memory_found fixed s p (One sel) words b code_selects.Whole f w h k = absurd h
+memory_found fixed s p (One sel) words b (code_selects.OfWord y z) f w h k = absurd h
+memory_found fixed s p (OfWord q i sel) words b code_selects.Whole f w h k = absurd h
+memory_found fixed s p (OfWord q i sel) words b (code_selects.One y) f w h k = absurd h
 
 -- ---- the updates of a vector
 
@@ -168,24 +163,32 @@ part_gets s o sel x e w k = let v = object_vector o (width_of o.bounds) refl e w
 never : {A : Type 0} (R : CheckedTarget → Type 0) (p : ℕ) (x : Found A) → Holds R (and_then x (λ a. broken rule.BadRange p))
 never {A} R p x = holds_then (λ (a : A). Unit {0}) R x (λ a. broken rule.BadRange p) (holds_any x) (λ a k. tt)
 
-vector_gets : (fixed : Bool) (s : Scope) (p : ℕ) (sel : SelectsTree) (o : DataObject) (y : CheckedSelects) → o.words ≡ None
+-- what is found gets the updates of the object
+abbrev Gets : Scope → SelectsTree → DataObject → Found CheckedTarget → Type 0
+Gets s sel o f = Holds (λ (c : CheckedTarget). GetsAsName s sel (Some (meant.Object o)) c) f
+
+vector_gets : (fixed : Bool) (s : Scope) (p : ℕ) (sel : SelectsTree) (o : DataObject) (y : CheckedSelects) (f : Found CheckedTarget)
+    → o.words ≡ None
     → IsWidth (width_of o.bounds)
     → AreSelects fixed s sel y
-    → Holds (λ (c : CheckedTarget). GetsAsName s sel (Some (meant.Object o)) c)
-    (vector_target p (Signal (record { 0 = o.first }) (width_of o.bounds)) o.bounds y)
-vector_gets fixed s p Whole o code_selects.Whole e w h = whole_gets s o e w
-vector_gets fixed s p (One sel) o (code_selects.One y) e w h =
-    holds_each (λ (x : Choice). Chooses s sel x) (λ (c : CheckedTarget). GetsAsName s (One sel) (Some (meant.Object o)) c)
-    (λ (x : Choice). part_target (Signal (record { 0 = o.first }) (width_of o.bounds)) (range_of o.bounds) x) (choice_from p o.bounds y)
-    (chosen fixed s p o.bounds sel y h).holds (λ x k. part_gets s o sel x e w k)
-vector_gets fixed s p (OfWord q i sel) o (code_selects.OfWord x z) e w h =
-    never (λ (c : CheckedTarget). GetsAsName s (OfWord q i sel) (Some (meant.Object o)) c) (place_of z) (each (λ (t : Term). tt) x)
-vector_gets fixed s p Whole o (code_selects.One y) e w h = absurd h
-vector_gets fixed s p Whole o (code_selects.OfWord y z) e w h = absurd h
-vector_gets fixed s p (One sel) o code_selects.Whole e w h = absurd h
-vector_gets fixed s p (One sel) o (code_selects.OfWord y z) e w h = absurd h
-vector_gets fixed s p (OfWord q i sel) o code_selects.Whole e w h = absurd h
-vector_gets fixed s p (OfWord q i sel) o (code_selects.One y) e w h = absurd h
+    → VectorMade p (Signal (record { 0 = o.first }) (width_of o.bounds)) o.bounds y f
+    → Gets s sel o f
+vector_gets fixed s p Whole o code_selects.Whole f e w h k =
+    subst (λ (g : Found CheckedTarget). Gets s Whole o g) (sym k) (whole_gets s o e w)
+vector_gets fixed s p (One sel) o (code_selects.One y) f e w h k =
+    subst (λ (g : Found CheckedTarget). Gets s (One sel) o g) (sym k.1.1)
+    (holds_each (λ (x : Choice). Chooses s sel x) (λ (c : CheckedTarget). GetsAsName s (One sel) (Some (meant.Object o)) c)
+    (λ (x : Choice). part_target (Signal (record { 0 = o.first }) (width_of o.bounds)) (range_of o.bounds) x) k.0
+    (k.1.0 fixed s sel h).holds (λ x c. part_gets s o sel x e w c))
+vector_gets fixed s p (OfWord q i sel) o (code_selects.OfWord x z) f e w h k =
+    subst (λ (g : Found CheckedTarget). Gets s (OfWord q i sel) o g) (sym k)
+    (never (λ (c : CheckedTarget). GetsAsName s (OfWord q i sel) (Some (meant.Object o)) c) (place_of z) (each (λ (t : Term). tt) x))
+vector_gets fixed s p Whole o (code_selects.One y) f e w h k = absurd h
+vector_gets fixed s p Whole o (code_selects.OfWord y z) f e w h k = absurd h
+vector_gets fixed s p (One sel) o code_selects.Whole f e w h k = absurd h
+vector_gets fixed s p (One sel) o (code_selects.OfWord y z) f e w h k = absurd h
+vector_gets fixed s p (OfWord q i sel) o code_selects.Whole f e w h k = absurd h
+vector_gets fixed s p (OfWord q i sel) o (code_selects.One y) f e w h k = absurd h
 
 -- ---- the updates of a word
 
@@ -204,7 +207,7 @@ word_gets s q i o r t e w k = let v = object_memory o r e w in record {
 
 word_part_gets : (s : Scope) (q : ℕ) (i : Tree) (sel : SelectTree) (o : DataObject) (r : Bounds) (y : Term × Choice) → o.words ≡ Some r
     → IsWidth (width_of o.bounds) → StandsAlone s i y.0 → Chooses s sel y.1
-    → GetsAsName s (OfWord q i sel) (Some (meant.Object o)) (of_word (words_of o.first r) o.bounds y)
+    → GetsAsName s (OfWord q i sel) (Some (meant.Object o)) (word_part_target (words_of o.first r) (width_of o.bounds) o.bounds y)
 word_part_gets s q i sel o r y e w st k = let v = object_memory o r e w in record {
   proper = k.proper;
   own = k.own;
@@ -237,26 +240,28 @@ one_gets fixed s (Part q l m) o r (code.IndexedPart p y z) e w h = absurd h
 one_gets fixed s (IndexedPart q c n) o r (code.Bit p y) e w h = absurd h
 one_gets fixed s (IndexedPart q c n) o r (code.Part p y z) e w h = absurd h
 
-memory_gets : (fixed : Bool) (s : Scope) (p : ℕ) (sel : SelectsTree) (o : DataObject) (r : Bounds) (y : CheckedSelects) → o.words ≡ Some r
-    → IsWidth (width_of o.bounds) → AreSelects fixed s sel y
-    → Holds (λ (c : CheckedTarget). GetsAsName s sel (Some (meant.Object o)) c)
-    (memory_target p (words_of o.first r) (width_of o.bounds) o.bounds y)
-memory_gets fixed s p Whole o r code_selects.Whole e w h = tt
-memory_gets fixed s p (One sel) o r (code_selects.One y) e w h = one_gets fixed s sel o r y e w h
-memory_gets fixed s p (OfWord q i sel) o r (code_selects.OfWord x z) e w h =
-    holds_each (λ (y : Term × Choice). StandsAlone s i y.0 × Chooses s sel y.1)
+memory_gets : (fixed : Bool) (s : Scope) (p : ℕ) (sel : SelectsTree) (o : DataObject) (r : Bounds) (y : CheckedSelects)
+    (f : Found CheckedTarget)
+    → o.words ≡ Some r
+    → IsWidth (width_of o.bounds) → AreSelects fixed s sel y → MemoryMade p (words_of o.first r) (width_of o.bounds) o.bounds y f
+    → Gets s sel o f
+memory_gets fixed s p Whole o r code_selects.Whole f e w h k = subst (λ (g : Found CheckedTarget). Gets s Whole o g) (sym k) tt
+memory_gets fixed s p (One sel) o r (code_selects.One y) f e w h k =
+    subst (λ (g : Found CheckedTarget). Gets s (One sel) o g) (sym k) (one_gets fixed s sel o r y e w h)
+memory_gets fixed s p (OfWord q i sel) o r (code_selects.OfWord x z) f e w h k =
+    subst (λ (g : Found CheckedTarget). Gets s (OfWord q i sel) o g) (sym k.1.1)
+    (holds_each (λ (y : Term × Choice). StandsAlone s i y.0 × Chooses s sel y.1)
     (λ (c : CheckedTarget). GetsAsName s (OfWord q i sel) (Some (meant.Object o)) c)
-    (λ (y : Term × Choice). of_word (words_of o.first r) o.bounds y)
-    (both x (choice_from p o.bounds z))
-    (holds_both (λ (t : Term). StandsAlone s i t) (λ (c : Choice). Chooses s sel c) x (choice_from p o.bounds z) h.0.holds
-    (chosen fixed s p o.bounds sel z h.1).holds)
-    (λ y k. word_part_gets s q i sel o r y e w k.0 k.1)
-memory_gets fixed s p Whole o r (code_selects.One y) e w h = absurd h
-memory_gets fixed s p Whole o r (code_selects.OfWord y z) e w h = absurd h
-memory_gets fixed s p (One sel) o r code_selects.Whole e w h = absurd h
-memory_gets fixed s p (One sel) o r (code_selects.OfWord y z) e w h = absurd h
-memory_gets fixed s p (OfWord q i sel) o r code_selects.Whole e w h = absurd h
-memory_gets fixed s p (OfWord q i sel) o r (code_selects.One y) e w h = absurd h
+    (λ (y : Term × Choice). word_part_target (words_of o.first r) (width_of o.bounds) o.bounds y)
+    (both x k.0)
+    (holds_both (λ (t : Term). StandsAlone s i t) (λ (c : Choice). Chooses s sel c) x k.0 h.0.holds (k.1.0 fixed s sel h.1).holds)
+    (λ y c. word_part_gets s q i sel o r y e w c.0 c.1))
+memory_gets fixed s p Whole o r (code_selects.One y) f e w h k = absurd h
+memory_gets fixed s p Whole o r (code_selects.OfWord y z) f e w h k = absurd h
+memory_gets fixed s p (One sel) o r code_selects.Whole f e w h k = absurd h
+memory_gets fixed s p (One sel) o r (code_selects.OfWord y z) f e w h k = absurd h
+memory_gets fixed s p (OfWord q i sel) o r code_selects.Whole f e w h k = absurd h
+memory_gets fixed s p (OfWord q i sel) o r (code_selects.One y) f e w h k = absurd h
 
 -- ---- what a name is
 
@@ -265,47 +270,47 @@ abbrev asked : Bool → Scope → ℕ → SelectsTree → Nature → Found ℕ
 asked fixed s p sel n = by_nature p n (λ b. of_vector fixed s p b sel) (λ b. of_memory fixed s p b sel)
 
 object_found : (fixed : Bool) (s : Scope) (p : ℕ) (sel : SelectsTree) (o : DataObject) (r : Option Bounds) (y : CheckedSelects)
+    (f : Found CheckedTarget)
     → o.words ≡ r
-    → IsWidth (width_of o.bounds) → AreSelects fixed s sel y
-    → width_found (object_target p o r y) ≡ each counted_width (asked fixed s p sel (nature_of (Some (meant.Object o))))
-object_found fixed s p sel o None y e w h =
-    vector_found fixed s p sel (Signal (record { 0 = o.first }) (width_of o.bounds)) o.bounds y refl w h
+    → IsWidth (width_of o.bounds) → AreSelects fixed s sel y → ObjectMade p o r y f
+    → width_found f ≡ each counted_width (asked fixed s p sel (nature_of (Some (meant.Object o))))
+object_found fixed s p sel o None y f e w h k =
+    vector_found fixed s p sel (Signal (record { 0 = o.first }) (width_of o.bounds)) o.bounds y f refl w h k
     ∙ ap (λ (n : Nature). each counted_width (asked fixed s p sel n)) (sym (object_vector o (width_of o.bounds) refl e w).nature)
-object_found fixed s p sel o (Some r) y e w h =
-    memory_found fixed s p sel (words_of o.first r) o.bounds y w h
+object_found fixed s p sel o (Some r) y f e w h k =
+    memory_found fixed s p sel (words_of o.first r) o.bounds y f w h k
     ∙ ap (λ (n : Nature). each counted_width (asked fixed s p sel n)) (sym (object_memory o r e w).nature)
 
 object_gets : (fixed : Bool) (s : Scope) (p : ℕ) (sel : SelectsTree) (o : DataObject) (r : Option Bounds) (y : CheckedSelects)
-    → o.words ≡ r → IsWidth (width_of o.bounds) → AreSelects fixed s sel y
-    → Holds (λ (c : CheckedTarget). GetsAsName s sel (Some (meant.Object o)) c) (object_target p o r y)
-object_gets fixed s p sel o None y e w h = vector_gets fixed s p sel o y e w h
-object_gets fixed s p sel o (Some r) y e w h = memory_gets fixed s p sel o r y e w h
+    (f : Found CheckedTarget)
+    → o.words ≡ r → IsWidth (width_of o.bounds) → AreSelects fixed s sel y → ObjectMade p o r y f → Gets s sel o f
+object_gets fixed s p sel o None y f e w h k = vector_gets fixed s p sel o y f e w h k
+object_gets fixed s p sel o (Some r) y f e w h k = memory_gets fixed s p sel o r y f e w h k
 
-pub object_named : (how : Manner) (s : Scope) (p : ℕ) (sel : SelectsTree) (o : DataObject) (y : CheckedSelects)
+pub object_named : (how : Manner) (s : Scope) (p : ℕ) (sel : SelectsTree) (o : DataObject) (y : CheckedSelects) (f : Found CheckedTarget)
     → IsWidth (width_of o.bounds)
     → AreSelects (is_fixed how) s sel y
-    → IsNamedTarget how s p sel (Some (meant.Object o))
-    (needs (fits_kind how o.kind) rule.BadTarget p (object_target p o o.words y))
-object_named how s p sel o y w h =
+    → ObjectMade p o o.words y f
+    → IsNamedTarget how s p sel (Some (meant.Object o)) (needs (fits_kind how o.kind) rule.BadTarget p f)
+object_named how s p sel o y f w h k =
     let fixed = is_fixed how in
-    let ok = fits_kind how o.kind in
-    let f = object_target p o o.words y in record {
+    let ok = fits_kind how o.kind in record {
       finds = each_needs (λ (c : CheckedTarget). c.width) ok rule.BadTarget p f
-          ∙ ap (λ (x : Found ℕ). needs ok rule.BadTarget p x) (object_found fixed s p sel o o.words y refl w h)
+          ∙ ap (λ (x : Found ℕ). needs ok rule.BadTarget p x) (object_found fixed s p sel o o.words y f refl w h k)
           ∙ sym (each_needs counted_width ok rule.BadTarget p (asked fixed s p sel (nature_of (Some (meant.Object o)))));
       holds = holds_needs (λ (c : CheckedTarget). GetsAsName s sel (Some (meant.Object o)) c) ok rule.BadTarget p f
-          (λ fit. object_gets fixed s p sel o o.words y refl w h);
+          (λ fit. object_gets fixed s p sel o o.words y f refl w h k);
     }
 
 pub constant_named : (how : Manner) (s : Scope) (p : ℕ) (sel : SelectsTree) (ds : List Digit) (b : Bounds) (o : Object)
-    (y : CheckedSelects)
-    → object_width o ≡ width_of b → IsWidth (width_of b) → AreSelects (is_fixed how) s sel y
-    → IsNamedTarget how s p sel (Some (Constant ds b)) (needs false rule.BadTarget p (vector_target p o b y))
-constant_named how s p sel ds b o y e w h = record {
-  finds = each_needs (λ (c : CheckedTarget). c.width) false rule.BadTarget p (vector_target p o b y)
-      ∙ ap (λ (x : Found ℕ). needs false rule.BadTarget p x) (vector_found (is_fixed how) s p sel o b y e w h)
+    (y : CheckedSelects) (f : Found CheckedTarget)
+    → object_width o ≡ width_of b → IsWidth (width_of b) → AreSelects (is_fixed how) s sel y → VectorMade p o b y f
+    → IsNamedTarget how s p sel (Some (Constant ds b)) (needs false rule.BadTarget p f)
+constant_named how s p sel ds b o y f e w h k = record {
+  finds = each_needs (λ (c : CheckedTarget). c.width) false rule.BadTarget p f
+      ∙ ap (λ (x : Found ℕ). needs false rule.BadTarget p x) (vector_found (is_fixed how) s p sel o b y f e w h k)
       ∙ sym (each_needs counted_width false rule.BadTarget p (of_vector (is_fixed how) s p b sel));
-  holds = holds_lost (λ (c : CheckedTarget). GetsAsName s sel (Some (Constant ds b)) c) (at rule.BadTarget p) (vector_target p o b y);
+  holds = holds_lost (λ (c : CheckedTarget). GetsAsName s sel (Some (Constant ds b)) c) (at rule.BadTarget p) f;
 }
 
 pub unknown_named : (how : Manner) (s : Scope) (p : ℕ) (sel : SelectsTree) → IsNamedTarget how s p sel None (broken rule.UnknownName p)

@@ -1,18 +1,16 @@
 //! What is found in a name with selects, where it is assigned to.
 
 ghost use Rattle.std.specs.Prelude.{◌≡◌, Some};
-ghost use Rattle.gpi.specs.declared.targets.Object.TheVariants.{Word};
-ghost use Rattle.v_scope.specs.Found.{each};
 ghost use Rattle.v_scope.specs.Scope.{means};
 ghost use Rattle.v_scope.specs.declared.meaning.Meaning.TheVariants as meant;
 ghost use Rattle.v_flat.specs.Objects.{range_of};
 ghost use Rattle.v_names.specs.Proper.{AreProper, IsProper};
-ghost use Rattle.v_target.specs.Made.{memory_target, object_target, part_target, twice_at, vector_target, whole_target, word_target};
+ghost use Rattle.v_target.specs.Made.{MemoryMade, ObjectMade, VectorMade, part_target, whole_target, word_target};
 ghost use Rattle.v_target.specs.Targets.{ChecksTargetName, manner_of};
 
 use crate::{CheckedTarget, Manner};
-use gpi::{Object, SigId, Target, Term, Words};
-use v_names::{CheckedSelect, CheckedSelects, Choice, chosen, range, width, words};
+use gpi::{Object, SigId, Target, Words};
+use v_names::{CheckedSelect, CheckedSelects, Choice, chosen, range, second_select, width, words};
 use v_scope::{Bounds, DataObject, ElabRule, Found, Meaning, Scope};
 use v_syntax::TokenNumber;
 
@@ -37,28 +35,6 @@ fn digits(object: Object, bounds: Bounds, choice: Choice) -> CheckedTarget
     }
 }
 
-/// What is chosen from an object that has this range.
-fn chosen_digits(object: Object, bounds: Bounds, found: Found<Choice>) -> Found<CheckedTarget>
-    ensures { result ≡ each (λ choice. part_target object (range_of bounds) choice) found }
-{
-    match found {
-        Found::Sound(choice) => Found::Sound(digits(object, bounds, choice)),
-        Found::Noted(fault, choice) => Found::Noted(fault, digits(object, bounds, choice)),
-        Found::Lost(fault) => Found::Lost(fault),
-    }
-}
-
-/// Two selects on what is no memory: BadRange is broken at the second one.
-fn second_select(word: Found<Term>, place: TokenNumber) -> Found<CheckedTarget>
-    ensures { result ≡ twice_at word place }
-{
-    match word {
-        Found::Sound(_value) => Found::broken(ElabRule::BadRange, place),
-        Found::Noted(fault, _value) => Found::broken(ElabRule::BadRange, place).noted(fault),
-        Found::Lost(fault) => Found::Lost(fault),
-    }
-}
-
 /// A vector with selects, where `place` is the number of its name.
 fn vector(
     place: TokenNumber,
@@ -66,27 +42,14 @@ fn vector(
     bounds: Bounds,
     selects: CheckedSelects,
 ) -> Found<CheckedTarget>
-    ensures { result ≡ vector_target place object bounds selects }
+    ensures { VectorMade place object bounds selects result }
 {
     match selects {
         CheckedSelects::Whole => Found::Sound(whole(object)),
         CheckedSelects::One(select) => {
-            chosen_digits(object, bounds, chosen(place, bounds, select))
+            chosen(place, bounds, select).each(|choice| digits(object, bounds, choice))
         }
         CheckedSelects::OfWord(word, select) => second_select(word, select.place()),
-    }
-}
-
-/// What is found in an index to a memory.
-fn indexed_word(words: Words, width: u8, found: Found<Term>) -> Found<CheckedTarget>
-    ensures { result ≡ each (λ index. whole_target (Word words index width)) found }
-{
-    match found {
-        Found::Sound(index) => Found::Sound(whole(Object::Word(words, index, width))),
-        Found::Noted(fault, index) => {
-            Found::Noted(fault, whole(Object::Word(words, index, width)))
-        }
-        Found::Lost(fault) => Found::Lost(fault),
     }
 }
 
@@ -95,29 +58,10 @@ fn word_select(words: Words, width: u8, select: CheckedSelect) -> Found<CheckedT
     ensures { result ≡ word_target words width select }
 {
     match select {
-        CheckedSelect::Bit { index, .. } => indexed_word(words, width, index),
-        other => Found::broken(ElabRule::BadRange, other.place()),
-    }
-}
-
-/// What is chosen from a word of a memory.
-fn digits_of_word(
-    words: Words,
-    width: u8,
-    bounds: Bounds,
-    found: Found<(Term, Choice)>,
-) -> Found<CheckedTarget>
-    ensures { result ≡ each (λ both. part_target (Word words both.0 width) (range_of bounds) both.1) found }
-{
-    match found {
-        Found::Sound((index, choice)) => {
-            Found::Sound(digits(Object::Word(words, index, width), bounds, choice))
+        CheckedSelect::Bit { index, .. } => {
+            index.each(|index| whole(Object::Word(words, index, width)))
         }
-        Found::Noted(fault, (index, choice)) => Found::Noted(
-            fault,
-            digits(Object::Word(words, index, width), bounds, choice),
-        ),
-        Found::Lost(fault) => Found::Lost(fault),
+        other => Found::broken(ElabRule::BadRange, other.place()),
     }
 }
 
@@ -129,18 +73,15 @@ fn memory(
     bounds: Bounds,
     selects: CheckedSelects,
 ) -> Found<CheckedTarget>
-    ensures { result ≡ memory_target place words width bounds selects }
+    ensures { MemoryMade place words width bounds selects result }
 {
     match selects {
         CheckedSelects::Whole => Found::broken(ElabRule::BadRange, place),
         CheckedSelects::One(select) => word_select(words, width, select),
         CheckedSelects::OfWord(index, select) => {
-            digits_of_word(
-                words,
-                width,
-                bounds,
-                index.both(chosen(place, bounds, select)),
-            )
+            index.both(chosen(place, bounds, select)).each(|(index, choice)| {
+                digits(Object::Word(words, index, width), bounds, choice)
+            })
         }
     }
 }
@@ -148,7 +89,7 @@ fn memory(
 /// A net, a register or a memory with selects, where `place` is the number of its name.
 fn object(place: TokenNumber, object: DataObject, selects: CheckedSelects) -> Found<CheckedTarget>
     requires { IsProper (Some (meant.Object object)) }
-    ensures { result ≡ object_target place object object.words selects }
+    ensures { ObjectMade place object object.words selects result }
 {
     let bounds = object.bounds;
     let width = width(bounds);

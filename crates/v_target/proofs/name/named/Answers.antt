@@ -1,5 +1,5 @@
 -- What is found in a name, by what it means.
-use Rattle.std.proofs.Common.{rules, ◌≡◌, ◌∙◌, sym, ap, subst, length, Bool, false, Option, None, Some, arith}
+use Rattle.std.proofs.Common.{rules, ◌≡◌, ◌∙◌, sym, ap, subst, length, Bool, Option, None, Some, arith}
 use Rattle.gpi.specs.declared.targets.Object.TheVariants.{Signal}
 use Rattle.gpi.specs.Terms.{IsWidth}
 use Rattle.v_scope.specs.declared.rule.ElabRule.TheVariants as rule
@@ -12,7 +12,6 @@ use Rattle.v_scope.specs.Scope.{means, width_of}
 use Rattle.v_flat.specs.Targets.{fits_kind}
 use Rattle.v_names.specs.Proper.{HasFewWords, IsProper}
 use Rattle.v_target.specs.declared.checked.CheckedTarget.{CheckedTarget}
-use Rattle.v_target.specs.Made.{object_target}
 use Rattle.v_target.specs.Targets.{IsNamedTarget, manner_of}
 use Rattle.v_target.proofs.Names.{constant_named, later_named, object_named, unknown_named}
 use Rattle.v_target.proofs.name.named.Goals as goal
@@ -50,9 +49,8 @@ returns-in-Some-Constant c = λ sel h.
     let proper : IsWidth (width_of b) =
     (let low = c.width-width.ensures.low in let high = c.width-width.ensures.high in (omega (arith, low, i), omega (arith, high, i))) in
     subst (λ (x : Option Meaning). IsNamedTarget how s p sel x c.needs.result) (sym e)
-    (subst (λ (f : Found CheckedTarget). IsNamedTarget how s p sel (Some (Constant ds b)) f)
-    (sym (c.needs.ensures ∙ ap (λ (f : Found CheckedTarget). needs false rule.BadTarget p f) c.vector-found.ensures))
-    (constant_named how s p sel ds b (Signal (record { 0 = 0 }) w) c.args.selects i proper h))
+    (subst (λ (f : Found CheckedTarget). IsNamedTarget how s p sel (Some (Constant ds b)) f) (sym c.needs.ensures)
+    (constant_named how s p sel ds b (Signal (record { 0 = 0 }) w) c.args.selects c.vector-found.result i proper h c.vector-found.ensures))
 
 pub returns-in-Some-Object : goal.returns-in-Some-Object
 returns-in-Some-Object c = λ sel h.
@@ -64,10 +62,8 @@ returns-in-Some-Object c = λ sel h.
     let e : s c.args.name.now ≡ Some (meant.Object o) = search rules in
     let wide : IsWidth (width_of o.bounds) × HasFewWords o.words = subst (λ (x : Option Meaning). IsProper x) e
     (c.requires c.args.name.now) in
-    let made : c.needs-in-Some-Object.result ≡ needs (fits_kind how o.kind) rule.BadTarget p
-    (object_target p o o.words c.args.selects) =
-    c.needs-in-Some-Object.ensures ∙ ap (λ (ok : Bool). needs ok rule.BadTarget p f) c.fits.ensures
-    ∙ ap (λ (g : Found CheckedTarget). needs (fits_kind how o.kind) rule.BadTarget p g) c.object-found.ensures in
+    let made : c.needs-in-Some-Object.result ≡ needs (fits_kind how o.kind) rule.BadTarget p f =
+    c.needs-in-Some-Object.ensures ∙ ap (λ (ok : Bool). needs ok rule.BadTarget p f) c.fits.ensures in
     subst (λ (x : Option Meaning). IsNamedTarget how s p sel x c.needs-in-Some-Object.result) (sym e)
     (subst (λ (g : Found CheckedTarget). IsNamedTarget how s p sel (Some (meant.Object o)) g) (sym made)
-    (object_named how s p sel o c.args.selects wide.0 h))
+    (object_named how s p sel o c.args.selects f wide.0 h c.object-found.ensures))
