@@ -1,5 +1,6 @@
 -- What is answered for a row.
 use Rattle.std.specs.Prelude.{◌≡◌, ℕ, ◌<◌, ◌≤◌, List, [], ◌∷◌, ◌++◌, Option, None, Some, codes, length}
+use Rattle.port_io.specs.Limits.{most_bytes}
 use Rattle.py_syntax.specs.ExpressionTrees.{Tree, height}
 use Rattle.py_syntax.specs.ExpressionSpells.{Spells}
 use Rattle.py_syntax.specs.Line.{Line}
@@ -57,14 +58,10 @@ LinesGive _ _ reply = reply ≡ codes "no line"
 abbrev pub TextGives : List ℕ → List ℕ → Type 0
 TextGives text reply = (pieces : List Piece) × IsSpelled first_place pieces text × LinesGive (first_broken pieces) (lines_of pieces) reply
 
--- how many bytes a text may have
-abbrev pub text_limit : ℕ
-text_limit = 1048576
-
 -- of a longer text nothing is told
 pub record Replies (text reply : List ℕ) : Type 0 where
-  pub short : length text ≤ text_limit → TextGives text reply
-  pub long : text_limit < length text → reply ≡ []
+  pub short : length text ≤ most_bytes → TextGives text reply
+  pub long : most_bytes < length text → reply ≡ []
 
 -- the rule, which is what stands before the first tab of the row, and behind `: ` the reply to what stands behind that tab
 abbrev pub RowGives : List ℕ → List ℕ → Type 0

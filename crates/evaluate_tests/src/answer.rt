@@ -8,7 +8,7 @@ ghost use Rattle.evaluate_tests.specs.Row.{tree_text, IsReading, TokensGive, Tex
 use crate::scene::Scene;
 use crate::shown::value_text;
 use crate::variables::task_names;
-use port_io::NoMemory;
+use port_io::{MOST_BYTES, NoMemory};
 use py_evaluate::{EvalFault, evaluate};
 use py_expression::{Measured, expression};
 use py_lex::{LineFault, logical_lines};
@@ -17,9 +17,6 @@ use py_syntax::{Expression, Token};
 use py_value::TaskNo;
 use std::alloc::Global;
 use table_rows::cut;
-
-/// How many bytes a text may have of which something is told.
-const TEXT_LIMIT: usize = 1048576;
 
 /// The greatest height of an expression.
 const HEIGHT_LIMIT: usize = 64;
@@ -75,7 +72,7 @@ fn tokens_text(alloc: Global, tokens: &[Token]) -> Result<Vec<u8>, NoMemory>
 fn reply(alloc: Global, text: &[u8]) -> Result<Vec<u8>, NoMemory>
     ensures { IfOk result (λ reply. Replies text.now reply.items) }
 {
-    if text.len() > TEXT_LIMIT {
+    if text.len() > MOST_BYTES {
         return Ok(Vec::new(alloc));
     }
     match logical_lines(alloc, text) {

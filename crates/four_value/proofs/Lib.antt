@@ -5,3 +5,4 @@ pub mod Parts
 pub mod Reductions
 pub mod Equality
 pub mod Lengths
+pub mod Letters

@@ -2,6 +2,7 @@
 -- Clauses are those of IEEE 1364-2005.
 use Rattle.std.specs.Prelude.{ℕ, zero, suc, ◌+◌, ◌*◌, ◌%◌, ◌/◌, ◌^◌, ◌-◌, List, [], ◌∷◌, ◌++◌, length, take, drop, map, reverse, replicate, Option, Some, None, Bool, true, false, ◌&&◌, ◌||◌, nat_lt, slice_index_or, if◌then◌else◌}
 use Rattle.std.specs.List.{list_any}
+use Rattle.four_value.specs.Limits.{most_digits}
 use Rattle.four_value.specs.declared.Digit.{Digit}
 use Rattle.four_value.specs.declared.Digit.TheVariants.{Zero, One, X, Z}
 use Rattle.four_value.specs.declared.edges.Edge.{Edge}
@@ -216,9 +217,13 @@ digit_byte One = 49
 digit_byte X = 120
 digit_byte Z = 122
 
--- the digits, the most significant first, and spaces up to 128 bytes
+-- the digits, the most significant first
+abbrev pub digit_letters : List Digit → List ℕ
+digit_letters xs = map digit_byte (reverse xs)
+
+-- and spaces behind them, for as many bytes as a vector may have digits
 abbrev pub text : List Digit → List ℕ
-text xs = map digit_byte (reverse xs) ++ replicate (128 - length xs) 32
+text xs = digit_letters xs ++ replicate (most_digits - length xs) 32
 
 -- what the change of a digit is to an event control
 abbrev pub edge_of : Digit → Digit → Edge

@@ -1,6 +1,7 @@
 //! Vectors of digits.
 ghost use Rattle.std.specs.Prelude.{◌≡◌, ◌≢◌, ℕ, ◌-◌, ◌^◌, ◌<◌, ◌≤◌, length, replicate, slice_set, IfSome};
 ghost use Rattle.std.specs.Int.{bit_at, from_bool};
+ghost use Rattle.four_value.specs.Limits.{most_digits};
 ghost use Rattle.four_value.specs.Vector.{vector, number, digit_at};
 ghost use Rattle.four_value.specs.Planes.{digit_of};
 
@@ -50,7 +51,7 @@ impl Bits {
     #[tactic(auto, using(crate::proofs::Numbers::all_digits))]
     pub fn all(width: u8, d: Digit) -> Bits
         requires low { 1 ≤ width }
-        requires high { width ≤ 128 }
+        requires high { width ≤ most_digits }
         ensures { result ≡ replicate width d }
     {
         let mask = low_mask(width);
@@ -81,7 +82,7 @@ impl Bits {
     /// The number `n` modulo 2^`width`, in `width` digits: an assignment cuts what doesn't fit (clause 5.6).
     pub fn from_number(width: u8, n: u128) -> Bits
         requires low { 1 ≤ width }
-        requires high { width ≤ 128 }
+        requires high { width ≤ most_digits }
         ensures { result ≡ vector width n }
     {
         Bits {
@@ -95,7 +96,7 @@ impl Bits {
     pub fn width(self) -> u8
         ensures is { result ≡ length self }
         ensures low { 1 ≤ result }
-        ensures high { result ≤ 128 }
+        ensures high { result ≤ most_digits }
     {
         self.width
     }

@@ -7,6 +7,7 @@ use Rattle.gpi.specs.declared.types.Counts.{Counts}
 use Rattle.gpi.specs.declared.types.Advance.{Advance}
 use Rattle.gpi.specs.declared.types.Advance.TheVariants as advance
 use Rattle.gpi.specs.declared.design.Flat.{Flat}
+use Rattle.gpi.specs.Limits.{latest_time}
 use Rattle.gpi.specs.Design.{Proc, procs_of, start_map, starters}
 use Rattle.gpi.specs.Keys.{Keys, no_keys, IsWith, IsWithout, fired_of, raised, raised_by}
 use Rattle.gpi.specs.State.{State, is_end}
@@ -54,7 +55,7 @@ Answers before (Some e) answer after = (answer ≡ advance.Moved (record { chang
 
 -- a key may be registered, where n is the number of signals
 abbrev pub IsAsked : ℕ → State → Key → Type 0
-IsAsked n s (key.At t) = (s.time < t) × (t ≤ 9223372036854775808)
+IsAsked n s (key.At t) = (s.time < t) × (t ≤ latest_time)
 IsAsked n s (key.Rise sig) = sig.0 < n
 IsAsked n s (key.Fall sig) = sig.0 < n
 IsAsked n s (key.Change sig) = sig.0 < n

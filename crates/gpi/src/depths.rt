@@ -1,11 +1,12 @@
 //! Whether one comes from each node to node 0: the table of depths.
 ghost use Rattle.std.specs.Prelude.{◌≡◌, ℕ, ◌<◌, ◌≤◌, ◌↔◌, length, IsTrue, slice_get, Some, MatchOption};
+ghost use Rattle.gpi.specs.Limits.{most_elements};
 ghost use Rattle.gpi.specs.Tables.{comes, AreInside, AreEmpty, AreDepths, IsDepth, IsDepthFound};
 
 /// Whether one comes from each node to node 0, by the table of parents, with a table of depths in which nothing stands.
 pub fn are_rooted(parents: &[Option<u32>], depths: &mut [Option<u32>]) -> bool
     requires some { 0 < length parents.now }
-    requires few { length parents.now ≤ 65536 }
+    requires few { length parents.now ≤ most_elements }
     requires inside { AreInside parents.now }
     requires empty { AreEmpty (length parents.now) depths.old }
     ensures { IsTrue result ↔ ((v : ℕ) → v < length parents.now → IsTrue (comes (length parents.now) parents.now v)) }
@@ -24,7 +25,7 @@ pub fn are_rooted(parents: &[Option<u32>], depths: &mut [Option<u32>]) -> bool
 /// its depth. No more steps are gone than there are nodes.
 fn depth_of(node: u32, parents: &[Option<u32>], depths: &[Option<u32>]) -> Option<u32>
     requires node { node < length parents.now }
-    requires few { length parents.now ≤ 65536 }
+    requires few { length parents.now ≤ most_elements }
     requires inside { AreInside parents.now }
     requires known { AreDepths parents.now depths.now }
     ensures { IsDepthFound result parents.now node }

@@ -27,4 +27,6 @@ pub use operators::{Arith, Compare, Logic, Reduce, Shift, Unary, chosen};
 pub use selects::{Order, Overlap, Range, Words};
 pub use targets::{Object, Target};
 pub use terms::Term;
-pub use types::{Advance, Counts, Fired, Key, Moved, Region, Report, SigId, Told, Update};
+pub use types::{
+    Advance, Counts, Fired, Key, LATEST_TIME, Moved, Region, Report, SigId, Told, Update,
+};

@@ -26,9 +26,9 @@ fn is_tree_in(
     parents: &mut [Option<u32>],
     depths: &mut [Option<u32>],
 ) -> bool
-    requires few { length nodes.now ≤ 65536 }
-    requires parents { AreEmpty 65536 parents.old }
-    requires depths { AreEmpty 65536 depths.old }
+    requires few { length nodes.now ≤ most_elements }
+    requires parents { AreEmpty most_elements parents.old }
+    requires depths { AreEmpty most_elements depths.old }
     ensures { IsTrue result ↔ IsTree nodes.now }
 {
     let count = nodes.len();
@@ -41,7 +41,7 @@ fn is_tree_by(
     parents: &mut [Option<u32>],
     depths: &mut [Option<u32>],
 ) -> bool
-    requires few { length nodes.now ≤ 65536 }
+    requires few { length nodes.now ≤ most_elements }
     requires parents { AreEmpty (length nodes.now) parents.old }
     requires depths { AreEmpty (length nodes.now) depths.old }
     ensures { IsTrue result ↔ IsTree nodes.now }
@@ -54,7 +54,7 @@ fn is_tree_by(
 
 /// Notes the parent of each node; false at a node that has a second one.
 fn note_parents(nodes: &Sequence<Node>, parents: &mut [Option<u32>]) -> bool
-    requires few { length nodes.now ≤ 65536 }
+    requires few { length nodes.now ≤ most_elements }
     requires empty { AreEmpty (length nodes.now) parents.old }
     ensures count { length parents.new ≡ length nodes.now }
     ensures once { IsTrue result ↔ ((v : ℕ) → v < length nodes.now → times_child v nodes.now ≤ 1) }

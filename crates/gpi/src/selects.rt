@@ -1,5 +1,7 @@
 //! Selects from vectors and memories.
 ghost use Rattle.std.specs.Prelude.{◌≡◌, ◌<◌, ◌≤◌, ◌+◌, length, IfSome};
+ghost use Rattle.four_value.specs.Limits.{most_digits};
+ghost use Rattle.gpi.specs.Limits.{most_elements};
 ghost use Rattle.gpi.specs.Selects.{overlap_of, selected, shown, word_at, IsInside};
 
 use crate::SigId;
@@ -42,8 +44,8 @@ impl Range {
     /// Where the indices from `base` on, as many as `width`, lie in a vector of this range with `whole` digits; none where
     /// no one of them does, or the base has an x or z digit.
     pub fn overlap(self, whole: u8, base: Option<u128>, width: u8) -> Option<Overlap>
-        requires whole { whole ≤ 128 }
-        requires width { width ≤ 128 }
+        requires whole { whole ≤ most_digits }
+        requires width { width ≤ most_digits }
         ensures is { result ≡ overlap_of self whole base width }
         ensures inside { IfSome result (IsInside whole width) }
     {
@@ -74,7 +76,7 @@ impl Range {
     /// unknown (clause 5.2.1).
     pub fn select(self, from: Bits, base: Option<u128>, width: u8) -> Bits
         requires low { 1 ≤ width }
-        requires high { width ≤ 128 }
+        requires high { width ≤ most_digits }
         ensures is { result ≡ selected from self base width }
         ensures wide { length result ≡ width }
     {
@@ -91,7 +93,7 @@ impl Range {
 
 /// A vector of `width` digits with `middle` from the place `skip` on, and x elsewhere.
 fn surrounded(middle: Bits, skip: u8, width: u8) -> Bits
-    requires high { width ≤ 128 }
+    requires high { width ≤ most_digits }
     requires inside { skip + length middle ≤ width }
     ensures is { result ≡ shown middle skip width }
     ensures wide { length result ≡ width }
@@ -112,7 +114,7 @@ fn surrounded(middle: Bits, skip: u8, width: u8) -> Bits
 impl Words {
     /// The signal of the word at an index; none where the index is unknown or outside (clause 5.2.2).
     pub fn at(self, index: Option<u128>) -> Option<u32>
-        requires { self.first.0 + self.count ≤ 65536 }
+        requires { self.first.0 + self.count ≤ most_elements }
         ensures is { result ≡ word_at self index }
         ensures inside { IfSome result (λ s. (self.first.0 ≤ s) × (s < self.first.0 + self.count)) }
     {

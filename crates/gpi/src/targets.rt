@@ -1,5 +1,7 @@
 //! Where an assignment writes.
 ghost use Rattle.std.specs.Prelude.{◌≡◌, ℕ, ◌<◌, ◌≤◌, List, length, IfOk, IfSome, slice_index};
+ghost use Rattle.four_value.specs.Limits.{most_digits};
+ghost use Rattle.gpi.specs.Limits.{most_elements};
 ghost use Rattle.gpi.specs.Terms.{widths_of, read};
 ghost use Rattle.gpi.specs.Targets.{target_width, IsSoundTarget, IsSoundObject, IsObjectCopy, IsTargetCopy, MakesJoin, object_at, object_width};
 
@@ -52,7 +54,7 @@ impl Object {
     /// The signal that is meant, by the values of the signals; none where the index is unknown or outside.
     #[tactic(auto, using(crate::proofs::Widths::widths))]
     pub fn at(&self, signals: &[Bits]) -> Option<u32>
-        requires few { length signals.now ≤ 65536 }
+        requires few { length signals.now ≤ most_elements }
         requires sound { IsSoundObject self.now (widths_of signals.now) }
         ensures is { result ≡ object_at self.now (read signals.now) }
         ensures inside { IfSome result (λ s. (s < length signals.now) × (slice_index (widths_of signals.now) s ≡ object_width self.now)) }
@@ -73,7 +75,7 @@ impl Target {
         requires { IsSoundTarget self.now (widths_of signals.now) }
         ensures is { result ≡ target_width self.now }
         ensures low { 1 ≤ result }
-        ensures high { result ≤ 128 }
+        ensures high { result ≤ most_digits }
     {
         match self {
             Target::Whole(object) => object.width(),

@@ -1,5 +1,7 @@
 //! Expressions.
 ghost use Rattle.std.specs.Prelude.{◌≡◌, ℕ, ◌+◌, ◌*◌, ◌<◌, ◌≤◌, length, IfOk};
+ghost use Rattle.four_value.specs.Limits.{most_digits};
+ghost use Rattle.gpi.specs.Limits.{most_elements};
 ghost use Rattle.gpi.specs.Terms.{value, width, IsSound, read, widths_of, copies};
 ghost use Rattle.gpi.specs.Made.{MakesWord, MakesSelect, MakesUnary, MakesArith, MakesCompare, MakesLogic, MakesReduce, MakesShift, MakesCond, MakesConcat, MakesRepeat, MakesResize, IsCopy};
 
@@ -196,7 +198,7 @@ impl Term {
     /// The value, by the values of the signals.
     #[tactic(auto, using(four_value::proofs::Lengths::lengths, crate::proofs::Widths::widths))]
     pub fn eval(&self, signals: &[Bits]) -> Bits
-        requires few { length signals.now ≤ 65536 }
+        requires few { length signals.now ≤ most_elements }
         requires sound { IsSound self.now (widths_of signals.now) }
         ensures is { result ≡ value self.now (read signals.now) }
         ensures wide { length result ≡ width self.now }
@@ -235,7 +237,7 @@ impl Term {
 /// `n` copies of a vector, one after the other.
 fn repeated(n: u8, bits: Bits) -> Bits
     requires some { 1 ≤ n }
-    requires few { n * length bits ≤ 128 }
+    requires few { n * length bits ≤ most_digits }
     ensures is { result ≡ copies n bits }
     ensures wide { length result ≡ n * length bits }
 {

@@ -18,6 +18,9 @@ pub enum Region {
     End,
 }
 
+/// The latest time, in steps, for which a key may be registered.
+pub const LATEST_TIME: u64 = 9_223_372_036_854_775_808;
+
 /// What can be waited for.
 #[derive(Clone, Copy, Debug, PartialEq, Eq)]
 pub enum Key {

@@ -1,5 +1,6 @@
 //! The plain simulator.
 ghost use Rattle.std.specs.Prelude.{◌≡◌, ℕ, ◌<◌, ◌≤◌, ◌+◌, ◌++◌, ◌∷◌, [], true, false, length, OnOk, OnErr, IfOk, IsTrue, MatchOption, vec_capacity, None, List, slice_get};
+ghost use Rattle.gpi.specs.Limits.{most_elements};
 ghost use Rattle.gpi.specs.Design.{procs_of, proc_of, start_map, starters};
 ghost use Rattle.gpi.specs.Soundness.{IsSoundFlat, AreProcesses, are_wakes, are_wide};
 ghost use Rattle.gpi.specs.Activation.{IsSound, with_part};
@@ -524,7 +525,7 @@ fn start_signals(alloc: Global, signals: &Sequence<Signal>) -> Result<Vec<Bits>,
 
 /// The processes that are active from the start.
 fn start_active(alloc: Global, processes: &[Process]) -> Result<Vec<u32>, NoMemory>
-    requires { length processes.now ≤ 65536 }
+    requires { length processes.now ≤ most_elements }
     ensures { IfOk result (λ active. (active.items ≡ starters 0 (procs_of processes.now)) × (length processes.now ≤ vec_capacity active)) }
 {
     let mut active = Vec::with_capacity(alloc, processes.len())?;

@@ -1,5 +1,6 @@
 //! Activations.
 ghost use Rattle.std.specs.Prelude.{◌≡◌, ℕ, ◌≤◌, length, [], OnOk, OnErr, ◌++◌};
+ghost use Rattle.gpi.specs.Limits.{most_elements};
 ghost use Rattle.gpi.specs.Terms.{widths_of};
 ghost use Rattle.gpi.specs.Targets.{AreFitting};
 ghost use Rattle.gpi.specs.Activation.{activation, IsSound};
@@ -16,7 +17,7 @@ pub fn activate(
     before: &mut Vec<Bits>,
     updates: &mut Vec<Update>,
 ) -> Result<(), NoMemory>
-    requires few { length signals.old.items ≤ 65536 }
+    requires few { length signals.old.items ≤ most_elements }
     requires sound { IsSound act.now (widths_of signals.old.items) }
     requires fits { AreFitting updates.old.items (widths_of signals.old.items) }
     requires same { length before.old.items ≡ length signals.old.items }

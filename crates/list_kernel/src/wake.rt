@@ -1,6 +1,7 @@
 //! Changes, and the processes that they wake.
 ghost use Rattle.std.specs.Prelude.{◌≡◌, ◌≤◌, ◌<◌, ◌+◌, ◌++◌, ◌^◌, length, [], ◌∷◌, vec_capacity, vec_len, ℕ, false, not, ◌&&◌};
 ghost use Rattle.four_value.specs.Vector.{same_digits, digit_at};
+ghost use Rattle.gpi.specs.Limits.{most_elements};
 ghost use Rattle.gpi.specs.Design.{procs_of};
 ghost use Rattle.gpi.specs.Keys.{holds};
 ghost use Rattle.gpi.specs.State.{meets, meets_any, waits, edge_fits, changes, woken};
@@ -84,7 +85,7 @@ fn waits(wakes: &Sequence<Wake>, reports: &[Report]) -> bool
 /// The changes between two maps.
 pub fn tell_changes(before: &[Bits], signals: &[Bits], reports: &mut Vec<Report>)
     requires same { length before.now ≡ length signals.now }
-    requires few { length before.now ≤ 65536 }
+    requires few { length before.now ≤ most_elements }
     requires none { reports.old.items ≡ [] }
     requires room { length before.now ≤ vec_capacity reports.old }
     ensures is { reports.new.items ≡ changes 0 before.now signals.now }
@@ -133,7 +134,7 @@ fn is_woken(process: &Process, n: u32, reports: &[Report], own: Option<u32>, act
 
 /// Puts the processes that the changes wake at the end of the active list.
 pub fn wake(processes: &[Process], reports: &[Report], active: &mut Vec<u32>, own: Option<u32>)
-    requires few { length processes.now ≤ 65536 }
+    requires few { length processes.now ≤ most_elements }
     requires below { AreBelow (length processes.now) active.old.items }
     requires distinct { AreDistinct active.old.items }
     requires room { length processes.now ≤ vec_capacity active.old }
@@ -151,7 +152,7 @@ pub fn wake(processes: &[Process], reports: &[Report], active: &mut Vec<u32>, ow
 /// The same, process by process.
 #[tactic(auto, using(crate::proofs::Lists::steps))]
 fn wake_each(processes: &[Process], reports: &[Report], active: &mut Vec<u32>, own: Option<u32>)
-    requires few { length processes.now ≤ 65536 }
+    requires few { length processes.now ≤ most_elements }
     requires below { AreBelow (length processes.now) active.old.items }
     requires distinct { AreDistinct active.old.items }
     requires room { length processes.now ≤ vec_capacity active.old }

@@ -5,7 +5,7 @@
 //! [`Folder`], the current one of the system among them, through its readers ([`Source`]), and
 //! [`WriteSink`] writes into any writer ([`Outlet`]). [`Name`] is a small text, [`Sequence`] values
 //! in order, [`boxed`] a value on the heap, [`NoMemory`] the want of memory, and [`line_of`] the line and the column of a place in
-//! a text. What a real file holds is outside of what contracts can say.
+//! a text, which has at most [`MOST_BYTES`]. What a real file holds is outside of what contracts can say.
 #![tactic(auto)]
 
 mod calls;
@@ -32,3 +32,6 @@ pub use pos::{Pos, line_of};
 pub use sequence::Sequence;
 pub use source::{CurrentFolder, Folder, Source};
 pub use write_sink::WriteSink;
+
+/// The most bytes that the text of a design may have, and that of a tests file.
+pub const MOST_BYTES: usize = 1_048_576;

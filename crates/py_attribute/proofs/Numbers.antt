@@ -9,7 +9,7 @@ use Rattle.four_value.specs.Vector.{number}
 use Rattle.py_integer.specs.Integer.{held, held_shift, shifted_right, floor_quotient, floor_rest, by_bits, differ, is_zero}
 use Rattle.py_value.specs.Answer.{Answer, and_then}
 use Rattle.py_value.specs.Limits.{text_limit}
-use Rattle.py_value.specs.Shown.{digits_text}
+use Rattle.four_value.specs.Vector.{digit_letters}
 use Rattle.py_value.specs.declared.value.Value.{Value}
 use Rattle.py_value.specs.declared.value.Value.TheVariants.{Text, Truth, Vector}
 use Rattle.py_operator.specs.Number.{one_number, whole, two_numbers}
@@ -59,12 +59,12 @@ signed_each test w None = tt
 pub vector_each : (test : TrigId → Bool) (ds : List Digit) (name : List ℕ) → IfOk (vector_attribute ds name) (Each test)
 vector_each test ds name =
     let resolvable : Answer Value = if bytes_eq name (codes "is_resolvable") then Ok (Truth (is_some (number ds))) else Err AttributeError in
-    let text : Answer Value = if bytes_eq name (codes "binstr") then Ok (Text (digits_text ds)) else resolvable in
+    let text : Answer Value = if bytes_eq name (codes "binstr") then Ok (Text (digit_letters ds)) else resolvable in
     let signed : Answer Value = if bytes_eq name (codes "signed_integer") then signed_integer (length ds) (number ds) else text in
     either_each test (bytes_eq name (codes "integer")) (and_then (one_number (Vector ds)) (λ z. whole (held z))) signed
     (chained_each test (one_number (Vector ds)) (λ z. whole (held z)) (λ z. whole_each test (held z)))
     (either_each test (bytes_eq name (codes "signed_integer")) (signed_integer (length ds) (number ds)) text (signed_each test (length ds) (number ds))
-    (either_each test (bytes_eq name (codes "binstr")) (Ok (Text (digits_text ds))) resolvable tt
+    (either_each test (bytes_eq name (codes "binstr")) (Ok (Text (digit_letters ds))) resolvable tt
     (either_each test (bytes_eq name (codes "is_resolvable")) (Ok (Truth (is_some (number ds)))) (Err AttributeError) tt tt)))
 
 divided_each : (test : TrigId → Bool) (f : ℤ → ℤ → ℤ) (a b : ℤ) → IfOk (divided f a b) (Each test)

@@ -8,7 +8,7 @@ use Rattle.four_value.specs.Vector.{number}
 use Rattle.py_integer.specs.Integer.{held}
 use Rattle.py_value.specs.Answer.{Answer, and_then}
 use Rattle.py_value.specs.Limits.{text_limit}
-use Rattle.py_value.specs.Shown.{digits_text}
+use Rattle.four_value.specs.Vector.{digit_letters}
 use Rattle.py_value.specs.declared.value.Value.{Value}
 use Rattle.py_value.specs.declared.value.Value.TheVariants.{Text, Truth, Vector}
 use Rattle.py_attribute.specs.declared.fault.OperationFault.{OperationFault}
@@ -46,12 +46,12 @@ signed_plain view w None = tt
 pub vector_plain : (view : View) (ds : List Digit) (name : List ℕ) → AnswerKnown view (vector_attribute ds name)
 vector_plain view ds name =
     let resolvable : Answer Value = if bytes_eq name (codes "is_resolvable") then Ok (Truth (is_some (number ds))) else Err AttributeError in
-    let text : Answer Value = if bytes_eq name (codes "binstr") then Ok (Text (digits_text ds)) else resolvable in
+    let text : Answer Value = if bytes_eq name (codes "binstr") then Ok (Text (digit_letters ds)) else resolvable in
     let signed : Answer Value = if bytes_eq name (codes "signed_integer") then signed_integer (length ds) (number ds) else text in
     either view (bytes_eq name (codes "integer")) (and_then (one_number (Vector ds)) (λ z. whole (held z))) signed
     (chained view (one_number (Vector ds)) (λ z. whole (held z)) (λ z. whole_plain view (held z)))
     (either view (bytes_eq name (codes "signed_integer")) (signed_integer (length ds) (number ds)) text (signed_plain view (length ds) (number ds))
-    (either view (bytes_eq name (codes "binstr")) (Ok (Text (digits_text ds))) resolvable tt
+    (either view (bytes_eq name (codes "binstr")) (Ok (Text (digit_letters ds))) resolvable tt
     (either view (bytes_eq name (codes "is_resolvable")) (Ok (Truth (is_some (number ds)))) (Err AttributeError) tt tt)))
 
 -- what the code returned is as known as the answer that it gives

@@ -3,14 +3,14 @@ use Rattle.std.specs.Prelude.{ℕ, ◌+◌, ◌-◌, ◌^◌, ◌==◌, ◌&&◌
 use Rattle.std.specs.Option.{option_or}
 use Rattle.std.specs.Str.{bytes_eq}
 use Rattle.four_value.specs.declared.Digit.{Digit}
-use Rattle.four_value.specs.Vector.{number}
 use Rattle.gpi.specs.declared.types.SigId.{SigId}
 use Rattle.py_syntax.specs.declared.fault_kind.FaultKind.TheVariants.{AttributeError, IndexError, OverflowError, TypeError, ValueError}
 use Rattle.py_integer.specs.Integer.{held}
 use Rattle.py_value.specs.Answer.{Answer, and_then}
 use Rattle.py_value.specs.Limits.{text_limit}
 use Rattle.py_value.specs.Places.{Places}
-use Rattle.py_value.specs.Shown.{shown, digits_text}
+use Rattle.four_value.specs.Vector.{digit_letters, number}
+use Rattle.py_value.specs.Shown.{shown}
 use Rattle.py_value.specs.declared.value.Value.{Value}
 use Rattle.py_value.specs.declared.value.Value.TheVariants.{Truth, Text, Vector, Words, Signal}
 use Rattle.py_operator.specs.Number.{one_number, whole}
@@ -59,7 +59,7 @@ abbrev pub vector_attribute : List Digit → List ℕ → Answer Value
 vector_attribute ds name =
     if bytes_eq name (codes "integer") then and_then (one_number (Vector ds)) (λ z. whole (held z))
     else (if bytes_eq name (codes "signed_integer") then signed_integer (length ds) (number ds)
-    else (if bytes_eq name (codes "binstr") then Ok (Text (digits_text ds))
+    else (if bytes_eq name (codes "binstr") then Ok (Text (digit_letters ds))
     else (if bytes_eq name (codes "is_resolvable") then Ok (Truth (is_some (number ds)))
     else Err AttributeError)))
 

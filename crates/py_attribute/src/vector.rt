@@ -1,8 +1,8 @@
 //! Attributes of vectors.
 ghost use Rattle.std.specs.Prelude.{◌≡◌, ◌≤◌, length};
+ghost use Rattle.four_value.specs.Limits.{most_digits};
 ghost use Rattle.four_value.specs.Vector.{number};
 ghost use Rattle.py_integer.specs.Integer.{held};
-ghost use Rattle.py_value.specs.Limits.{width_limit};
 ghost use Rattle.py_attribute.specs.Attribute as meaning;
 ghost use Rattle.py_attribute.specs.Gives.{Gives, IfWant, MakesText};
 
@@ -18,7 +18,7 @@ use std::alloc::Global;
 #[tactic(auto, using(crate::proofs::Halves::half_down))]
 fn signed_number(width: u8, n: u128) -> Option<i128>
     requires low { 1 ≤ width }
-    requires high { width ≤ width_limit }
+    requires high { width ≤ most_digits }
     ensures { result ≡ held (meaning.signed_number width n) }
 {
     let half = 1u128 << (width - 1);

@@ -2,6 +2,7 @@
 
 ghost use Rattle.std.specs.Prelude.{◌≡◌, ◌≤◌, ◌<◌, ◌==◌, not, true, length, slice_index, slice_get, IfOk, IfSome};
 ghost use Rattle.std.specs.Option.{option_map};
+ghost use Rattle.port_io.specs.Limits.{most_bytes};
 ghost use Rattle.py_syntax.specs.Bytes;
 ghost use Rattle.py_syntax.specs.Pieces;
 ghost use Rattle.py_syntax.specs.Places.{line_ends};
@@ -124,7 +125,7 @@ fn text_piece(alloc: Global, text: &[u8]) -> Result<(Piece, usize), NoMemory>
 
 #[tactic(auto, unfolding(py_syntax::specs::Pieces::docstring_of))]
 fn docstring_of(text: &[u8], size: usize) -> Option<(Piece, usize)>
-    requires limit { length text.now ≤ 1048576 }
+    requires limit { length text.now ≤ most_bytes }
     requires positive { 0 < size }
     requires within { size ≤ length text.now }
     ensures value { option_map (λ x. (x.0, x.1)) result ≡ Pieces.docstring_of text.now size }
@@ -139,7 +140,7 @@ fn docstring_of(text: &[u8], size: usize) -> Option<(Piece, usize)>
 
 #[tactic(auto, unfolding(py_syntax::specs::Pieces::docstring_piece))]
 fn docstring_piece(text: &[u8]) -> Option<(Piece, usize)>
-    requires limit { length text.now ≤ 1048576 }
+    requires limit { length text.now ≤ most_bytes }
     requires quote { Bytes.is_quote (slice_index text.now 0) ≡ true }
     ensures value { option_map (λ x. (x.0, x.1)) result ≡ Pieces.docstring_piece text.now }
     ensures fits { IfSome result (λ x. FitsIn text.now x.0 x.1) }
@@ -157,7 +158,7 @@ fn docstring_piece(text: &[u8]) -> Option<(Piece, usize)>
 
 #[tactic(auto, unfolding(py_syntax::specs::Pieces::quoted_piece))]
 fn quoted_piece(alloc: Global, is_fresh: bool, text: &[u8]) -> Result<(Piece, usize), NoMemory>
-    requires limit { length text.now ≤ 1048576 }
+    requires limit { length text.now ≤ most_bytes }
     requires quote { Bytes.is_quote (slice_index text.now 0) ≡ true }
     ensures value { IfOk result (λ x. (x.0, x.1) ≡ Pieces.quoted_piece is_fresh text.now) }
     ensures fits { IfOk result (λ x. FitsIn text.now x.0 x.1) }
@@ -170,7 +171,7 @@ fn quoted_piece(alloc: Global, is_fresh: bool, text: &[u8]) -> Result<(Piece, us
 
 #[tactic(auto, unfolding(py_syntax::specs::Pieces::code_piece))]
 fn code_piece(alloc: Global, context: Context, text: &[u8]) -> Result<(Piece, usize), NoMemory>
-    requires limit { length text.now ≤ 1048576 }
+    requires limit { length text.now ≤ most_bytes }
     requires some { 0 < length text.now }
     ensures value { IfOk result (λ x. (x.0, x.1) ≡ Pieces.code_piece context text.now) }
     ensures fits { IfOk result (λ x. FitsIn text.now x.0 x.1) }
@@ -276,7 +277,7 @@ fn format_piece(alloc: Global, quote: u8, text: &[u8]) -> Result<(Piece, usize),
 /// The piece that stands at the front of a text, and its length.
 #[tactic(auto, unfolding(py_syntax::specs::Pieces::piece_at))]
 pub fn piece_at(alloc: Global, context: Context, text: &[u8]) -> Result<(Piece, usize), NoMemory>
-    requires limit { length text.now ≤ 1048576 }
+    requires limit { length text.now ≤ most_bytes }
     requires some { 0 < length text.now }
     ensures value { IfOk result (λ x. (x.0, x.1) ≡ Pieces.piece_at context text.now) }
     ensures fits { IfOk result (λ x. FitsIn text.now x.0 x.1) }

@@ -1,6 +1,7 @@
 //! The logical lines of a text.
 
 ghost use Rattle.std.specs.Prelude.{◌≡◌, ℕ, ◌≤◌, length, List};
+ghost use Rattle.port_io.specs.Limits.{most_bytes};
 ghost use Rattle.py_syntax.specs.Places.{Place, HasQuote, first_place};
 ghost use Rattle.py_syntax.specs.Spelled.{IsSpelled};
 ghost use Rattle.py_syntax.specs.declared.piece.Piece.{Piece};
@@ -16,7 +17,7 @@ use std::alloc::Global;
 /// A text that breaks a rule of lines has none: the fault names the first line that breaks one, and of its rules the one that
 /// comes first in `LineFault`.
 pub fn logical_lines(alloc: Global, text: &[u8]) -> Result<Lines, LineFault>
-    requires { length text.now ≤ 1048576 }
+    requires { length text.now ≤ most_bytes }
     // Whatever pieces spell the text: it has the lines that they make, or the fault that they have.
     ensures exact { (pieces : List Piece) → IsSpelled first_place pieces text.now → Answers pieces result }
     // Some spell it.

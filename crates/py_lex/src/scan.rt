@@ -1,6 +1,7 @@
 //! A scan of a text, piece by piece.
 
 ghost use Rattle.std.specs.Prelude.{◌≡◌, ◌≤◌, ◌<◌, ◌+◌, ◌^◌, [], length, OnOk, IfOk};
+ghost use Rattle.port_io.specs.Limits.{most_bytes};
 ghost use Rattle.py_syntax.specs.Places.{context_of};
 ghost use Rattle.py_syntax.specs.Places;
 ghost use Rattle.py_lex.specs.Scan;
@@ -97,7 +98,7 @@ impl Scanner {
 /// Scans a whole text.
 #[tactic(auto, using(crate::proofs::Reading::read_none, crate::proofs::Reading::read_more, crate::proofs::Reading::read_all))]
 pub fn scan(alloc: Global, text: &[u8]) -> Result<Scanner, NoMemory>
-    requires { length text.now ≤ 1048576 }
+    requires { length text.now ≤ most_bytes }
     ensures { IfOk result (λ scanner. Scan.HasRead text.now [] scanner) }
 {
     let mut scanner = Scanner::new(alloc);

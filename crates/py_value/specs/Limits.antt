@@ -1,10 +1,6 @@
 -- The limits of values.
 use Rattle.std.specs.Prelude.{ℕ, ◌^◌}
 
--- how many digits a vector may have
-abbrev pub width_limit : ℕ
-width_limit = 128
-
 -- how many bytes a text may have
 abbrev pub text_limit : ℕ
 text_limit = 65536

@@ -1,15 +1,10 @@
 -- How values are shown, and the paths of a design.
-use Rattle.std.specs.Prelude.{ℕ, ◌<◌, length, List, ◌++◌, codes, map, reverse, true, false}
+use Rattle.std.specs.Prelude.{ℕ, ◌<◌, length, List, ◌++◌, codes, true, false}
 use Rattle.std.specs.Fmt.{decimal, signed_decimal}
-use Rattle.four_value.specs.declared.Digit.{Digit}
-use Rattle.four_value.specs.Vector.{digit_byte}
+use Rattle.four_value.specs.Vector.{digit_letters}
 use Rattle.py_value.specs.declared.value.Value.{Value}
 use Rattle.py_value.specs.declared.value.Value.TheVariants.{Absent, Truth, Whole, Text, Vector, Place, Words, Signal as Sig, Trigger, Task, Event, Lock, Clock, Caught}
 use Rattle.py_value.specs.Places.{Places, path_at}
-
--- the digits, the highest first
-abbrev pub digits_text : List Digit → List ℕ
-digits_text ds = map digit_byte (reverse ds)
 
 -- a kind of thing, and its number
 abbrev pub numbered : List ℕ → ℕ → List ℕ
@@ -21,7 +16,7 @@ shown places (Truth true) = codes "True"
 shown places (Truth false) = codes "False"
 shown places (Whole z) = signed_decimal z
 shown places (Text bs) = bs
-shown places (Vector ds) = digits_text ds
+shown places (Vector ds) = digit_letters ds
 shown places (Place n) = path_at places.nodes n
 shown places (Words s l n) = codes "<memory>"
 shown places (Sig s) = path_at places.signals s.0

@@ -1,7 +1,8 @@
 //! The texts of values.
 ghost use Rattle.std.specs.Prelude.{◌≡◌, IfOk};
 ghost use Rattle.std.specs.Fmt.{signed_decimal};
-ghost use Rattle.py_value.specs.Shown.{shown, digits_text, numbered, IsOf};
+ghost use Rattle.four_value.specs.Vector.{digit_letters};
+ghost use Rattle.py_value.specs.Shown.{shown, numbered, IsOf};
 
 use crate::{Paths, Value};
 use four_value::Bits;
@@ -19,7 +20,7 @@ fn number_text(alloc: Global, n: i128) -> Result<Name, NoMemory>
 /// The digits of a vector as `0`, `1`, `x` and `z`, the highest first, as cocotb 1.8's `BinaryValue.binstr` has them. Only want of memory
 /// is an error.
 pub fn digits_name(alloc: Global, bits: Bits) -> Result<Name, NoMemory>
-    ensures { IfOk result (λ name. name ≡ digits_text bits) }
+    ensures { IfOk result (λ name. name ≡ digit_letters bits) }
 {
     let text = bits.text();
     let count = bits.width() as usize;

@@ -2,6 +2,7 @@
 use Rattle.std.specs.Prelude.{◌≡◌, ◌⊎◌, ℕ, ◌<◌, ◌≤◌, List, ◌++◌, length, Option, None, Some, Ok, Err, codes, if◌then◌else◌}
 use Rattle.std.specs.Str.{bytes_eq}
 use Rattle.std.specs.Fmt.{decimal}
+use Rattle.port_io.specs.Limits.{most_bytes}
 use Rattle.py_syntax.specs.Line.{Line}
 use Rattle.py_syntax.specs.BlockTrees.{ModuleItem}
 use Rattle.py_syntax.specs.Modules.{SpellsModule, IsWithinLimits}
@@ -94,10 +95,6 @@ pub record ShowsBroken (source text : List ℕ) : Type 0 where
 
 abbrev pub ShowsText : Asked → List ℕ → List ℕ → Type 0
 ShowsText a source text = ShowsLogical a source text ⊎ ShowsBroken source text
-
--- the most bytes of a text that is read
-abbrev pub most_bytes : ℕ
-most_bytes = 1048576
 
 -- A text that isn't too long is read.
 pub record ShowsSource (a : Asked) (source text : List ℕ) : Type 0 where

@@ -9,6 +9,7 @@ ghost use Rattle.python_tests.specs.Answers.{ShowsAsked, ShowsBroken, ShowsLines
 
 use crate::lines::lines_text;
 use crate::row::repeated;
+use port_io::MOST_BYTES;
 use py_lex::{LineFault, logical_lines};
 use py_parse::{PyFault, parse};
 use py_print::module_text;
@@ -108,7 +109,7 @@ fn of_lines(alloc: Global, asked: Asked, lines: &Lines) -> Result<Vec<u8>, Alloc
 fn of_text(alloc: Global, asked: Asked, text: &[u8]) -> Result<Vec<u8>, AllocError>
     ensures { IfOk result (λ shown. ShowsSource asked text.now shown.items) }
 {
-    if text.len() > 1048576 {
+    if text.len() > MOST_BYTES {
         return b"too long".to_vec(alloc);
     }
     match logical_lines(alloc, text) {

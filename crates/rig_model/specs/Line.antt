@@ -1,8 +1,8 @@
 -- The lines of a run.
-use Rattle.std.specs.Prelude.{ℕ, Bool, true, false, List, [], ◌∷◌, ◌++◌, Option, None, Some, if◌then◌else◌, codes, map, reverse, slice_get}
+use Rattle.std.specs.Prelude.{ℕ, Bool, true, false, List, [], ◌∷◌, ◌++◌, Option, None, Some, if◌then◌else◌, codes, slice_get}
 use Rattle.std.specs.Fmt.{decimal}
 use Rattle.four_value.specs.declared.Digit.{Digit}
-use Rattle.four_value.specs.declared.Digit.TheVariants.{Zero, One, X, Z}
+use Rattle.four_value.specs.Vector.{digit_letters}
 use Rattle.gpi.specs.declared.design.Flat.{Flat}
 use Rattle.gpi.specs.declared.design.Signal.{Signal}
 use Rattle.gpi.specs.declared.types.SigId.{SigId}
@@ -69,16 +69,6 @@ report_line tests pass fail skip time =
 -- what stands in its place where the budget is reached
 abbrev pub budget_line : ℕ → List ℕ
 budget_line budget = codes "BUDGET " ++ decimal budget ++ 10 ∷ []
-
-abbrev pub digit_letter : Digit → ℕ
-digit_letter Zero = 48
-digit_letter One = 49
-digit_letter X = 120
-digit_letter Z = 122
-
--- a letter for each digit, that of the highest first
-abbrev pub digit_letters : List Digit → List ℕ
-digit_letters digits = reverse (map digit_letter digits)
 
 -- a signal has this value from now on
 abbrev pub sig_line : ℕ → List ℕ → List Digit → List ℕ

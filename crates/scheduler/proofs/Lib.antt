@@ -1,7 +1,6 @@
 pub mod PlaceLaws
 pub mod Results
 pub mod PutLaws
-pub mod DigitLaws
 pub mod ReasonLaws
 pub mod FitLaws
 pub mod StandLaws

@@ -2,7 +2,8 @@
 ghost use Rattle.std.specs.Prelude.{◌≡◌, ◌<◌, ◌++◌, length, Some, IfOk, OnOk, OnErr};
 ghost use Rattle.std.specs.Fmt.{decimal};
 ghost use Rattle.port_io.specs.Ports.{AppendsPart};
-ghost use Rattle.rig_model.specs.Line.{test_line, log_line, sig_line, verdict_line, report_line, budget_line, level_word, path_of, reason_of, digit_letters};
+ghost use Rattle.four_value.specs.Vector.{digit_letters};
+ghost use Rattle.rig_model.specs.Line.{test_line, log_line, sig_line, verdict_line, report_line, budget_line, level_word, path_of, reason_of};
 
 use four_value::Bits;
 use gpi::{Flat, SigId};

@@ -1,6 +1,6 @@
 //! The digits of a value that is written.
 ghost use Rattle.std.specs.Prelude.{◌≡◌, ◌≤◌, ◌-◌, ◌^◌, pos, neg_ℤ};
-ghost use Rattle.py_value.specs.Limits.{width_limit};
+ghost use Rattle.four_value.specs.Limits.{most_digits};
 ghost use Rattle.signal_port.specs.Written as meaning;
 
 use four_value::Bits;
@@ -11,7 +11,7 @@ use py_value::Value;
 #[tactic(auto, using(crate::proofs::Numbers::half_high))]
 fn half_of(width: u8) -> u128
     requires low { 1 ≤ width }
-    requires high { width ≤ width_limit }
+    requires high { width ≤ most_digits }
     ensures is { result ≡ 2 ^ (width - 1) }
     ensures fits { result ≤ 2 ^ 127 }
 {
@@ -22,7 +22,7 @@ fn half_of(width: u8) -> u128
 #[tactic(auto, using(crate::proofs::Numbers::naturals))]
 fn natural_bits(n: u128, width: u8) -> Result<Bits, FaultKind>
     requires low { 1 ≤ width }
-    requires high { width ≤ width_limit }
+    requires high { width ≤ most_digits }
     ensures { result ≡ meaning.number_bits width (pos n) }
 {
     let half = half_of(width);
@@ -38,7 +38,7 @@ fn natural_bits(n: u128, width: u8) -> Result<Bits, FaultKind>
 fn negative_bits(size: u128, width: u8) -> Result<Bits, FaultKind>
     requires some { 1 ≤ size }
     requires low { 1 ≤ width }
-    requires high { width ≤ width_limit }
+    requires high { width ≤ most_digits }
     ensures { result ≡ meaning.number_bits width (neg_ℤ (pos size)) }
 {
     let half = half_of(width);
@@ -52,7 +52,7 @@ fn negative_bits(size: u128, width: u8) -> Result<Bits, FaultKind>
 /// The digits of a whole number.
 fn number_bits(z: i128, width: u8) -> Result<Bits, FaultKind>
     requires low { 1 ≤ width }
-    requires high { width ≤ width_limit }
+    requires high { width ≤ most_digits }
     ensures { result ≡ meaning.number_bits width z }
 {
     if z < 0 {
@@ -67,7 +67,7 @@ fn number_bits(z: i128, width: u8) -> Result<Bits, FaultKind>
 /// has another width. A value of another kind is a TypeError. It takes no memory.
 pub fn to_bits(v: &Value, width: u8) -> Result<Bits, FaultKind>
     requires low { 1 ≤ width }
-    requires high { width ≤ width_limit }
+    requires high { width ≤ most_digits }
     ensures { result ≡ meaning.written_bits width v.now }
 {
     match v {

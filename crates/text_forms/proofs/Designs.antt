@@ -7,9 +7,10 @@ use Rattle.std.proofs.lemmas.Bool.{eqb-true, leb-true, le-leb}
 use Rattle.std.proofs.lemmas.List.{nil_from_length}
 use Rattle.std.proofs.lemmas.List.Elements.{All-nil, All-cons, All-head, All-tail, All-push}
 use Rattle.std.proofs.lemmas.Option.{same_Some, none-some}
+use Rattle.port_io.specs.Limits.{most_bytes}
 use Rattle.text_forms.specs.declared.front.FormError.{FormError}
 use Rattle.text_forms.specs.Front.{◌>>=◌, Fails, after, letter_at, looped}
-use Rattle.text_forms.specs.DesignForm.{IsLetter, most_bytes, most_ports, port_text, ports_text, design_text, ArePorts, IsDesign}
+use Rattle.text_forms.specs.DesignForm.{IsLetter, most_ports, port_text, ports_text, design_text, ArePorts, IsDesign}
 use Rattle.text_forms.specs.DesignReading.{port_at, port_step, ports_at, design_of}
 use Rattle.text_forms.proofs.Parts.{bind_some, if_some, unless_some, stepped_some, at_pair, fails_then, fails_as, after-append, after_takes}
 use Rattle.text_forms.proofs.Letters.{Differ, is_one, Differ-push, next_differs, letter_again, letter_takes}

@@ -6,10 +6,11 @@ use Rattle.std.proofs.lemmas.Bool.{eqb-true, leb-true, le-leb}
 use Rattle.std.proofs.lemmas.List.{append-nil, nil_from_length}
 use Rattle.std.proofs.lemmas.List.Elements.{All-weaker}
 use Rattle.std.proofs.lemmas.Option.{same_Some, none-some}
+use Rattle.port_io.specs.Limits.{most_bytes}
 use Rattle.rig_model.specs.declared.file.Function.{Function}
 use Rattle.rig_model.specs.declared.file.TestFile.{TestFile}
 use Rattle.text_forms.specs.Front.{◌>>=◌, after}
-use Rattle.text_forms.specs.DesignForm.{IsLetter, most_bytes, ArePorts}
+use Rattle.text_forms.specs.DesignForm.{IsLetter, ArePorts}
 use Rattle.text_forms.specs.TestsForm.{head_text, test_text, body_text, IsBody, names_of, AreNames, functions_text, file_with, IsTests}
 use Rattle.text_forms.specs.TestsReading.{body_at, functions_at, all_letters, file_at, tests_of}
 use Rattle.text_forms.proofs.Parts.{bind_some, if_some, after-append, after_takes}

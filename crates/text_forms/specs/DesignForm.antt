@@ -1,15 +1,12 @@
 -- What text a design is, and what it spells: its ports by letter.
 use Rattle.std.specs.Prelude.{◌≡◌, ◌≢◌, ℕ, suc, ◌≤◌, List, [], ◌∷◌, ◌++◌, length, map, All, codes}
 use Rattle.std.specs.List.{AllPairs}
+use Rattle.port_io.specs.Limits.{most_bytes}
 use Rattle.four_value.specs.declared.Digit.TheVariants.{Z}
 use Rattle.gpi.specs.declared.design.Flat.{Flat}
 use Rattle.gpi.specs.declared.design.Signal.{Signal}
 use Rattle.gpi.specs.declared.design.Spot.{Spot}
 use Rattle.gpi.specs.declared.design.Spot.TheVariants.{Sig}
-
--- no file is longer
-abbrev pub most_bytes : ℕ
-most_bytes = 1048576
 
 abbrev pub most_ports : ℕ
 most_ports = 26

@@ -1,8 +1,9 @@
 -- A design read from left to right.
 use Rattle.std.specs.Prelude.{ℕ, List, [], ◌∷◌, ◌++◌, length, Option, Some, None, codes, nat_le, ◌==◌, if◌then◌else◌}
 use Rattle.std.specs.List.{list_any}
+use Rattle.port_io.specs.Limits.{most_bytes}
 use Rattle.text_forms.specs.Front.{◌>>=◌, after, letter_at, stepped, looped}
-use Rattle.text_forms.specs.DesignForm.{most_bytes, most_ports}
+use Rattle.text_forms.specs.DesignForm.{most_ports}
 
 -- these ports and one more, which is none of them
 unfoldable pub port_at : List ℕ → List ℕ → Option (List ℕ × List ℕ)

@@ -2,13 +2,14 @@
 use Rattle.std.specs.Prelude.{◌≡◌, ◌≢◌, ◌⊎◌, ℕ, ◌≤◌, ◌<◌, Bool, List, [], ◌∷◌, ◌++◌, length, map, All, codes, slice_index, if◌then◌else◌}
 use Rattle.std.specs.List.{AllPairs, flat_map}
 use Rattle.std.specs.Fmt.{decimal}
+use Rattle.port_io.specs.Limits.{most_bytes}
 use Rattle.rig_model.specs.Sound.{AreSoundFunctions}
 use Rattle.rig_model.specs.declared.file.Function.{Function}
 use Rattle.rig_model.specs.declared.file.Statement.{Statement}
 use Rattle.rig_model.specs.declared.file.Statement.TheVariants.{Write, Timer, Assert, StartSoon, Start, Info}
 use Rattle.rig_model.specs.declared.file.TestCase.{TestCase}
 use Rattle.rig_model.specs.declared.file.TestFile.{TestFile}
-use Rattle.text_forms.specs.DesignForm.{IsLetter, most_bytes}
+use Rattle.text_forms.specs.DesignForm.{IsLetter}
 
 -- the largest number of steps that a Timer takes
 abbrev pub most_steps : ℕ

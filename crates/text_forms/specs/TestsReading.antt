@@ -6,7 +6,7 @@ use Rattle.rig_model.specs.declared.file.Statement.{Statement}
 use Rattle.rig_model.specs.declared.file.Statement.TheVariants.{Write, Timer, Assert, StartSoon, Start, Info}
 use Rattle.rig_model.specs.declared.file.TestFile.{TestFile}
 use Rattle.text_forms.specs.Front.{◌>>=◌, after, by_front, is_letter, letter_at, place_at, number_at, stepped, looped}
-use Rattle.text_forms.specs.DesignForm.{most_bytes}
+use Rattle.port_io.specs.Limits.{most_bytes}
 use Rattle.text_forms.specs.TestsForm.{head_text, most_text, file_with}
 
 -- a number of eight bits

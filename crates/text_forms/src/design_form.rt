@@ -8,11 +8,8 @@ ghost use Rattle.text_forms.specs.DesignReading.{port_at, ports_at, design_of};
 use crate::front::{FormError, is_among, letter, rest_after, skip};
 use four_value::Digit;
 use gpi::{Flat, Node, SigId, Signal, Spot};
-use port_io::{Name, NoMemory, Sequence};
+use port_io::{MOST_BYTES, Name, NoMemory, Sequence};
 use std::alloc::Global;
-
-/// No design and no tests file of the form has more bytes.
-pub const MOST_BYTES: usize = 1_048_576;
 
 /// One for each letter.
 const MOST_PORTS: usize = 26;

@@ -10,10 +10,9 @@ ghost use Rattle.text_forms.specs.DesignForm.{ArePorts};
 ghost use Rattle.text_forms.specs.TestsForm.{IsTests, FileIsWithin, file_with};
 ghost use Rattle.text_forms.specs.TestsReading.{byte_at, assigned_at, write_at, assert_at, timer_at, call_at, start_soon_at, start_at, is_text_byte, text_len, info_at, statement_at, body_at, name_at, past_empty_line, function_at, functions_at, file_at, tests_of};
 
-use crate::design_form::MOST_BYTES;
 use crate::front::{FormError, is_among, letter, number, place, rest_after, skip};
 use gpi::SigId;
-use port_io::{Name, NoMemory, Sequence};
+use port_io::{MOST_BYTES, Name, NoMemory, Sequence};
 use rig_model::{Function, Statement, TestCase, TestFile};
 use std::alloc::Global;
 

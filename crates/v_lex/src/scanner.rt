@@ -1,6 +1,7 @@
 //! The whole text, piece by piece.
 
 ghost use Rattle.std.specs.Prelude.{◌≡◌, ◌≤◌, ◌<◌, ◌+◌, ◌^◌, List, [], length, Option, None, IfOk, IfErr, OnOk};
+ghost use Rattle.port_io.specs.Limits.{most_bytes};
 ghost use Rattle.v_lex.specs.Lexing.{Scan, State, earlier, earliest, left_open, with_content, with_token, with_fault, after_content};
 ghost use Rattle.v_lex.specs.Row.{Reads};
 ghost use Rattle.v_lex.specs.Scan.{scan_of};
@@ -109,7 +110,7 @@ impl Found {
 
 /// What stands in the whole text, and the state at its end.
 fn scan(alloc: Global, text: &[u8]) -> Result<(Found, State), NoMemory>
-    requires { length text.now ≤ 1048576 }
+    requires { length text.now ≤ most_bytes }
     ensures found { IfOk result (λ x. found_with (of_found x.0) (end_of (state_of x.1)) ≡ found_with nothing (scan_of text.now)) }
     ensures state { IfOk result (λ x. state_of x.1 ≡ (scan_of text.now).last) }
 {
@@ -129,7 +130,7 @@ fn scan(alloc: Global, text: &[u8]) -> Result<(Found, State), NoMemory>
 /// The tokens of a Verilog text with their byte places, and what its directives set; or the first rule that it breaks,
 /// by place (IEEE 1364-2005, clauses 3 and 19). A conditional that stays open has the place of its opening directive.
 pub fn lex(alloc: Global, text: &[u8]) -> Result<Tokens, LexFault>
-    requires { length text.now ≤ 1048576 }
+    requires { length text.now ≤ most_bytes }
     // No rule is broken, and these are the text's tokens and places.
     ensures tokens { IfOk result (λ tokens. Reads text.now tokens) }
     // Otherwise it is the first broken rule.

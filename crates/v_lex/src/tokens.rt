@@ -1,6 +1,7 @@
 //! The tokens of a text.
 
 ghost use Rattle.std.specs.Prelude.{◌≡◌, ◌≤◌, ◌<◌, ◌+◌, ◌↔◌, length, slice_index, slice_index_or, IsTrue};
+ghost use Rattle.port_io.specs.Limits.{most_bytes};
 
 use std::marker::Model;
 use v_syntax::Token;
@@ -17,20 +18,21 @@ pub struct Tokens {
 
 impl Model for Tokens {
     ghost use Rattle.std.specs.Prelude.{◌≡◌, ◌≤◌, ◌+◌, length};
+    ghost use Rattle.port_io.specs.Limits.{most_bytes};
     ghost use Rattle.v_lex.specs.Lexing.{Lexed};
 
     ghost Value = { Lexed };
 
     ghost view = { λ t. record { tokens = t.tokens.items; places = t.places.items; unit = t.unit; step = t.step } };
 
-    ghost invariant = { λ t. (length t.places.items ≡ length t.tokens.items + 1) × (length t.tokens.items ≤ 1048576) };
+    ghost invariant = { λ t. (length t.places.items ≡ length t.tokens.items + 1) × (length t.tokens.items ≤ most_bytes) };
 }
 
 impl Tokens {
     /// The tokens, their places and behind them the end of the text, the unit, and the least precision.
     pub(crate) fn new(tokens: Vec<Token>, places: Vec<u32>, unit: u64, step: u64) -> Tokens
         requires paired { length places.items ≡ length tokens.items + 1 }
-        requires few { length tokens.items ≤ 1048576 }
+        requires few { length tokens.items ≤ most_bytes }
         ensures { result ≡ record { tokens = tokens.items; places = places.items; unit = unit; step = step } }
     {
         Tokens {
@@ -45,7 +47,7 @@ impl Tokens {
     pub fn len(&self) -> usize
         ensures is { result ≡ length self.now.tokens }
         ensures places { length self.now.places ≡ result + 1 }
-        ensures few { result ≤ 1048576 }
+        ensures few { result ≤ most_bytes }
     {
         self.tokens.len()
     }
@@ -76,7 +78,7 @@ impl Tokens {
     /// All tokens in order.
     pub fn as_slice(&self) -> &[Token]
         ensures all { result.now ≡ self.now.tokens }
-        ensures few { length self.now.tokens ≤ 1048576 }
+        ensures few { length self.now.tokens ≤ most_bytes }
     {
         &self.tokens
     }

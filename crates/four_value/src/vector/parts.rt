@@ -1,5 +1,6 @@
 //! Concatenations, parts and other widths (clauses 5.1.14, 5.2.1 and 5.6).
 ghost use Rattle.std.specs.Prelude.{◌≡◌, ◌≤◌, ◌+◌, ◌++◌, length};
+ghost use Rattle.four_value.specs.Limits.{most_digits};
 ghost use Rattle.four_value.specs.Vector as meaning;
 
 use super::{Bits, low_mask};
@@ -9,7 +10,7 @@ impl Bits {
     /// `{self, low}` (clause 5.1.14): the digits of `self` stand above those of `low`.
     #[tactic(auto, using(crate::proofs::Parts::long_view))]
     pub fn concat(self, low: Bits) -> Bits
-        requires { length self + length low ≤ 128 }
+        requires { length self + length low ≤ most_digits }
         ensures is { result ≡ low ++ self }
         ensures wide { length result ≡ length self + length low }
     {
@@ -39,7 +40,7 @@ impl Bits {
     /// are cut (clause 5.6).
     pub fn resize(self, width: u8) -> Bits
         requires low { 1 ≤ width }
-        requires high { width ≤ 128 }
+        requires high { width ≤ most_digits }
         ensures { result ≡ meaning.resize self width }
     {
         let mask = low_mask(width);

@@ -1,5 +1,6 @@
 //! One activation of a statement.
 ghost use Rattle.std.specs.Prelude.{◌≡◌, ℕ, ◌+◌, ◌<◌, ◌≤◌, ◌++◌, ◌∷◌, [], length, take, drop, OnOk, OnErr};
+ghost use Rattle.gpi.specs.Limits.{most_elements};
 ghost use Rattle.gpi.specs.Terms.{widths_of, read};
 ghost use Rattle.gpi.specs.Targets.{target_width, IsSoundTarget, updates_of, AreFitting, IsFitting};
 ghost use Rattle.gpi.specs.Cases.{first_match, AreLabels};
@@ -15,7 +16,7 @@ impl Act {
     /// Runs the statement from its beginning to its end: the map of signals becomes what the activation leaves, and its
     /// updates are appended. Without memory the map and what was appended are of no use; what was there before is kept.
     pub fn run(&self, signals: &mut Vec<Bits>, updates: &mut Vec<Update>) -> Result<(), NoMemory>
-        requires few { length signals.old.items ≤ 65536 }
+        requires few { length signals.old.items ≤ most_elements }
         requires sound { IsSound self.now (widths_of signals.old.items) }
         requires fits { AreFitting updates.old.items (widths_of signals.old.items) }
         ensures widths { widths_of signals.new.items ≡ widths_of signals.old.items }
@@ -66,7 +67,7 @@ fn first_match(
     labels: &Sequence<Label>,
     signals: &[Bits],
 ) -> Option<u32>
-    requires few { length signals.now ≤ 65536 }
+    requires few { length signals.now ≤ most_elements }
     requires sound { AreLabels labels.now (length value) (widths_of signals.now) }
     ensures { result ≡ first_match kind value labels.now (read signals.now) }
 {
@@ -86,7 +87,7 @@ fn assign(
     signals: &mut Vec<Bits>,
     updates: &mut Vec<Update>,
 ) -> Result<(), NoMemory>
-    requires few { length signals.old.items ≤ 65536 }
+    requires few { length signals.old.items ≤ most_elements }
     requires sound { IsSoundTarget target.now (widths_of signals.old.items) }
     requires wide { length bits ≡ target_width target.now }
     requires fits { AreFitting updates.old.items (widths_of signals.old.items) }
@@ -158,7 +159,7 @@ fn push_updates(
     signals: &[Bits],
     updates: &mut Vec<Update>,
 ) -> Result<(), NoMemory>
-    requires few { length signals.now ≤ 65536 }
+    requires few { length signals.now ≤ most_elements }
     requires sound { IsSoundTarget target.now (widths_of signals.now) }
     requires wide { length bits ≡ target_width target.now }
     requires fits { AreFitting updates.old.items (widths_of signals.now) }

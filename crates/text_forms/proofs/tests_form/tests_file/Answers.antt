@@ -2,7 +2,7 @@ use Rattle.std.proofs.Common.{List, ℕ, length, subst, arith}
 use Rattle.std.proofs.lemmas.Bool.{le-leb}
 use Rattle.rig_model.specs.declared.file.TestFile.{TestFile}
 use Rattle.text_forms.specs.Front.{Gives}
-use Rattle.text_forms.specs.DesignForm.{most_bytes}
+use Rattle.port_io.specs.Limits.{most_bytes}
 use Rattle.text_forms.specs.TestsReading.{all_letters, file_at, tests_of}
 use Rattle.text_forms.proofs.Functions.{found_few}
 use Rattle.text_forms.proofs.tests_form.tests_file.Goals as goal
