@@ -9,7 +9,7 @@ ghost use Rattle.v_expression.specs.Lists.{and_last};
 use four_value::Bits;
 use port_io::{Name, NoMemory, boxed};
 use std::alloc::{AllocError, Global};
-use v_syntax::{BinaryOperator, Expression, Operand, Select, Selects, UnaryOperator};
+use v_syntax::{BinaryOperator, Expression, Operand, Select, Selects, TokenNumber, UnaryOperator};
 
 /// An expression and its height.
 #[derive(Drop)]
@@ -40,7 +40,7 @@ pub struct MeasuredParts {
 }
 
 /// A number, of height 1.
-pub fn number(alloc: Global, at: usize, value: Bits) -> Result<Measured, NoMemory>
+pub fn number(alloc: Global, at: TokenNumber, value: Bits) -> Result<Measured, NoMemory>
     ensures tree { IfOk result (λ x. view x.expression.value ≡ Number at value) }
     ensures height { IfOk result (λ x. x.height ≡ 1) }
 {
@@ -52,7 +52,7 @@ pub fn number(alloc: Global, at: usize, value: Bits) -> Result<Measured, NoMemor
 /// A name and the selects behind it, of their height.
 pub fn named(
     alloc: Global,
-    at: usize,
+    at: TokenNumber,
     name: Name,
     found: MeasuredSelects,
 ) -> Result<Measured, NoMemory>
@@ -67,7 +67,7 @@ pub fn named(
 }
 
 /// An expression in parentheses, one higher than what stands inside.
-pub fn bracketed(alloc: Global, at: usize, found: Measured) -> Result<Measured, NoMemory>
+pub fn bracketed(alloc: Global, at: TokenNumber, found: Measured) -> Result<Measured, NoMemory>
     requires { found.height ≤ 1000 }
     ensures tree { IfOk result (λ x. view x.expression.value ≡ Bracketed at (view found.expression.value)) }
     ensures height { IfOk result (λ x. x.height ≡ found.height + 1) }
@@ -81,7 +81,7 @@ pub fn bracketed(alloc: Global, at: usize, found: Measured) -> Result<Measured, 
 /// A unary operator, one higher than its operand (IEEE 1364-2005, clause 5.1).
 pub fn unary(
     alloc: Global,
-    at: usize,
+    at: TokenNumber,
     operator: UnaryOperator,
     found: Measured,
 ) -> Result<Measured, NoMemory>
@@ -145,7 +145,7 @@ pub fn conditional(
 }
 
 /// `[ index ]`, as high as the index (clause 5.2.1).
-pub fn bit(alloc: Global, at: usize, found: Measured) -> Result<MeasuredSelect, NoMemory>
+pub fn bit(alloc: Global, at: TokenNumber, found: Measured) -> Result<MeasuredSelect, NoMemory>
     ensures tree { IfOk result (λ x. view_select x.select.value ≡ Bit at (view found.expression.value)) }
     ensures height { IfOk result (λ x. x.height ≡ found.height) }
 {
@@ -158,7 +158,7 @@ pub fn bit(alloc: Global, at: usize, found: Measured) -> Result<MeasuredSelect, 
 /// `[ left : right ]`, as high as the higher bound (clause 5.2.1).
 pub fn part(
     alloc: Global,
-    at: usize,
+    at: TokenNumber,
     left: Measured,
     right: Measured,
 ) -> Result<MeasuredSelect, NoMemory>
@@ -178,7 +178,7 @@ pub fn part(
 /// `[ base +: width ]`, as high as the higher of both (clause 5.2.1).
 pub fn indexed_part(
     alloc: Global,
-    at: usize,
+    at: TokenNumber,
     base: Measured,
     width: Measured,
 ) -> Result<MeasuredSelect, NoMemory>
@@ -219,7 +219,7 @@ pub fn one(alloc: Global, select: Select, highest: usize) -> Result<MeasuredSele
 /// The select behind the index of a word.
 pub fn of_word(
     alloc: Global,
-    at: usize,
+    at: TokenNumber,
     word: Measured,
     found: MeasuredSelect,
 ) -> Result<MeasuredSelects, NoMemory>
@@ -239,7 +239,11 @@ pub fn of_word(
 }
 
 /// `{ .. }`, one higher than the highest of its parts (clause 5.1.14).
-pub fn concatenation(alloc: Global, at: usize, found: MeasuredParts) -> Result<Measured, NoMemory>
+pub fn concatenation(
+    alloc: Global,
+    at: TokenNumber,
+    found: MeasuredParts,
+) -> Result<Measured, NoMemory>
     requires { found.height ≤ 1000 }
     ensures tree { IfOk result (λ x. view x.expression.value ≡ Concatenation at (views found.parts.items)) }
     ensures height { IfOk result (λ x. x.height ≡ found.height + 1) }
@@ -253,7 +257,7 @@ pub fn concatenation(alloc: Global, at: usize, found: MeasuredParts) -> Result<M
 /// `{ count { .. } }`, one higher than the highest of its count and its parts (clause 5.1.14).
 pub fn replication(
     alloc: Global,
-    at: usize,
+    at: TokenNumber,
     count: Measured,
     found: MeasuredParts,
 ) -> Result<Measured, NoMemory>

@@ -15,7 +15,7 @@ use crate::selects::selects_at;
 use port_io::Name;
 use std::alloc::Global;
 use v_phrase::{ReadError, after, behind, next, place, syntax_error};
-use v_syntax::{Mark, Token};
+use v_syntax::{Mark, Token, TokenNumber};
 
 /// A primary with so many levels below its own.
 #[cycle(expressions)]
@@ -51,7 +51,7 @@ fn named_at<'a>(
     alloc: Global,
     total: usize,
     room: usize,
-    at: usize,
+    at: TokenNumber,
     name: &Name,
     tokens: &'a [Token],
 ) -> Result<(Measured, &'a [Token]), ReadError>
@@ -107,7 +107,7 @@ fn inside_at(
     alloc: Global,
     total: usize,
     below: usize,
-    at: usize,
+    at: TokenNumber,
     first: Measured,
     tokens: &[Token],
 ) -> Result<(Measured, &[Token]), ReadError>
@@ -131,7 +131,7 @@ fn replication_at(
     alloc: Global,
     total: usize,
     below: usize,
-    at: usize,
+    at: TokenNumber,
     count: Measured,
     tokens: &[Token],
 ) -> Result<(Measured, &[Token]), ReadError>

@@ -13,7 +13,7 @@ use crate::measured::{
 use crate::operators::{down, expression_at};
 use std::alloc::Global;
 use v_phrase::{ReadError, after, behind, place};
-use v_syntax::{Mark, Select, Token};
+use v_syntax::{Mark, Select, Token, TokenNumber};
 
 /// The selects behind a name that has so many levels below its own.
 #[cycle(expressions)]
@@ -52,14 +52,18 @@ fn further_at(
     ensures height { IfOk result (λ x. IsMeasuredSelects (room + 1) x.0) }
 {
     let MeasuredSelect { select, height } = first;
-    match (Box::into_inner(select), behind(Mark::OpenBracket, tokens)) {
-        (Select::Bit { at, index }, Some(after)) => {
+    let select = Box::into_inner(select);
+    let Some(after) = behind(Mark::OpenBracket, tokens) else {
+        return Ok((one(alloc, select, height)?, tokens));
+    };
+    match select {
+        Select::Bit { at, index } => {
             let (found, rest) = select_at(alloc, total, room, tokens, after)?;
             let expression = index;
             let word = Measured { expression, height };
             Ok((of_word(alloc, at, word, found)?, rest))
         }
-        (select, _) => Ok((one(alloc, select, height)?, tokens)),
+        select => Ok((one(alloc, select, height)?, tokens)),
     }
 }
 
@@ -87,7 +91,7 @@ fn bound_at(
     alloc: Global,
     total: usize,
     below: usize,
-    at: usize,
+    at: TokenNumber,
     first: Measured,
     tokens: &[Token],
 ) -> Result<(MeasuredSelect, &[Token]), ReadError>
@@ -108,7 +112,7 @@ fn range_at(
     alloc: Global,
     total: usize,
     below: usize,
-    at: usize,
+    at: TokenNumber,
     first: Measured,
     tokens: &[Token],
 ) -> Result<(MeasuredSelect, &[Token]), ReadError>

@@ -12,7 +12,7 @@ use crate::selects::selects_at;
 use port_io::{Name, boxed};
 use std::alloc::Global;
 use v_phrase::{ReadError, after, behind, next, place, syntax_error};
-use v_syntax::{Mark, Operand, Target, Token};
+use v_syntax::{Mark, Operand, Target, Token, TokenNumber};
 
 /// A target with so many levels below its own.
 #[cycle(targets)]
@@ -40,7 +40,7 @@ fn named_target<'a>(
     alloc: Global,
     total: usize,
     room: usize,
-    at: usize,
+    at: TokenNumber,
     name: &Name,
     tokens: &'a [Token],
 ) -> Result<(Box<Target>, &'a [Token]), ReadError>
@@ -103,7 +103,7 @@ fn target_parts_at(
     Err(syntax_error(rest))
 }
 
-fn joined(at: usize, parts: Vec<Target>) -> Target
+fn joined(at: TokenNumber, parts: Vec<Target>) -> Target
     ensures { view_target result ≡ JoinedTarget at (view_targets parts.items) }
 {
     Target::Concatenation { at, parts }

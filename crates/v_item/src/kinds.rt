@@ -9,7 +9,7 @@ ghost use Rattle.v_syntax.specs.SourceTrees.{view_range, view_head, view_net, vi
 use port_io::unboxed;
 use v_syntax::{
     Connections, EventControl, Identifier, Item, ItemKind, NetDeclarator, ParameterAssignment,
-    ParameterKind, PortHead, Range, RegisterDeclarator, Statement,
+    ParameterKind, PortHead, Range, RegisterDeclarator, Statement, TokenNumber,
 };
 
 /// `input` or `output` of these names, which the header has (IEEE 1364-2005, clause 12.3.3).
@@ -88,7 +88,7 @@ pub fn instance_kind(
 }
 
 /// An item whose first token has that number.
-pub fn item_with(at: usize, kind: Box<ItemKind>) -> Item
+pub fn item_with(at: TokenNumber, kind: Box<ItemKind>) -> Item
     ensures { view_item result ≡ ItemAt at (view_kind kind.value) }
 {
     let kind = Box::into_inner(kind);

@@ -8,7 +8,7 @@ ghost use Rattle.v_phrase.specs.Stops;
 ghost use Rattle.v_phrase.specs.Stops.{Gives};
 
 use crate::read_error::ReadError;
-use v_syntax::{Keyword, Mark, Token};
+use v_syntax::{Keyword, Mark, Token, TokenNumber};
 
 /// The first token and the tokens behind it.
 pub fn next(tokens: &[Token]) -> Option<(&Token, &[Token])>
@@ -70,10 +70,10 @@ pub fn starts_word(word: Keyword, tokens: &[Token]) -> bool
 }
 
 /// The number of the token with which the tokens begin, in a text of `total` tokens.
-pub fn place(total: usize, tokens: &[Token]) -> usize
+pub fn place(total: usize, tokens: &[Token]) -> TokenNumber
     ensures { result ≡ ExpressionSpans.place total tokens.now }
 {
-    total.saturating_sub(tokens.len())
+    TokenNumber::new(total.saturating_sub(tokens.len()))
 }
 
 /// No tree goes through the first of the tokens.

@@ -16,7 +16,9 @@ use v_expression::{ExpressionPhrase, expression};
 use v_phrase::{
     ReadError, after, after_word, listed, name, place as number_of, starts_mark, starts_word,
 };
-use v_syntax::{CaseKind, Expression, ForHeader, Keyword, Mark, Statement, StatementPlace, Token};
+use v_syntax::{
+    CaseKind, Expression, ForHeader, Keyword, Mark, Statement, StatementPlace, Token, TokenNumber,
+};
 
 // ---- blocks
 
@@ -209,7 +211,7 @@ pub fn for_head(
     total: usize,
     room: usize,
     tokens: &[Token],
-) -> Result<((usize, Box<ForHeader>), &[Token]), ReadError>
+) -> Result<((TokenNumber, Box<ForHeader>), &[Token]), ReadError>
     requires { room < 1000 }
     ensures { Gives (λ x. ((x.0.0, view_header x.0.1.value), x.1.now)) result (for_head_of total room tokens.now) }
 {

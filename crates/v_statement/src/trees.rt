@@ -9,7 +9,7 @@ ghost use Rattle.v_statement.specs.Reading.{case_item_tree, case_with};
 
 use port_io::Name;
 use std::alloc::AllocError;
-use v_syntax::{CaseItem, CaseKind, Expression, ForHeader, Statement};
+use v_syntax::{CaseItem, CaseKind, Expression, ForHeader, Statement, TokenNumber};
 
 /// A block of its label and its statements.
 pub fn block(label: Option<Name>, statements: Vec<Statement>) -> Statement
@@ -42,7 +42,7 @@ pub fn case_item(labels: Option<Vec<Expression>>, statement: Box<Statement>) -> 
 }
 
 /// A loop of its first parts and its body.
-pub fn for_statement(head: (usize, Box<ForHeader>), body: Box<Statement>) -> Statement
+pub fn for_statement(head: (TokenNumber, Box<ForHeader>), body: Box<Statement>) -> Statement
     ensures { view result ≡ for_tree (head.0, view_header head.1.value) (view body.value) }
 {
     let (at, header) = head;
