@@ -148,6 +148,7 @@ whole_gets s o e w = let v = object_vector o (width_of o.bounds) refl e w in rec
   width_is = refl;
   gets = λ m ds l. sym (ap (λ (r : Option Bounds). object_update o r s Whole m ds) e);
   sound = λ ws h k. (let g = v.sound ws h in (g.0, g.1, w));
+  depth_is = refl;
 }
 
 part_gets : (s : Scope) (o : DataObject) (sel : SelectTree) (x : Choice) → o.words ≡ None → IsWidth (width_of o.bounds) → Chooses s sel x
@@ -163,6 +164,7 @@ part_gets s o sel x e w k = let v = object_vector o (width_of o.bounds) refl e w
       (sym k.own)
       ∙ sym (ap (λ (r : Option Bounds). object_update o r s (One sel) m ds) e);
   sound = λ ws h q. (let g = v.sound ws h in ((g.0, g.1, w), k.sound ws q, k.proper));
+  depth_is = refl;
 }
 
 never : {A : Type 0} (R : CheckedTarget → Type 0) (p : ℕ) (x : Found A) → Holds R (and_then x (λ a. broken rule.BadRange p))
@@ -200,6 +202,7 @@ word_gets s q i o r t e w k = let v = object_memory o r e w in record {
       ap (λ (es : List Digit). whole_update (word_at (words_of o.first r) (number es)) ds) (k.means m)
       ∙ sym (ap (λ (r : Option Bounds). object_update o r s (One (Bit q i)) m ds) e);
   sound = λ ws h g. (k.sound ws g, v.sound ws h);
+  depth_is = refl;
 }
 
 word_part_gets : (s : Scope) (q : ℕ) (i : Tree) (sel : SelectTree) (o : DataObject) (r : Bounds) (y : Term × Choice) → o.words ≡ Some r
@@ -218,6 +221,7 @@ word_part_gets s q i sel o r y e w st k = let v = object_memory o r e w in recor
       (overlap_of (range_of o.bounds) (width_of o.bounds) (select_base s sel m) n) ds) (sym k.own)
       ∙ sym (ap (λ (r : Option Bounds). object_update o r s (OfWord q i sel) m ds) e);
   sound = λ ws h g. ((st.sound ws g.0, v.sound ws h), k.sound ws g.1, k.proper);
+  depth_is = refl;
 }
 
 one_gets : (fixed : Bool) (s : Scope) (sel : SelectTree) (o : DataObject) (r : Bounds) (y : CheckedSelect) → o.words ≡ Some r

@@ -1,0 +1,4 @@
+pub mod Joined
+pub mod Added
+pub mod Whole
+pub mod Walked
