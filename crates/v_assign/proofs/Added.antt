@@ -25,7 +25,7 @@ use Rattle.v_assign.specs.declared.parts.TargetParts.{TargetParts}
 use Rattle.v_assign.specs.Braces.{widths, updates_in, AreSoundTargets, deepest}
 use Rattle.v_assign.specs.Made.{HasPart, AreMoreTargets}
 use Rattle.v_assign.specs.Targets.{GetsAs, IsTarget, GetAsAll, AreTargets, ChecksMoreTargets, TargetsNamesOf}
-use Rattle.v_assign.proofs.Joined.{widths_append, updates_append, deepest_append, slice_slice}
+use Rattle.v_assign.proofs.Halves.{widths_append, updates_append, deepest_append, slice_slice}
 
 -- ---- no part
 

@@ -1,4 +1,4 @@
-pub mod Joined
+pub mod Halves
 pub mod Added
 pub mod Whole
 pub mod Walked

@@ -5,7 +5,7 @@ ghost use Rattle.v_assign.specs.Made.{IsClosed, IsOne};
 ghost use Rattle.v_assign.specs.Targets.{ChecksBraces};
 
 use crate::TargetParts;
-use crate::joined::joined;
+use crate::balanced::joined;
 use gpi::{Object, SigId, Target};
 use port_io::NoMemory;
 use std::alloc::Global;

@@ -5,8 +5,8 @@
 //! is the whole of them, whatever found them. Which digits of nets are driven is left to the crates above.
 #![tactic(auto)]
 
+mod balanced;
 mod braces;
-mod joined;
 mod parts;
 mod walk;
 

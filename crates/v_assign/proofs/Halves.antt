@@ -1,14 +1,13 @@
 -- Many targets by their lower and their higher ones.
-use Rattle.std.proofs.Common.{◌≡◌, ℕ, zero, suc, ◌+◌, ◌-◌, ◌*◌, ◌^◌, ◌≤◌, max, List, [], ◌∷◌, ◌++◌, length, take, drop, refl, sym, ap, ◌∙◌, subst, append_assoc, arith}
+use Rattle.std.proofs.Common.{◌≡◌, ℕ, zero, suc, ◌+◌, ◌-◌, ◌*◌, ◌^◌, ◌≤◌, max, List, [], ◌∷◌, ◌++◌, length, take, drop, refl, sym, ap, ◌∙◌, subst, append_assoc, arith, Box, Global}
 use Rattle.std.proofs.Math.Nat.{pow-suc}
-use Rattle.std.proofs.lemmas.List.{append-nil, drop-drop, drop-take, length-append, length-drop, length-take-le, take-append-drop, take-take, take_all}
+use Rattle.std.proofs.lemmas.List.{append-nil, drop-drop, drop-take, length-append, length-drop, length-take-le, take-append-drop, take-take}
 use Rattle.four_value.specs.declared.Digit.{Digit}
-use Rattle.four_value.specs.Limits.{most_digits}
 use Rattle.four_value.specs.Vector.{slice}
 use Rattle.four_value.proofs.Lengths.{length_slice}
 use Rattle.gpi.specs.declared.types.Update.{Update}
-use Rattle.gpi.specs.declared.targets.Target.{Target}
-use Rattle.gpi.specs.Targets.{target_width, updates_of, IsSoundTarget, MakesJoin}
+use Rattle.gpi.specs.declared.targets.Target.{Target, Join}
+use Rattle.gpi.specs.Targets.{target_width, updates_of, MakesJoin}
 use Rattle.v_target.specs.Targets.{depth}
 use Rattle.v_assign.specs.Braces.{widths, updates_in, AreSoundTargets, deepest, MakesAll}
 
@@ -108,7 +107,7 @@ joined xs ys a b t half low high made deep =
     }
 
 -- the parts below a place, and those from it on
-pub joined_at : (ts : List Target) (k : ℕ) (a b t : Target) → 1 ≤ k → 2 * k ≤ length ts → length ts ≤ 2 * k + 1 → MakesAll (take k ts) b → MakesAll (drop k ts) a
+joined_at : (ts : List Target) (k : ℕ) (a b t : Target) → 1 ≤ k → 2 * k ≤ length ts → length ts ≤ 2 * k + 1 → MakesAll (take k ts) b → MakesAll (drop k ts) a
     → MakesJoin a b t → depth t ≡ 1 + max (depth a) (depth b) → MakesAll ts t
 joined_at ts k a b t some low_half high_half low high made deep =
     let n = length-take-le k ts (omega (arith, low_half)) in
@@ -117,11 +116,10 @@ joined_at ts k a b t some low_half high_half low high made deep =
     (joined (take k ts) (drop k ts) a b t
     (omega (arith, n, some), omega (arith, n, d, low_half), omega (arith, n, d, high_half)) low high made deep)
 
--- a single part
-pub single : (t : Target) → MakesAll (t ∷ []) t
-single t = record {
-  width_is = omega arith;
-  gets = λ m ds l. ap (λ (es : List Digit). updates_of t m es) (sym (take_all (target_width t) ds (omega (arith, l))));
-  sound = λ ws h fits. h.0;
-  balanced = λ k few. omega arith;
-}
+-- two targets on the heap
+pub joined_boxes : (ts : List Target) (k : ℕ) (a b : Target) (p q : Box Target Global) → 1 ≤ k → 2 * k ≤ length ts → length ts ≤ 2 * k + 1 → MakesAll (take k ts) b
+    → MakesAll (drop k ts) a → p.value ≡ a → q.value ≡ b → MakesAll ts (Join p q)
+joined_boxes ts k a b p q some low_half high_half low high e f =
+    joined_at ts k p.value q.value (Join p q) some low_half high_half
+    (subst (λ (t : Target). MakesAll (take k ts) t) (sym f) low) (subst (λ (t : Target). MakesAll (drop k ts) t) (sym e) high)
+    (record { updates_are = λ m ds. refl; width_is = refl; sound = λ ws h. h }) refl
