@@ -1,5 +1,5 @@
 -- What is found in braces.
-use Rattle.std.proofs.Common.{◌≡◌, ℕ, zero, suc, ◌+◌, ◌*◌, ◌≤◌, List, [], ◌∷◌, length, Bool, true, false, nat_le, nat_lt, refl, sym, ap, ◌∙◌, arith}
+use Rattle.std.proofs.Common.{◌≡◌, ℕ, zero, suc, ◌+◌, ◌*◌, ◌≤◌, List, [], ◌∷◌, length, Bool, true, false, nat_le, nat_lt, Result, Ok, Err, IfOk, refl, sym, ap, ◌∙◌, arith}
 use Rattle.std.proofs.lemmas.Bool.Decides.{nat_tests}
 use Rattle.four_value.specs.declared.Digit.{Digit}
 use Rattle.gpi.specs.declared.targets.Target.{Target}
@@ -22,7 +22,7 @@ use Rattle.v_target.specs.Targets.{depth}
 use Rattle.v_assign.specs.declared.parts.TargetParts.{TargetParts}
 use Rattle.v_assign.specs.Braces.{widths, deepest}
 use Rattle.v_assign.specs.Made.{IsClosed, IsOne, IsWhole}
-use Rattle.v_assign.specs.Targets.{GetsAs, IsTarget, GetAsAll, AreTargets, all_braces}
+use Rattle.v_assign.specs.Targets.{GetsAs, IsTarget, GetAsAll, AreTargets, ChecksBraces, all_braces}
 
 abbrev width_found : Found CheckedTarget → Found ℕ
 width_found f = each (λ (c : CheckedTarget). c.width) f
@@ -98,7 +98,7 @@ braces_found : (s : Scope) (p : ℕ) (ts : TargetTrees) (b : Found ℕ) (y : Fou
     → sized p (filled p (each (λ (x : TargetParts). x.width) y)) ≡ each counted_width (sized p (filled p b))
 braces_found s p ts b y h = ap (λ (x : Found ℕ). sized p (filled p x)) h.finds ∙ sym (closed_counted p b)
 
-pub sound_braces : (s : Scope) (p : ℕ) (ts : TargetTrees) (b : Found ℕ) (x : TargetParts) (f : Found CheckedTarget) → IsClosed p x f → AreTargets s ts b (Sound x)
+sound_braces : (s : Scope) (p : ℕ) (ts : TargetTrees) (b : Found ℕ) (x : TargetParts) (f : Found CheckedTarget) → IsClosed p x f → AreTargets s ts b (Sound x)
     → IsTarget s (JoinedTarget p ts) (sized p (filled p b)) f
 sound_braces s p ts b x f closed h = record {
   finds = closed.finds ∙ braces_found s p ts b (Sound x) h;
@@ -112,7 +112,7 @@ noted_closed : (p : ℕ) (a : Broken) (w : ℕ) (some : Bool)
 noted_closed p a w true = refl
 noted_closed p a w false = refl
 
-pub noted_braces : (s : Scope) (p : ℕ) (ts : TargetTrees) (b : Found ℕ) (a : Broken) (x : TargetParts) (f : Found CheckedTarget) → IsClosed p x f
+noted_braces : (s : Scope) (p : ℕ) (ts : TargetTrees) (b : Found ℕ) (a : Broken) (x : TargetParts) (f : Found CheckedTarget) → IsClosed p x f
     → AreTargets s ts b (Noted a x) → IsTarget s (JoinedTarget p ts) (sized p (filled p b)) (noted a f)
 noted_braces s p ts b a x f closed h = record {
   finds = each_noted (λ (c : CheckedTarget). c.width) a f ∙ ap (λ (y : Found ℕ). noted a y) closed.finds
@@ -120,6 +120,18 @@ noted_braces s p ts b a x f closed h = record {
   holds = holds_noted (λ (c : CheckedTarget). GetsAs s (JoinedTarget p ts) c) a f;
 }
 
-pub lost_braces : (s : Scope) (p : ℕ) (ts : TargetTrees) (b : Found ℕ) (a : Broken) → AreTargets s ts b (Lost a)
+lost_braces : (s : Scope) (p : ℕ) (ts : TargetTrees) (b : Found ℕ) (a : Broken) → AreTargets s ts b (Lost a)
     → IsTarget s (JoinedTarget p ts) (sized p (filled p b)) (Lost a)
 lost_braces s p ts b a h = record { finds = braces_found s p ts b (Lost a) h; holds = tt }
+
+-- ---- what the code answers
+
+pub sound_result : {E : Type 0} (p : ℕ) (x : TargetParts) (r : Result (Found CheckedTarget) E) → IfOk r (IsClosed p x) → IfOk r (ChecksBraces p (Sound x))
+sound_result p x (Ok f) closed = λ s ts b h. sound_braces s p ts b x f closed h
+sound_result p x (Err e) closed = tt
+
+pub noted_result : (p : ℕ) (a : Broken) (x : TargetParts) (f : Found CheckedTarget) → IsClosed p x f → ChecksBraces p (Noted a x) (noted a f)
+noted_result p a x f closed = λ s ts b h. noted_braces s p ts b a x f closed h
+
+pub lost_result : (p : ℕ) (a : Broken) → ChecksBraces p (Lost a) (Lost a)
+lost_result p a = λ s ts b h. lost_braces s p ts b a h

@@ -1,8 +1,7 @@
 //! The digits that are driven so far.
 
-ghost use Rattle.std.specs.Prelude.{◌≡◌, List, [], ◌∷◌, ◌++◌, OnErr, OnOk};
-ghost use Rattle.v_flat.specs.Targets.{Drive, is_driven};
-ghost use Rattle.v_drive.specs.Digits.{IsInVector, Keeps, drive_of};
+ghost use Rattle.std.specs.Prelude.{◌≡◌, [], OnErr, OnOk};
+ghost use Rattle.v_drive.specs.Digits.{IsInVector, Keeps, KeepsMore, KeepsSame, TellsDriven, drive_of};
 ghost use Rattle.v_drive.specs.Masks.{mask_at};
 
 use crate::Drive;
@@ -38,7 +37,7 @@ impl DrivenDigits {
     /// Whether one of these digits is driven already.
     pub fn has(&self, drive: Drive) -> bool
         requires { IsInVector (drive_of drive) }
-        ensures { (ds : List Drive) → Keeps self.now ds → result ≡ is_driven (drive_of drive) ds }
+        ensures { TellsDriven self.now (drive_of drive) result }
     {
         self.mask(drive.signal) & drive.mask() != 0
     }
@@ -46,8 +45,8 @@ impl DrivenDigits {
     /// From now on these digits are driven too. After `NoMemory` those that were are.
     pub fn add(&mut self, drive: Drive) -> Result<(), NoMemory>
         requires { IsInVector (drive_of drive) }
-        ensures ok { OnOk result ((ds : List Drive) → Keeps self.old ds → Keeps self.new (ds ++ (drive_of drive ∷ []))) }
-        ensures err { OnErr result ((ds : List Drive) → Keeps self.old ds → Keeps self.new ds) }
+        ensures ok { OnOk result (KeepsMore self.old (drive_of drive) self.new) }
+        ensures err { OnErr result (KeepsSame self.old self.new) }
     {
         let mask = self.mask(drive.signal) | drive.mask();
         self.masks.insert(drive.signal.0, mask)?;
