@@ -1,10 +1,9 @@
 -- Drives that have a digit in common, by their masks.
-use Rattle.std.proofs.Common.{◌≡◌, ℕ, ◌+◌, ◌<◌, ◌≤◌, ◌==◌, ◌&&◌, ◌||◌, not, max, min, Bool, true, false, nat_eq, nat_le, nat_lt, cond, bit_and, bit_or, List, [], ◌∷◌, ◌++◌, Some, None, Option, unwrap_or, refl, sym, ap, ◌∙◌, subst, arith}
+use Rattle.std.proofs.Common.{◌≡◌, ℕ, ◌+◌, ◌<◌, ◌≤◌, ◌==◌, ◌&&◌, ◌||◌, not, max, min, Bool, true, false, nat_eq, nat_lt, bit_and, bit_or, List, [], ◌∷◌, ◌++◌, refl, sym, ap, ◌∙◌, arith}
 use Rattle.std.proofs.lemmas.Bool.Decides.{nat_tests}
 use Rattle.std.proofs.lemmas.List.Folds.{list_any-append}
 use Rattle.std.proofs.lemmas.Nat.Bits.{bit_at-zero, bit_at_and, bit_at_or, same_from_bits}
 use Rattle.std.specs.Int.{bit_at, from_bool}
-use Rattle.std.specs.List.{list_any}
 use Rattle.four_value.specs.Limits.{most_digits}
 use Rattle.v_flat.specs.Targets.{Drive, meets, is_driven}
 use Rattle.v_drive.specs.Digits.{IsInVector, digit}

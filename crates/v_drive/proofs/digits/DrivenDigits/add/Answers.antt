@@ -1,5 +1,5 @@
 -- The mask of the net has the new drive's too.
-use Rattle.std.proofs.Common.{◌≡◌, ℕ, bit_or, ap, ◌∙◌}
+use Rattle.std.proofs.Common.{ℕ, bit_or, ap, ◌∙◌}
 use Rattle.v_drive.specs.Digits.{drive_of}
 use Rattle.v_drive.specs.Masks.{mask_at}
 use Rattle.v_drive.proofs.Kept.{added}

@@ -1,7 +1,7 @@
 -- The mask of the new drive, and that of its net.
-use Rattle.std.proofs.Common.{◌≡◌, ℕ, Bool, not, nat_eq, bit_and, ap, ◌∙◌}
+use Rattle.std.proofs.Common.{ℕ, not, nat_eq, bit_and, ap, ◌∙◌}
 use Rattle.v_drive.specs.Digits.{drive_of}
-use Rattle.v_drive.specs.Masks.{mask, mask_at}
+use Rattle.v_drive.specs.Masks.{mask_at}
 use Rattle.v_drive.proofs.Meets.{meets_mask}
 use Rattle.v_drive.proofs.digits.DrivenDigits.has.Goals as goal
 

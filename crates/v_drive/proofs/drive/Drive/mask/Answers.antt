@@ -1,5 +1,5 @@
 -- A drive of some digits.
-use Rattle.std.proofs.Common.{◌≡◌, ◌≢◌, arith}
+use Rattle.std.proofs.Common.{arith}
 use Rattle.v_drive.proofs.Bits.{mask_shifted}
 use Rattle.v_drive.proofs.drive.Drive.mask.Goals as goal
 
