@@ -1,5 +1,5 @@
--- No part, and a part before others.
-use Rattle.std.proofs.Common.{◌≡◌, ℕ, ◌+◌, ◌*◌, ◌≤◌, max, List, [], ◌∷◌, ◌++◌, length, Result, Ok, Err, IfOk, refl, sym, ap, ◌∙◌, subst, arith}
+-- A part before others.
+use Rattle.std.proofs.Common.{◌≡◌, ℕ, ◌+◌, ◌≤◌, max, List, [], ◌∷◌, ◌++◌, length, Result, Ok, Err, IfOk, sym, ap, ◌∙◌, subst, arith}
 use Rattle.std.proofs.lemmas.List.{length_push}
 use Rattle.four_value.specs.declared.Digit.{Digit}
 use Rattle.four_value.specs.Vector.{slice}
@@ -7,9 +7,8 @@ use Rattle.four_value.proofs.Lengths.{length_slice}
 use Rattle.gpi.specs.declared.types.Update.{Update}
 use Rattle.gpi.specs.declared.targets.Target.{Target}
 use Rattle.gpi.specs.Targets.{target_width, updates_of, IsSoundTarget}
-use Rattle.v_syntax.specs.ExpressionTrees.{TargetTree, TargetTrees, no_target, more_targets}
+use Rattle.v_syntax.specs.ExpressionTrees.{TargetTree, TargetTrees, more_targets}
 use Rattle.v_scope.specs.declared.found.Found.{Found}
-use Rattle.v_scope.specs.declared.found.Found.TheVariants.{Sound}
 use Rattle.v_scope.specs.Found.{each, both}
 use Rattle.v_scope.specs.Scope.{Scope}
 use Rattle.v_scope.specs.Limits.{counted_width}
@@ -24,23 +23,8 @@ use Rattle.v_target.specs.Targets.{depth}
 use Rattle.v_assign.specs.declared.parts.TargetParts.{TargetParts}
 use Rattle.v_assign.specs.Braces.{widths, updates_in, AreSoundTargets, deepest}
 use Rattle.v_assign.specs.Made.{HasPart, AreMoreTargets}
-use Rattle.v_assign.specs.Targets.{GetsAs, IsTarget, GetAsAll, AreTargets, ChecksMoreTargets, TargetsNamesOf}
+use Rattle.v_assign.specs.Targets.{GetsAs, IsTarget, GetAsAll, AreTargets, ChecksMoreTargets}
 use Rattle.v_assign.proofs.Halves.{widths_append, updates_append, deepest_append, slice_slice}
-
--- ---- no part
-
-pub none_checked : (s : Scope) (x : TargetParts) → x.width ≡ 0 → x.targets.items ≡ [] → AreTargets s no_target (Sound 0) (Sound x)
-none_checked s x e h = record {
-  finds = ap (λ (n : ℕ). (let r : Found ℕ = Sound n in r)) e;
-  holds = record {
-    own = e;
-    sum = ap (λ (ts : List Target). widths ts) h;
-    gets = λ m ds l. ap (λ (ts : List Target). updates_in ts m ds) h;
-    sound = λ ws k. subst (λ (ts : List Target). AreSoundTargets ts ws) (sym h) tt;
-    few = ap (λ (ts : List Target). length ts) h;
-    balanced = ap (λ (ts : List Target). deepest ts) h;
-  };
-}
 
 -- ---- one more part above others
 
@@ -92,10 +76,10 @@ more_gets s t ts a x y made st rest =
       sound = λ ws k. subst (λ (ts : List Target). AreSoundTargets ts ws) (sym made.targets_are)
           (sound_end x.targets.items a.target ws (rest.sound ws k.1) (st.sound ws k.0));
       few = (let e : length y.targets.items ≡ length x.targets.items + 1 = ap (λ (ts : List Target). length ts) made.targets_are ∙ length_push x.targets.items a.target in
-      let f = rest.few in omega (arith, e, f, own, low));
+          let f = rest.few in omega (arith, e, f, own, low));
       balanced = (let e : deepest y.targets.items ≡ max (deepest x.targets.items) (depth a.target) =
-      ap (λ (ts : List Target). deepest ts) made.targets_are ∙ deepest_end x.targets.items a.target in
-      let p = st.balanced in let q = rest.balanced in omega (arith, e, p, q));
+          ap (λ (ts : List Target). deepest ts) made.targets_are ∙ deepest_end x.targets.items a.target in
+          let p = st.balanced in let q = rest.balanced in omega (arith, e, p, q));
     }
 
 sum_counted : (a b : ℕ) → counted_width (counted_width a + counted_width b) ≡ counted_width (a + b)

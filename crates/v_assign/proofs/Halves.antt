@@ -13,7 +13,7 @@ use Rattle.v_assign.specs.Braces.{widths, updates_in, AreSoundTargets, deepest, 
 
 -- ---- the updates
 
-slice_slice : (ds : List Digit) (k n j i l : ℕ) → k + j ≡ l → j + i ≤ n → slice (slice ds k n) j i ≡ slice ds l i
+pub slice_slice : (ds : List Digit) (k n j i l : ℕ) → k + j ≡ l → j + i ≤ n → slice (slice ds k n) j i ≡ slice ds l i
 slice_slice ds k n j i l e h =
     ap (λ (w : ℕ). take i (drop j (take w (drop k ds)))) (let q : n ≡ j + (n - j) = omega (arith, h) in q)
     ∙ ap (λ (xs : List Digit). take i xs) (drop-take j (n - j) (drop k ds))

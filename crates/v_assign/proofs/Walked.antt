@@ -1,18 +1,18 @@
--- A name with selects, and a part before those behind it.
-use Rattle.std.proofs.Common.{◌≡◌, ℕ, ◌+◌, ◌<◌, List, length, drop, get_or, refl, sym, ap, ◌∙◌, subst, arith}
+-- A name with selects, braces, and a part before those behind it.
+use Rattle.std.proofs.Common.{◌≡◌, ℕ, ◌+◌, ◌<◌, List, length, drop, get_or, Result, Ok, Err, IfOk, refl, sym, ap, subst, arith}
 use Rattle.std.proofs.lemmas.List.{drop_more}
 use Rattle.v_syntax.specs.declared.expression.Target as code_target
 use Rattle.v_syntax.specs.declared.expression.Target.{Row_of-Target, end_of-Target, more_of-Target}
 use Rattle.v_syntax.specs.declared.expression.Target.TheBlock.{items-the_row-Target}
-use Rattle.v_syntax.specs.ExpressionTrees.{SelectsTree, TargetTrees, NamedTarget, more_targets, view_target, view_target_row, view_targets}
+use Rattle.v_syntax.specs.ExpressionTrees.{SelectsTree, TargetTrees, NamedTarget, JoinedTarget, more_targets, view_target, view_target_row, view_targets}
 use Rattle.v_scope.specs.declared.found.Found.{Found}
 use Rattle.v_scope.specs.Scope.{Scope, find}
 use Rattle.v_scope.proofs.Gathered.{holds_so}
 use Rattle.v_flat.specs.Targets.{Procedural, targets_checked}
 use Rattle.v_target.specs.declared.checked.CheckedTarget.{CheckedTarget}
-use Rattle.v_target.specs.Targets.{GetsAsName, IsNamedTarget, depth}
+use Rattle.v_target.specs.Targets.{GetsAsName, IsNamedTarget}
 use Rattle.v_assign.specs.declared.parts.TargetParts.{TargetParts}
-use Rattle.v_assign.specs.Targets.{GetsAs, IsProcedural, AreProcedural, AreTargets}
+use Rattle.v_assign.specs.Targets.{GetsAs, IsProcedural, AreProcedural, ChecksBraces}
 
 pub row_targets : (n : _) (k : Row_of-Target n) → view_target_row k ≡ view_targets (items-the_row-Target n k)
 row_targets n end_of-Target = refl
@@ -35,6 +35,11 @@ name_checked s p n sel f h = record {
   holds = holds_so (λ (c : CheckedTarget). GetsAsName s sel (find n s) c) (λ (c : CheckedTarget). GetsAs s (NamedTarget p n sel) c) f h.holds
       (λ c k. name_gets s p n sel c k);
 }
+
+pub braces_result : {E : Type 0} (s : Scope) (p : ℕ) (ts : TargetTrees) (y : Found TargetParts) (r : Result (Found CheckedTarget) E) → AreProcedural s ts y
+    → IfOk r (ChecksBraces p y) → IfOk r (IsProcedural s (JoinedTarget p ts))
+braces_result s p ts y (Ok f) h k = k s ts (targets_checked s ts) h
+braces_result s p ts y (Err e) h k = tt
 
 pub one_more : (s : Scope) (xs : List code_target.Target) (i : ℕ) (d : code_target.Target) (f : Found TargetParts) → i < length xs
     → AreProcedural s (more_targets (view_target (get_or xs i d)) (view_targets (drop (i + 1) xs))) f → AreProcedural s (view_targets (drop i xs)) f

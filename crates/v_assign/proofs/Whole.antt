@@ -1,31 +1,25 @@
 -- What is found in braces.
-use Rattle.std.proofs.Common.{◌≡◌, ℕ, zero, suc, ◌+◌, ◌*◌, ◌≤◌, List, [], ◌∷◌, length, Bool, true, false, nat_le, nat_lt, Result, Ok, Err, IfOk, refl, sym, ap, ◌∙◌, arith}
+use Rattle.std.proofs.Common.{◌≡◌, ℕ, zero, suc, ◌*◌, ◌≤◌, List, [], ◌∷◌, length, Bool, true, false, nat_le, nat_lt, Result, Ok, Err, IfOk, refl, sym, ap, ◌∙◌, arith}
 use Rattle.std.proofs.lemmas.Bool.Decides.{nat_tests}
-use Rattle.four_value.specs.declared.Digit.{Digit}
 use Rattle.gpi.specs.declared.targets.Target.{Target}
-use Rattle.gpi.specs.Targets.{target_width}
 use Rattle.v_syntax.specs.ExpressionTrees.{TargetTrees, JoinedTarget}
 use Rattle.v_scope.specs.declared.rule.Broken.{Broken}
 use Rattle.v_scope.specs.declared.rule.ElabRule.TheVariants as rule
 use Rattle.v_scope.specs.declared.found.Found.{Found}
 use Rattle.v_scope.specs.declared.found.Found.TheVariants.{Sound, Noted, Lost}
-use Rattle.v_scope.specs.Found.{noted, each, and_then, wants, needs, Holds}
+use Rattle.v_scope.specs.Found.{noted, each, and_then, wants, needs}
 use Rattle.v_scope.specs.Limits.{counted_width, most_digits}
 use Rattle.v_scope.specs.Scope.{Scope}
 use Rattle.v_scope.proofs.Gathered.{each_noted, each_needs, holds_so}
 use Rattle.v_flat.specs.Checks.{filled, sized}
 use Rattle.v_flat.specs.Targets.{targets_width}
-use Rattle.v_flat.proofs.Holds.{holds_noted, holds_needs, holds_wants}
+use Rattle.v_flat.proofs.Holds.{holds_noted}
 use Rattle.v_operator.proofs.Combined.{sized_counted}
 use Rattle.v_target.specs.declared.checked.CheckedTarget.{CheckedTarget}
-use Rattle.v_target.specs.Targets.{depth}
 use Rattle.v_assign.specs.declared.parts.TargetParts.{TargetParts}
 use Rattle.v_assign.specs.Braces.{widths, deepest}
-use Rattle.v_assign.specs.Made.{IsClosed, IsOne, IsWhole}
+use Rattle.v_assign.specs.Made.{IsClosed, IsWhole}
 use Rattle.v_assign.specs.Targets.{GetsAs, IsTarget, GetAsAll, AreTargets, ChecksBraces, all_braces}
-
-abbrev width_found : Found CheckedTarget → Found ℕ
-width_found f = each (λ (c : CheckedTarget). c.width) f
 
 -- ---- widths that are cut
 
@@ -44,31 +38,6 @@ filled_counted p (Lost b) = refl
 
 closed_counted : (p : ℕ) (x : Found ℕ) → each counted_width (sized p (filled p x)) ≡ sized p (filled p (each counted_width x))
 closed_counted p x = sized_counted p (filled p x) ∙ ap (λ (y : Found ℕ). sized p y) (filled_counted p x)
-
--- ---- the whole of some parts
-
-closed_width : (p : ℕ) (c : CheckedTarget) (w : ℕ) (some fits : Bool) → c.width ≡ w → nat_lt 0 w ≡ some → nat_le w most_digits ≡ fits
-    → width_found (needs some rule.BadRange p (wants fits rule.TooWide p (Sound c)))
-    ≡ and_then (needs some rule.BadRange p (Sound w)) (λ (v : ℕ). wants (nat_le v most_digits) rule.TooWide p (Sound v))
-closed_width p c w true true e i j = ap (λ (n : ℕ). (let r : Found ℕ = Sound n in r)) e ∙ ap (λ (ok : Bool). wants ok rule.TooWide p (let r : Found ℕ = Sound w in r)) (sym j)
-closed_width p c w true false e i j =
-    ap (λ (n : ℕ). wants false rule.TooWide p (let r : Found ℕ = Sound n in r)) e ∙ ap (λ (ok : Bool). wants ok rule.TooWide p (let r : Found ℕ = Sound w in r)) (sym j)
-closed_width p c w false true e i j = refl
-closed_width p c w false false e i j = absurd (grind (arith, nat_tests))
-
-closed_holds : (p : ℕ) (x : TargetParts) (c : CheckedTarget) → c.width ≡ x.width → IsOne x.targets.items c.target
-    → Holds (λ (c : CheckedTarget). IsWhole x c) (needs (nat_lt 0 x.width) rule.BadRange p (wants (nat_le x.width most_digits) rule.TooWide p (Sound c)))
-closed_holds p x c e one =
-    holds_needs (λ (c : CheckedTarget). IsWhole x c) (nat_lt 0 x.width) rule.BadRange p (wants (nat_le x.width most_digits) rule.TooWide p (Sound c))
-    (λ some. holds_wants (λ (c : CheckedTarget). IsWhole x c) (nat_le x.width most_digits) rule.TooWide p (Sound c)
-    (λ fits. record { width_is = e; some = grind (arith, nat_tests); fits = grind (arith, nat_tests); all = one }))
-
-pub closed_is : (p : ℕ) (x : TargetParts) (c : CheckedTarget) → c.width ≡ x.width → IsOne x.targets.items c.target
-    → IsClosed p x (needs (nat_lt 0 x.width) rule.BadRange p (wants (nat_le x.width most_digits) rule.TooWide p (Sound c)))
-closed_is p x c e one = record {
-  finds = closed_width p c x.width (nat_lt 0 x.width) (nat_le x.width most_digits) e refl refl;
-  holds = closed_holds p x c e one;
-}
 
 -- ---- braces
 
@@ -91,7 +60,7 @@ whole_gets s p ts x c whole h =
       gets = λ m ds l. all.gets m ds (omega (arith, l, sum, exact, e)) ∙ h.gets m ds (omega (arith, l, exact, e));
       sound = λ ws k. all.sound ws (h.sound ws k) (omega (arith, sum, exact, fits));
       balanced = (let few = h.few in let d = all.balanced 7 (omega (arith, few, exact, fits)) in
-      let q : deepest x.targets.items ≤ 7 * all_braces ts = h.balanced in omega (arith, d, q));
+          let q : deepest x.targets.items ≤ 7 * all_braces ts = h.balanced in omega (arith, d, q));
     }
 
 braces_found : (s : Scope) (p : ℕ) (ts : TargetTrees) (b : Found ℕ) (y : Found TargetParts) → AreTargets s ts b y
@@ -120,10 +89,6 @@ noted_braces s p ts b a x f closed h = record {
   holds = holds_noted (λ (c : CheckedTarget). GetsAs s (JoinedTarget p ts) c) a f;
 }
 
-lost_braces : (s : Scope) (p : ℕ) (ts : TargetTrees) (b : Found ℕ) (a : Broken) → AreTargets s ts b (Lost a)
-    → IsTarget s (JoinedTarget p ts) (sized p (filled p b)) (Lost a)
-lost_braces s p ts b a h = record { finds = braces_found s p ts b (Lost a) h; holds = tt }
-
 -- ---- what the code answers
 
 pub sound_result : {E : Type 0} (p : ℕ) (x : TargetParts) (r : Result (Found CheckedTarget) E) → IfOk r (IsClosed p x) → IfOk r (ChecksBraces p (Sound x))
@@ -132,6 +97,3 @@ sound_result p x (Err e) closed = tt
 
 pub noted_result : (p : ℕ) (a : Broken) (x : TargetParts) (f : Found CheckedTarget) → IsClosed p x f → ChecksBraces p (Noted a x) (noted a f)
 noted_result p a x f closed = λ s ts b h. noted_braces s p ts b a x f closed h
-
-pub lost_result : (p : ℕ) (a : Broken) → ChecksBraces p (Lost a) (Lost a)
-lost_result p a = λ s ts b h. lost_braces s p ts b a h

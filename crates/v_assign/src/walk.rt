@@ -28,7 +28,13 @@ pub fn target(
     match target {
         Target::Operand(operand) => {
             let selects = selects(alloc, scope, &operand.selects)?;
-            Ok(named(scope, Manner::Procedural, operand.name.bytes(), operand.at, selects))
+            Ok(named(
+                scope,
+                Manner::Procedural,
+                operand.name.bytes(),
+                operand.at,
+                selects,
+            ))
         }
         Target::Concatenation { at, parts } => braced(alloc, *at, all(alloc, scope, parts)?),
     }

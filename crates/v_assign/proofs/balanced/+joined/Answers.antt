@@ -1,5 +1,5 @@
 -- The lower and the higher parts together.
-use Rattle.std.proofs.Common.{ℕ, ◌≡◌, ◌*◌, ◌+◌, ◌/◌, ◌≤◌, List, length, subst, arith, rules}
+use Rattle.std.proofs.Common.{◌≡◌, ◌/◌, List, length, subst, arith, rules}
 use Rattle.gpi.specs.declared.targets.Target.{Target}
 use Rattle.v_assign.specs.Braces.{MakesAll}
 use Rattle.v_assign.proofs.Halves.{joined_boxes}
