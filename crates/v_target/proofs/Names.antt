@@ -1,5 +1,5 @@
 -- What is found in a name that is assigned to.
-use Rattle.std.proofs.Common.{◌≡◌, ℕ, List, Option, Some, None, Bool, false, refl, sym, ap, ◌∙◌, subst, arith}
+use Rattle.std.proofs.Common.{◌≡◌, ℕ, List, [], Option, Some, None, Bool, false, refl, sym, ap, ◌∙◌, subst, arith}
 use Rattle.four_value.specs.declared.Digit.{Digit}
 use Rattle.four_value.specs.Vector.{number}
 use Rattle.gpi.specs.declared.selects.Words.{Words}
@@ -23,9 +23,9 @@ use Rattle.v_scope.specs.Limits.{counted_width}
 use Rattle.v_scope.specs.Scope.{Scope, width_of}
 use Rattle.v_scope.proofs.Gathered.{each_each, each_same, each_then, each_needs}
 use Rattle.v_flat.specs.Objects.{Nature, nature_of, range_of, words_of}
-use Rattle.v_flat.specs.Expressions.{own_value, select_base, select_width}
+use Rattle.v_flat.specs.Expressions.{no_signals, own_value, select_base, select_width}
 use Rattle.v_flat.specs.Checks.{checked, index, part, by_nature, of_vector, of_memory, select_at}
-use Rattle.v_flat.specs.Targets.{Manner, fits_kind, is_fixed, object_update}
+use Rattle.v_flat.specs.Targets.{Manner, fits_kind, inside_drive, is_fixed, object_update}
 use Rattle.v_flat.proofs.Holds.{holds_any, holds_both, holds_each, holds_lost, holds_needs, holds_then}
 use Rattle.v_names.specs.declared.choice.Choice.{Choice}
 use Rattle.v_names.specs.declared.selects.CheckedSelect.{CheckedSelect}
@@ -143,6 +143,9 @@ whole_gets s o e w = let v = object_vector o (width_of o.bounds) refl e w in rec
   width_is = refl;
   gets = λ m ds l. sym (ap (λ (r : Option Bounds). object_update o r s Whole m ds) e);
   sound = λ ws h k. (let g = v.sound ws h in (g.0, g.1, w));
+  depth_is = refl;
+  fixed = λ k. w.1;
+  drives = refl;
 }
 
 part_gets : (s : Scope) (o : DataObject) (sel : SelectTree) (x : Choice) → o.words ≡ None → IsWidth (width_of o.bounds) → Chooses s sel x
@@ -158,6 +161,11 @@ part_gets s o sel x e w k = let v = object_vector o (width_of o.bounds) refl e w
       (sym k.own)
       ∙ sym (ap (λ (r : Option Bounds). object_update o r s (One sel) m ds) e);
   sound = λ ws h q. (let g = v.sound ws h in ((g.0, g.1, w), k.sound ws q, k.proper));
+  depth_is = refl;
+  fixed = λ q. (k.sound [] q, w.1, k.proper.1);
+  drives =
+      ap (λ (base : Option ℕ). inside_drive o.first (overlap_of (range_of o.bounds) (width_of o.bounds) base x.width)) (k.base no_signals)
+      ∙ ap (λ (n : ℕ). inside_drive o.first (overlap_of (range_of o.bounds) (width_of o.bounds) (select_base s sel no_signals) n)) (sym k.own);
 }
 
 never : {A : Type 0} (R : CheckedTarget → Type 0) (p : ℕ) (x : Found A) → Holds R (and_then x (λ a. broken rule.BadRange p))
@@ -203,6 +211,10 @@ word_gets s q i o r t e w k = let v = object_memory o r e w in record {
       ap (λ (es : List Digit). whole_update (word_at (words_of o.first r) (number es)) ds) (k.means m)
       ∙ sym (ap (λ (r : Option Bounds). object_update o r s (One (Bit q i)) m ds) e);
   sound = λ ws h g. (k.sound ws g, v.sound ws h);
+  depth_is = refl;
+  fixed = λ g. (k.sound [] g, w.1);
+  drives = ap (λ (es : List Digit). inside_drive o.first (overlap_of (range_of o.bounds) (width_of o.bounds) (number es) 1))
+      (k.means no_signals);
 }
 
 word_part_gets : (s : Scope) (q : ℕ) (i : Tree) (sel : SelectTree) (o : DataObject) (r : Bounds) (y : Term × Choice) → o.words ≡ Some r
@@ -221,6 +233,9 @@ word_part_gets s q i sel o r y e w st k = let v = object_memory o r e w in recor
       (overlap_of (range_of o.bounds) (width_of o.bounds) (select_base s sel m) n) ds) (sym k.own)
       ∙ sym (ap (λ (r : Option Bounds). object_update o r s (OfWord q i sel) m ds) e);
   sound = λ ws h g. ((st.sound ws g.0, v.sound ws h), k.sound ws g.1, k.proper);
+  depth_is = refl;
+  fixed = λ g. (k.sound [] g.1, w.1, k.proper.1);
+  drives = refl;
 }
 
 one_gets : (fixed : Bool) (s : Scope) (sel : SelectTree) (o : DataObject) (r : Bounds) (y : CheckedSelect) → o.words ≡ Some r

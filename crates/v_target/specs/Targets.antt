@@ -1,7 +1,9 @@
 -- What it means that the name in a target was found (IEEE 1364-2005, clauses 6.1 and 9.2): the first broken rule, its width, and the
 -- updates that it gets.
-use Rattle.std.specs.Prelude.{◌≡◌, ℕ, List, length, Option}
+use Rattle.std.specs.Prelude.{◌≡◌, ℕ, ◌+◌, max, List, [], length, Option}
 use Rattle.four_value.specs.declared.Digit.{Digit}
+use Rattle.gpi.specs.declared.targets.Target.{Target}
+use Rattle.gpi.specs.declared.targets.Target.TheVariants.{Whole, Select, Join'}
 use Rattle.gpi.specs.Targets.{target_width, updates_of, IsSoundTarget}
 use Rattle.gpi.specs.Terms.{IsWidth}
 use Rattle.v_syntax.specs.ExpressionTrees.{SelectsTree}
@@ -18,19 +20,30 @@ use Rattle.v_names.specs.Selects.{AreSelects}
 use Rattle.v_target.specs.declared.manner.Manner as code
 use Rattle.v_target.specs.declared.manner.Manner.TheVariants as code_manner
 use Rattle.v_target.specs.declared.checked.CheckedTarget.{CheckedTarget}
+use Rattle.v_target.specs.Digits.{IsFixedTarget, DrivesAs}
 
 abbrev pub manner_of : code.Manner → Manner
 manner_of code_manner.Procedural = Procedural
 manner_of code_manner.Continuous = Continuous
 
--- a name with selects, whose meaning is x: it gets the same updates by digits of its width, on every map of the signals, and is sound
--- wherever the names are signals of the design
+-- the steps from a target down to its deepest part
+abbrev pub depth : Target → ℕ
+depth (Whole o) = 0
+depth (Select o range i w) = 0
+depth (Join' p a q b) = 1 + max (depth a) (depth b)
+
+-- a name with selects, whose meaning is x: it gets the same updates by digits of its width, on every map of the signals, is sound wherever
+-- the names are signals of the design, and has no parts; where its selects name no signal, neither do its indices, and its digits are
+-- those that the selects choose
 pub record GetsAsName (s : Scope) (sel : SelectsTree) (x : Option Meaning) (c : CheckedTarget) : Type 0 where
   pub proper : IsWidth c.width
   pub own : named_width s sel x ≡ c.width
   pub width_is : target_width c.target ≡ c.width
   pub gets : (m : ℕ → List Digit) (ds : List Digit) → length ds ≡ c.width → updates_of c.target m ds ≡ name_update x s sel m ds
   pub sound : (ws : List ℕ) → IsNameOf x ws → SelectsNamesOf s sel ws → IsSoundTarget c.target ws
+  pub depth_is : depth c.target ≡ 0
+  pub fixed : SelectsNamesOf s sel [] → IsFixedTarget c.target
+  pub drives : DrivesAs s sel x c.target
 
 -- the same rule is broken first as in the definition, with the same width; and where none is, it gets the same updates
 pub record IsNamedTarget (how : Manner) (s : Scope) (p : ℕ) (sel : SelectsTree) (x : Option Meaning)

@@ -5,7 +5,7 @@ use gpi::Target;
 /// A target whose names and selects were checked.
 #[derive(Drop)]
 pub struct CheckedTarget {
-    /// How many digits it has, 1 to 128.
+    /// How many digits it has, where [`TOO_WIDE`](v_scope::TOO_WIDE) stands for all beyond 128: that of a name has at most 128.
     pub width: u8,
     /// Where the digits go.
     pub target: Target,

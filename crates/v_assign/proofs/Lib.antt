@@ -1,0 +1,4 @@
+pub mod Halves
+pub mod Added
+pub mod Whole
+pub mod Walked

@@ -1,0 +1,35 @@
+-- A means of proof: what is made of parts, by their targets.
+use Rattle.std.specs.Prelude.{◌≡◌, ℕ, ◌+◌, ◌≤◌, List, ◌∷◌, [], ◌++◌, length}
+use Rattle.gpi.specs.declared.targets.Target.{Target}
+use Rattle.v_scope.specs.declared.found.Found.{Found}
+use Rattle.v_scope.specs.declared.found.Found.TheVariants.{Sound}
+use Rattle.v_scope.specs.Found.{each, Holds}
+use Rattle.v_scope.specs.Limits.{counted_width, most_digits}
+use Rattle.v_flat.specs.Checks.{filled, sized}
+use Rattle.v_operator.specs.Made.{EachIs}
+use Rattle.v_target.specs.declared.checked.CheckedTarget.{CheckedTarget}
+use Rattle.v_assign.specs.declared.parts.TargetParts.{TargetParts}
+use Rattle.v_assign.specs.Braces.{MakesAll}
+
+-- y is x with the part a above it
+pub record HasPart (a : CheckedTarget) (x y : TargetParts) : Type 0 where
+  pub width_is : y.width ≡ counted_width (a.width + x.width)
+  pub targets_are : y.targets.items ≡ x.targets.items ++ (a.target ∷ [])
+
+abbrev pub AreMoreTargets : Found (CheckedTarget × TargetParts) → Found TargetParts → Type 0
+AreMoreTargets x f = EachIs (λ (p : CheckedTarget × TargetParts) (y : TargetParts). HasPart p.0 p.1 y) x f
+
+-- t is all of them, where there are any
+abbrev pub IsOne : List Target → Target → Type 0
+IsOne ts t = 1 ≤ length ts → MakesAll ts t
+
+-- c is all of the parts, which have a digit and not too many
+pub record IsWhole (x : TargetParts) (c : CheckedTarget) : Type 0 where
+  pub width_is : c.width ≡ x.width
+  pub some : 1 ≤ x.width
+  pub fits : x.width ≤ most_digits
+  pub all : IsOne x.targets.items c.target
+
+pub record IsClosed (p : ℕ) (x : TargetParts) (f : Found CheckedTarget) : Type 0 where
+  pub finds : each (λ (c : CheckedTarget). c.width) f ≡ sized p (filled p (Sound x.width))
+  pub holds : Holds (λ (c : CheckedTarget). IsWhole x c) f

@@ -1,0 +1,72 @@
+//! Parts of braces that are assigned to.
+
+ghost use Rattle.std.specs.Prelude.{◌≡◌, ◌+◌, IfOk};
+ghost use Rattle.v_scope.specs.Limits.{counted_width};
+ghost use Rattle.v_assign.specs.Made.{AreMoreTargets, HasPart};
+ghost use Rattle.v_assign.specs.Targets.{ChecksMoreTargets, ChecksNoTarget};
+
+use gpi::Target;
+use port_io::NoMemory;
+use std::alloc::Global;
+use v_scope::{Found, TOO_WIDE};
+use v_target::CheckedTarget;
+
+/// Parts of braces that are assigned to (IEEE 1364-2005, annex A.8.5), whose names and selects were checked. Where a rule is broken in
+/// them, only the width counts.
+#[derive(Drop)]
+pub struct TargetParts {
+    /// The number of digits of all together, where [`TOO_WIDE`] stands for all beyond 128.
+    pub width: u8,
+    /// Each part, the last one first.
+    pub targets: Vec<Target>,
+}
+
+/// The sum of two widths, where [`TOO_WIDE`] stands for all beyond 128.
+fn sum(a: u8, b: u8) -> u8
+    ensures { result ≡ counted_width (a + b) }
+{
+    a.saturating_add(b).min(TOO_WIDE)
+}
+
+/// A part before others. Only want of memory is an error.
+fn with_part(part: CheckedTarget, rest: TargetParts) -> Result<TargetParts, NoMemory>
+    ensures { IfOk result (HasPart part rest) }
+{
+    let TargetParts { width, mut targets } = rest;
+    let width = sum(part.width, width);
+    targets.push(part.target)?;
+    Ok(TargetParts { width, targets })
+}
+
+/// What is made of a part and others. Only want of memory is an error.
+fn of_both(found: Found<(CheckedTarget, TargetParts)>) -> Result<Found<TargetParts>, NoMemory>
+    ensures { IfOk result (AreMoreTargets found) }
+{
+    match found {
+        Found::Sound((part, rest)) => Ok(Found::Sound(with_part(part, rest)?)),
+        Found::Noted(fault, (part, rest)) => Ok(Found::Noted(fault, with_part(part, rest)?)),
+        Found::Lost(fault) => Ok(Found::Lost(fault)),
+    }
+}
+
+impl TargetParts {
+    /// No part.
+    pub fn none(alloc: Global) -> Found<TargetParts>
+        ensures { ChecksNoTarget result }
+    {
+        Found::Sound(TargetParts {
+            width: 0,
+            targets: Vec::new(alloc),
+        })
+    }
+
+    /// A part before those that stand behind it. Only want of memory is an error.
+    pub fn before(
+        part: Found<CheckedTarget>,
+        rest: Found<TargetParts>,
+    ) -> Result<Found<TargetParts>, NoMemory>
+        ensures { IfOk result (ChecksMoreTargets part rest) }
+    {
+        of_both(part.both(rest))
+    }
+}
