@@ -4,7 +4,7 @@ use Rattle.gpi.specs.declared.targets.Object.TheVariants.{Signal}
 use Rattle.gpi.specs.Terms.{IsWidth}
 use Rattle.v_scope.specs.declared.rule.ElabRule.TheVariants as rule
 use Rattle.v_scope.specs.declared.found.Found.{Found}
-use Rattle.v_scope.specs.Found.{broken, needs}
+use Rattle.v_scope.specs.Found.{needs}
 use Rattle.v_scope.specs.declared.meaning.Meaning.{Meaning}
 use Rattle.v_scope.specs.declared.meaning.Meaning.TheVariants.{Constant, Later}
 use Rattle.v_scope.specs.declared.meaning.Meaning.TheVariants as meant
