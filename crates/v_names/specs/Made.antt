@@ -24,7 +24,7 @@ use Rattle.v_context.specs.declared.contextual.Contextual.TheVariants.{Settled}
 use Rattle.v_context.specs.Contexts.{value_in, IsSound, IsLowered}
 use Rattle.v_flat.specs.Objects.{Vector, Memory, nature_of, range_of}
 use Rattle.v_flat.specs.Expressions.{whole_width, whole_value, one_width, one_value, part_of_word, named_width, named_value, number_or}
-use Rattle.v_flat.specs.Checks.{by_nature, of_vector, of_memory, part, narrow, go_with}
+use Rattle.v_flat.specs.Checks.{by_nature, of_vector, of_memory, narrow, go_with}
 use Rattle.v_operator.specs.declared.checked.Checked.{Checked}
 use Rattle.v_operator.specs.Checked.{IsNameOf, SelectsNamesOf}
 use Rattle.v_operator.specs.Made.{Makes, EachIs}
