@@ -1,11 +1,10 @@
 -- What is found in a name that is assigned to continuously, and which digits are driven then.
-use Rattle.std.proofs.Common.{◌≡◌, ℕ, List, [], ◌∷◌, ◌++◌, Bool, true, false, ◌&&◌, Option, Some, None, unwrap_or, Result, Ok, Err, IfOk, refl, sym, ap, ◌∙◌, subst}
+use Rattle.std.proofs.Common.{◌≡◌, ℕ, List, [], Bool, true, false, Option, Some, None, unwrap_or, Result, Ok, Err, IfOk, refl, sym, ap, ◌∙◌, subst}
 use Rattle.v_syntax.specs.ExpressionTrees.{SelectsTree, Whole, One, OfWord, SelectTree, Bit, Part, IndexedPart, TargetTree, NamedTarget}
 use Rattle.v_scope.specs.declared.rule.ElabRule.TheVariants as rule
-use Rattle.v_scope.specs.declared.rule.Broken.{Broken}
 use Rattle.v_scope.specs.declared.found.Found.{Found}
 use Rattle.v_scope.specs.declared.found.Found.TheVariants.{Sound, Noted, Lost}
-use Rattle.v_scope.specs.Found.{each, lost, broken, needs, Holds}
+use Rattle.v_scope.specs.Found.{needs, Holds}
 use Rattle.v_scope.specs.Rules.{at}
 use Rattle.v_scope.specs.Limits.{counted_width}
 use Rattle.v_scope.specs.declared.meaning.DataKind.TheVariants.{Input, Net, Register}
@@ -16,14 +15,14 @@ use Rattle.v_scope.specs.declared.meaning.Meaning.TheVariants as meant
 use Rattle.v_scope.specs.Scope.{Scope, find}
 use Rattle.v_scope.proofs.Gathered.{each_needs, holds_so}
 use Rattle.v_flat.specs.Checks.{made, select_made, selects_made}
-use Rattle.v_flat.specs.Targets.{Continuous, Drive, Driving, is_driven, once_more, net_driving, object_driving, name_driving, selected_drive, named_target, place_or}
+use Rattle.v_flat.specs.Targets.{Continuous, Drive, is_driven, once_more, net_driving, object_driving, name_driving, selected_drive, named_target, place_or}
 use Rattle.v_flat.proofs.Holds.{holds_lost}
 use Rattle.v_operator.specs.Checked.{SelectNamesOf, SelectsNamesOf}
 use Rattle.v_constant.proofs.Unsignalled.{names_none}
 use Rattle.v_drive.specs.declared.digits.DrivenDigits.{DrivenDigits}
-use Rattle.v_drive.specs.Digits.{Keeps, KeepsSame}
+use Rattle.v_drive.specs.Digits.{Keeps}
 use Rattle.v_target.specs.declared.checked.CheckedTarget.{CheckedTarget}
-use Rattle.v_target.specs.Digits.{IsFixedTarget, digits_of}
+use Rattle.v_target.specs.Digits.{digits_of}
 use Rattle.v_target.specs.Targets.{GetsAsName, IsNamedTarget}
 use Rattle.v_assign.specs.Continuous.{Drives, IsContinuous}
 use Rattle.v_assign.specs.Made.{AreFixed, OnceMore, IsNet}

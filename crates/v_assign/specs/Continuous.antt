@@ -1,5 +1,5 @@
 -- What it means that the target of a continuous assignment was checked (IEEE 1364-2005, clause 6.1), and which digits are driven then.
-use Rattle.std.specs.Prelude.{◌≡◌, ℕ, List, Option, Bool, true, false}
+use Rattle.std.specs.Prelude.{ℕ, List, Option}
 use Rattle.v_syntax.specs.ExpressionTrees.{TargetTree}
 use Rattle.v_scope.specs.declared.found.Found.{Found}
 use Rattle.v_scope.specs.Scope.{Scope}

@@ -1,5 +1,5 @@
 -- What is found in a name that is assigned to continuously, by what it means.
-use Rattle.std.proofs.Common.{rules, ◌≡◌, ◌∙◌, ℕ, List, IfOk, subst, sym, ap, Some}
+use Rattle.std.proofs.Common.{rules, ◌≡◌, ◌∙◌, ℕ, List, subst, Some}
 use Rattle.v_syntax.specs.ExpressionTrees.{view_selects}
 use Rattle.v_scope.specs.declared.meaning.Meaning.TheVariants as meant
 use Rattle.v_scope.specs.Scope.{means, find}
