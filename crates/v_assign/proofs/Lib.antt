@@ -2,3 +2,5 @@ pub mod Halves
 pub mod Added
 pub mod Whole
 pub mod Walked
+pub mod Fixed
+pub mod Names

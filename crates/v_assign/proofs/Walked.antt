@@ -8,11 +8,11 @@ use Rattle.v_syntax.specs.ExpressionTrees.{SelectsTree, TargetTrees, NamedTarget
 use Rattle.v_scope.specs.declared.found.Found.{Found}
 use Rattle.v_scope.specs.Scope.{Scope, find}
 use Rattle.v_scope.proofs.Gathered.{holds_so}
-use Rattle.v_flat.specs.Targets.{Procedural, targets_checked}
+use Rattle.v_flat.specs.Targets.{Manner, Procedural, named_target, targets_checked}
 use Rattle.v_target.specs.declared.checked.CheckedTarget.{CheckedTarget}
 use Rattle.v_target.specs.Targets.{GetsAsName, IsNamedTarget}
 use Rattle.v_assign.specs.declared.parts.TargetParts.{TargetParts}
-use Rattle.v_assign.specs.Targets.{GetsAs, IsProcedural, AreProcedural, ChecksBraces}
+use Rattle.v_assign.specs.Targets.{GetsAs, IsTarget, IsProcedural, AreProcedural, ChecksBraces}
 
 pub row_targets : (n : _) (k : Row_of-Target n) → view_target_row k ≡ view_targets (items-the_row-Target n k)
 row_targets n end_of-Target = refl
@@ -26,6 +26,14 @@ name_gets s p n sel c h = record {
   gets = h.gets;
   sound = λ ws k. h.sound ws k.0 k.1;
   balanced = (let e = h.depth_is in omega (arith, e));
+}
+
+pub named_target_is : (how : Manner) (s : Scope) (p : ℕ) (n : List ℕ) (sel : SelectsTree) (f : Found CheckedTarget) → IsNamedTarget how s p sel (find n s) f
+    → IsTarget s (NamedTarget p n sel) (named_target how s p sel (find n s)) f
+named_target_is how s p n sel f h = record {
+  finds = h.finds;
+  holds = holds_so (λ (c : CheckedTarget). GetsAsName s sel (find n s) c) (λ (c : CheckedTarget). GetsAs s (NamedTarget p n sel) c) f h.holds
+      (λ c k. name_gets s p n sel c k);
 }
 
 pub name_checked : (s : Scope) (p : ℕ) (n : List ℕ) (sel : SelectsTree) (f : Found CheckedTarget) → IsNamedTarget Procedural s p sel (find n s) f

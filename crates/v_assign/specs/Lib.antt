@@ -1,3 +1,4 @@
 pub mod Braces
 pub mod Targets
+pub mod Continuous
 pub mod Made

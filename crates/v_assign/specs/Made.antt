@@ -1,11 +1,17 @@
 -- A means of proof: what is made of parts, by their targets.
-use Rattle.std.specs.Prelude.{◌≡◌, ℕ, ◌+◌, ◌≤◌, List, ◌∷◌, [], ◌++◌, length}
+use Rattle.std.specs.Prelude.{◌≡◌, ℕ, ◌+◌, ◌≤◌, List, ◌∷◌, [], ◌++◌, length, Bool, true, false}
 use Rattle.gpi.specs.declared.targets.Target.{Target}
 use Rattle.v_scope.specs.declared.found.Found.{Found}
-use Rattle.v_scope.specs.declared.found.Found.TheVariants.{Sound}
-use Rattle.v_scope.specs.Found.{each, Holds}
+use Rattle.v_scope.specs.declared.rule.ElabRule.TheVariants as rule
+use Rattle.v_scope.specs.declared.found.Found.TheVariants.{Sound, Noted, Lost}
+use Rattle.v_scope.specs.Found.{each, broken, Holds}
+use Rattle.v_scope.specs.declared.meaning.DataObject.{DataObject}
 use Rattle.v_scope.specs.Limits.{counted_width, most_digits}
 use Rattle.v_flat.specs.Checks.{filled, sized}
+use Rattle.v_flat.specs.Targets.{Drive, is_driven}
+use Rattle.v_drive.specs.declared.digits.DrivenDigits.{DrivenDigits}
+use Rattle.v_drive.specs.Digits.{Keeps, KeepsSame}
+use Rattle.v_target.specs.Digits.{IsFixedTarget, digits_of}
 use Rattle.v_operator.specs.Made.{EachIs}
 use Rattle.v_target.specs.declared.checked.CheckedTarget.{CheckedTarget}
 use Rattle.v_assign.specs.declared.parts.TargetParts.{TargetParts}
@@ -33,3 +39,21 @@ pub record IsWhole (x : TargetParts) (c : CheckedTarget) : Type 0 where
 pub record IsClosed (p : ℕ) (x : TargetParts) (f : Found CheckedTarget) : Type 0 where
   pub finds : each (λ (c : CheckedTarget). c.width) f ≡ sized p (filled p (Sound x.width))
   pub holds : Holds (λ (c : CheckedTarget). IsWhole x c) f
+
+-- ---- nets
+
+-- no rule is noted with a value, and where none is broken the target's digits are fixed
+abbrev pub AreFixed : Found CheckedTarget → Type 0
+AreFixed (Sound c) = IsFixedTarget c.target
+AreFixed (Noted b c) = ⊥
+AreFixed (Lost b) = Unit {0}
+
+-- the digits d of a net, where they are driven before or not
+abbrev pub OnceMore : Bool → ℕ → Drive → List Drive → CheckedTarget → Found CheckedTarget → DrivenDigits → Type 0
+OnceMore true p d ds c f y = (f ≡ broken rule.TwoDrivers p) × Keeps y ds
+OnceMore false p d ds c f y = (f ≡ Sound c) × Keeps y (ds ++ (d ∷ []))
+
+abbrev pub IsNet : DataObject → ℕ → Found CheckedTarget → DrivenDigits → Found CheckedTarget → DrivenDigits → Type 0
+IsNet o p (Sound c) x f y = (ds : List Drive) → Keeps x ds → OnceMore (is_driven (digits_of o c.target) ds) p (digits_of o c.target) ds c f y
+IsNet o p (Noted b c) x f y = Unit {0}
+IsNet o p (Lost b) x f y = (f ≡ Lost b) × KeepsSame x y
