@@ -13,14 +13,14 @@ use std::alloc::Global;
 use v_check::fixed_selects;
 use v_drive::DrivenDigits;
 use v_scope::{DataKind, DataObject, ElabRule, Found, Meaning, Scope};
-use v_syntax::Operand;
+use v_syntax::{Operand, TokenNumber};
 use v_target::{CheckedTarget, Manner, driven_digits, named};
 
 /// Digits of a net: TwoDrivers is broken at `place` where one of them is driven already, and from now on they are driven where none is.
 /// Only want of memory is an error.
 fn net(
     object: DataObject,
-    place: usize,
+    place: TokenNumber,
     found: Found<CheckedTarget>,
     driven: &mut DrivenDigits,
 ) -> Result<Found<CheckedTarget>, NoMemory>
@@ -37,7 +37,7 @@ fn net(
             driven.add(drive)?;
             Ok(Found::Sound(target))
         }
-        Found::Noted(_, _) => unreachable!(),
+        Found::Noted(_fault, _target) => unreachable!(),
         Found::Lost(fault) => Ok(Found::Lost(fault)),
     }
 }
@@ -47,7 +47,7 @@ fn net(
 pub fn net_name(
     alloc: Global,
     scope: &Scope,
-    place: Option<usize>,
+    place: Option<TokenNumber>,
     operand: &Operand,
     driven: &mut DrivenDigits,
 ) -> Result<Found<CheckedTarget>, NoMemory>
