@@ -1,5 +1,6 @@
 //! Texts that are put together of repeated units.
 
+use crate::fault::parse_fault_text;
 use std::alloc::{AllocError, Global};
 use table_rows::Row;
 use v_lex::lex;
@@ -36,7 +37,7 @@ pub fn height_text(alloc: Global, row: &Row<'_>) -> Result<String, AllocError> {
                 let count = source.modules.len();
                 format!(in alloc; "{count} modules")
             }
-            Err(fault) => format!(in alloc; "{fault:?}"),
+            Err(fault) => parse_fault_text(alloc, fault),
         },
         Err(fault) => format!(in alloc; "{fault:?}"),
     }

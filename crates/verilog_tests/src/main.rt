@@ -7,6 +7,7 @@
 #![tactic(auto)]
 
 mod expression;
+mod fault;
 mod front;
 mod height;
 mod item;
