@@ -31,8 +31,8 @@ pub record RunsFile {O : Type 0} (sink : SinkMeans O) (budget : ℕ) (ports : Li
   pub last : Rig
   pub runs : RunsTo sink (setup_with ports file) case budget s last content out out'
 
--- The simulator that was handed in, after a status: a run leaves it with the design, and a refusal as it was. After a failed
--- put and want of memory nothing is said of it.
+-- The simulator that was handed in, after a status: a run leaves it with a design, and a refusal as it was. After a failed put it is one
+-- or the other, and after want of memory nothing is said of it.
 abbrev pub LeavesKernel : {K : Type 0} → (K → Type 0) → Status → K → K → Type 0
 LeavesKernel is_loaded status.Passed before after = is_loaded after
 LeavesKernel is_loaded status.Failed before after = is_loaded after
@@ -41,7 +41,7 @@ LeavesKernel is_loaded status.Usage before after = after ≡ before
 LeavesKernel is_loaded status.DesignRefused before after = after ≡ before
 LeavesKernel is_loaded status.TestsRefused before after = after ≡ before
 LeavesKernel is_loaded status.ReadFault before after = after ≡ before
-LeavesKernel is_loaded status.WriteFault before after = Unit {0}
+LeavesKernel is_loaded status.WriteFault before after = is_loaded after ⊎ (after ≡ before)
 LeavesKernel is_loaded status.NoMemory before after = Unit {0}
 
 -- The line of a refusal is put, or else the test is run.

@@ -1,5 +1,5 @@
 -- What a simulator holds after a refusal.
-use Rattle.std.proofs.Common.{ap}
+use Rattle.std.proofs.Common.{ap, inl}
 use Rattle.gpi.specs.Content.{Content}
 use Rattle.command.specs.Answer.{LeavesKernel}
 use Rattle.regression.specs.declared.status.Status.{Status}
@@ -15,5 +15,5 @@ leaves_content is_loaded content status.Usage before after h = ap content h
 leaves_content is_loaded content status.DesignRefused before after h = ap content h
 leaves_content is_loaded content status.TestsRefused before after h = ap content h
 leaves_content is_loaded content status.ReadFault before after h = ap content h
-leaves_content is_loaded content status.WriteFault before after h = tt
+leaves_content is_loaded content status.WriteFault before after h = inl tt
 leaves_content is_loaded content status.NoMemory before after h = tt

@@ -33,12 +33,16 @@ line_means = record { takes = SinkTakes; breaks = SinkBreaks; told = λ sink. So
 abbrev pub unbegun : List ℕ → Rig
 unbegun ports = emptied (opening (flat_of ports)).state (opening (flat_of ports)).counts
 
--- One turn from here within three statements and events.
+-- how many statements and events a turn may cost
+abbrev pub turn_fuel : ℕ
+turn_fuel = 3
+
+-- One turn from here within that fuel.
 pub record TakesTurn (setup : Setup) (begun : Rig) (out : Lines) (turn : Turn) : Type 0 where
   pub left : ℕ
   pub last : Rig
   pub after : Lines
-  pub turning : Turning line_means (TurnSteps setup) setup 3 begun out (Ok turn) left last after
+  pub turning : Turning line_means (TurnSteps setup) setup turn_fuel begun out (Ok turn) left last after
 
 -- A turn follows where the test was begun.
 abbrev pub Follows : Setup → Turn → Rig → Lines → Turn → Type 0

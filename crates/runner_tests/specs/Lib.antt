@@ -7,3 +7,4 @@ pub mod Tests
 pub mod Runs
 pub mod Releases
 pub mod Commands
+pub mod Answers

@@ -1,5 +1,5 @@
 -- The line that a row asks for.
-use Rattle.std.specs.Prelude.{List, ℕ, [], slice_set, codes, if◌then◌else◌}
+use Rattle.std.specs.Prelude.{List, ℕ, Option, None, Some, slice_set, codes, if◌then◌else◌}
 use Rattle.std.specs.Str.{bytes_eq}
 use Rattle.four_value.specs.Vector.{vector}
 use Rattle.four_value.specs.declared.Digit.{Digit}
@@ -10,6 +10,8 @@ use Rattle.rig_model.specs.declared.task.Outcome.{Outcome}
 use Rattle.rig_model.specs.declared.task.Outcome.TheVariants.{Raised, ReadOnlyWrite, Stalled}
 use Rattle.text_forms.specs.DesignForm.{flat_of}
 use Rattle.table_rows.specs.Rows.{decimal, part_at}
+use Rattle.runner_tests.specs.declared.lines.AskedLine.{AskedLine}
+use Rattle.runner_tests.specs.declared.lines.AskedLine.TheVariants as asked
 
 -- `10x0`: the number 8 of four digits, with an x
 abbrev pub some_digits : List Digit
@@ -23,14 +25,20 @@ decimal_at i row = decimal (part_at i row)
 abbrev pub told_outcome : List ℕ → Outcome → List ℕ
 told_outcome row outcome = verdict_line (flat_of (codes "a")) (decimal_at 2 row) (part_at 3 row) outcome
 
+-- the line that a word asks for, if any
+abbrev pub line_asked_by : List ℕ → Option AskedLine
+line_asked_by word =
+    if bytes_eq word (codes "sig") then Some asked.Sig
+    else (if bytes_eq word (codes "stalled") then Some asked.Stalled
+    else (if bytes_eq word (codes "read_only") then Some asked.ReadOnly
+    else (if bytes_eq word (codes "fault") then Some asked.Fault
+    else (if bytes_eq word (codes "closing") then Some asked.Closing else None))))
+
 -- a change to `10x0`, a verdict on a test that stalled, one on a write to `a` in the read-only phase, one on a ValueError that says
 -- something, or the closing line
-abbrev pub line_of : List ℕ → List ℕ
-line_of row =
-    if bytes_eq (part_at 0 row) (codes "sig") then sig_line (decimal_at 2 row) (part_at 3 row) some_digits
-    else (if bytes_eq (part_at 0 row) (codes "stalled") then told_outcome row Stalled
-    else (if bytes_eq (part_at 0 row) (codes "read_only") then told_outcome row (ReadOnlyWrite (record { 0 = 0 }))
-    else (if bytes_eq (part_at 0 row) (codes "fault") then told_outcome row (Raised (record { kind = ValueError; text = part_at 4 row }))
-    else (if bytes_eq (part_at 0 row) (codes "closing")
-    then report_line (decimal_at 2 row) (decimal_at 3 row) (decimal_at 4 row) (decimal_at 5 row) (decimal_at 6 row)
-    else []))))
+abbrev pub line_of : AskedLine → List ℕ → List ℕ
+line_of asked.Sig row = sig_line (decimal_at 2 row) (part_at 3 row) some_digits
+line_of asked.Stalled row = told_outcome row Stalled
+line_of asked.ReadOnly row = told_outcome row (ReadOnlyWrite (record { 0 = 0 }))
+line_of asked.Fault row = told_outcome row (Raised (record { kind = ValueError; text = part_at 4 row }))
+line_of asked.Closing row = report_line (decimal_at 2 row) (decimal_at 3 row) (decimal_at 4 row) (decimal_at 5 row) (decimal_at 6 row)

@@ -18,13 +18,17 @@ use Rattle.runner_tests.specs.Engines.{line_means, no_lines}
 abbrev pub traced_with : List ℕ → TestFile → Setup
 traced_with ports file = record { functions = file.functions; flat = flat_of ports; trace = true }
 
--- A run within 100 statements and events whose told changes are written.
+-- how many statements and events such a run may cost
+abbrev pub trace_budget : ℕ
+trace_budget = 100
+
+-- A run within that budget whose told changes are written.
 pub record Traces (ports : List ℕ) (file : TestFile) (own : Status) (out out' : Lines) : Type 0 where
   pub case : TestCase
   pub is_case : file.cases ≡ case ∷ []
   pub last : Rig
   pub content : Content
-  pub runs : RunsTo line_means (traced_with ports file) case 100 own last content out out'
+  pub runs : RunsTo line_means (traced_with ports file) case trace_budget own last content out out'
 
 -- A refusal puts nothing.
 abbrev pub TracesReading : Reading → Status → Lines → Lines → Type 0

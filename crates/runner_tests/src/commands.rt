@@ -1,5 +1,5 @@
 //! The command with its words, over files and lines in memory.
-ghost use Rattle.std.specs.Prelude.{◌≡◌, ◌<◌, ◌++◌, IfOk, OnOk, map, string_bytes};
+ghost use Rattle.std.specs.Prelude.{◌≡◌, ◌<◌, ◌++◌, IfOk, OnErr, OnOk, map, string_bytes};
 ghost use Rattle.std.specs.List.{slice_split};
 ghost use Rattle.command.specs.Answer.{LeavesKernel};
 ghost use Rattle.list_kernel.specs.Kernel.{IsLoaded, content_of};
@@ -18,9 +18,11 @@ use std::marker::Brand;
 use std::sync::ledger::{Blank, Ledger};
 use table_rows::{Row, text_of};
 
-/// Adds the file of that name whose text a part is, unless that is `-`. Only want of memory is an error, here and below.
+/// Adds the file of that name whose text a part is, unless that is `-`. After an Err the store is as it was. Only want of memory is an
+/// error, here and below.
 fn add_file(alloc: Global, store: &mut MemStore, name: &str, part: &[u8]) -> Result<(), NoMemory>
-    ensures { OnOk result (store.new ≡ with_file name.now part.now store.old) }
+    ensures ok { OnOk result (store.new ≡ with_file name.now part.now store.old) }
+    ensures err { OnErr result (store.new ≡ store.old) }
 {
     if part == b"-".as_slice() {
         return Ok(());
@@ -45,9 +47,10 @@ fn parts_of(alloc: Global, text: &[u8]) -> Result<Vec<&[u8]>, AllocError>
     text.split(|byte| *byte == b' ').collect(alloc)
 }
 
-/// A word behind others, unless it is empty.
+/// A word behind others, unless it is empty. After an Err the words are as they were.
 fn push_word(alloc: Global, words: &mut Vec<String>, word: &[u8]) -> Result<(), AllocError>
-    ensures { OnOk result (map string_bytes words.new.items ≡ map string_bytes words.old.items ++ word_in word.now) }
+    ensures ok { OnOk result (map string_bytes words.new.items ≡ map string_bytes words.old.items ++ word_in word.now) }
+    ensures err { OnErr result (words.new.items ≡ words.old.items) }
 {
     if !word.is_empty() {
         words.push(latin_text(alloc, word)?)?;

@@ -21,6 +21,9 @@ use std::sync::ledger::{Blank, Ledger};
 use table_rows::{Row, quoted};
 use text_forms::flat_of_ports;
 
+/// How many statements and events a turn may cost.
+const TURN_FUEL: u64 = 3;
+
 /// The path of the first signal, as an engine tells it; an empty one where there is none. Only want of memory is an error, here and
 /// below.
 #[tactic(auto, using(crate::proofs::FirstPath::path_none))]
@@ -52,7 +55,7 @@ fn turn_text(alloc: Global, turn: &Turn, flat: &Flat) -> Result<String, NoMemory
     }
 }
 
-/// The first turn of a test that was begun, within three statements and events.
+/// The first turn of a test that was begun, within that fuel. The blank is for the counter of steps of work.
 fn turn<K: Gpi, L: Ledger>(
     alloc: Global,
     ports: &[u8],
@@ -76,7 +79,7 @@ fn turn<K: Gpi, L: Ledger>(
     let case = file.cases.get(0);
     match engine.begin_test(alloc, kernel, case, &mut sink, &mut steps)? {
         Turn::Went => {
-            let mut fuel = 3;
+            let mut fuel = TURN_FUEL;
             engine.turn(alloc, kernel, &mut sink, &mut fuel, &mut steps)
         }
         Turn::Over(outcome) => Ok(Turn::Over(outcome)),

@@ -5,7 +5,7 @@ ghost use Rattle.rig_model.specs.declared.task.Outcome.TheVariants.{Raised};
 ghost use Rattle.py_syntax.specs.declared.fault_kind.FaultKind.TheVariants.{ValueError};
 ghost use Rattle.table_rows.specs.Rows.{part_at};
 ghost use Rattle.table_rows.specs.Shown.{in_quotes};
-ghost use Rattle.runner_tests.specs.Lines.{line_of, decimal_at, some_digits, told_outcome};
+ghost use Rattle.runner_tests.specs.Lines.{decimal_at, line_asked_by, line_of, some_digits, told_outcome};
 
 use four_value::{Bits, Digit};
 use gpi::SigId;
@@ -16,6 +16,40 @@ use scheduler::{Tally, report_text, sig_text, verdict_text};
 use std::alloc::Global;
 use table_rows::{Row, quoted};
 use text_forms::flat_of_ports;
+
+/// A line that is asked for.
+#[derive(Clone, Copy, Debug, PartialEq, Eq)]
+pub enum AskedLine {
+    /// A change of a signal.
+    Sig,
+    /// A verdict on a test that stalled.
+    Stalled,
+    /// A verdict on a write in the read-only phase.
+    ReadOnly,
+    /// A verdict on a ValueError that says something.
+    Fault,
+    /// The closing line.
+    Closing,
+}
+
+/// The line that a word asks for, if any.
+pub fn line_asked_by(word: &[u8]) -> Option<AskedLine>
+    ensures { result ≡ line_asked_by word.now }
+{
+    if word == b"sig".as_slice() {
+        Some(AskedLine::Sig)
+    } else if word == b"stalled".as_slice() {
+        Some(AskedLine::Stalled)
+    } else if word == b"read_only".as_slice() {
+        Some(AskedLine::ReadOnly)
+    } else if word == b"fault".as_slice() {
+        Some(AskedLine::Fault)
+    } else if word == b"closing".as_slice() {
+        Some(AskedLine::Closing)
+    } else {
+        None
+    }
+}
 
 /// The line of a change to `10x0`. Only want of memory is an error, here and below.
 fn change_line(alloc: Global, row: &Row<'_>) -> Result<Vec<u8>, NoMemory>
@@ -57,30 +91,23 @@ fn closing_line(alloc: Global, row: &Row<'_>) -> Result<Vec<u8>, NoMemory>
     report_text(alloc, tally, row.number(6))
 }
 
-/// The line that a row asks for; an empty one where it asks for none.
-fn line_of(alloc: Global, row: &Row<'_>) -> Result<Vec<u8>, NoMemory>
-    ensures { IfOk result (λ line. line.items ≡ line_of row.now) }
+/// The line that a row asks for.
+fn line_of(alloc: Global, asked: AskedLine, row: &Row<'_>) -> Result<Vec<u8>, NoMemory>
+    ensures { IfOk result (λ line. line.items ≡ line_of asked row.now) }
 {
-    let asked = row.part(0);
-    if asked == b"sig".as_slice() {
-        change_line(alloc, row)
-    } else if asked == b"stalled".as_slice() {
-        outcome_line(alloc, row, &Outcome::Stalled)
-    } else if asked == b"read_only".as_slice() {
-        outcome_line(alloc, row, &Outcome::ReadOnlyWrite(SigId(0)))
-    } else if asked == b"fault".as_slice() {
-        fault_line(alloc, row)
-    } else if asked == b"closing".as_slice() {
-        closing_line(alloc, row)
-    } else {
-        Ok(Vec::new(alloc))
+    match asked {
+        AskedLine::Sig => change_line(alloc, row),
+        AskedLine::Stalled => outcome_line(alloc, row, &Outcome::Stalled),
+        AskedLine::ReadOnly => outcome_line(alloc, row, &Outcome::ReadOnlyWrite(SigId(0))),
+        AskedLine::Fault => fault_line(alloc, row),
+        AskedLine::Closing => closing_line(alloc, row),
     }
 }
 
 /// The same, as it is shown.
-pub fn line_text(alloc: Global, row: &Row<'_>) -> Result<String, NoMemory>
-    ensures { IfOk result (λ text. string_bytes text ≡ in_quotes (line_of row.now)) }
+pub fn line_text(alloc: Global, asked: AskedLine, row: &Row<'_>) -> Result<String, NoMemory>
+    ensures { IfOk result (λ text. string_bytes text ≡ in_quotes (line_of asked row.now)) }
 {
-    let line = line_of(alloc, row)?;
+    let line = line_of(alloc, asked, row)?;
     Ok(quoted(alloc, &line)?)
 }

@@ -13,9 +13,11 @@
 //! - `engine`: the path of the design's first signal, and what the first turn of the test comes to;
 //! - `sig`, `stalled`, `read_only`, `fault`, `closing`: lines.
 //!
+//! Where it is another word, the answer is `not asked`.
 //! The gate compares what is printed with `stdout`.
 #![tactic(auto)]
 
+mod answer;
 mod commands;
 mod engines;
 mod forms;
@@ -25,46 +27,10 @@ mod runs;
 mod traces;
 mod words;
 
+use answer::answer;
 use anyhow::{Result, ensure};
-use commands::{command_text, kept_text};
-use engines::engine_text;
-use forms::{design_text, file_text, flat_text};
-use lines::line_text;
 use list_kernel::ListKernel;
-use port_io::NoMemory;
-use releases::release_text;
-use runs::run_text;
-use std::alloc::Global;
 use std::io::Read;
-use table_rows::{Row, push_bytes};
-use traces::trace_text;
-
-/// What a row comes to. The kernel is that of the `kept` rows.
-fn shown(alloc: Global, row: &Row<'_>, kernel: &mut ListKernel) -> Result<String, NoMemory> {
-    match row.part(0) {
-        b"command" => command_text(alloc, row),
-        b"kept" => kept_text(alloc, row, kernel),
-        b"run" => run_text(alloc, row),
-        b"trace" => trace_text(alloc, row),
-        b"design" => design_text(alloc, row),
-        b"flat" => flat_text(alloc, row),
-        b"tests" => file_text(alloc, row),
-        b"engine" => engine_text(alloc, row),
-        b"release" => release_text(alloc, row),
-        _ => line_text(alloc, row),
-    }
-}
-
-/// The answer for a row: its rule, and what it comes to.
-fn answer(alloc: Global, line: &[u8], kernel: &mut ListKernel) -> Result<String, NoMemory> {
-    let row = Row::of(line);
-    let mut out = String::new(alloc);
-    push_bytes(&mut out, row.part(1))?;
-    out.push_str(": ")?;
-    let shown = shown(alloc, &row, kernel)?;
-    out.push_str(&shown)?;
-    Ok(out)
-}
 
 fn main(rt: HostRuntime) -> Result<()> {
     let mut rows = Vec::new(rt.alloc());

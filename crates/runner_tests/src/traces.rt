@@ -21,7 +21,10 @@ use std::sync::ledger::{Blank, Ledger};
 use table_rows::Row;
 use text_forms::flat_of_ports;
 
-/// The status of a run whose told changes are written.
+/// How many statements and events such a run may cost.
+const TRACE_BUDGET: u64 = 100;
+
+/// The status of a run within that budget whose told changes are written. The blank is for the counter of steps of work.
 fn trace<K: Gpi, L: Ledger>(
     alloc: Global,
     ports: &[u8],
@@ -43,7 +46,15 @@ fn trace<K: Gpi, L: Ledger>(
     let mut engine = Engine::new(alloc, maker, WaitList::new(alloc), &flat, true)?;
     let mut steps = Steps::<L>::new(blank);
     let case = file.cases.get(0);
-    Ok(run_all(alloc, case, &mut engine, kernel, sink, 100, &mut steps))
+    Ok(run_all(
+        alloc,
+        case,
+        &mut engine,
+        kernel,
+        sink,
+        TRACE_BUDGET,
+        &mut steps,
+    ))
 }
 
 /// The same of a row, where its texts run; else the status of the refusal.

@@ -11,7 +11,7 @@ use Rattle.scheduler.specs.Turns.{BeginsTo, Turning}
 use Rattle.scheduler.specs.declared.turn.Turn.{Turn}
 use Rattle.scheduler.specs.declared.turn.Turn.TheVariants.{Went}
 use Rattle.command.specs.Answer.{setup_with}
-use Rattle.runner_tests.specs.Engines.{FirstTurn, line_means, no_lines, unbegun}
+use Rattle.runner_tests.specs.Engines.{FirstTurn, line_means, no_lines, turn_fuel, unbegun}
 use Rattle.runner_tests.proofs.engines.turn.Goals as goal
 
 pub begin_test-requires-clause-empty : goal.begin_test-requires-clause-empty
@@ -20,7 +20,7 @@ begin_test-requires-clause-empty g c = c.in_ok-engine.ensures.empty (g.K.Gpi.con
 went_on : (ports : List ℕ) (file : TestFile) (case : TestCase) → file.cases ≡ case ∷ [] → (begun : Rig) (out : Lines)
     → BeginsTo line_means (setup_with ports file) case (unbegun ports) (Ok Went) begun no_lines out
     → (r : Result Turn NoMemory) (left : ℕ) (last : Rig) (after : Lines)
-    → Turning line_means (TurnSteps (setup_with ports file)) (setup_with ports file) 3 begun out r left last after
+    → Turning line_means (TurnSteps (setup_with ports file)) (setup_with ports file) turn_fuel begun out r left last after
     → IfOk r (λ turn. FirstTurn ports file turn)
 went_on ports file case is_case begun out begins (Err no_memory) left last after turning = tt
 went_on ports file case is_case begun out begins (Ok turn) left last after turning = record {
@@ -37,7 +37,7 @@ first_turn : (ports : List ℕ) (file : TestFile) (case : TestCase) (s s' : Setu
     (out₀ : Lines) (first : Turn) (begun : Rig) (out : Lines)
     → BeginsTo line_means s case c (Ok first) begun out₀ out
     → (r : Result Turn NoMemory) (left : ℕ) (last : Rig) (after : Lines)
-    → Turning line_means (TurnSteps s') s' 3 begun out r left last after
+    → Turning line_means (TurnSteps s') s' turn_fuel begun out r left last after
     → file.cases ≡ case ∷ [] → s' ≡ s → s ≡ setup_with ports file → c ≡ unbegun ports → out₀ ≡ no_lines → first ≡ Went
     → IfOk r (λ turn. FirstTurn ports file turn)
 first_turn ports file case s s' c out₀ first begun out begins r left last after turning is_case same is_setup is_new is_empty has_gone =
@@ -47,8 +47,8 @@ first_turn ports file case s s' c out₀ first begun out begins r left last afte
     (subst (λ x. BeginsTo line_means (setup_with ports file) case x (Ok first) begun out₀ out) is_new
     (subst (λ x. BeginsTo line_means x case c (Ok first) begun out₀ out) is_setup begins))))
     r left last after
-    (subst (λ x. Turning line_means (TurnSteps x) x 3 begun out r left last after) is_setup
-    (subst (λ x. Turning line_means (TurnSteps x) x 3 begun out r left last after) same turning))
+    (subst (λ x. Turning line_means (TurnSteps x) x turn_fuel begun out r left last after) is_setup
+    (subst (λ x. Turning line_means (TurnSteps x) x turn_fuel begun out r left last after) same turning))
 
 pub returns-in-Went : goal.returns-in-Went
 returns-in-Went g c =

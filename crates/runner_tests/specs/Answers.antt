@@ -1,0 +1,62 @@
+-- What is asked of a row, and what the answer shows.
+use Rattle.std.specs.Prelude.{◌≡◌, ◌≢◌, ℕ, List, ◌++◌, Option, None, Some, codes, if◌then◌else◌}
+use Rattle.std.specs.Str.{bytes_eq}
+use Rattle.list_kernel.specs.declared.kernel.ListKernel.{ListKernel}
+use Rattle.table_rows.specs.Rows.{part_at, written}
+use Rattle.table_rows.specs.Shown.{in_quotes, latin}
+use Rattle.runner_tests.specs.declared.answer.Asked.{Asked}
+use Rattle.runner_tests.specs.declared.answer.Asked.TheVariants as asked
+use Rattle.runner_tests.specs.declared.lines.AskedLine.{AskedLine}
+use Rattle.runner_tests.specs.Commands.{ShowsCommand, ShowsKept}
+use Rattle.runner_tests.specs.Designs.{ShowsDesign, ShowsFlat}
+use Rattle.runner_tests.specs.Engines.{ShowsFiles}
+use Rattle.runner_tests.specs.Lines.{decimal_at, line_asked_by, line_of}
+use Rattle.runner_tests.specs.Releases.{ShowsRelease}
+use Rattle.runner_tests.specs.Runs.{ShowsRun, ShowsTrace}
+use Rattle.runner_tests.specs.Tests.{ShowsFile}
+
+-- a line, where one is asked for
+abbrev pub among_lines : Option AskedLine → Option Asked
+among_lines None = None
+among_lines (Some line) = Some (asked.Line line)
+
+-- what a word asks, if anything
+abbrev pub asked_by : List ℕ → Option Asked
+asked_by word =
+    if bytes_eq word (codes "command") then Some asked.Command
+    else (if bytes_eq word (codes "kept") then Some asked.Kept
+    else (if bytes_eq word (codes "run") then Some asked.Run
+    else (if bytes_eq word (codes "trace") then Some asked.Trace
+    else (if bytes_eq word (codes "design") then Some asked.Design
+    else (if bytes_eq word (codes "flat") then Some asked.Flat
+    else (if bytes_eq word (codes "tests") then Some asked.Tests
+    else (if bytes_eq word (codes "engine") then Some asked.Engine
+    else (if bytes_eq word (codes "release") then Some asked.Release else among_lines (line_asked_by word)))))))))
+
+-- What is shown of a row. The simulator of the `kept` rows was the first one and is the second one then.
+abbrev pub ShowsAsked : Asked → List ℕ → ListKernel → ListKernel → List ℕ → Type 0
+ShowsAsked asked.Command row before after text = ShowsCommand row text
+ShowsAsked asked.Kept row before after text = ShowsKept row before after text
+ShowsAsked asked.Run row before after text = ShowsRun (decimal_at 2 row) (part_at 3 row) (part_at 4 row) text
+ShowsAsked asked.Trace row before after text = ShowsTrace (part_at 2 row) (part_at 3 row) text
+ShowsAsked asked.Design row before after text = ShowsDesign (written (part_at 2 row)) text
+ShowsAsked asked.Flat row before after text = ShowsFlat (written (part_at 2 row)) text
+ShowsAsked asked.Tests row before after text = ShowsFile (written (part_at 2 row)) (written (part_at 3 row)) text
+ShowsAsked asked.Engine row before after text = ShowsFiles (part_at 2 row) (part_at 3 row) text
+ShowsAsked asked.Release row before after text = ShowsRelease (part_at 2 row) (part_at 3 row) text
+ShowsAsked (asked.Line line) row before after text = text ≡ in_quotes (line_of line row)
+
+-- A row whose word asks nothing shows that it doesn't.
+abbrev pub ShowsWord : Option Asked → List ℕ → ListKernel → ListKernel → List ℕ → Type 0
+ShowsWord None row before after text = text ≡ codes "not asked"
+ShowsWord (Some a) row before after text = ShowsAsked a row before after text
+
+-- Unless a row is a `kept` one, the simulator of these is as it was.
+abbrev pub LeavesKept : Option Asked → ListKernel → ListKernel → Type 0
+LeavesKept a before after = a ≢ Some asked.Kept → after ≡ before
+
+-- A row's rule, and what is shown of it. The row is parted by tabs: what is asked, the rule and what is given.
+pub record ShowsRow (row : List ℕ) (before after : ListKernel) (out : List ℕ) : Type 0 where
+  pub shown : List ℕ
+  pub is_shown : ShowsWord (asked_by (part_at 0 row)) row before after shown
+  pub is_out : out ≡ latin (part_at 1 row) ++ codes ": " ++ shown
