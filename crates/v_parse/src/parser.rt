@@ -1,6 +1,6 @@
 //! Whole texts.
 
-ghost use Rattle.std.specs.Prelude.{◌≡◌, ◌-◌, ℕ, List, length, IfOk, IfErr};
+ghost use Rattle.std.specs.Prelude.{◌≡◌, ◌-◌, ◌<◌, ◌^◌, ℕ, List, length, IfOk, IfErr};
 ghost use Rattle.v_syntax.specs.declared.token.Token.{Token};
 ghost use Rattle.v_syntax.specs.SourceTrees.{ModuleTree, view};
 ghost use Rattle.v_syntax.specs.Refusal.{IsSource, height_limit};
@@ -15,7 +15,7 @@ use crate::modules::modules;
 use std::alloc::Global;
 use v_lex::Tokens;
 use v_phrase::{ReadError, next, syntax_error};
-use v_syntax::{Source, Token, TokenNumber};
+use v_syntax::{Source, Token};
 
 /// The levels below a tree of the greatest height.
 const ROOM: usize = 63;
@@ -33,14 +33,16 @@ fn source(alloc: Global, text: &[Token]) -> Result<Source, ReadError>
 }
 
 /// The number of the token with which the last `left` tokens of a text begin.
-fn number_of(text: &[Token], left: usize) -> TokenNumber
+fn number_of(text: &[Token], left: usize) -> u32
+    requires { length text.now < 2 ^ 32 }
     ensures { result ≡ length text.now - left }
 {
-    TokenNumber::new(text.len().saturating_sub(left))
+    text.len().saturating_sub(left) as u32
 }
 
 /// [`parse`], by where its reader stops.
 fn read(alloc: Global, text: &[Token]) -> Result<Source, ParseFault>
+    requires { length text.now < 2 ^ 32 }
     ensures { Tells view text.now result (source_of 63 text.now) }
 {
     match source(alloc, text) {

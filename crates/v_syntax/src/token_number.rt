@@ -26,7 +26,7 @@ impl TokenNumber {
         TokenNumber { number }
     }
 
-    /// The number, which is below the count of the text's tokens.
+    /// The number, at most the count of the text's tokens: the end of the text counts as a token.
     pub fn number(self) -> usize
         ensures { result ≡ self }
     {

@@ -1,6 +1,5 @@
 //! Texts that are put together of repeated units.
 
-use crate::fault::parse_fault_text;
 use std::alloc::{AllocError, Global};
 use table_rows::Row;
 use v_lex::lex;
@@ -37,7 +36,7 @@ pub fn height_text(alloc: Global, row: &Row<'_>) -> Result<String, AllocError> {
                 let count = source.modules.len();
                 format!(in alloc; "{count} modules")
             }
-            Err(fault) => parse_fault_text(alloc, fault),
+            Err(fault) => format!(in alloc; "{fault:?}"),
         },
         Err(fault) => format!(in alloc; "{fault:?}"),
     }

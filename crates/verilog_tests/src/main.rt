@@ -7,7 +7,6 @@
 #![tactic(auto)]
 
 mod expression;
-mod fault;
 mod front;
 mod height;
 mod item;

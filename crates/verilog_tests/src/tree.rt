@@ -1,7 +1,6 @@
 //! A whole text's tree.
 
 use crate::expression::{open_expression, open_target};
-use crate::fault::parse_fault_text;
 use crate::item::open_item;
 use crate::module::open_module;
 use crate::piece::{Piece, Pieces};
@@ -72,7 +71,7 @@ pub fn tree_text(alloc: Global, row: &Row<'_>) -> Result<String, AllocError> {
     match lex(alloc, &text) {
         Ok(tokens) => match parse(alloc, &tokens) {
             Ok(source) => source_text(alloc, &source),
-            Err(fault) => parse_fault_text(alloc, fault),
+            Err(fault) => format!(in alloc; "{fault:?}"),
         },
         Err(fault) => format!(in alloc; "{fault:?}"),
     }
