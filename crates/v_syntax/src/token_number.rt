@@ -4,7 +4,8 @@ ghost use Rattle.std.specs.Prelude.{◌≡◌, ℕ};
 
 use std::marker::Model;
 
-/// A token of a text, by its number from 0: the place at which a rule points. Clauses see it as the number.
+/// A token of a text, by its number from 0: the place at which a rule points. The end of the text may be one. Clauses see it as the
+/// number.
 #[derive(Clone, Copy, Debug, PartialEq, Eq)]
 pub struct TokenNumber {
     number: usize,
@@ -26,7 +27,7 @@ impl TokenNumber {
         TokenNumber { number }
     }
 
-    /// The number, at most the count of the text's tokens: the end of the text counts as a token.
+    /// The number.
     pub fn number(self) -> usize
         ensures { result ≡ self }
     {
