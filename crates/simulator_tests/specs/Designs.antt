@@ -2,7 +2,7 @@
 use Rattle.std.specs.Prelude.{◌≡◌, ℕ, ◌==◌, List, [], ◌∷◌, ◌++◌, Option, Some, None, length, map, reverse, find, min, max, codes}
 use Rattle.std.specs.List.{flat_map}
 use Rattle.four_value.specs.Limits.{most_digits}
-use Rattle.four_value.specs.Vector.{all_x}
+use Rattle.four_value.specs.Vector.{all_x, digit_letters}
 use Rattle.four_value.specs.declared.Digit.{Digit}
 use Rattle.four_value.specs.declared.Digit.TheVariants.{One, X}
 use Rattle.gpi.specs.Activation.{MakesAct, SoundList, run_list}
@@ -21,7 +21,7 @@ use Rattle.gpi.specs.declared.targets.Target.TheVariants.{Whole}
 use Rattle.gpi.specs.declared.terms.Term.TheVariants.{Const}
 use Rattle.gpi.specs.declared.types.Told.{Told}
 use Rattle.table_rows.specs.Rows.{decimal, part_at}
-use Rattle.simulator_tests.specs.Digits.{digits_text, vector_of}
+use Rattle.simulator_tests.specs.Digits.{vector_of}
 use Rattle.simulator_tests.specs.Rests.{ComesTo}
 
 -- ---- the design
@@ -103,12 +103,12 @@ last_value told sig width = told_bits (last_told told sig) width
 
 -- a space, and the last value of a signal with eight digits
 abbrev pub other_text : List Told → ℕ → List ℕ
-other_text told sig = 32 ∷ digits_text (last_value told sig 8)
+other_text told sig = 32 ∷ digit_letters (last_value told sig 8)
 
 -- the value of `y`, and for an `always` those of `z` and the words of `m`
 abbrev pub values_text : Kind → List Told → ℕ → List ℕ
-values_text Always told width = digits_text (last_value told 8 width) ++ flat_map (other_text told) (9 ∷ 4 ∷ 5 ∷ 6 ∷ 7 ∷ [])
-values_text _ told width = digits_text (last_value told 8 width)
+values_text Always told width = digit_letters (last_value told 8 width) ++ flat_map (other_text told) (9 ∷ 4 ∷ 5 ∷ 6 ∷ 7 ∷ [])
+values_text _ told width = digit_letters (last_value told 8 width)
 
 abbrev pub outcome_text : Kind → ℕ → Option (List Told) → List ℕ
 outcome_text kind width (Some told) = values_text kind told width

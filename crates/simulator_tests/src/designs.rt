@@ -5,7 +5,8 @@
 ghost use Rattle.std.specs.Prelude.{◌≡◌, ◌≤◌, ◌<◌, ◌∷◌, ◌++◌, length, map, reverse, IfOk, OnOk, OnErr, option_map, option_to_list, string_bytes};
 ghost use Rattle.std.specs.List.{flat_map};
 ghost use Rattle.four_value.specs.Limits.{most_digits};
-ghost use Rattle.simulator_tests.specs.Digits.{digit_of, digits_text, short_vector, vector_of};
+ghost use Rattle.four_value.specs.Vector.{digit_letters};
+ghost use Rattle.simulator_tests.specs.Digits.{digit_of, short_vector, vector_of};
 ghost use Rattle.simulator_tests.specs.Rests.{ComesTo, Settles};
 ghost use Rattle.simulator_tests.specs.Designs.{AreProcesses, IsAsked, IsDesign, IsGiven, ShowsDesign, bare_top, change_of, last_told, last_value, other_text, register, registers, sets, values_text, wakes_of};
 
@@ -41,6 +42,9 @@ pub const MEMORY: Words = Words {
     low: 1,
     count: 4,
 };
+
+/// The number of events at which a design is given up: one that comes to rest takes fewer.
+const MOST_EVENTS: u8 = 99;
 
 /// The vector of these digits, highest first: of more than `MOST_DIGITS` the first ones, and one x where there is none. It takes no
 /// memory.
@@ -88,7 +92,7 @@ fn digit(byte: u8) -> Digit
 /// The digits of a vector, highest first. Only want of memory is an error, here and below.
 #[tactic(auto, using(crate::proofs::DigitLaws::digits_shown))]
 pub fn digits(alloc: Global, bits: Bits) -> Result<String, NoMemory>
-    ensures { IfOk result (λ text. string_bytes text ≡ digits_text bits) }
+    ensures { IfOk result (λ text. string_bytes text ≡ digit_letters bits) }
 {
     let mut out = String::new(alloc);
     let text = bits.text();
@@ -256,13 +260,13 @@ fn push_told(told: &mut Vec<Told>, change: Option<Told>) -> Result<(), NoMemory>
     Ok(())
 }
 
-/// The changes that a simulator tells until nothing is left, in order; none where 99 events come.
+/// The changes that a simulator tells until nothing is left, in order; none where `MOST_EVENTS` come.
 fn settle<K: Gpi>(alloc: Global, kernel: &mut K) -> Result<Option<Vec<Told>>, NoMemory>
     requires { K.is_loaded kernel.old }
     ensures { IfOk result (λ told. Settles (K.content kernel.old) (option_map (λ t. t.items) told)) }
 {
     let mut told = Vec::new(alloc);
-    for _ in 0..99u8 {
+    for _ in 0..MOST_EVENTS {
         match kernel.advance()? {
             Advance::Idle => return Ok(Some(told)),
             Advance::Moved(moved) => push_told(&mut told, moved.change)?,
@@ -271,7 +275,7 @@ fn settle<K: Gpi>(alloc: Global, kernel: &mut K) -> Result<Option<Vec<Told>>, No
     Ok(None)
 }
 
-/// The changes that a design tells until nothing is left; none where it isn't sound or 99 events come.
+/// The changes that a design tells until nothing is left; none where it isn't sound or `MOST_EVENTS` come.
 fn rest(alloc: Global, flat: &Flat) -> Result<Option<Vec<Told>>, NoMemory>
     ensures { IfOk result (λ told. ComesTo flat.now (option_map (λ t. t.items) told)) }
 {
@@ -330,7 +334,7 @@ fn values_text(alloc: Global, kind: Kind, told: &[Told], width: u8) -> Result<St
 }
 
 /// What the design of a row comes to, whose process has this kind: the last values of `y`, or of it, `z` and the words of the memory,
-/// that its simulator told until nothing was left; `no rest` where the design isn't sound or 99 events come.
+/// that its simulator told until nothing was left; `no rest` where the design isn't sound or `MOST_EVENTS` come.
 pub fn design_text(alloc: Global, row: &Row<'_>, kind: Kind) -> Result<String, NoMemory>
     ensures { IfOk result (λ text. ShowsDesign row.now kind (string_bytes text)) }
 {
