@@ -8,7 +8,7 @@ ghost use Rattle.four_value.specs.Limits.{most_digits};
 ghost use Rattle.four_value.specs.Vector.{digit_letters};
 ghost use Rattle.simulator_tests.specs.Digits.{digit_of, short_vector, vector_of};
 ghost use Rattle.simulator_tests.specs.Rests.{ComesTo, Settles};
-ghost use Rattle.simulator_tests.specs.Designs.{AreProcesses, IsAsked, IsDesign, IsGiven, ShowsDesign, bare_top, change_of, last_told, last_value, other_text, register, registers, sets, values_text, wakes_of};
+ghost use Rattle.simulator_tests.specs.Designs.{AreProcesses, IsDesign, IsGiven, IsProcessOf, ShowsSimulation, bare_top, change_of, last_told, last_value, other_text, register, registers, sets, values_text, wakes_of};
 
 use crate::parts::Parts;
 use four_value::{Bits, Digit, MOST_DIGITS};
@@ -21,24 +21,39 @@ use port_io::{Name, NoMemory, Sequence};
 use std::alloc::Global;
 use table_rows::{Row, push_bytes};
 
-/// The numbers of the signals.
+/// `a`: 8 digits, in the range that a row says.
 pub const A: SigId = SigId(0);
 
+/// `b`: 8 digits.
 pub const B: SigId = SigId(1);
 
+/// `c`: 4 digits.
 pub const C: SigId = SigId(2);
 
+/// `go`: one digit, which the inputs set last.
 pub const GO: SigId = SigId(3);
 
-pub const SECOND_WORD: SigId = SigId(5);
+/// `m[1]`: 8 digits, as the other words of `m`.
+const FIRST_WORD: SigId = SigId(4);
 
+/// `m[2]`, the one word that the inputs set.
+const SECOND_WORD: SigId = SigId(5);
+
+/// `m[3]`.
+const THIRD_WORD: SigId = SigId(6);
+
+/// `m[4]`.
+const FOURTH_WORD: SigId = SigId(7);
+
+/// `y`: as many digits as a row says, which an answer shows first.
 pub const Y: SigId = SigId(8);
 
+/// `z`: 8 digits.
 pub const Z: SigId = SigId(9);
 
-/// The memory `m`.
+/// The memory `m`, from `m[1]` to `m[4]`.
 pub const MEMORY: Words = Words {
-    first: SigId(4),
+    first: FIRST_WORD,
     low: 1,
     count: 4,
 };
@@ -103,7 +118,7 @@ pub fn digits(alloc: Global, bits: Bits) -> Result<String, NoMemory>
 
 /// A blocking assignment of a constant.
 fn sets(sig: SigId, bits: Bits) -> Act
-    ensures { result ≡ sets sig.0 bits }
+    ensures { result ≡ sets sig bits }
 {
     let target = Target::Whole(Object::Signal(sig, bits.width()));
     Act::Blocking(target, Term::Const(bits))
@@ -149,13 +164,13 @@ fn signals(alloc: Global, width: u8) -> Result<Sequence<Signal>, NoMemory>
 }
 
 /// The wakes of each change of these signals.
-fn wakes(alloc: Global, signals: &[u32]) -> Result<Sequence<Wake>, NoMemory>
+fn wakes(alloc: Global, signals: &[SigId]) -> Result<Sequence<Wake>, NoMemory>
     ensures { IfOk result (λ wakes. wakes ≡ map change_of signals.now) }
 {
     let mut wakes = Sequence::new(alloc);
     for sig in signals {
         wakes.push(Wake {
-            sig: SigId(*sig),
+            sig: *sig,
             edge: WakeEdge::Any,
         })?;
     }
@@ -167,8 +182,20 @@ fn wakes_of(alloc: Global, kind: Kind) -> Result<Sequence<Wake>, NoMemory>
     ensures { IfOk result (λ wakes. wakes ≡ wakes_of kind) }
 {
     match kind {
-        Kind::Assign => wakes(alloc, &[0, 1, 2, 3, 4, 5, 6, 7]),
-        _ => wakes(alloc, &[3]),
+        Kind::Assign => wakes(
+            alloc,
+            &[
+                A,
+                B,
+                C,
+                GO,
+                FIRST_WORD,
+                SECOND_WORD,
+                THIRD_WORD,
+                FOURTH_WORD,
+            ],
+        ),
+        _ => wakes(alloc, &[GO]),
     }
 }
 
@@ -201,7 +228,7 @@ fn act_of(alloc: Global, row: &Row<'_>, width: u8) -> Result<Act, NoMemory> {
 
 /// The process of a row, where `y` has so many digits.
 fn asked(alloc: Global, row: &Row<'_>, kind: Kind, width: u8) -> Result<Process, NoMemory>
-    ensures { IfOk result (λ asked. IsAsked kind asked) }
+    ensures { IfOk result (λ asked. IsProcessOf kind asked) }
 {
     let wakes = wakes_of(alloc, kind)?;
     let body = act_of(alloc, row, width)?;
@@ -289,7 +316,7 @@ fn rest(alloc: Global, flat: &Flat) -> Result<Option<Vec<Told>>, NoMemory>
 
 /// The last change that was told of a signal.
 fn last_told(told: &[Told], sig: SigId) -> Option<Told>
-    ensures { result ≡ last_told told.now sig.0 }
+    ensures { result ≡ last_told told.now sig }
 {
     told.iter().rev().copied().find(|told| told.sig.0 == sig.0)
 }
@@ -298,7 +325,7 @@ fn last_told(told: &[Told], sig: SigId) -> Option<Told>
 fn last_value(told: &[Told], sig: SigId, width: u8) -> Bits
     requires low { 1 ≤ width }
     requires high { width ≤ most_digits }
-    ensures { result ≡ last_value told.now sig.0 width }
+    ensures { result ≡ last_value told.now sig width }
 {
     match last_told(told, sig) {
         Some(told) => told.bits,
@@ -307,12 +334,12 @@ fn last_value(told: &[Told], sig: SigId, width: u8) -> Bits
 }
 
 /// The last values of these signals of eight digits, each behind a space.
-fn other_texts(alloc: Global, told: &[Told], signals: &[u32]) -> Result<String, NoMemory>
+fn other_texts(alloc: Global, told: &[Told], signals: &[SigId]) -> Result<String, NoMemory>
     ensures { IfOk result (λ text. string_bytes text ≡ flat_map (other_text told.now) signals.now) }
 {
     let mut out = String::new(alloc);
     for sig in signals {
-        let value = digits(alloc, last_value(told, SigId(*sig), 8))?;
+        let value = digits(alloc, last_value(told, *sig, 8))?;
         out.push(' ')?;
         out.push_str(&value)?;
     }
@@ -327,7 +354,11 @@ fn values_text(alloc: Global, kind: Kind, told: &[Told], width: u8) -> Result<St
 {
     let mut out = digits(alloc, last_value(told, Y, width))?;
     if let Kind::Always = kind {
-        let others = other_texts(alloc, told, &[9, 4, 5, 6, 7])?;
+        let others = other_texts(
+            alloc,
+            told,
+            &[Z, FIRST_WORD, SECOND_WORD, THIRD_WORD, FOURTH_WORD],
+        )?;
         out.push_str(&others)?;
     }
     Ok(out)
@@ -336,7 +367,7 @@ fn values_text(alloc: Global, kind: Kind, told: &[Told], width: u8) -> Result<St
 /// What the design of a row comes to, whose process has this kind: the last values of `y`, or of it, `z` and the words of the memory,
 /// that its simulator told until nothing was left; `no rest` where the design isn't sound or `MOST_EVENTS` come.
 pub fn design_text(alloc: Global, row: &Row<'_>, kind: Kind) -> Result<String, NoMemory>
-    ensures { IfOk result (λ text. ShowsDesign row.now kind (string_bytes text)) }
+    ensures { IfOk result (λ text. ShowsSimulation row.now kind (string_bytes text)) }
 {
     let width = row.number(6).clamp(1, u64::from(MOST_DIGITS)) as u8;
     let flat = design(alloc, row, kind, width)?;
