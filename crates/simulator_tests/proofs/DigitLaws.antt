@@ -1,13 +1,14 @@
 -- Digits as a text.
-use Rattle.std.proofs.Common.{◌≡◌, ◌<◌, ◌-◌, ◌++◌, ◌∷◌, [], ℕ, List, map, reverse, take, min, length, replicate, refl, ap, ◌∙◌, lit<}
-use Rattle.std.proofs.lemmas.List.{length-map, length-reverse, take_at, take_min}
+use Rattle.std.proofs.Common.{◌≡◌, ◌<◌, ◌++◌, ◌∷◌, [], ℕ, List, map, reverse, take, min, length, refl, ap, ◌∙◌, lit<}
+use Rattle.std.proofs.lemmas.List.{take_min}
 use Rattle.std.proofs.lemmas.Str.{encode_ascii}
 use Rattle.table_rows.specs.Shown.{latin}
+use Rattle.four_value.proofs.Letters.{text_front}
 use Rattle.four_value.specs.Limits.{most_digits}
-use Rattle.four_value.specs.Vector.{digit_byte, text}
+use Rattle.four_value.specs.Vector.{digit_byte, digit_letters, text}
 use Rattle.four_value.specs.declared.Digit.{Digit}
 use Rattle.four_value.specs.declared.Digit.TheVariants.{Zero, One, X, Z}
-use Rattle.simulator_tests.specs.Digits.{digits_text, short_vector, vector_of}
+use Rattle.simulator_tests.specs.Digits.{short_vector, vector_of}
 
 ascii_first : (b : ℕ) → b < 128 → (bs cs : List ℕ) → latin bs ≡ cs → latin (b ∷ bs) ≡ b ∷ cs
 ascii_first b h bs cs e = ap (λ (front : List ℕ). front ++ latin bs) (encode_ascii b h) ∙ ap (λ (ds : List ℕ). b ∷ ds) e
@@ -20,14 +21,8 @@ latin_digits (One ∷ ds) = ascii_first 49 (lit< tt) _ _ (latin_digits ds)
 latin_digits (X ∷ ds) = ascii_first 120 (lit< tt) _ _ (latin_digits ds)
 latin_digits (Z ∷ ds) = ascii_first 122 (lit< tt) _ _ (latin_digits ds)
 
--- a text begins with the digits
-text_front : (ds : List Digit) → take (length ds) (text ds) ≡ map digit_byte (reverse ds)
-text_front ds =
-    take_at (map digit_byte (reverse ds)) (replicate (128 - length ds) 32) (length ds)
-    (length-map (reverse ds) digit_byte ∙ length-reverse ds)
-
 -- the front of a text, as characters, is its digits
-pub digits_shown : (ds : List Digit) (n : ℕ) → n ≡ length ds → latin (take n (text ds)) ≡ digits_text ds
+pub digits_shown : (ds : List Digit) (n : ℕ) → n ≡ length ds → latin (take n (text ds)) ≡ digit_letters ds
 digits_shown ds n e =
     ap (λ (k : ℕ). latin (take k (text ds))) e ∙ ap (λ (bs : List ℕ). latin bs) (text_front ds) ∙ latin_digits (reverse ds)
 

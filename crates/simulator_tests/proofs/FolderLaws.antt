@@ -1,5 +1,5 @@
 -- What a folder's reader gives, where it tells what it has left.
-use Rattle.std.proofs.Common.{◌≡◌, ℕ, List, [], ◌∷◌, Option, None, Some, take, IfSome, codes, refl, ap, sym, subst, ◌∙◌, arith, inl, inr}
+use Rattle.std.proofs.Common.{◌≡◌, ℕ, List, Option, None, Some, take, IfSome, refl, ap, sym, subst, ◌∙◌, arith, inl, inr}
 use Rattle.std.specs.Io.KnownBytes.{Consumes}
 use Rattle.port_io.specs.Reading.{FolderGives, FolderMisses, GivesFirst, GivesKnown, OverFolder}
 use Rattle.port_io.specs.ReadingLaws.{each_left, end_taken, wanted_taken}

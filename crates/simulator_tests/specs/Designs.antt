@@ -2,7 +2,7 @@
 use Rattle.std.specs.Prelude.{◌≡◌, ℕ, ◌==◌, List, [], ◌∷◌, ◌++◌, Option, Some, None, length, map, reverse, find, min, max, codes}
 use Rattle.std.specs.List.{flat_map}
 use Rattle.four_value.specs.Limits.{most_digits}
-use Rattle.four_value.specs.Vector.{all_x}
+use Rattle.four_value.specs.Vector.{all_x, digit_letters}
 use Rattle.four_value.specs.declared.Digit.{Digit}
 use Rattle.four_value.specs.declared.Digit.TheVariants.{One, X}
 use Rattle.gpi.specs.Activation.{MakesAct, SoundList, run_list}
@@ -19,10 +19,44 @@ use Rattle.gpi.specs.declared.design.WakeEdge.TheVariants.{Any}
 use Rattle.gpi.specs.declared.targets.Object.TheVariants as object
 use Rattle.gpi.specs.declared.targets.Target.TheVariants.{Whole}
 use Rattle.gpi.specs.declared.terms.Term.TheVariants.{Const}
+use Rattle.gpi.specs.declared.types.SigId.{SigId}
 use Rattle.gpi.specs.declared.types.Told.{Told}
 use Rattle.table_rows.specs.Rows.{decimal, part_at}
-use Rattle.simulator_tests.specs.Digits.{digits_text, vector_of}
+use Rattle.simulator_tests.specs.Digits.{vector_of}
 use Rattle.simulator_tests.specs.Rests.{ComesTo}
+
+-- ---- the signals, in the order of their numbers
+
+abbrev pub a : SigId
+a = record { 0 = 0 }
+
+abbrev pub b : SigId
+b = record { 0 = 1 }
+
+abbrev pub c : SigId
+c = record { 0 = 2 }
+
+abbrev pub go : SigId
+go = record { 0 = 3 }
+
+-- the words `m[1]` to `m[4]`
+abbrev pub first_word : SigId
+first_word = record { 0 = 4 }
+
+abbrev pub second_word : SigId
+second_word = record { 0 = 5 }
+
+abbrev pub third_word : SigId
+third_word = record { 0 = 6 }
+
+abbrev pub fourth_word : SigId
+fourth_word = record { 0 = 7 }
+
+abbrev pub y : SigId
+y = record { 0 = 8 }
+
+abbrev pub z : SigId
+z = record { 0 = 9 }
 
 -- ---- the design
 
@@ -43,23 +77,23 @@ abbrev pub bare_top : List Node
 bare_top = record { path = []; children = [] } ∷ []
 
 -- each change of a signal
-abbrev pub change_of : ℕ → Wake
-change_of sig = record { sig = record { 0 = sig }; edge = Any }
+abbrev pub change_of : SigId → Wake
+change_of sig = record { sig = sig; edge = Any }
 
 -- `assign` runs after each change of a signal that may be read, `always @(go)` after each one of `go`
 abbrev pub wakes_of : Kind → List Wake
-wakes_of Assign = map change_of (0 ∷ 1 ∷ 2 ∷ 3 ∷ 4 ∷ 5 ∷ 6 ∷ 7 ∷ [])
-wakes_of _ = change_of 3 ∷ []
+wakes_of Assign = map change_of (a ∷ b ∷ c ∷ go ∷ first_word ∷ second_word ∷ third_word ∷ fourth_word ∷ [])
+wakes_of _ = change_of go ∷ []
 
 -- a signal is given a constant of its width
-abbrev pub sets : ℕ → List Digit → Act
-sets sig bits = Blocking (Whole (object.Signal (record { 0 = sig }) (length bits))) (Const bits)
+abbrev pub sets : SigId → List Digit → Act
+sets sig bits = Blocking (Whole (object.Signal sig (length bits))) (Const bits)
 
 -- `a = ..; b = ..; m[2] = ..; c = ..; go = 1;`
 abbrev pub settings : List ℕ → List Act
 settings row =
-    sets 0 (vector_of (part_at 3 row)) ∷ sets 1 (vector_of (part_at 4 row)) ∷ sets 5 (vector_of (part_at 4 row))
-    ∷ sets 2 (vector_of (part_at 5 row)) ∷ sets 3 (One ∷ []) ∷ []
+    sets a (vector_of (part_at 3 row)) ∷ sets b (vector_of (part_at 4 row)) ∷ sets second_word (vector_of (part_at 4 row))
+    ∷ sets c (vector_of (part_at 5 row)) ∷ sets go (One ∷ []) ∷ []
 
 -- `initial` with these settings
 pub record IsGiven (row : List ℕ) (given : Process) : Type 0 where
@@ -68,7 +102,7 @@ pub record IsGiven (row : List ℕ) (given : Process) : Type 0 where
   pub body : MakesAct given.body (run_list (settings row)) (SoundList (settings row))
 
 -- a process of this kind
-pub record IsAsked (sort : Kind) (asked : Process) : Type 0 where
+pub record IsProcessOf (sort : Kind) (asked : Process) : Type 0 where
   pub kind : asked.kind ≡ sort
   pub wakes : asked.wakes ≡ wakes_of sort
 
@@ -76,7 +110,7 @@ pub record IsAsked (sort : Kind) (asked : Process) : Type 0 where
 pub record AreProcesses (row : List ℕ) (kind : Kind) (processes : List Process) : Type 0 where
   pub asked : Process
   pub given : Process
-  pub is_asked : IsAsked kind asked
+  pub is_asked : IsProcessOf kind asked
   pub is_given : IsGiven row given
   pub both : processes ≡ asked ∷ given ∷ []
 
@@ -89,8 +123,8 @@ pub record IsDesign (row : List ℕ) (kind : Kind) (width : ℕ) (flat : Flat) :
 -- ---- what is shown
 
 -- the last change that was told of a signal
-abbrev pub last_told : List Told → ℕ → Option Told
-last_told told sig = find (λ (t : Told). t.sig.0 == sig) (reverse told)
+abbrev pub last_told : List Told → SigId → Option Told
+last_told told sig = find (λ (t : Told). t.sig.0 == sig.0) (reverse told)
 
 -- the digits of a change, or so many that are x
 abbrev pub told_bits : Option Told → ℕ → List Digit
@@ -98,24 +132,27 @@ told_bits (Some told) width = told.bits
 told_bits None width = all_x width
 
 -- the last value that was told of a signal with so many digits, all x where none was told
-abbrev pub last_value : List Told → ℕ → ℕ → List Digit
+abbrev pub last_value : List Told → SigId → ℕ → List Digit
 last_value told sig width = told_bits (last_told told sig) width
 
 -- a space, and the last value of a signal with eight digits
-abbrev pub other_text : List Told → ℕ → List ℕ
-other_text told sig = 32 ∷ digits_text (last_value told sig 8)
+abbrev pub other_text : List Told → SigId → List ℕ
+other_text told sig = 32 ∷ digit_letters (last_value told sig 8)
 
 -- the value of `y`, and for an `always` those of `z` and the words of `m`
 abbrev pub values_text : Kind → List Told → ℕ → List ℕ
-values_text Always told width = digits_text (last_value told 8 width) ++ flat_map (other_text told) (9 ∷ 4 ∷ 5 ∷ 6 ∷ 7 ∷ [])
-values_text _ told width = digits_text (last_value told 8 width)
+values_text Always told width =
+    digit_letters (last_value told y width)
+    ++ flat_map (other_text told) (z ∷ first_word ∷ second_word ∷ third_word ∷ fourth_word ∷ [])
+values_text _ told width = digit_letters (last_value told y width)
 
+-- the values that were told, or that there is no rest
 abbrev pub outcome_text : Kind → ℕ → Option (List Told) → List ℕ
 outcome_text kind width (Some told) = values_text kind told width
 outcome_text kind width None = codes "no rest"
 
 -- The text is what a design of the row comes to.
-pub record ShowsDesign (row : List ℕ) (kind : Kind) (text : List ℕ) : Type 0 where
+pub record ShowsSimulation (row : List ℕ) (kind : Kind) (text : List ℕ) : Type 0 where
   pub flat : Flat
   pub is_design : IsDesign row kind (width_of row) flat
   pub told : Option (List Told)

@@ -1,7 +1,6 @@
 -- Vectors as rows write and show them.
 use Rattle.std.specs.Prelude.{ℕ, ◌==◌, List, [], ◌∷◌, map, reverse, take, if◌then◌else◌}
 use Rattle.four_value.specs.Limits.{most_digits}
-use Rattle.four_value.specs.Vector.{digit_byte}
 use Rattle.four_value.specs.declared.Digit.{Digit}
 use Rattle.four_value.specs.declared.Digit.TheVariants.{Zero, One, X, Z}
 
@@ -17,7 +16,3 @@ short_vector (highest ∷ rest) = reverse (map digit_of (highest ∷ rest))
 -- the vector of the digits of a text: where it has too many, of the first ones
 abbrev pub vector_of : List ℕ → List Digit
 vector_of text = short_vector (take most_digits text)
-
--- the digits of a vector, the highest first
-abbrev pub digits_text : List Digit → List ℕ
-digits_text bits = map digit_byte (reverse bits)

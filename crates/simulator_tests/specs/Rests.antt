@@ -25,14 +25,14 @@ abbrev pub Events : ℕ → Content → List Told → Content → Type 0
 Events zero start told after = (told ≡ []) × (after ≡ start)
 Events (suc n) start told after = OneMore (Events n start) told after
 
--- how many events a row's design may take, and one more
-abbrev pub most_calls : ℕ
-most_calls = 99
+-- the number of events at which a design is given up: one that comes to rest takes fewer
+abbrev pub most_events : ℕ
+most_events = 99
 
 -- Nothing is left after fewer events, and these changes were told.
 pub record ComesToRest (start : Content) (told : List Told) : Type 0 where
   pub count : ℕ
-  pub few : count < most_calls
+  pub few : count < most_events
   pub last : Content
   pub events : Events count start told last
   pub is_idle : next last ≡ None
@@ -41,7 +41,7 @@ pub record ComesToRest (start : Content) (told : List Told) : Type 0 where
 pub record GoesOn (start : Content) : Type 0 where
   pub told : List Told
   pub last : Content
-  pub events : Events most_calls start told last
+  pub events : Events most_events start told last
 
 -- the changes that are told until nothing is left; none where there are too many events
 abbrev pub Settles : Content → Option (List Told) → Type 0

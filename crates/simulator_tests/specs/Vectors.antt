@@ -1,15 +1,15 @@
 -- What an operator gives on the vectors of a row (IEEE 1364-2005, clause 5.1).
 use Rattle.std.specs.Prelude.{ℕ, ◌==◌, List, [], ◌∷◌, ◌++◌, length, codes, if◌then◌else◌}
 use Rattle.std.specs.Str.{bytes_eq}
-use Rattle.four_value.specs.Vector.{and_digit, equal, not_digit, or_digit, reduce, rem, shl, xor_digit}
+use Rattle.four_value.specs.Vector.{and_digit, digit_letters, equal, not_digit, or_digit, reduce, rem, shl, xor_digit}
 use Rattle.four_value.specs.declared.Digit.{Digit}
 use Rattle.four_value.specs.declared.Digit.TheVariants.{Zero, One}
 use Rattle.table_rows.specs.Rows.{part_at}
-use Rattle.simulator_tests.specs.Digits.{digits_text, vector_of}
+use Rattle.simulator_tests.specs.Digits.{vector_of}
 
 -- a digit as a text
 abbrev pub digit_text : Digit → List ℕ
-digit_text digit = digits_text (digit ∷ [])
+digit_text digit = digit_letters (digit ∷ [])
 
 -- the reductions by `&`, `|` and `^`, between spaces (clause 5.1.11)
 abbrev pub reductions_text : List Digit → List ℕ
@@ -25,8 +25,8 @@ of_one_width a b text = if length a == length b then text else codes "of two wid
 abbrev pub operator_text : List ℕ → List Digit → List Digit → List ℕ
 operator_text operator a b =
     if bytes_eq operator (codes "reductions") then reductions_text a
-    else (if bytes_eq operator (codes "shl") then digits_text (shl a b)
-    else (if bytes_eq operator (codes "rem") then of_one_width a b (digits_text (rem a b))
+    else (if bytes_eq operator (codes "shl") then digit_letters (shl a b)
+    else (if bytes_eq operator (codes "rem") then of_one_width a b (digit_letters (rem a b))
     else (if bytes_eq operator (codes "ne") then of_one_width a b (digit_text (not_digit (equal a b)))
     else codes "not asked")))
 

@@ -5,9 +5,10 @@
 ghost use Rattle.std.specs.Prelude.{◌≡◌, ◌≤◌, ◌<◌, ◌∷◌, ◌++◌, length, map, reverse, IfOk, OnOk, OnErr, option_map, option_to_list, string_bytes};
 ghost use Rattle.std.specs.List.{flat_map};
 ghost use Rattle.four_value.specs.Limits.{most_digits};
-ghost use Rattle.simulator_tests.specs.Digits.{digit_of, digits_text, short_vector, vector_of};
+ghost use Rattle.four_value.specs.Vector.{digit_letters};
+ghost use Rattle.simulator_tests.specs.Digits.{digit_of, short_vector, vector_of};
 ghost use Rattle.simulator_tests.specs.Rests.{ComesTo, Settles};
-ghost use Rattle.simulator_tests.specs.Designs.{AreProcesses, IsAsked, IsDesign, IsGiven, ShowsDesign, bare_top, change_of, last_told, last_value, other_text, register, registers, sets, values_text, wakes_of};
+ghost use Rattle.simulator_tests.specs.Designs.{AreProcesses, IsDesign, IsGiven, IsProcessOf, ShowsSimulation, bare_top, change_of, last_told, last_value, other_text, register, registers, sets, values_text, wakes_of};
 
 use crate::parts::Parts;
 use four_value::{Bits, Digit, MOST_DIGITS};
@@ -20,27 +21,45 @@ use port_io::{Name, NoMemory, Sequence};
 use std::alloc::Global;
 use table_rows::{Row, push_bytes};
 
-/// The numbers of the signals.
+/// `a`: 8 digits, in the range that a row says.
 pub const A: SigId = SigId(0);
 
+/// `b`: 8 digits.
 pub const B: SigId = SigId(1);
 
+/// `c`: 4 digits.
 pub const C: SigId = SigId(2);
 
+/// `go`: one digit, which the inputs set last.
 pub const GO: SigId = SigId(3);
 
-pub const SECOND_WORD: SigId = SigId(5);
+/// `m[1]`: 8 digits, as the other words of `m`.
+const FIRST_WORD: SigId = SigId(4);
 
+/// `m[2]`, the one word that the inputs set.
+const SECOND_WORD: SigId = SigId(5);
+
+/// `m[3]`.
+const THIRD_WORD: SigId = SigId(6);
+
+/// `m[4]`.
+const FOURTH_WORD: SigId = SigId(7);
+
+/// `y`: as many digits as a row says, which an answer shows first.
 pub const Y: SigId = SigId(8);
 
+/// `z`: 8 digits.
 pub const Z: SigId = SigId(9);
 
-/// The memory `m`.
+/// The memory `m`, from `m[1]` to `m[4]`.
 pub const MEMORY: Words = Words {
-    first: SigId(4),
+    first: FIRST_WORD,
     low: 1,
     count: 4,
 };
+
+/// The number of events at which a design is given up: one that comes to rest takes fewer.
+const MOST_EVENTS: u8 = 99;
 
 /// The vector of these digits, highest first: of more than `MOST_DIGITS` the first ones, and one x where there is none. It takes no
 /// memory.
@@ -88,7 +107,7 @@ fn digit(byte: u8) -> Digit
 /// The digits of a vector, highest first. Only want of memory is an error, here and below.
 #[tactic(auto, using(crate::proofs::DigitLaws::digits_shown))]
 pub fn digits(alloc: Global, bits: Bits) -> Result<String, NoMemory>
-    ensures { IfOk result (λ text. string_bytes text ≡ digits_text bits) }
+    ensures { IfOk result (λ text. string_bytes text ≡ digit_letters bits) }
 {
     let mut out = String::new(alloc);
     let text = bits.text();
@@ -99,7 +118,7 @@ pub fn digits(alloc: Global, bits: Bits) -> Result<String, NoMemory>
 
 /// A blocking assignment of a constant.
 fn sets(sig: SigId, bits: Bits) -> Act
-    ensures { result ≡ sets sig.0 bits }
+    ensures { result ≡ sets sig bits }
 {
     let target = Target::Whole(Object::Signal(sig, bits.width()));
     Act::Blocking(target, Term::Const(bits))
@@ -145,13 +164,13 @@ fn signals(alloc: Global, width: u8) -> Result<Sequence<Signal>, NoMemory>
 }
 
 /// The wakes of each change of these signals.
-fn wakes(alloc: Global, signals: &[u32]) -> Result<Sequence<Wake>, NoMemory>
+fn wakes(alloc: Global, signals: &[SigId]) -> Result<Sequence<Wake>, NoMemory>
     ensures { IfOk result (λ wakes. wakes ≡ map change_of signals.now) }
 {
     let mut wakes = Sequence::new(alloc);
     for sig in signals {
         wakes.push(Wake {
-            sig: SigId(*sig),
+            sig: *sig,
             edge: WakeEdge::Any,
         })?;
     }
@@ -163,8 +182,20 @@ fn wakes_of(alloc: Global, kind: Kind) -> Result<Sequence<Wake>, NoMemory>
     ensures { IfOk result (λ wakes. wakes ≡ wakes_of kind) }
 {
     match kind {
-        Kind::Assign => wakes(alloc, &[0, 1, 2, 3, 4, 5, 6, 7]),
-        _ => wakes(alloc, &[3]),
+        Kind::Assign => wakes(
+            alloc,
+            &[
+                A,
+                B,
+                C,
+                GO,
+                FIRST_WORD,
+                SECOND_WORD,
+                THIRD_WORD,
+                FOURTH_WORD,
+            ],
+        ),
+        _ => wakes(alloc, &[GO]),
     }
 }
 
@@ -197,7 +228,7 @@ fn act_of(alloc: Global, row: &Row<'_>, width: u8) -> Result<Act, NoMemory> {
 
 /// The process of a row, where `y` has so many digits.
 fn asked(alloc: Global, row: &Row<'_>, kind: Kind, width: u8) -> Result<Process, NoMemory>
-    ensures { IfOk result (λ asked. IsAsked kind asked) }
+    ensures { IfOk result (λ asked. IsProcessOf kind asked) }
 {
     let wakes = wakes_of(alloc, kind)?;
     let body = act_of(alloc, row, width)?;
@@ -256,13 +287,13 @@ fn push_told(told: &mut Vec<Told>, change: Option<Told>) -> Result<(), NoMemory>
     Ok(())
 }
 
-/// The changes that a simulator tells until nothing is left, in order; none where 99 events come.
+/// The changes that a simulator tells until nothing is left, in order; none where `MOST_EVENTS` come.
 fn settle<K: Gpi>(alloc: Global, kernel: &mut K) -> Result<Option<Vec<Told>>, NoMemory>
     requires { K.is_loaded kernel.old }
     ensures { IfOk result (λ told. Settles (K.content kernel.old) (option_map (λ t. t.items) told)) }
 {
     let mut told = Vec::new(alloc);
-    for _ in 0..99u8 {
+    for _ in 0..MOST_EVENTS {
         match kernel.advance()? {
             Advance::Idle => return Ok(Some(told)),
             Advance::Moved(moved) => push_told(&mut told, moved.change)?,
@@ -271,7 +302,7 @@ fn settle<K: Gpi>(alloc: Global, kernel: &mut K) -> Result<Option<Vec<Told>>, No
     Ok(None)
 }
 
-/// The changes that a design tells until nothing is left; none where it isn't sound or 99 events come.
+/// The changes that a design tells until nothing is left; none where it isn't sound or `MOST_EVENTS` come.
 fn rest(alloc: Global, flat: &Flat) -> Result<Option<Vec<Told>>, NoMemory>
     ensures { IfOk result (λ told. ComesTo flat.now (option_map (λ t. t.items) told)) }
 {
@@ -285,7 +316,7 @@ fn rest(alloc: Global, flat: &Flat) -> Result<Option<Vec<Told>>, NoMemory>
 
 /// The last change that was told of a signal.
 fn last_told(told: &[Told], sig: SigId) -> Option<Told>
-    ensures { result ≡ last_told told.now sig.0 }
+    ensures { result ≡ last_told told.now sig }
 {
     told.iter().rev().copied().find(|told| told.sig.0 == sig.0)
 }
@@ -294,7 +325,7 @@ fn last_told(told: &[Told], sig: SigId) -> Option<Told>
 fn last_value(told: &[Told], sig: SigId, width: u8) -> Bits
     requires low { 1 ≤ width }
     requires high { width ≤ most_digits }
-    ensures { result ≡ last_value told.now sig.0 width }
+    ensures { result ≡ last_value told.now sig width }
 {
     match last_told(told, sig) {
         Some(told) => told.bits,
@@ -303,12 +334,12 @@ fn last_value(told: &[Told], sig: SigId, width: u8) -> Bits
 }
 
 /// The last values of these signals of eight digits, each behind a space.
-fn other_texts(alloc: Global, told: &[Told], signals: &[u32]) -> Result<String, NoMemory>
+fn other_texts(alloc: Global, told: &[Told], signals: &[SigId]) -> Result<String, NoMemory>
     ensures { IfOk result (λ text. string_bytes text ≡ flat_map (other_text told.now) signals.now) }
 {
     let mut out = String::new(alloc);
     for sig in signals {
-        let value = digits(alloc, last_value(told, SigId(*sig), 8))?;
+        let value = digits(alloc, last_value(told, *sig, 8))?;
         out.push(' ')?;
         out.push_str(&value)?;
     }
@@ -323,16 +354,20 @@ fn values_text(alloc: Global, kind: Kind, told: &[Told], width: u8) -> Result<St
 {
     let mut out = digits(alloc, last_value(told, Y, width))?;
     if let Kind::Always = kind {
-        let others = other_texts(alloc, told, &[9, 4, 5, 6, 7])?;
+        let others = other_texts(
+            alloc,
+            told,
+            &[Z, FIRST_WORD, SECOND_WORD, THIRD_WORD, FOURTH_WORD],
+        )?;
         out.push_str(&others)?;
     }
     Ok(out)
 }
 
 /// What the design of a row comes to, whose process has this kind: the last values of `y`, or of it, `z` and the words of the memory,
-/// that its simulator told until nothing was left; `no rest` where the design isn't sound or 99 events come.
+/// that its simulator told until nothing was left; `no rest` where the design isn't sound or `MOST_EVENTS` come.
 pub fn design_text(alloc: Global, row: &Row<'_>, kind: Kind) -> Result<String, NoMemory>
-    ensures { IfOk result (λ text. ShowsDesign row.now kind (string_bytes text)) }
+    ensures { IfOk result (λ text. ShowsSimulation row.now kind (string_bytes text)) }
 {
     let width = row.number(6).clamp(1, u64::from(MOST_DIGITS)) as u8;
     let flat = design(alloc, row, kind, width)?;

@@ -1,7 +1,6 @@
 //! The examples that the standard gives for its operators (IEEE 1364-2005, clause 5.1).
 ghost use Rattle.std.specs.Prelude.{◌≡◌, IfOk, string_bytes};
-ghost use Rattle.four_value.specs.Vector.{equal, not_digit, rem};
-ghost use Rattle.simulator_tests.specs.Digits.{digits_text};
+ghost use Rattle.four_value.specs.Vector.{digit_letters, equal, not_digit, rem};
 ghost use Rattle.simulator_tests.specs.Vectors.{digit_text, of_one_width, operator_text, reductions_text, vector_text};
 
 use crate::designs::{digits, vector};
@@ -29,7 +28,7 @@ fn reductions(alloc: Global, bits: Bits) -> Result<String, NoMemory>
 
 /// `a % b`, where both have one width.
 fn remainder(alloc: Global, a: Bits, b: Bits) -> Result<String, NoMemory>
-    ensures { IfOk result (λ text. string_bytes text ≡ of_one_width a b (digits_text (rem a b))) }
+    ensures { IfOk result (λ text. string_bytes text ≡ of_one_width a b (digit_letters (rem a b))) }
 {
     if a.width() == b.width() {
         digits(alloc, a.rem(b))
