@@ -1,7 +1,7 @@
 -- Constants and expressions as texts. Each node is its name and its parts in brackets.
-use Rattle.std.specs.Prelude.{ℕ, ◌+◌, ◌/◌, ◌%◌, true, false, List, [], ◌∷◌, ◌++◌, if◌then◌else◌, nat_lt, codes}
+use Rattle.std.specs.Prelude.{ℕ, true, false, List, [], ◌∷◌, ◌++◌, codes}
 use Rattle.std.specs.Fmt.{signed_decimal}
-use Rattle.std.specs.List.{concat, flat_map}
+use Rattle.std.specs.List.{concat}
 use Rattle.hex.specs.Hex.{encode_lower}
 use Rattle.py_syntax.specs.ExpressionTables.{function_name, method_name}
 use Rattle.py_syntax.specs.ExpressionTrees.{Tree, Trees, NoTree, Then, Parts, NoPart, TextThen, FormattedThen}

@@ -26,7 +26,11 @@ fn one(alloc: Global, targets: Vec<Target>) -> Result<Target, NoMemory>
 
 /// The whole of some parts: BadRange is broken at this token where there is none, and TooWide where there are more than 128 digits. Only
 /// want of memory is an error.
-fn closed(alloc: Global, place: TokenNumber, parts: TargetParts) -> Result<Found<CheckedTarget>, NoMemory>
+fn closed(
+    alloc: Global,
+    place: TokenNumber,
+    parts: TargetParts,
+) -> Result<Found<CheckedTarget>, NoMemory>
     ensures { IfOk result (IsClosed place parts) }
 {
     let TargetParts { width, targets } = parts;
