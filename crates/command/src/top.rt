@@ -177,7 +177,7 @@ pub fn answer<O: Sink, K: Gpi, L: Ledger>(
 ///
 /// The run is simulated by `kernel`, whatever it held before: the design is loaded into it once both texts are accepted. After
 /// `Passed`, `Failed` and `Budget` it stands for the run's last configuration: it holds that configuration's state, its awaited keys are
-/// the registered ones, and its counts are those of the run. At `Budget` nothing is dropped. After `Usage`, `DesignRefused`,
+/// the registered ones, and its counts are those of the run. After `Usage`, `DesignRefused`,
 /// `TestsRefused` and `ReadFault` it is as it was handed in. After `WriteFault` it holds a design, or it is as it was handed in. After
 /// `NoMemory` nothing is said of it. `steps` counts the steps of work of the parts.
 pub fn cocorun<S: Store, O: Sink, K: Gpi, L: Ledger>(

@@ -33,13 +33,8 @@ impl Called {
         ensures { result.now ≡ called_name self }
     {
         match self {
-            Called::Act(Action::Set) => b"set",
-            Called::Act(Action::Clear) => b"clear",
-            Called::Act(Action::Release) => b"release",
-            Called::Act(Action::Kill) => b"kill",
-            Called::Log(LogLevel::Info) => b"info",
-            Called::Log(LogLevel::Warning) => b"warning",
-            Called::Log(LogLevel::Error) => b"error",
+            Called::Act(action) => action.name(),
+            Called::Log(level) => level.name(),
             Called::SetImmediateValue => b"setimmediatevalue",
             Called::StartSoon => b"start_soon",
         }

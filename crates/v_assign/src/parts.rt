@@ -1,31 +1,24 @@
 //! Parts of braces that are assigned to.
 
-ghost use Rattle.std.specs.Prelude.{◌≡◌, ◌+◌, IfOk};
-ghost use Rattle.v_scope.specs.Limits.{counted_width};
+ghost use Rattle.std.specs.Prelude.{IfOk};
 ghost use Rattle.v_assign.specs.Made.{AreMoreTargets, HasPart};
 ghost use Rattle.v_assign.specs.Targets.{ChecksMoreTargets, ChecksNoTarget};
 
 use gpi::Target;
 use port_io::NoMemory;
 use std::alloc::Global;
-use v_scope::{Found, TOO_WIDE};
+use v_parts::sum;
+use v_scope::Found;
 use v_target::CheckedTarget;
 
 /// Parts of braces that are assigned to (IEEE 1364-2005, annex A.8.5), whose names and selects were checked. Where a rule is broken in
 /// them, only the width counts.
 #[derive(Drop)]
 pub struct TargetParts {
-    /// The number of digits of all together, where [`TOO_WIDE`] stands for all beyond 128.
+    /// The number of digits of all together, where 129 stands for all beyond 128.
     pub width: u8,
     /// Each part, the last one first.
     pub targets: Vec<Target>,
-}
-
-/// The sum of two widths, where [`TOO_WIDE`] stands for all beyond 128.
-fn sum(a: u8, b: u8) -> u8
-    ensures { result ≡ counted_width (a + b) }
-{
-    a.saturating_add(b).min(TOO_WIDE)
 }
 
 /// A part before others. Only want of memory is an error.

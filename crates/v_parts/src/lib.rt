@@ -9,4 +9,4 @@ mod braces;
 mod parts;
 
 pub use braces::{concatenation, replication};
-pub use parts::Parts;
+pub use parts::{Parts, sum};

@@ -22,7 +22,7 @@ pub struct Parts {
 }
 
 /// The sum of two widths, where [`TOO_WIDE`] stands for all beyond 128.
-fn sum(a: u8, b: u8) -> u8
+pub fn sum(a: u8, b: u8) -> u8
     ensures { result ≡ counted_width (a + b) }
 {
     a.saturating_add(b).min(TOO_WIDE)

@@ -1,5 +1,5 @@
 -- The digits of a net that a target drives, whose indices are constants (IEEE 1364-2005, clause 6.1).
-use Rattle.std.specs.Prelude.{◌≡◌, ℕ, ◌≤◌, [], Option, Some}
+use Rattle.std.specs.Prelude.{◌≡◌, ℕ, ◌≤◌, [], ⊥, Option, Some}
 use Rattle.four_value.specs.Limits.{most_digits}
 use Rattle.four_value.specs.Vector.{number}
 use Rattle.gpi.specs.declared.selects.Range.{Range}
@@ -30,13 +30,13 @@ abbrev pub select_digits : DataObject → Object → Range → Option ℕ → �
 select_digits o (Signal s w) range base n = inside_drive o.first (overlap_of range w base n)
 select_digits o (Word words i w) range base n = no_digits o
 
--- o is what the name means
+-- o is what the name means; nets have no words, so that a part of one is no digit of a net, and braces have the digits of their parts
 abbrev pub digits_of : DataObject → Target → Drive
 digits_of o (Whole x) = whole_digits o x
 digits_of o (Select x range i n) = select_digits o x range (number (value i no_signals)) n
 digits_of o (Join' p a q b) = no_digits o
 
--- no index names a signal, and no width is more than a vector's
+-- no index names a signal, and no width is more than a vector's; the target is no braces
 abbrev pub IsFixedObject : Object → Type 0
 IsFixedObject (Signal s w) = w ≤ most_digits
 IsFixedObject (Word words i w) = IsSound i [] × (w ≤ most_digits)
@@ -44,7 +44,7 @@ IsFixedObject (Word words i w) = IsSound i [] × (w ≤ most_digits)
 abbrev pub IsFixedTarget : Target → Type 0
 IsFixedTarget (Whole x) = IsFixedObject x
 IsFixedTarget (Select x range i n) = IsSound i [] × (object_width x ≤ most_digits) × (n ≤ most_digits)
-IsFixedTarget (Join' p a q b) = Unit {0}
+IsFixedTarget (Join' p a q b) = ⊥
 
 -- the digits are those that the selects choose
 abbrev pub DrivesAs : Scope → SelectsTree → Option Meaning → Target → Type 0

@@ -45,7 +45,7 @@ fn inside(signal: SigId, range: Range, whole: u8, index: Option<u128>, width: u8
 }
 
 /// The digits of a net that a target drives whose indices are constants, where `object` is what its name means (IEEE 1364-2005, clause
-/// 6.1).
+/// 6.1). The target is that of a name, and no braces; a part of a memory's word, which no net has, is no digit.
 pub fn driven_digits(object: DataObject, target: &Target) -> Drive
     requires { IsFixedTarget target.now }
     ensures is { drive_of result ≡ digits_of object target.now }
