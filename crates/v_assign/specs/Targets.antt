@@ -53,8 +53,8 @@ pub record GetsAs (s : Scope) (t : TargetTree) (c : CheckedTarget) : Type 0 wher
   pub sound : (ws : List ℕ) → TargetNamesOf s t ws → IsSoundTarget c.target ws
   pub balanced : depth c.target ≤ 7 * braces t
 
--- the same rule is broken first as in what the definition finds, which is a, with the same width; and where none is, it gets the same
--- updates
+-- the same rule is broken first as in what the definition finds, which is a, with the same width, where all beyond 128 are one; and where
+-- none is, it gets the same updates
 pub record IsTarget (s : Scope) (t : TargetTree) (a : Found ℕ) (f : Found CheckedTarget) : Type 0 where
   pub finds : each (λ (c : CheckedTarget). c.width) f ≡ each counted_width a
   pub holds : Holds (λ (c : CheckedTarget). GetsAs s t c) f

@@ -13,7 +13,7 @@ use v_scope::{ElabRule, Found, MOST_DIGITS};
 use v_syntax::TokenNumber;
 use v_target::CheckedTarget;
 
-/// All parts as one target; signal 0 where there is none. Only want of memory is an error.
+/// All parts as one target; where there is none, one that is dropped. Only want of memory is an error.
 fn one(alloc: Global, targets: Vec<Target>) -> Result<Target, NoMemory>
     ensures { IfOk result (IsOne targets.items) }
 {

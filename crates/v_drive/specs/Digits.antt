@@ -1,4 +1,4 @@
--- What it means that digits of nets are driven (IEEE 1364-2005, clauses 6.1 and 12.3.9).
+-- What it means that digits of nets are driven (IEEE 1364-2005, clause 6.1).
 use Rattle.std.specs.Prelude.{◌≡◌, ℕ, ◌+◌, ◌<◌, ◌≤◌, List, [], ◌∷◌, ◌++◌, Bool}
 use Rattle.std.specs.Int.{bit_at, from_bool}
 use Rattle.four_value.specs.Limits.{most_digits}

@@ -36,11 +36,12 @@ digits_of o (Whole x) = whole_digits o x
 digits_of o (Select x range i n) = select_digits o x range (number (value i no_signals)) n
 digits_of o (Join' p a q b) = no_digits o
 
--- no index names a signal, and no width is more than a vector's; the target is no braces
+-- the index of a whole word names no signal, and no width is more than a vector's
 abbrev pub IsFixedObject : Object → Type 0
 IsFixedObject (Signal s w) = w ≤ most_digits
 IsFixedObject (Word words i w) = IsSound i [] × (w ≤ most_digits)
 
+-- nor does that of a select; the target is no braces
 abbrev pub IsFixedTarget : Target → Type 0
 IsFixedTarget (Whole x) = IsFixedObject x
 IsFixedTarget (Select x range i n) = IsSound i [] × (object_width x ≤ most_digits) × (n ≤ most_digits)

@@ -33,8 +33,8 @@ depth (Select o range i w) = 0
 depth (Join' p a q b) = 1 + max (depth a) (depth b)
 
 -- a name with selects, whose meaning is x: it gets the same updates by digits of its width, on every map of the signals, is sound wherever
--- the names are signals of the design, and has no parts; where its selects name no signal, neither do its indices, and its digits are
--- those that the selects choose
+-- the names are signals of the design, and has no parts; where its selects name no signal, neither does the index of the select or of the
+-- whole word that it is, and its digits are those that the selects choose
 pub record GetsAsName (s : Scope) (sel : SelectsTree) (x : Option Meaning) (c : CheckedTarget) : Type 0 where
   pub proper : IsWidth c.width
   pub own : named_width s sel x ≡ c.width
@@ -45,7 +45,8 @@ pub record GetsAsName (s : Scope) (sel : SelectsTree) (x : Option Meaning) (c : 
   pub fixed : SelectsNamesOf s sel [] → IsFixedTarget c.target
   pub drives : DrivesAs s sel x c.target
 
--- the same rule is broken first as in the definition, with the same width; and where none is, it gets the same updates
+-- the same rule is broken first as in the definition, with the same width, where all beyond 128 are one; and where none is, it gets the
+-- same updates
 pub record IsNamedTarget (how : Manner) (s : Scope) (p : ℕ) (sel : SelectsTree) (x : Option Meaning)
     (f : Found CheckedTarget) : Type 0 where
   pub finds : each (λ (c : CheckedTarget). c.width) f ≡ each counted_width (named_target how s p sel x)

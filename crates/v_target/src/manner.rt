@@ -11,7 +11,7 @@ use v_scope::DataKind;
 pub enum Manner {
     /// By an assignment in a procedure: to registers and to words of memories (IEEE 1364-2005, clause 9.2).
     Procedural,
-    /// By a continuous assignment or a connection: to nets (clauses 6.1 and 12.3.3). Indices have to be constants.
+    /// By a continuous assignment or a connection: to nets (clauses 6.1 and 12.3.9). Indices have to be constants.
     Continuous,
 }
 

@@ -106,7 +106,7 @@ fn object(place: TokenNumber, object: DataObject, selects: CheckedSelects) -> Fo
 
 /// A name that is assigned to, with selects whose expressions were checked, where `place` is the number of the name (IEEE 1364-2005,
 /// clauses 6.1 and 9.2). Where it is not of the right kind, BadTarget is broken at it, and there is no target; but what is broken in its
-/// selects counts too, also in those of a constant, for which signal 0 stands in the target that is dropped.
+/// selects counts too, also in those of a constant, which has no target.
 pub fn named(
     scope: &Scope,
     manner: Manner,
