@@ -4,3 +4,5 @@ pub mod Whole
 pub mod Walked
 pub mod Fixed
 pub mod Names
+pub mod Grown
+pub mod Onward
