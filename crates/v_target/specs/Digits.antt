@@ -1,5 +1,5 @@
 -- The digits of a net that a target drives, whose indices are constants (IEEE 1364-2005, clause 6.1).
-use Rattle.std.specs.Prelude.{◌≡◌, ℕ, ◌≤◌, [], ⊥, Option, Some}
+use Rattle.std.specs.Prelude.{◌≡◌, ℕ, ◌≤◌, [], Option, Some}
 use Rattle.four_value.specs.Limits.{most_digits}
 use Rattle.four_value.specs.Vector.{number}
 use Rattle.gpi.specs.declared.selects.Range.{Range}
