@@ -1,0 +1,4 @@
+pub mod Done
+pub mod Assigning
+pub mod Chosen
+pub mod Blocks

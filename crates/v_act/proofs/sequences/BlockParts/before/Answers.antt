@@ -1,0 +1,13 @@
+-- A statement before others.
+use Rattle.std.proofs.Common.{IfOk, subst}
+use Rattle.gpi.specs.declared.acts.Act.{Act}
+use Rattle.v_scope.specs.declared.found.Found.{Found}
+use Rattle.v_act.specs.declared.sequences.BlockParts.{BlockParts}
+use Rattle.v_act.specs.Made.{AreMoreStatements}
+use Rattle.v_act.proofs.Blocks.{more_result}
+use Rattle.v_act.proofs.sequences.BlockParts.before.Goals as goal
+
+pub returns : goal.returns
+returns c =
+    more_result c.args.first c.args.rest c.of_both.result
+    (subst (λ (x : Found (Act × BlockParts)). IfOk c.of_both.result (AreMoreStatements x)) c.both.ensures c.of_both.ensures)

@@ -1,0 +1,84 @@
+//! Assignments in procedures.
+
+ghost use Rattle.std.specs.Prelude.{IfOk};
+ghost use Rattle.v_scope.specs.Scope.{means};
+ghost use Rattle.v_syntax.specs.ExpressionTrees.{view, view_target};
+ghost use Rattle.v_syntax.specs.StatementTrees.{Assignment};
+ghost use Rattle.v_names.specs.Proper.{AreProper};
+ghost use Rattle.v_act.specs.Made.{AreAssignments, MakesAssignment};
+ghost use Rattle.v_act.specs.Statements.{ChecksAssignment, IsFoundStatement};
+
+use gpi::{Act, Term};
+use port_io::NoMemory;
+use std::alloc::Global;
+use v_assign::target as checked_target;
+use v_check::check;
+use v_operator::Checked;
+use v_scope::{Found, Scope};
+use v_syntax::{AssignmentKind, Expression, Target};
+use v_target::CheckedTarget;
+
+/// An assignment of a value, which is evaluated at the greater one of both widths, and then cut to the target's (IEEE 1364-2005, clause
+/// 5.4.1). Only want of memory is an error.
+fn made(
+    alloc: Global,
+    kind: AssignmentKind,
+    target: CheckedTarget,
+    value: Checked,
+) -> Result<Act, NoMemory>
+    ensures { IfOk result (MakesAssignment kind target value) }
+{
+    let width = target.width.max(value.width);
+    let term = value.form.lower(alloc, width)?;
+    let term = Term::resize(alloc, term, target.width)?;
+    match kind {
+        AssignmentKind::Blocking => Ok(Act::Blocking(target.target, term)),
+        AssignmentKind::Nonblocking => Ok(Act::Nonblocking(target.target, term)),
+    }
+}
+
+/// What is made of a target and a value. Only want of memory is an error.
+fn of_both(
+    alloc: Global,
+    kind: AssignmentKind,
+    found: Found<(CheckedTarget, Checked)>,
+) -> Result<Found<Act>, NoMemory>
+    ensures { IfOk result (AreAssignments kind found) }
+{
+    match found {
+        Found::Sound((target, value)) => Ok(Found::Sound(made(alloc, kind, target, value)?)),
+        Found::Noted(fault, (target, value)) => {
+            Ok(Found::Noted(fault, made(alloc, kind, target, value)?))
+        }
+        Found::Lost(fault) => Ok(Found::Lost(fault)),
+    }
+}
+
+/// `target = value` or `target <= value` (IEEE 1364-2005, clause 9.2), from what was found in both. Only want of memory is an error.
+pub fn assigned(
+    alloc: Global,
+    kind: AssignmentKind,
+    target: Found<CheckedTarget>,
+    value: Found<Checked>,
+) -> Result<Found<Act>, NoMemory>
+    ensures { IfOk result (ChecksAssignment kind target value) }
+{
+    of_both(alloc, kind, target.both(value))
+}
+
+/// What is found in an assignment of a procedure: what is broken first, or else the statement that it is (IEEE 1364-2005, clause 9.2).
+/// Only want of memory is an error.
+pub fn assignment(
+    alloc: Global,
+    scope: &Scope,
+    kind: AssignmentKind,
+    target: &Target,
+    value: &Expression,
+) -> Result<Found<Act>, NoMemory>
+    requires { AreProper (means scope.now) }
+    ensures { IfOk result (IsFoundStatement (means scope.now) (Assignment kind (view_target target.now) (view value.now))) }
+{
+    let target = checked_target(alloc, scope, target)?;
+    let value = check(alloc, scope, value)?;
+    assigned(alloc, kind, target, value)
+}

@@ -1,0 +1,15 @@
+//! What statements are, from what was found in their parts.
+//!
+//! [`assignment`] checks the target and the value of an assignment in a procedure, and says what is broken first in it, or the statement
+//! of `gpi` that it is. [`without_effect`], [`if_then`], [`if_else`] and [`block`] put together statements that were found, whatever
+//! found them, so that neither their scopes nor their texts need be at hand; [`BlockParts`] are the statements of a block, put together
+//! from the last one to the first.
+#![tactic(auto)]
+
+mod assignments;
+mod choices;
+mod sequences;
+
+pub use assignments::{assigned, assignment};
+pub use choices::{if_else, if_then, without_effect};
+pub use sequences::{BlockParts, block};
