@@ -1,17 +1,17 @@
 -- The definitions of a kind are those of the items.
 use Rattle.std.proofs.Common.{◌≡◌, ℕ, suc, Bool, true, false, ◌||◌, List, [], ◌∷◌, ◌++◌, Option, Some, None, refl, sym, ap, ◌∙◌, if◌then◌else◌}
-use Rattle.std.specs.List.{list_any, find}
+use Rattle.std.specs.List.{list_any, find, flat_map}
 use Rattle.std.specs.Option.{is_some, option_map, option_or}
 use Rattle.std.specs.Str.{bytes_eq}
-use Rattle.std.proofs.lemmas.List.Folds.{find-append}
+use Rattle.std.proofs.lemmas.List.Folds.{find-append, list_any-append}
 use Rattle.py_syntax.specs.BlockTrees.{ModuleItem, TextAt, LineAt, FunctionAt}
 use Rattle.py_syntax.specs.ModuleTrees as line
 use Rattle.py_syntax.specs.declared.module.Parameter.{Parameter}
 use Rattle.py_syntax.specs.declared.module.Setting.{Setting}
-use Rattle.test_rules.specs.File.{Fixed, Definition, fixed_of, value_in, constants_of, functions_of, file_of, function, factory, parameters_of}
-use Rattle.test_rules.specs.Names.{Name}
+use Rattle.test_rules.specs.File.{Fixed, Definition, fixed_of, value_in, constants_of, functions_of, file_of, function, factory, parameters_of, names_of}
+use Rattle.test_rules.specs.Names.{Name, is_among}
 use Rattle.test_rules.proofs.Texts.{same_bytes}
-use Rattle.test_definitions.specs.Definitions.{is_defined}
+use Rattle.test_definitions.specs.Definitions.{defines, is_defined}
 use Rattle.test_definitions.specs.declared.item.Kind.TheVariants as kind
 
 or_none : (a : Bool) → a ≡ (a || false)
@@ -40,6 +40,13 @@ some_more false true v a r e p = cc
 some_found : {A : Type 0} (p : A → Bool) (xs : List A) → is_some (find p xs) ≡ list_any p xs
 some_found p [] = refl
 some_found p (x ∷ xs) = some_more (p x) (p x) (list_any p xs) x (find p xs) refl (some_found p xs)
+
+-- ---- names
+
+pub names_are_defined : (xs : List ModuleItem) (n : Name) → is_among n (file_of xs).names ≡ list_any (defines n) xs
+names_are_defined [] n = refl
+names_are_defined (x ∷ xs) n =
+    list_any-append (bytes_eq n) (names_of x) (flat_map names_of xs) ∙ ap (λ b. defines n x || b) (names_are_defined xs n)
 
 -- ---- constants
 

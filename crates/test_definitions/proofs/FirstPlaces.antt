@@ -1,5 +1,5 @@
 -- The place of the first element that passes, and what stands there.
-use Rattle.std.proofs.Common.{◌≡◌, ◌≤◌, ◌+◌, ℕ, zero, suc, nat_lt, Bool, true, false, ◌||◌, List, [], ◌∷◌, take, Option, Some, None, refl, sym, ap, ◌∙◌, cond, arith}
+use Rattle.std.proofs.Common.{◌≡◌, ◌≤◌, ◌+◌, ℕ, zero, suc, nat_lt, Bool, true, false, ◌||◌, List, [], ◌∷◌, take, Option, Some, None, is_some, refl, sym, ap, ◌∙◌, cond, arith}
 use Rattle.std.proofs.lemmas.Bool.{lt-ltb, le-ltb}
 use Rattle.std.specs.List.{list_any, find, position_from, slice_get}
 use Rattle.std.specs.Option.{option_and_then, option_map_or}
@@ -30,6 +30,17 @@ above_from p (x ∷ xs) i (suc k) m e = go (p x) (above_from p xs (i + 1) k m (o
 pub above_by_place : {A : Type 0} (p : A → Bool) (xs : List A) (k : ℕ)
     → list_any p (take k xs) ≡ option_map_or (λ i. nat_lt i k) (position_from p 0 xs) false
 above_by_place p xs k = above_from p xs 0 k k (omega arith)
+
+any_from : {A : Type 0} (p : A → Bool) (xs : List A) (i : ℕ) → list_any p xs ≡ is_some (position_from p i xs)
+any_from p [] i = refl
+any_from p (x ∷ xs) i = go (p x) (any_from p xs (i + 1))
+  where
+    go : (b : Bool) → list_any p xs ≡ is_some (position_from p (i + 1) xs) → (b || list_any p xs) ≡ is_some (cond b (Some i) (position_from p (i + 1) xs))
+    go true h = refl
+    go false h = h
+
+pub any_by_place : {A : Type 0} (p : A → Bool) (xs : List A) → list_any p xs ≡ is_some (position_from p 0 xs)
+any_by_place p xs = any_from p xs 0
 
 some_same : (i j : ℕ) → Some i ≡ Some j → i ≡ j
 some_same i j e = cc

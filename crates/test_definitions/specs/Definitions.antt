@@ -5,7 +5,8 @@ use Rattle.std.specs.Str.{bytes_eq}
 use Rattle.py_syntax.specs.BlockTrees.{ModuleItem, LineAt, FunctionAt}
 use Rattle.py_syntax.specs.ModuleTrees as line
 use Rattle.py_syntax.specs.ModuleTrees.{ModuleLine}
-use Rattle.test_rules.specs.Names.{Name}
+use Rattle.test_rules.specs.File.{names_of}
+use Rattle.test_rules.specs.Names.{Name, is_among}
 use Rattle.test_definitions.specs.declared.item.Kind.{Kind}
 use Rattle.test_definitions.specs.declared.item.Kind.TheVariants as kind
 
@@ -24,3 +25,7 @@ defined k x = None
 -- the item defines this name as one of this kind
 abbrev pub is_defined : Kind → Name → ModuleItem → Bool
 is_defined k n x = option_map_or (bytes_eq n) (defined k x) false
+
+-- the item defines this name, as whatever
+abbrev pub defines : Name → ModuleItem → Bool
+defines n x = is_among n (names_of x)

@@ -3,9 +3,12 @@
 ghost use Rattle.std.specs.Prelude.{◌≡◌, None, Some, MatchOption};
 ghost use Rattle.py_syntax.specs.BlockTrees.{view_module_item};
 ghost use Rattle.py_syntax.specs.ModuleTrees.{view_module_line};
+ghost use Rattle.test_rules.specs.File.{names_of};
 ghost use Rattle.test_definitions.specs.Definitions.{defined, line_defined};
 
+use port_io::Name;
 use py_syntax::{ModuleItem, ModuleLine};
+use std::slice::from_ref;
 
 /// A kind of definitions.
 #[derive(Clone, Copy, Debug, PartialEq, Eq)]
@@ -37,5 +40,22 @@ pub fn defined(kind: Kind, item: &ModuleItem) -> Option<&[u8]>
         (ModuleItem::Line { line, .. }, _) => line_defined(kind, line),
         (ModuleItem::Function { name, .. }, Kind::Function) => Some(name.bytes()),
         _ => None,
+    }
+}
+
+/// The names that an item defines, an import's among them.
+pub fn names_of(item: &ModuleItem) -> &[Name]
+    ensures { result.now ≡ names_of (view_module_item item.now) }
+{
+    match item {
+        ModuleItem::Line { line, .. } => match line {
+            ModuleLine::FromImport(_, names) => names,
+            ModuleLine::Import(name) => from_ref(name),
+            ModuleLine::Constant(name, _) => from_ref(name),
+            ModuleLine::Factory(name, _) => from_ref(name),
+            _ => &[],
+        },
+        ModuleItem::Function { name, .. } => from_ref(name),
+        ModuleItem::Docstring { .. } => &[],
     }
 }

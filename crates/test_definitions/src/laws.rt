@@ -5,8 +5,8 @@ ghost use Rattle.std.specs.List.{find, list_any, position_from};
 ghost use Rattle.std.specs.Option.{option_map, option_map_or};
 ghost use Rattle.py_syntax.specs.BlockTrees.{ModuleItem};
 ghost use Rattle.test_rules.specs.File.{factory, file_of, fixed_of, function, parameters_of};
-ghost use Rattle.test_rules.specs.Names.{Name};
-ghost use Rattle.test_definitions.specs.Definitions.{is_defined};
+ghost use Rattle.test_rules.specs.Names.{Name, is_among};
+ghost use Rattle.test_definitions.specs.Definitions.{defines, is_defined};
 ghost use Rattle.test_definitions.specs.declared.item.Kind.TheVariants as kind;
 
 /// A module has a constant of a name exactly where an item defines it as one.
@@ -24,9 +24,19 @@ pub fn factories_are_defined()
     ensures { (xs : List ModuleItem) (n : Name) → is_some (factory (file_of xs) n) ≡ list_any (is_defined kind.Factory n) xs }
 {}
 
+/// A name is among those that a module defines exactly where an item defines it.
+pub fn names_are_defined()
+    ensures { (xs : List ModuleItem) (n : Name) → is_among n (file_of xs).names ≡ list_any (defines n) xs }
+{}
+
 /// The function of a name has the parameters of the first item that defines the name as one.
 pub fn functions_have_parameters()
     ensures { (xs : List ModuleItem) (n : Name) → option_map (λ d. d.parameters) (function (file_of xs) n) ≡ option_map parameters_of (find (is_defined kind.Function n) xs) }
+{}
+
+/// An item passes a test exactly where there is a place of the first that does.
+pub fn any_by_place()
+    ensures { (p : ModuleItem → Bool) (xs : List ModuleItem) → list_any p xs ≡ is_some (position_from p 0 xs) }
 {}
 
 /// One of the first `k` items passes a test exactly where the place of the first of all that does is below `k`.

@@ -4,11 +4,12 @@ ghost use Rattle.std.specs.Prelude.{◌≡◌, ℕ, List, map, IfOk, OnOk, OnErr
 ghost use Rattle.std.specs.List.{position_from};
 ghost use Rattle.py_syntax.specs.BlockTrees.{view_module_item};
 ghost use Rattle.test_names.specs.Places.{first_place};
-ghost use Rattle.test_definitions.specs.Definitions.{defined, is_defined};
-ghost use Rattle.test_definitions.specs.Notes.{noted_at};
+ghost use Rattle.test_rules.specs.Names.{is_among};
+ghost use Rattle.test_definitions.specs.Definitions.{defined, defines, is_defined};
+ghost use Rattle.test_definitions.specs.Notes.{noted_at, noted_if};
 
-use crate::{Kind, defined};
-use port_io::NoMemory;
+use crate::{Kind, defined, names_of};
+use port_io::{Name, NoMemory};
 use py_syntax::ModuleItem;
 use std::alloc::Global;
 use test_names::Names;
@@ -37,6 +38,33 @@ pub fn table(alloc: Global, kind: Kind, items: &[ModuleItem]) -> Result<Names, N
     let mut names = Names::new(alloc);
     for (place, item) in items.iter().enumerate() {
         note(alloc, kind, &mut names, item, place)?;
+    }
+    Ok(names)
+}
+
+/// Gives names this place, each unless it has one. Only want of memory is an error.
+fn note_all(
+    alloc: Global,
+    before: Names,
+    found: &[Name],
+    place: usize,
+) -> Result<Names, NoMemory>
+    ensures { IfOk result (λ names. (n : List ℕ) → first_place names n ≡ noted_if place (is_among n found.now) (first_place before n)) }
+{
+    let mut names = before;
+    for name in found {
+        names.note(alloc, name.bytes(), place)?;
+    }
+    Ok(names)
+}
+
+/// For each name the number, from 0, of the first item that defines it, as whatever. Only want of memory is an error.
+pub fn name_table(alloc: Global, items: &[ModuleItem]) -> Result<Names, NoMemory>
+    ensures { IfOk result (λ names. (n : List ℕ) → first_place names n ≡ position_from (defines n) 0 (map view_module_item items.now)) }
+{
+    let mut names = Names::new(alloc);
+    for (place, item) in items.iter().enumerate() {
+        names = note_all(alloc, names, names_of(item), place)?;
     }
     Ok(names)
 }

@@ -13,7 +13,7 @@ loop-place-init c = λ n.
 
 pub loop-place-preserved : goal.loop-place-preserved
 loop-place-preserved c =
-    noted_more c.args.kind _ _ _ _ _ c.loop-place-test.true c.index-items-place.is (λ n. c.in_ok-note.ensures.ok n) c.loop-place.invariant
+    noted_more (is_defined c.args.kind) _ _ _ _ _ c.loop-place-test.true c.index-items-place.is (λ n. c.in_ok-note.ensures.ok n) c.loop-place.invariant
 
 pub returns : goal.returns
-returns c = all_noted c.args.kind _ _ _ c.loop-place-test.false c.loop-place.invariant
+returns c = all_noted (is_defined c.args.kind) _ _ _ c.loop-place-test.false c.loop-place.invariant
