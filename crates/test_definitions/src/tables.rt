@@ -43,12 +43,7 @@ pub fn table(alloc: Global, kind: Kind, items: &[ModuleItem]) -> Result<Names, N
 }
 
 /// Gives names this place, each unless it has one. Only want of memory is an error.
-fn note_all(
-    alloc: Global,
-    before: Names,
-    found: &[Name],
-    place: usize,
-) -> Result<Names, NoMemory>
+fn note_all(alloc: Global, before: Names, found: &[Name], place: usize) -> Result<Names, NoMemory>
     ensures { IfOk result (λ names. (n : List ℕ) → first_place names n ≡ noted_if place (is_among n found.now) (first_place before n)) }
 {
     let mut names = before;
