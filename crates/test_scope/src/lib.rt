@@ -1,0 +1,15 @@
+//! What is known around each line of a tests file.
+//!
+//! [`Tables`] has where the names of a module are defined, and [`FileScope`] is the `Scope` of `test_uses` that goes by them. Which names
+//! are a function's own is left to others.
+#![tactic(auto)]
+
+mod item;
+mod judge;
+mod laws;
+mod scope;
+mod tables;
+
+pub use laws::names_alone_matter;
+pub use scope::FileScope;
+pub use tables::Tables;
