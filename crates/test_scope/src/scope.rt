@@ -111,12 +111,7 @@ impl<'a> FileScope<'a> {
     }
 
     /// Whether there is a function of a name, and arguments fit it. Only want of memory is an error.
-    fn accepts(
-        &self,
-        alloc: Global,
-        name: &[u8],
-        arguments: &[Argument],
-    ) -> Result<bool, NoMemory>
+    fn accepts(&self, alloc: Global, name: &[u8], arguments: &[Argument]) -> Result<bool, NoMemory>
         ensures { IfOk result (λ yes. yes ≡ takes (map (λ a. a.name) arguments.now) (function (file_in self.now) name.now)) }
     {
         match self.parameters(name) {
@@ -144,7 +139,10 @@ impl<'a> Scope for FileScope<'a> {
     fn takes(&self, constant: &Const) -> Option<FileRule> {
         match constant {
             Const::Named(name) => {
-                judged(self.knows(name.bytes()), self.has_constant_above(name.bytes()))
+                judged(
+                    self.knows(name.bytes()),
+                    self.has_constant_above(name.bytes()),
+                )
             }
             _ => None,
         }
