@@ -20,6 +20,8 @@ use Rattle.v_scope.specs.declared.meaning.DataObject.{DataObject}
 use Rattle.v_scope.specs.declared.meaning.Meaning.{Meaning}
 use Rattle.v_scope.specs.declared.meaning.Meaning.TheVariants.{Constant, Object, Later}
 use Rattle.v_scope.specs.Scope.{width_of, Scope, find}
+pub use Rattle.v_flat.specs.declared.manner.Manner.{Manner}
+pub use Rattle.v_flat.specs.declared.manner.Manner.TheVariants.{Procedural, Continuous}
 use Rattle.v_flat.specs.Objects.{range_of, words_of, nature_of}
 use Rattle.v_flat.specs.Expressions.{Values, no_signals, own_value, named_width, select_base, select_width}
 use Rattle.v_flat.specs.Checks.{sized, filled, by_nature, of_vector, of_memory}
@@ -27,10 +29,6 @@ use Rattle.v_flat.specs.Checks.{sized, filled, by_nature, of_vector, of_memory}
 -- ---- what is broken
 
 -- a procedure gives values to registers and words, a continuous assignment to nets
-pub data Manner : Type 0 where
-  Procedural : Manner
-  Continuous : Manner
-
 abbrev pub fits_kind : Manner → DataKind → Bool
 fits_kind Procedural Register = true
 fits_kind Procedural Net = false
@@ -81,14 +79,14 @@ abbrev pub inside_drive : ℕ → Option Overlap → Drive
 inside_drive signal None = record { signal = signal; low = 0; count = 0 }
 inside_drive signal (Some o) = record { signal = signal; low = o.place; count = o.count }
 
--- the digits that a select with constant indices chooses
+-- the digits of a net that a select with constant indices chooses; words of memories are no nets, and none of theirs count
 abbrev pub selected_drive : Scope → DataObject → SelectsTree → Drive
 selected_drive s o Whole = record { signal = o.first; low = 0; count = width_of o.bounds }
 selected_drive s o (One sel) = inside_drive o.first (overlap_of (range_of o.bounds) (width_of o.bounds) (select_base s sel no_signals) (select_width s sel))
 selected_drive s o (OfWord p i sel) = record { signal = o.first; low = 0; count = 0 }
 
--- what is found in a target, and the digits that are driven after it. A part in which a rule is broken drives nothing, and
--- hides no other part's digits
+-- what is found in a target, and the digits that are driven after it. A name in which a rule is broken drives nothing; braces that are
+-- too wide drive what their parts drive. What is broken in one part hides no other part's digits
 pub record Driving : Type 0 where
   pub width : Found ℕ
   pub driven : List Drive

@@ -3,12 +3,14 @@
 //! Nearly all of it are definitions, in `specs/`, over the trees of `v_syntax`: `flatten` in `Design`, and below it what a
 //! module declares (`Headers`, `Declarations`), what statements do (`Statements`), what targets drive and get (`Targets`), what
 //! is broken in an expression (`Checks`) and what its value is (`Expressions`). Of the code there are the classes of operators,
-//! [`unary_class`] and [`binary_class`], and functions that carry laws of the definitions. The code that elaborates is left to
+//! [`unary_class`] and [`binary_class`], which objects an assignment may be to ([`Manner`]), and functions that carry laws of the definitions. The code that elaborates is left to
 //! the crates above.
 #![tactic(auto)]
 
 mod laws;
+mod manner;
 mod operators;
 
 pub use laws::{digits_are_driven_once, widths_are_found, worked_designs};
+pub use manner::Manner;
 pub use operators::{BinaryClass, UnaryClass, binary_class, unary_class};

@@ -13,18 +13,12 @@ use Rattle.v_scope.specs.declared.meaning.Meaning.{Meaning}
 use Rattle.v_scope.specs.Limits.{counted_width}
 use Rattle.v_scope.specs.Scope.{Scope, find}
 use Rattle.v_flat.specs.Expressions.{named_width}
-use Rattle.v_flat.specs.Targets.{Manner, Procedural, Continuous, named_target, name_update, is_fixed}
+use Rattle.v_flat.specs.Targets.{Manner, named_target, name_update, is_fixed}
 use Rattle.v_operator.specs.Checked.{IsNameOf, SelectsNamesOf}
 use Rattle.v_names.specs.declared.selects.CheckedSelects.{CheckedSelects}
 use Rattle.v_names.specs.Selects.{AreSelects}
-use Rattle.v_target.specs.declared.manner.Manner as code
-use Rattle.v_target.specs.declared.manner.Manner.TheVariants as code_manner
 use Rattle.v_target.specs.declared.checked.CheckedTarget.{CheckedTarget}
 use Rattle.v_target.specs.Digits.{IsFixedTarget, DrivesAs}
-
-abbrev pub manner_of : code.Manner → Manner
-manner_of code_manner.Procedural = Procedural
-manner_of code_manner.Continuous = Continuous
 
 -- the steps from a target down to its deepest part
 abbrev pub depth : Target → ℕ

@@ -7,10 +7,9 @@
 
 mod checked;
 mod driven;
-mod manner;
 mod name;
 
 pub use checked::CheckedTarget;
 pub use driven::driven_digits;
-pub use manner::Manner;
 pub use name::named;
+pub use v_flat::Manner;

@@ -6,7 +6,7 @@ ghost use Rattle.v_scope.specs.declared.meaning.Meaning.TheVariants as meant;
 ghost use Rattle.v_flat.specs.Objects.{range_of};
 ghost use Rattle.v_names.specs.Proper.{AreProper, IsProper};
 ghost use Rattle.v_target.specs.Made.{MemoryMade, ObjectMade, VectorMade, part_target, whole_target, word_target};
-ghost use Rattle.v_target.specs.Targets.{ChecksTargetName, manner_of};
+ghost use Rattle.v_target.specs.Targets.{ChecksTargetName};
 
 use crate::{CheckedTarget, Manner};
 use gpi::{Object, SigId, Target, Words};
@@ -115,7 +115,7 @@ pub fn named(
     selects: CheckedSelects,
 ) -> Found<CheckedTarget>
     requires { AreProper (means scope.now) }
-    ensures { ChecksTargetName (manner_of manner) (means scope.now) name.now place selects result }
+    ensures { ChecksTargetName manner (means scope.now) name.now place selects result }
 {
     match scope.find(name) {
         None => Found::broken(ElabRule::UnknownName, place),

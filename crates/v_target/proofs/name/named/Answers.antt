@@ -12,14 +12,14 @@ use Rattle.v_scope.specs.Scope.{means, width_of}
 use Rattle.v_flat.specs.Targets.{fits_kind}
 use Rattle.v_names.specs.Proper.{HasFewWords, IsProper}
 use Rattle.v_target.specs.declared.checked.CheckedTarget.{CheckedTarget}
-use Rattle.v_target.specs.Targets.{IsNamedTarget, manner_of}
+use Rattle.v_target.specs.Targets.{IsNamedTarget}
 use Rattle.v_target.proofs.Names.{constant_named, later_named, object_named, unknown_named}
 use Rattle.v_target.proofs.name.named.Goals as goal
 
 pub returns-in-None : goal.returns-in-None
 returns-in-None c = λ sel h.
     let s = means c.args.scope.now in
-    let how = manner_of c.args.manner in
+    let how = c.args.manner in
     let p = c.args.place in
     let e : s c.args.name.now ≡ None = search rules in
     subst (λ (x : Option Meaning). IsNamedTarget how s p sel x c.broken.result) (sym e)
@@ -28,7 +28,7 @@ returns-in-None c = λ sel h.
 pub returns-in-Some-Later : goal.returns-in-Some-Later
 returns-in-Some-Later c = λ sel h.
     let s = means c.args.scope.now in
-    let how = manner_of c.args.manner in
+    let how = c.args.manner in
     let p = c.args.place in
     let e : s c.args.name.now ≡ Some Later = search rules in
     subst (λ (x : Option Meaning). IsNamedTarget how s p sel x c.broken-in-Some-Later.result) (sym e)
@@ -38,7 +38,7 @@ returns-in-Some-Later c = λ sel h.
 pub returns-in-Some-Constant : goal.returns-in-Some-Constant
 returns-in-Some-Constant c = λ sel h.
     let s = means c.args.scope.now in
-    let how = manner_of c.args.manner in
+    let how = c.args.manner in
     let p = c.args.place in
     let ds = c.in-Some-Constant.value in
     let b = c.in-Some-Constant.bounds in
@@ -55,7 +55,7 @@ returns-in-Some-Constant c = λ sel h.
 pub returns-in-Some-Object : goal.returns-in-Some-Object
 returns-in-Some-Object c = λ sel h.
     let s = means c.args.scope.now in
-    let how = manner_of c.args.manner in
+    let how = c.args.manner in
     let p = c.args.place in
     let o = c.in-Some-Object.declared in
     let f = c.object-found.result in

@@ -2,7 +2,6 @@
 
 ghost use Rattle.std.specs.Prelude.{◌≡◌};
 ghost use Rattle.v_flat.specs.Targets.{fits_kind};
-ghost use Rattle.v_target.specs.Targets.{manner_of};
 
 use v_scope::DataKind;
 
@@ -18,8 +17,8 @@ pub enum Manner {
 impl Manner {
     /// Whether an object of this kind may be a target of an assignment in this manner. That an input is driven from outside is another
     /// rule.
-    pub(crate) fn fits(self, kind: DataKind) -> bool
-        ensures { result ≡ fits_kind (manner_of self) kind }
+    pub fn fits(self, kind: DataKind) -> bool
+        ensures { result ≡ fits_kind self kind }
     {
         match self {
             Manner::Procedural => match kind {
