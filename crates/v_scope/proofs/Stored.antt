@@ -1,10 +1,10 @@
 -- What is kept of a name is what it means.
 use Rattle.std.proofs.Common.{◌≡◌, ℕ, List, [], ◌∷◌, Option, Some, None, Bool, true, false, refl, sym, ◌∙◌, ap, subst, bytes_eq, cond, option_copied, MatchOption, Bor, if◌then◌else◌}
 use Rattle.std.proofs.lemmas.Slice.Eq.{bytes_eq-Decides}
-use Rattle.std.specs.Map.{lookup}
+use Rattle.std.specs.Map.{lookup, set_value}
 use Rattle.indexmap.specs.IndexMap.{insert_entry}
 use Rattle.v_scope.specs.declared.meaning.Meaning.{Meaning}
-use Rattle.v_scope.specs.Scope.{means, named}
+use Rattle.v_scope.specs.Scope.{Scope, means, named, renamed, renamed_from}
 use Rattle.v_scope.specs.Entries.{entries_of}
 
 pub looked_up : {K : Type 0} (items : K → List ℕ) (es : List (K × Meaning)) (n : List ℕ)
@@ -65,3 +65,43 @@ pub declared : {K : Type 0} (k : K) (items : K → List ℕ) (name : List ℕ) (
 declared {K} k items name x old new s e q v = λ i n.
     (ap (λ (es : List (K × Meaning)). means (entries_of items es) n) e ∙ stored items k x old n
     ∙ ap (λ (m : List ℕ). named m x (means (entries_of items old)) n) q ∙ ap (λ (t : List (List ℕ × Meaning)). named name x (means t) n) v) i
+
+-- what is found of a name that is replaced
+pub looked : {K : Type 0} (items : K → List ℕ) (es : List (K × Meaning)) (s : List (List ℕ × Meaning)) (n : List ℕ) (o : Option Meaning)
+    → o ≡ lookup (λ k. bytes_eq n (items k)) es → entries_of items es ≡ s → o ≡ means s n
+looked items es s n o h v = h ∙ looked_up items es n ∙ ap (λ (t : List (List ℕ × Meaning)). means t n) v
+
+later : (k m n : List ℕ) (x y : Meaning) (r : Scope) (t o : Option Meaning) → bytes_eq k m ≡ false → t ≡ renamed_from o k x r n
+    → (if bytes_eq n m then Some y else t) ≡ renamed_from o k x (named m y r) n
+later k m n x y r t None f h = ap (λ (z : Option Meaning). if bytes_eq n m then Some y else z) h
+later k m n x y r t (Some p) f h = apart k m n (Some x) (Some y) (r n) t (bytes_eq n m) (bytes_eq n k) refl refl f h
+
+replaced_entry : {K : Type 0} (items : K → List ℕ) (k : List ℕ) (x : Meaning) (e : K × Meaning) (es rest : List (K × Meaning)) (n : List ℕ) (b : Bool)
+    → bytes_eq k (items e.0) ≡ b
+    → means (entries_of items rest) n ≡ renamed k x (means (entries_of items es)) n
+    → means (entries_of items (if b then (let r : List (K × Meaning) = ((e.0, x) ∷ es) in r) else e ∷ rest)) n
+    ≡ renamed_from (if b then Some e.1 else means (entries_of items es) k) k x (means (entries_of items (e ∷ es))) n
+replaced_entry items k x e es rest n true q h =
+    overwritten k (items e.0) n (Some x) (Some e.1) (means (entries_of items es) n) (same_name k (items e.0) q)
+replaced_entry items k x e es rest n false q h =
+    later k (items e.0) n x e.1 (means (entries_of items es)) (means (entries_of items rest) n) (means (entries_of items es) k) q h
+
+replaced_in : {K : Type 0} (items : K → List ℕ) (k : List ℕ) (x : Meaning) (es : List (K × Meaning)) (n : List ℕ)
+    → means (entries_of items (set_value (λ a. bytes_eq k (items a)) es x)) n ≡ renamed k x (means (entries_of items es)) n
+replaced_in items k x [] n = refl
+replaced_in items k x (e ∷ es) n =
+    replaced_entry items k x e es (set_value (λ a. bytes_eq k (items a)) es x) n (bytes_eq k (items e.0)) refl (replaced_in items k x es n)
+
+-- after the meaning of a declared name is replaced
+pub replaced : {K : Type 0} (items : K → List ℕ) (name : List ℕ) (x : Meaning) (old new : List (K × Meaning)) (s : List (List ℕ × Meaning))
+    → new ≡ set_value (λ k. bytes_eq name (items k)) old x → entries_of items old ≡ s → means (entries_of items new) ≡ renamed name x (means s)
+replaced {K} items name x old new s e v = λ i n.
+    (ap (λ (es : List (K × Meaning)). means (entries_of items es) n) e ∙ replaced_in items name x old n
+    ∙ ap (λ (t : List (List ℕ × Meaning)). renamed name x (means t) n) v) i
+
+-- a name that isn't declared stays so
+pub not_replaced : {K : Type 0} (items : K → List ℕ) (name : List ℕ) (x : Meaning) (old new : List (K × Meaning)) (s : List (List ℕ × Meaning))
+    → new ≡ old → None ≡ means s name → entries_of items old ≡ s → means (entries_of items new) ≡ renamed name x (means s)
+not_replaced {K} items name x old new s e h v = λ i n.
+    (ap (λ (es : List (K × Meaning)). means (entries_of items es) n) e ∙ ap (λ (t : List (List ℕ × Meaning)). means t n) v
+    ∙ ap (λ (o : Option Meaning). renamed_from o name x (means s) n) h) i

@@ -37,6 +37,14 @@ nothing n = None
 abbrev pub named : List ℕ → Meaning → Scope → Scope
 named k x s n = if bytes_eq n k then Some x else s n
 
+-- a declared name means this; a name that isn't declared stays so
+abbrev pub renamed_from : Option Meaning → List ℕ → Meaning → Scope → Scope
+renamed_from None k x s = s
+renamed_from (Some old) k x s = named k x s
+
+abbrev pub renamed : List ℕ → Meaning → Scope → Scope
+renamed k x s = renamed_from (find k s) k x s
+
 -- the first scope counts, and the second where a name isn't declared in the first
 abbrev pub before : Scope → Scope → Scope
 before s t n = option_or (s n) (t n)

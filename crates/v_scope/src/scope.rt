@@ -1,13 +1,14 @@
 //! What each name means in an instance.
 
 ghost use Rattle.std.specs.Prelude.{◌≡◌, None, Some, MatchOption, OnOk, OnErr};
-ghost use Rattle.v_scope.specs.Scope.{means, nothing, named};
+ghost use Rattle.v_scope.specs.Scope.{means, nothing, named, renamed};
 
 use crate::Meaning;
 use indexmap::IndexMap;
 use port_io::NoMemory;
 use std::alloc::Global;
 use std::marker::Model;
+use std::mem::replace;
 
 /// What each name means, seen as a list of names with their meanings.
 #[derive(Drop)]
@@ -50,5 +51,14 @@ impl Scope {
         let key = name.to_vec(alloc)?;
         self.names.insert(key, meaning)?;
         Ok(())
+    }
+
+    /// From now on a declared name means this. Answers what it meant before; none where it isn't declared, and then nothing changes.
+    pub fn replace(&mut self, name: &[u8], meaning: Meaning) -> Option<Meaning>
+        ensures old { result ≡ means self.old name.now }
+        ensures new { means self.new ≡ renamed name.now meaning (means self.old) }
+    {
+        let current = self.names.get_mut(name)?;
+        Some(replace(current, meaning))
     }
 }
