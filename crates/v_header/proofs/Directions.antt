@@ -1,5 +1,5 @@
 -- The direction that the ports of items tell is the one that is declared first.
-use Rattle.std.proofs.Common.{◌≡◌, ℕ, List, [], ◌∷◌, ◌++◌, map, Option, Some, None, Bool, true, false, ◌||◌, if◌then◌else◌, bytes_eq, refl, sym, ap, ◌∙◌}
+use Rattle.std.proofs.Common.{◌≡◌, ℕ, List, [], ◌∷◌, ◌++◌, map, Option, Some, Bool, true, false, ◌||◌, if◌then◌else◌, bytes_eq, is_some, refl, sym, ap, ◌∙◌}
 use Rattle.std.proofs.lemmas.Slice.Eq.{bytes_eq-Decides}
 use Rattle.std.specs.List.{list_any}
 use Rattle.std.specs.Option.{option_and_then}
@@ -7,6 +7,7 @@ use Rattle.v_syntax.specs.declared.statement.Identifier.{Identifier}
 use Rattle.v_syntax.specs.declared.item.Direction.{Direction}
 use Rattle.v_syntax.specs.SourceTrees.{Ports, Nets, Registers, Integers, Parameters, Drivers, Always, Initial, Instance, ItemTree, ItemAt, NamedPorts}
 use Rattle.v_flat.specs.Headers.{Port, all_ports, declared_direction, direction_of, distinct, find_port, name_of}
+use Rattle.v_flat.specs.Declarations.{find_direction}
 use Rattle.v_header.specs.Ports.{item_ports, known_direction, known_port, line_port, port_direction, port_of, with_ports}
 use Rattle.v_header.proofs.Noted.{noted_alone}
 use Rattle.v_header.proofs.Stored.{same_either_way}
@@ -76,3 +77,13 @@ named_ports names is declared ports d e =
     e ∙ noted_alone (map (known_port declared) names)
     ∙ ap (λ (ps : List Port). distinct [] (map (known_port ps) names)) (d ∙ noted_alone (item_ports is))
     ∙ ap (distinct []) (all_known names is)
+
+direction_by : (p : Port) (ps : List Port) (n : List ℕ) (b : Bool) → is_some (known_direction ps n) ≡ find_direction n ps
+    → is_some (option_and_then port_direction (if b then Some p else find_port n ps)) ≡ (if b then is_some p.direction else find_direction n ps)
+direction_by p ps n true h = refl
+direction_by p ps n false h = h
+
+-- whether a port has a direction
+pub has_direction : (ps : List Port) (n : List ℕ) → is_some (known_direction ps n) ≡ find_direction n ps
+has_direction [] n = refl
+has_direction (p ∷ ps) n = direction_by p ps n (bytes_eq p.name n) (has_direction ps n)

@@ -1,5 +1,5 @@
 -- What is kept of a name is its port.
-use Rattle.std.proofs.Common.{◌≡◌, ℕ, List, [], ◌∷◌, ◌++◌, map, Option, Some, None, Bool, true, false, ◌||◌, is_some, option_map, slice_get, cond, if◌then◌else◌, bytes_eq, refl, sym, ap, subst, ◌∙◌}
+use Rattle.std.proofs.Common.{◌≡◌, ℕ, List, [], ◌∷◌, ◌++◌, map, Option, Some, None, Bool, true, false, ◌||◌, is_some, cond, if◌then◌else◌, bytes_eq, refl, sym, ap, ◌∙◌}
 use Rattle.std.proofs.lemmas.Slice.Eq.{bytes_eq-Decides}
 use Rattle.std.specs.List.{list_any}
 use Rattle.std.specs.Map.{lookup, lookup_key}

@@ -1,4 +1,6 @@
 //! The names that a module declares.
+//!
+//! After want of memory a list or a scope that was being filled is dropped, so no clause speaks of what it then holds.
 
 ghost use Rattle.std.specs.Prelude.{◌≡◌, ℕ, List, ◌++◌, map, IfOk, OnOk};
 ghost use Rattle.v_scope.specs.Scope.{before, means};

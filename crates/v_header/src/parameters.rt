@@ -1,4 +1,6 @@
 //! The parameters of a module.
+//!
+//! After want of memory a list that was being filled is dropped, so no clause speaks of what it then holds.
 
 ghost use Rattle.std.specs.Prelude.{◌≡◌, ◌++◌, None, map, option_map, IfOk, OnOk};
 ghost use Rattle.v_syntax.specs.SourceTrees.{view_header_parameter, view_item, view_module, view_parameter, view_parameter_head, view_range};

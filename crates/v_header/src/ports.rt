@@ -1,10 +1,13 @@
 //! The ports of a module.
+//!
+//! After want of memory a table that was being filled is dropped, so no clause speaks of what it then holds.
 
 ghost use Rattle.std.specs.Prelude.{◌≡◌, ◌++◌, [], ◌∷◌, Some, false, length, map, option_map, slice_get, IfOk, OnOk};
 ghost use Rattle.std.specs.Str.{bytes_eq};
 ghost use Rattle.std.specs.List.{list_any};
 ghost use Rattle.v_syntax.specs.SourceTrees.{view_header_port, view_item, view_module, NamedPorts};
 ghost use Rattle.v_flat.specs.Headers.{all_ports, distinct, find_port, first_head, headed, headed_port, port_name, ports_of};
+ghost use Rattle.v_flat.specs.Declarations.{find_direction};
 ghost use Rattle.v_header.specs.Heads.{headed_in};
 ghost use Rattle.v_header.specs.Ports.{item_ports, known_direction, known_port, line_port, port_in, port_of, ports_in_item, with_ports};
 
@@ -69,6 +72,14 @@ impl Ports {
             }),
             None => None,
         }
+    }
+
+    /// Whether there is a port of a name that has a direction.
+    #[tactic(auto, using(crate::proofs::Directions::has_direction))]
+    pub fn has_direction(&self, name: &[u8]) -> bool
+        ensures { result ≡ find_direction name.now self.now }
+    {
+        self.direction(name).is_some()
     }
 
     /// How many ports there are.
