@@ -8,12 +8,15 @@ use Rattle.v_flat.specs.Headers.{HeadedPort, Parameter, names_in}
 abbrev pub texts : List (Bor (List ℕ)) → List (List ℕ)
 texts ns = map (λ (n : Bor (List ℕ)). n.now) ns
 
+-- the name of a port as the header has it
 abbrev pub header_port_name : HeaderPortTree → List ℕ
 header_port_name (HeaderPortOf h i) = i.name
 
+-- the name of a port with its head
 abbrev pub headed_name : HeadedPort → List ℕ
 headed_name p = p.name.name
 
+-- the name of a parameter
 abbrev pub parameter_name : Parameter → List ℕ
 parameter_name p = p.name.name
 

@@ -7,12 +7,15 @@ use Rattle.v_syntax.specs.SourceTrees.{RangeTree, ItemTree, view_range}
 use Rattle.v_flat.specs.Headers.{Parameter, is_local, item_parameters}
 use Rattle.v_header.specs.declared.parameters.Parameter as code
 
+-- the range that the code refers to, where it refers to one
 abbrev pub range_in : Option (Bor Range) → Option RangeTree
 range_in r = option_map (λ (x : Bor Range). view_range x.now) r
 
+-- a parameter with the parts that the code refers to
 abbrev pub parameter_in : code.Parameter → Parameter
 parameter_in p = record { is_local = is_local p.kind; range = range_in p.range; name = p.name.now; value = view p.value.now }
 
+-- all of them, in order
 abbrev pub parameters_in : List code.Parameter → List Parameter
 parameters_in ps = map parameter_in ps
 

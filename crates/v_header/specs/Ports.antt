@@ -7,9 +7,11 @@ use Rattle.v_syntax.specs.SourceTrees.{Ports, ItemTree, ItemAt}
 use Rattle.v_flat.specs.Headers.{Port, direction_of, distinct, find_port, port_name}
 use Rattle.v_header.specs.declared.ports.Port as code
 
+-- a port of this name with this direction, if any
 abbrev pub port_of : List ℕ → Option Direction → Port
 port_of n d = record { name = n; direction = d }
 
+-- a port with the name that the code refers to
 abbrev pub port_in : code.Port → Port
 port_in p = port_of p.name.now p.direction
 
@@ -27,6 +29,7 @@ item_ports [] = []
 item_ports (ItemAt p (Ports h is) ∷ rest) = map (line_port (direction_of h)) is ++ item_ports rest
 item_ports (ItemAt p k ∷ rest) = item_ports rest
 
+-- its direction, if it has one
 abbrev pub port_direction : Port → Option Direction
 port_direction p = p.direction
 
