@@ -65,13 +65,11 @@ impl Ports {
     pub fn find(&self, name: &[u8]) -> Option<Port<'_>>
         ensures { option_map port_in result ≡ find_port name.now self.now }
     {
-        match self.directions.get_key_value(name) {
-            Some((name, direction)) => Some(Port {
-                name,
-                direction: *direction,
-            }),
-            None => None,
-        }
+        let (name, direction) = self.directions.get_key_value(name)?;
+        Some(Port {
+            name,
+            direction: *direction,
+        })
     }
 
     /// Whether there is a port of a name that has a direction.
@@ -93,13 +91,11 @@ impl Ports {
     pub fn get(&self, index: usize) -> Option<Port<'_>>
         ensures { option_map port_in result ≡ slice_get self.now index }
     {
-        match self.directions.get_index(index) {
-            Some((name, direction)) => Some(Port {
-                name,
-                direction: *direction,
-            }),
-            None => None,
-        }
+        let (name, direction) = self.directions.get_index(index)?;
+        Some(Port {
+            name,
+            direction: *direction,
+        })
     }
 
     /// Adds a port of a new name. Only want of memory is an error.
@@ -186,10 +182,7 @@ impl Ports {
     fn direction(&self, name: &[u8]) -> Option<Direction>
         ensures { result ≡ known_direction self.now name.now }
     {
-        match self.find(name) {
-            Some(port) => port.direction,
-            None => None,
-        }
+        self.find(name)?.direction
     }
 
     /// Adds ports that a header only names, with the directions of those that are declared. Only want of memory is an error.
