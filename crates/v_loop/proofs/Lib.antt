@@ -1,0 +1,7 @@
+pub mod Settled
+pub mod Asked
+pub mod Steps
+pub mod Turning
+pub mod Scopes
+pub mod Widths
+pub mod Whole
