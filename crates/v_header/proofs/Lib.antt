@@ -1,0 +1,4 @@
+pub mod Noted
+pub mod Stored
+pub mod Directions
+pub mod LaterNames

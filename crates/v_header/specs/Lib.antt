@@ -1,0 +1,5 @@
+pub mod Names
+pub mod Parameters
+pub mod Heads
+pub mod Kept
+pub mod Ports

@@ -1,0 +1,43 @@
+-- The ports that the code tells, as the definition has them, and lists of ports to which more are added.
+use Rattle.std.specs.Prelude.{ℕ, List, [], ◌∷◌, ◌++◌, map, Option, Some}
+use Rattle.std.specs.Option.{option_and_then}
+use Rattle.v_syntax.specs.declared.statement.Identifier.{Identifier}
+use Rattle.v_syntax.specs.declared.item.Direction.{Direction}
+use Rattle.v_syntax.specs.SourceTrees.{Ports, ItemTree, ItemAt}
+use Rattle.v_flat.specs.Headers.{Port, direction_of, distinct, find_port, port_name}
+use Rattle.v_header.specs.declared.ports.Port as code
+
+abbrev pub port_of : List ℕ → Option Direction → Port
+port_of n d = record { name = n; direction = d }
+
+abbrev pub port_in : code.Port → Port
+port_in p = port_of p.name.now p.direction
+
+-- behind ports those others whose names are new, each name once
+unfoldable pub with_ports : List Port → List Port → List Port
+with_ports ps qs = ps ++ distinct (map port_name ps) qs
+
+-- a port of an item that gives its ports a direction
+abbrev pub line_port : Direction → Identifier → Port
+line_port d i = port_of i.name (Some d)
+
+-- each port of each item, as often as it is declared
+abbrev pub item_ports : List ItemTree → List Port
+item_ports [] = []
+item_ports (ItemAt p (Ports h is) ∷ rest) = map (line_port (direction_of h)) is ++ item_ports rest
+item_ports (ItemAt p k ∷ rest) = item_ports rest
+
+abbrev pub port_direction : Port → Option Direction
+port_direction p = p.direction
+
+-- the direction that these ports tell of a name
+abbrev pub known_direction : List Port → List ℕ → Option Direction
+known_direction ps n = option_and_then port_direction (find_port n ps)
+
+-- a port that a header names, with the direction that these ports tell
+abbrev pub known_port : List Port → Identifier → Port
+known_port ps i = port_of i.name (known_direction ps i.name)
+
+-- what one item declares
+abbrev pub ports_in_item : ItemTree → List Port
+ports_in_item i = item_ports (i ∷ [])
