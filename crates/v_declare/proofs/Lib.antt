@@ -1,0 +1,10 @@
+pub mod Tables
+pub mod Directions
+pub mod Chains
+pub mod Counts
+pub mod Changes
+pub mod Loops
+pub mod Places
+pub mod Steps
+pub mod Turns
+pub mod Ends

@@ -1,0 +1,4 @@
+pub mod Given
+pub mod Values
+pub mod Constants
+pub mod Found

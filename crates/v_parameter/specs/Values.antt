@@ -1,0 +1,7 @@
+-- What the values of parameters are, as the code has them.
+use Rattle.v_scope.specs.declared.meaning.Meaning.{Meaning}
+use Rattle.v_scope.specs.declared.meaning.Meaning.TheVariants as meant
+use Rattle.v_parameter.specs.declared.constants.Value.{Value}
+
+abbrev pub meaning_of : Value → Meaning
+meaning_of v = meant.Constant v.digits v.bounds
