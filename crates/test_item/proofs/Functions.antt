@@ -1,0 +1,87 @@
+-- The function whose header stands behind some items.
+use Rattle.std.proofs.Common.{◌≡◌, ◌+◌, ◌&&◌, not, ℕ, zero, suc, Bool, true, false, List, [], ◌∷◌, ◌++◌, length, slice_get, Option, Some, None, refl, sym, ap, ◌∙◌, if◌then◌else◌, arith}
+use Rattle.std.specs.Option.{is_some}
+use Rattle.py_syntax.specs.BlockTrees.{ModuleItem, TextAt, LineAt, FunctionAt, Block}
+use Rattle.py_syntax.specs.ModuleTrees as line
+use Rattle.py_syntax.specs.declared.module.Parameter.{Parameter}
+use Rattle.py_syntax.specs.declared.module.Setting.{Setting}
+use Rattle.test_rules.specs.File.{File, Definition, file_of, functions_of, is_decorator, is_function, next_function, parameters_of}
+use Rattle.test_rules.specs.Names.{Name}
+use Rattle.test_rules.specs.Rules.{has_misfit, is_misfit_at, one_test}
+use Rattle.test_item.specs.Functions.{function_name, is_made_name, lacks_parameters, options_behind}
+
+-- the functions of these items, and then of those
+functions_behind : (k : ℕ) (before : Option (List Setting)) (xs ys : List ModuleItem)
+    → functions_of k before (xs ++ ys) ≡ functions_of k before xs ++ functions_of (k + length (functions_of k before xs)) (options_behind before xs) ys
+functions_behind k before [] ys = ap (λ j. functions_of j before ys) (let e : k ≡ k + 0 = omega arith in e)
+functions_behind k before (TextAt l ∷ xs) ys = functions_behind k None xs ys
+functions_behind k before (FunctionAt l f ps b ∷ xs) ys =
+    let d : Definition = record { number = k; line = l; name = f; parameters = ps; body = b; options = before } in
+    let n : ℕ = length (functions_of (suc k) None xs) in
+    let e : suc k + n ≡ k + suc n = omega arith in
+    ap (λ ds. d ∷ ds) (functions_behind (suc k) None xs ys ∙ ap (λ j. functions_of (suc k) None xs ++ functions_of j (options_behind None xs) ys) e)
+functions_behind k before (LineAt l (line.Test ss) ∷ xs) ys = functions_behind k (Some ss) xs ys
+functions_behind k before (LineAt l (line.Constant m c) ∷ xs) ys = functions_behind k None xs ys
+functions_behind k before (LineAt l (line.Import m) ∷ xs) ys = functions_behind k None xs ys
+functions_behind k before (LineAt l (line.FromImport ms ns) ∷ xs) ys = functions_behind k None xs ys
+functions_behind k before (LineAt l (line.Factory m f) ∷ xs) ys = functions_behind k None xs ys
+functions_behind k before (LineAt l (line.AddOption m o cs) ∷ xs) ys = functions_behind k None xs ys
+functions_behind k before (LineAt l (line.GenerateTests m p q) ∷ xs) ys = functions_behind k None xs ys
+functions_behind k before (LineAt l (line.Function m ps) ∷ xs) ys = functions_behind k None xs ys
+
+-- what stands behind a list
+first_behind : {A : Type 0} (xs : List A) (y : A) (rest : List A) → slice_get (xs ++ y ∷ rest) (length xs) ≡ Some y
+first_behind [] y rest = refl
+first_behind (x ∷ xs) y rest = first_behind xs y rest
+
+-- the function whose header stands behind these items
+abbrev behind : List ModuleItem → ℕ → Name → List Parameter → Block → Definition
+behind xs l f ps b =
+    record { number = length (functions_of 0 None xs); line = l; name = f; parameters = ps; body = b; options = options_behind None xs }
+
+next_is : (xs ys : List ModuleItem) (l : ℕ) (f : Name) (ps : List Parameter) (b : Block)
+    → next_function (file_of (xs ++ FunctionAt l f ps b ∷ ys)) (file_of xs) ≡ Some (behind xs l f ps b)
+next_is xs ys l f ps b =
+    let n : ℕ = length (functions_of 0 None xs) in
+    let e : 0 + n ≡ n = omega arith in
+    ap (λ ds. slice_get ds n) (functions_behind 0 None xs (FunctionAt l f ps b ∷ ys) ∙ ap (λ j. functions_of 0 None xs ++ functions_of j (options_behind None xs) (FunctionAt l f ps b ∷ ys)) e)
+    ∙ first_behind (functions_of 0 None xs) (behind xs l f ps b) (functions_of (suc n) None ys)
+
+pub misfit_by_parts : (xs ys : List ModuleItem) (x : ModuleItem)
+    → has_misfit (file_of (xs ++ x ∷ ys)) (record { item = x; above = xs; below = ys })
+    ≡ (is_function x && lacks_parameters (is_some (options_behind None xs)) (is_made_name (file_of (xs ++ x ∷ ys)) (function_name x)) (parameters_of x))
+misfit_by_parts xs ys (TextAt l) = refl
+misfit_by_parts xs ys (LineAt l x) = refl
+misfit_by_parts xs ys (FunctionAt l f ps b) = ap (λ (o : Option Definition). misfits o) (next_is xs ys l f ps b)
+  where
+    misfits : Option Definition → Bool
+    misfits o = is_misfit_at (file_of (xs ++ FunctionAt l f ps b ∷ ys)) o
+
+-- a function is a test where it is decorated and no factory's
+pub test_by_parts : (xs ys : List ModuleItem) (l : ℕ) (f : Name) (ps : List Parameter) (b : Block)
+    → one_test (file_of (xs ++ FunctionAt l f ps b ∷ ys)) (next_function (file_of (xs ++ FunctionAt l f ps b ∷ ys)) (file_of xs))
+    ≡ (if is_some (options_behind None xs) && not (is_made_name (file_of (xs ++ FunctionAt l f ps b ∷ ys)) f) then 1 else 0)
+test_by_parts xs ys l f ps b = ap (λ (o : Option Definition). one_test (file_of (xs ++ FunctionAt l f ps b ∷ ys)) o) (next_is xs ys l f ps b)
+
+-- the last item is a decorator
+pub decorated_by_last : (before : Option (List Setting)) (xs : List ModuleItem) (x : ModuleItem) → is_some (options_behind before (xs ++ x ∷ [])) ≡ is_decorator x
+decorated_by_last before [] (TextAt l) = refl
+decorated_by_last before [] (FunctionAt l f ps b) = refl
+decorated_by_last before [] (LineAt l (line.Test ss)) = refl
+decorated_by_last before [] (LineAt l (line.Constant m c)) = refl
+decorated_by_last before [] (LineAt l (line.Import m)) = refl
+decorated_by_last before [] (LineAt l (line.FromImport ms ns)) = refl
+decorated_by_last before [] (LineAt l (line.Factory m f)) = refl
+decorated_by_last before [] (LineAt l (line.AddOption m o cs)) = refl
+decorated_by_last before [] (LineAt l (line.GenerateTests m p q)) = refl
+decorated_by_last before [] (LineAt l (line.Function m ps)) = refl
+decorated_by_last before (TextAt l ∷ xs) x = decorated_by_last None xs x
+decorated_by_last before (FunctionAt l f ps b ∷ xs) x = decorated_by_last None xs x
+decorated_by_last before (LineAt l (line.Test ss) ∷ xs) x = decorated_by_last (Some ss) xs x
+decorated_by_last before (LineAt l (line.Constant m c) ∷ xs) x = decorated_by_last None xs x
+decorated_by_last before (LineAt l (line.Import m) ∷ xs) x = decorated_by_last None xs x
+decorated_by_last before (LineAt l (line.FromImport ms ns) ∷ xs) x = decorated_by_last None xs x
+decorated_by_last before (LineAt l (line.Factory m f) ∷ xs) x = decorated_by_last None xs x
+decorated_by_last before (LineAt l (line.AddOption m o cs) ∷ xs) x = decorated_by_last None xs x
+decorated_by_last before (LineAt l (line.GenerateTests m p q) ∷ xs) x = decorated_by_last None xs x
+decorated_by_last before (LineAt l (line.Function m ps) ∷ xs) x = decorated_by_last None xs x

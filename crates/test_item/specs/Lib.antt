@@ -1,0 +1,2 @@
+pub mod OwnLine
+pub mod Functions

@@ -1,0 +1,10 @@
+-- The parameters so far have their places.
+use Rattle.std.proofs.Common.{◌≡◌, ℕ, List, take}
+use Rattle.std.specs.List.{position_from}
+use Rattle.std.specs.Str.{bytes_eq}
+use Rattle.test_names.specs.Places.{first_place}
+use Rattle.test_rules.specs.Uses.{parameter_names}
+use Rattle.test_locals.proofs.numbered.of_parameters.Given as goal
+
+abbrev pub invariant-loop-place : goal.invariant-loop-place
+invariant-loop-place l = (n : List ℕ) → first_place l.names n ≡ position_from (bytes_eq n) 0 (parameter_names (take l.place l.parameters))
