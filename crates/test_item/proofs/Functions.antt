@@ -1,11 +1,11 @@
 -- The function whose header stands behind some items.
-use Rattle.std.proofs.Common.{◌≡◌, ◌+◌, ◌&&◌, not, ℕ, zero, suc, Bool, true, false, List, [], ◌∷◌, ◌++◌, length, slice_get, Option, Some, None, refl, sym, ap, ◌∙◌, if◌then◌else◌, arith}
+use Rattle.std.proofs.Common.{◌≡◌, ◌+◌, ◌&&◌, not, ℕ, suc, Bool, List, [], ◌∷◌, ◌++◌, length, slice_get, Option, Some, None, refl, ap, ◌∙◌, if◌then◌else◌, arith}
 use Rattle.std.specs.Option.{is_some}
 use Rattle.py_syntax.specs.BlockTrees.{ModuleItem, TextAt, LineAt, FunctionAt, Block}
 use Rattle.py_syntax.specs.ModuleTrees as line
 use Rattle.py_syntax.specs.declared.module.Parameter.{Parameter}
 use Rattle.py_syntax.specs.declared.module.Setting.{Setting}
-use Rattle.test_rules.specs.File.{File, Definition, file_of, functions_of, is_decorator, is_function, next_function, parameters_of}
+use Rattle.test_rules.specs.File.{Definition, file_of, functions_of, is_decorator, is_function, next_function, parameters_of}
 use Rattle.test_rules.specs.Names.{Name}
 use Rattle.test_rules.specs.Rules.{has_misfit, is_misfit_at, one_test}
 use Rattle.test_item.specs.Functions.{function_name, is_made_name, lacks_parameters, options_behind}

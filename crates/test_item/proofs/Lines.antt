@@ -1,5 +1,5 @@
 -- What an item's own line breaks, and the names of a function's own.
-use Rattle.std.proofs.Common.{◌≡◌, ◌+◌, ◌||◌, not, ℕ, Bool, true, false, List, [], ◌∷◌, ◌++◌, Option, Some, None, refl, sym, ap, ◌∙◌, cond, if◌then◌else◌}
+use Rattle.std.proofs.Common.{◌≡◌, ◌||◌, not, ℕ, Bool, true, false, List, [], ◌∷◌, ◌++◌, Option, Some, None, refl, sym, ap, ◌∙◌, if◌then◌else◌}
 use Rattle.std.specs.List.{list_any, position_from}
 use Rattle.std.specs.Option.{option_or, is_some}
 use Rattle.std.specs.Str.{bytes_eq}
@@ -10,7 +10,6 @@ use Rattle.test_rules.specs.File.{File, Place, file_of, line_of}
 use Rattle.test_rules.specs.Names.{Name, is_among}
 use Rattle.test_rules.specs.Rules.{astray, defines_twice, first_broken, has_misfit, has_right_options, is_overfull, is_stray, is_unknown, is_unknown_import, refused_at}
 use Rattle.test_rules.specs.Uses.{block_lines, inner_lines, lines_at, own_uses, with_names}
-use Rattle.test_rules.specs.declared.rule.FileRule.{FileRule}
 use Rattle.test_rules.specs.declared.rule.FileRule.TheVariants as rule
 use Rattle.test_scope.specs.Around.{names_in}
 use Rattle.test_scope.proofs.Known.{local}

@@ -1,5 +1,5 @@
 -- The lines of an item, and those behind it.
-use Rattle.std.proofs.Common.{rules, sym, ap, ◌∙◌, refl}
+use Rattle.std.proofs.Common.{rules, sym, ap, ◌∙◌}
 use Rattle.py_syntax.specs.BlockTrees.{block_of, view_item}
 use Rattle.py_syntax.specs.Modules.{item_lines}
 use Rattle.py_syntax.specs.declared.tree.BlockItem.{BlockItem}
