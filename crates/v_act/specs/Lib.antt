@@ -1,2 +1,4 @@
 pub mod Statements
 pub mod Made
+pub mod Cases
+pub mod MadeCases
