@@ -1,8 +1,7 @@
 -- The range that is found with a value is one of 1 to 128 digits.
-use Rattle.std.proofs.Common.{◌≡◌, ℕ, List, Bool, true, false, Result, Ok, Err, sym, ap, ◌∙◌, subst}
+use Rattle.std.proofs.Common.{◌≡◌, ℕ, List, Bool, true, false, Ok, sym, ap, ◌∙◌, subst}
 use Rattle.four_value.specs.declared.Digit.{Digit}
 use Rattle.gpi.specs.Terms.{IsWidth}
-use Rattle.v_scope.specs.declared.rule.Broken.{Broken}
 use Rattle.v_scope.specs.declared.rule.ElabRule.{ElabRule}
 use Rattle.v_scope.specs.declared.found.Found.{Found}
 use Rattle.v_scope.specs.declared.found.Found.TheVariants.{Sound, Noted, Lost}

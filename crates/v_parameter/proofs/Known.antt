@@ -1,5 +1,5 @@
 -- What is known after one more parameter.
-use Rattle.std.proofs.Common.{◌≡◌, ℕ, ◌+◌, ◌<◌, ◌≤◌, List, [], ◌∷◌, ◌++◌, map, length, drop, get_or, Option, Some, None, Bool, true, false, not, is_none, Result, Ok, Err, refl, sym, ap, ◌∙◌, subst, bytes_eq, if◌then◌else◌}
+use Rattle.std.proofs.Common.{◌≡◌, ℕ, ◌+◌, ◌<◌, ◌≤◌, List, [], ◌∷◌, ◌++◌, length, drop, get_or, Option, Some, None, Bool, true, false, not, is_none, Result, Ok, Err, refl, sym, ap, ◌∙◌, subst, bytes_eq, if◌then◌else◌}
 use Rattle.std.proofs.lemmas.List.{drop_all, drop_more}
 use Rattle.std.specs.Option.{option_or}
 use Rattle.four_value.specs.declared.Digit.{Digit}
@@ -16,7 +16,7 @@ use Rattle.v_scope.specs.Scope.{Scope, find, means, named, before}
 use Rattle.v_scope.proofs.Gathered.{each_wants}
 use Rattle.v_flat.specs.Checks.{is_constant, constant_of}
 use Rattle.v_flat.specs.Headers.{Parameter}
-use Rattle.v_flat.specs.Declarations.{Entries, Given, is_free, given_value, constant_meaning, vector_bounds, parameter, parameters}
+use Rattle.v_flat.specs.Declarations.{Entries, Given, is_free, given_value, vector_bounds, parameter, parameters}
 use Rattle.v_names.specs.Proper.{IsProper, AreProper}
 use Rattle.v_header.specs.declared.parameters.Parameter as code
 use Rattle.v_header.specs.Parameters.{parameter_in, parameters_in}

@@ -1,5 +1,5 @@
 -- The value that is given, or the parameter's own.
-use Rattle.std.proofs.Common.{rules, ◌≡◌, List, ℕ}
+use Rattle.std.proofs.Common.{rules, ◌≡◌}
 use Rattle.v_scope.specs.Scope.{means}
 use Rattle.v_syntax.specs.ExpressionTrees.{view}
 use Rattle.v_flat.specs.Checks.{constant_of}

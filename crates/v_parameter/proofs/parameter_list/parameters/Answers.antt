@@ -1,8 +1,6 @@
 -- One parameter more, the rule that is broken in one, and the end.
-use Rattle.std.proofs.Common.{rules, ◌≡◌, ℕ, List, length, ◌≤◌, arith}
+use Rattle.std.proofs.Common.{rules, ◌≡◌, length, ◌≤◌, arith}
 use Rattle.v_scope.specs.Scope.{means}
-use Rattle.v_flat.specs.Declarations.{parameters}
-use Rattle.v_header.specs.Parameters.{parameters_in}
 use Rattle.v_parameter.specs.declared.constants.Constants.{Constants}
 use Rattle.v_parameter.proofs.Known.{broken_at, grown_at, have_values}
 use Rattle.v_parameter.proofs.parameter_list.parameters.Goals as goal
