@@ -1,5 +1,5 @@
 -- The words of a process, and what they mean.
-use Rattle.std.specs.Prelude.{ℕ, List, [], ◌∷◌, Option, Some, None, codes, if◌then◌else◌}
+use Rattle.std.specs.Prelude.{ℕ, ◌-◌, ◌^◌, ◌==◌, ◌&&◌, Bool, List, [], ◌∷◌, Option, Some, None, codes, if◌then◌else◌, min, nat_le}
 use Rattle.std.specs.Option.{option_map, option_or}
 use Rattle.std.specs.Str.{bytes_eq}
 use Rattle.gpi.specs.declared.acts.CaseKind.TheVariants.{AnyXz, AnyZ, Exact}
@@ -12,6 +12,8 @@ use Rattle.gpi.specs.declared.operators.Reduce.{Reduce}
 use Rattle.gpi.specs.declared.operators.Reduce.TheVariants as reduce
 use Rattle.gpi.specs.declared.operators.Shift.TheVariants.{Down, Up}
 use Rattle.gpi.specs.declared.operators.Unary.TheVariants as unary
+use Rattle.table_rows.specs.Rows.{decimal}
+use Rattle.simulator_tests.specs.Digits.{vector_of}
 use Rattle.simulator_tests.specs.declared.word.Expression.{Expression}
 use Rattle.simulator_tests.specs.declared.word.Expression.TheVariants as expression
 use Rattle.simulator_tests.specs.declared.word.Object.TheVariants as object
@@ -76,8 +78,23 @@ expression_of text =
     (option_or (option_map expression.Reduce (entry reduce_words text))
     (option_or (entry operand_words text) (entry operator_words text))))
 
--- what a word means that is neither a number nor a vector; none where it means nothing
-abbrev pub word_of : List ℕ → Option Word
-word_of text =
+-- what a word means that is neither a number nor a constant; none where it means nothing
+abbrev pub name_of : List ℕ → Option Word
+name_of text =
     option_or (option_map word.Expression (expression_of text))
     (option_or (option_map word.Statement (entry statement_words text)) (entry left_words text))
+
+-- the number that decimal digits say, the largest of 32 bits where it is beyond
+abbrev pub number_of : List ℕ → ℕ
+number_of text = min (decimal text) (2 ^ 32 - 1)
+
+-- whether a byte is a decimal digit
+abbrev pub is_decimal : ℕ → Bool
+is_decimal byte = nat_le 48 byte && nat_le byte 57
+
+-- what a word means; none where it means nothing: a constant has its digits behind a quote, and a number begins with a decimal digit
+abbrev pub word_of : List ℕ → Option Word
+word_of [] = name_of []
+word_of (first ∷ rest) =
+    if first == 39 then Some (word.Constant (vector_of rest))
+    else (if is_decimal first then Some (word.Number (number_of (first ∷ rest))) else name_of (first ∷ rest))

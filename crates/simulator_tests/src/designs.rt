@@ -7,6 +7,7 @@ ghost use Rattle.std.specs.List.{flat_map};
 ghost use Rattle.four_value.specs.Limits.{most_digits};
 ghost use Rattle.four_value.specs.Vector.{digit_letters};
 ghost use Rattle.simulator_tests.specs.Digits.{digit_of, short_vector, vector_of};
+ghost use Rattle.simulator_tests.specs.Ranges.{range_between, range_of};
 ghost use Rattle.simulator_tests.specs.Rests.{ComesTo, Settles};
 ghost use Rattle.simulator_tests.specs.Designs.{AreProcesses, IsDesign, IsGiven, IsProcessOf, ShowsSimulation, bare_top, change_of, last_told, last_value, other_text, register, registers, sets, values_text, wakes_of};
 
@@ -199,17 +200,29 @@ fn wakes_of(alloc: Global, kind: Kind) -> Result<Sequence<Wake>, NoMemory>
     }
 }
 
-/// The range `[high:low]` or `[low:high]` of a text, where both have one digit.
-fn range_of(text: &[u8]) -> Range {
-    match text {
-        [b'[', left, b':', right, b']'] if left < right => Range {
-            low: u32::from(left & 15),
+/// The range between two digits.
+fn range_between(left: u8, right: u8) -> Range
+    ensures { result ≡ range_between left right }
+{
+    if left < right {
+        Range {
+            low: u32::from(left.saturating_sub(b'0')),
             order: Order::Rising,
-        },
-        [b'[', _, b':', right, b']'] => Range {
-            low: u32::from(right & 15),
+        }
+    } else {
+        Range {
+            low: u32::from(right.saturating_sub(b'0')),
             order: Order::Falling,
-        },
+        }
+    }
+}
+
+/// The range `[high:low]` or `[low:high]` of a text, where both have one digit; one that falls to 0 where it is another text.
+fn range_of(text: &[u8]) -> Range
+    ensures { result ≡ range_of text.now }
+{
+    match text {
+        [b'[', left, b':', right, b']'] => range_between(*left, *right),
         _ => Range {
             low: 0,
             order: Order::Falling,

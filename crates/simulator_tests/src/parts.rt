@@ -1,5 +1,5 @@
 //! What the words of a process make.
-use crate::designs::{A, B, C, GO, MEMORY, Y, Z, vector};
+use crate::designs::{A, B, C, GO, MEMORY, Y, Z};
 use crate::word;
 use crate::word::{Expression, Statement, Word};
 use four_value::MOST_DIGITS;
@@ -38,24 +38,24 @@ impl Parts {
 
     /// Takes a word.
     pub fn take(&mut self, alloc: Global, text: &[u8]) -> Result<(), NoMemory> {
-        match text.first() {
-            Some(b'\'') => Ok(self.terms.push(Term::Const(vector(&text[1..])))?),
-            Some(b'0'..=b'9') => Ok(self.numbers.push(number(text))?),
-            _ => self.take_name(alloc, text),
-        }
-    }
-
-    /// Takes a word that is neither a number nor a vector.
-    fn take_name(&mut self, alloc: Global, text: &[u8]) -> Result<(), NoMemory> {
         match Word::of(text) {
-            Some(Word::Expression(expression)) => self.take_expression(alloc, expression),
-            Some(Word::Object(object)) => self.take_object(object),
-            Some(Word::Target(target)) => self.take_target(alloc, target),
-            Some(Word::Statement(statement)) => self.take_statement(alloc, statement),
+            Some(word) => self.take_word(alloc, word),
             None => {
                 self.is_wrong = true;
                 Ok(())
             }
+        }
+    }
+
+    /// Takes a word that means this.
+    fn take_word(&mut self, alloc: Global, word: Word) -> Result<(), NoMemory> {
+        match word {
+            Word::Number(number) => Ok(self.numbers.push(number)?),
+            Word::Constant(bits) => Ok(self.terms.push(Term::Const(bits))?),
+            Word::Expression(expression) => self.take_expression(alloc, expression),
+            Word::Object(object) => self.take_object(object),
+            Word::Target(target) => self.take_target(alloc, target),
+            Word::Statement(statement) => self.take_statement(alloc, statement),
         }
     }
 
@@ -305,15 +305,4 @@ impl Parts {
         let items = self.some_acts(alloc)?;
         Act::case(alloc, kind, value, labels, items, self.act())
     }
-}
-
-/// The number of decimal digits.
-fn number(text: &[u8]) -> u32 {
-    let mut number = 0u32;
-    for byte in text {
-        number = number
-            .saturating_mul(10)
-            .saturating_add(u32::from(byte.saturating_sub(b'0')));
-    }
-    number
 }

@@ -10,13 +10,19 @@
 //! - statements: `empty`, `blocking T E`, `nonblocking T E`, `if E S S`, `block N S ..`, and `case E L E K .. N S .. S` with L
 //!   labels, each with the number of its item, N items, and the statement where no label agrees (`casez` and `casex` likewise).
 ghost use Rattle.std.specs.Prelude.{◌≡◌};
-ghost use Rattle.simulator_tests.specs.Words.{arith_words, compare_words, entry, expression_of, left_words, operand_words, operator_words, reduce_words, statement_words, word_of};
+ghost use Rattle.simulator_tests.specs.Words.{arith_words, compare_words, entry, expression_of, left_words, name_of, number_of, operand_words, operator_words, reduce_words, statement_words, word_of};
 
+use crate::designs::vector;
+use four_value::Bits;
 use gpi::{Arith, CaseKind, Compare, Logic, Reduce, Shift, Unary};
 
 /// What a word means.
 #[derive(Clone, Copy)]
 pub enum Word {
+    /// A width, a count or the number of an item.
+    Number(u32),
+    /// A constant.
+    Constant(Bits),
     Expression(Expression),
     Object(Object),
     Target(Target),
@@ -74,18 +80,36 @@ pub enum Statement {
 }
 
 impl Word {
-    /// What a word means that is neither a number nor a vector; none where it means nothing.
+    /// What a word means; none where it means nothing.
     pub fn of(text: &[u8]) -> Option<Word>
         ensures { result ≡ word_of text.now }
     {
-        if let Some(expression) = expression_of(text) {
-            return Some(Word::Expression(expression));
+        match text {
+            [b'\'', digits @ ..] => Some(Word::Constant(vector(digits))),
+            [b'0'..=b'9', ..] => Some(Word::Number(number_of(text))),
+            _ => name_of(text),
         }
-        if let Some(statement) = statement_of(text) {
-            return Some(Word::Statement(statement));
-        }
-        left_of(text)
     }
+}
+
+/// The number that decimal digits say, the largest of 32 bits where it is beyond.
+fn number_of(text: &[u8]) -> u32
+    ensures { result ≡ number_of text.now }
+{
+    u32::try_from(table_rows::number_of(text)).unwrap_or(u32::MAX)
+}
+
+/// What a word means that is neither a number nor a constant; none where it means nothing.
+fn name_of(text: &[u8]) -> Option<Word>
+    ensures { result ≡ name_of text.now }
+{
+    if let Some(expression) = expression_of(text) {
+        return Some(Word::Expression(expression));
+    }
+    if let Some(statement) = statement_of(text) {
+        return Some(Word::Statement(statement));
+    }
+    left_of(text)
 }
 
 /// A word of the left side of an assignment.
