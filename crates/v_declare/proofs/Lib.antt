@@ -1,5 +1,4 @@
 pub mod Tables
-pub mod Directions
 pub mod Chains
 pub mod Counts
 pub mod Changes

@@ -47,10 +47,7 @@ impl Place<'_> {
     pub(crate) fn has_direction(&self, name: &[u8]) -> bool
         ensures { result ≡ find_direction name.now self.now.ports.now }
     {
-        match self.ports.find(name) {
-            Some(port) => port.direction.is_some(),
-            None => false,
-        }
+        self.ports.has_direction(name)
     }
 
     /// The bounds of a range. Only want of memory is an error.
