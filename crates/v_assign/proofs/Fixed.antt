@@ -16,7 +16,8 @@ use Rattle.v_scope.proofs.Gathered.{holds_so}
 use Rattle.v_flat.specs.Objects.{Nature, Unknown, NoConstant, Vector, Memory, nature_of}
 use Rattle.v_flat.specs.Expressions.{number_or, meaning, no_signals}
 use Rattle.v_flat.specs.Checks.{made, select_made, selects_made, checked, known, known_by, constant, constant_width, index, counted, narrow, part_width, go_with, part, word, of_vector, of_memory, by_nature, select_at}
-use Rattle.v_flat.specs.Targets.{Continuous, fits, named_target}
+use Rattle.v_flat.specs.declared.manner.Manner.TheVariants.{Continuous}
+use Rattle.v_flat.specs.Targets.{fits, named_target}
 use Rattle.v_flat.proofs.Holds.{holds_needs, holds_any}
 
 -- it is so of the value, and there is a value only where no rule is broken

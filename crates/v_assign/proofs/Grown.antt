@@ -9,7 +9,8 @@ use Rattle.v_scope.specs.declared.meaning.DataKind.TheVariants.{Input, Net, Regi
 use Rattle.v_scope.specs.declared.meaning.Meaning.{Meaning}
 use Rattle.v_scope.specs.declared.meaning.Meaning.TheVariants as meant
 use Rattle.v_scope.specs.Scope.{Scope, find}
-use Rattle.v_flat.specs.Targets.{Continuous, Drive, is_driven, once_more, net_driving, object_driving, name_driving, selected_drive, named_target, place_or, driving, all_driving}
+use Rattle.v_flat.specs.declared.manner.Manner.TheVariants.{Continuous}
+use Rattle.v_flat.specs.Targets.{Drive, is_driven, once_more, net_driving, object_driving, name_driving, selected_drive, named_target, place_or, driving, all_driving}
 use Rattle.v_drive.specs.declared.digits.DrivenDigits.{DrivenDigits}
 use Rattle.v_drive.specs.Digits.{Keeps}
 use Rattle.v_target.specs.declared.checked.CheckedTarget.{CheckedTarget}

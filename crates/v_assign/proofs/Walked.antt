@@ -8,7 +8,9 @@ use Rattle.v_syntax.specs.ExpressionTrees.{SelectsTree, TargetTrees, NamedTarget
 use Rattle.v_scope.specs.declared.found.Found.{Found}
 use Rattle.v_scope.specs.Scope.{Scope, find}
 use Rattle.v_scope.proofs.Gathered.{holds_so}
-use Rattle.v_flat.specs.Targets.{Manner, Procedural, named_target, targets_checked}
+use Rattle.v_flat.specs.declared.manner.Manner.{Manner}
+use Rattle.v_flat.specs.declared.manner.Manner.TheVariants.{Procedural}
+use Rattle.v_flat.specs.Targets.{named_target, targets_checked}
 use Rattle.v_target.specs.declared.checked.CheckedTarget.{CheckedTarget}
 use Rattle.v_target.specs.Targets.{GetsAsName, IsNamedTarget}
 use Rattle.v_assign.specs.declared.parts.TargetParts.{TargetParts}

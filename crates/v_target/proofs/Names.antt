@@ -25,7 +25,8 @@ use Rattle.v_scope.proofs.Gathered.{each_each, each_same, each_then, each_needs}
 use Rattle.v_flat.specs.Objects.{Nature, nature_of, range_of, words_of}
 use Rattle.v_flat.specs.Expressions.{no_signals, own_value, select_base, select_width}
 use Rattle.v_flat.specs.Checks.{checked, index, part, by_nature, of_vector, of_memory, select_at}
-use Rattle.v_flat.specs.Targets.{Manner, fits_kind, inside_drive, is_fixed, object_update}
+use Rattle.v_flat.specs.declared.manner.Manner.{Manner}
+use Rattle.v_flat.specs.Targets.{fits_kind, inside_drive, is_fixed, object_update}
 use Rattle.v_flat.proofs.Holds.{holds_any, holds_both, holds_each, holds_lost, holds_needs, holds_then}
 use Rattle.v_names.specs.declared.choice.Choice.{Choice}
 use Rattle.v_names.specs.declared.selects.CheckedSelect.{CheckedSelect}

@@ -3,7 +3,7 @@ use Rattle.std.proofs.Common.{rules, ◌≡◌, ◌∙◌, ℕ, List, subst, Som
 use Rattle.v_syntax.specs.ExpressionTrees.{view_selects}
 use Rattle.v_scope.specs.declared.meaning.Meaning.TheVariants as meant
 use Rattle.v_scope.specs.Scope.{means, find}
-use Rattle.v_flat.specs.Targets.{Continuous}
+use Rattle.v_flat.specs.declared.manner.Manner.TheVariants.{Continuous}
 use Rattle.v_target.specs.Targets.{IsNamedTarget}
 use Rattle.v_assign.proofs.Names.{fixed_found, input_answer, net_result, placed}
 use Rattle.v_assign.proofs.nets.net_name.Goals as goal
