@@ -65,11 +65,13 @@ impl Ports {
     pub fn find(&self, name: &[u8]) -> Option<Port<'_>>
         ensures { option_map port_in result ≡ find_port name.now self.now }
     {
-        let (name, direction) = self.directions.get_key_value(name)?;
-        Some(Port {
-            name,
-            direction: *direction,
-        })
+        match self.directions.get_key_value(name) {
+            Some((name, direction)) => Some(Port {
+                name,
+                direction: *direction,
+            }),
+            None => None,
+        }
     }
 
     /// Whether there is a port of a name that has a direction.
@@ -91,11 +93,13 @@ impl Ports {
     pub fn get(&self, index: usize) -> Option<Port<'_>>
         ensures { option_map port_in result ≡ slice_get self.now index }
     {
-        let (name, direction) = self.directions.get_index(index)?;
-        Some(Port {
-            name,
-            direction: *direction,
-        })
+        match self.directions.get_index(index) {
+            Some((name, direction)) => Some(Port {
+                name,
+                direction: *direction,
+            }),
+            None => None,
+        }
     }
 
     /// Adds a port of a new name. Only want of memory is an error.
@@ -182,7 +186,10 @@ impl Ports {
     fn direction(&self, name: &[u8]) -> Option<Direction>
         ensures { result ≡ known_direction self.now name.now }
     {
-        self.find(name)?.direction
+        match self.find(name) {
+            Some(port) => port.direction,
+            None => None,
+        }
     }
 
     /// Adds ports that a header only names, with the directions of those that are declared. Only want of memory is an error.
