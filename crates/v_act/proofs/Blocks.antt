@@ -12,15 +12,16 @@ use Rattle.v_flat.specs.Statements.{done, activation}
 use Rattle.v_flat.proofs.Holds.{holds_both}
 use Rattle.v_operator.proofs.Combined.{made_holds}
 use Rattle.v_act.specs.declared.sequences.BlockParts.{BlockParts}
-use Rattle.v_act.specs.Made.{HasFirst, AreMoreStatements, AreInOrder, MakesWhole, AreBlocks}
+use Rattle.v_act.specs.Made.{AreInOrder}
+use Rattle.v_act.specs.Sequences.{HasFirst, AreMoreStatements, MakesWhole, AreBlocks}
 use Rattle.v_act.specs.Statements.{DoesAs, run_back, DoAsAll, ChecksMoreStatements, ChecksBlock}
 use Rattle.v_act.proofs.Done.{done_unit, two_done, done_made}
 
-back_first : (xs : List Act) (a : Act) (r : Run) → run_back (xs ++ (a ∷ [])) r ≡ run_back xs (act.activation a r)
+pub back_first : (xs : List Act) (a : Act) (r : Run) → run_back (xs ++ (a ∷ [])) r ≡ run_back xs (act.activation a r)
 back_first [] a r = refl
 back_first (x ∷ xs) a r = ap (λ (q : Run). act.activation x q) (back_first xs a r)
 
-sound_first : (xs : List Act) (a : Act) (ws : List ℕ) → SoundList xs ws → IsSound a ws → SoundList (xs ++ (a ∷ [])) ws
+pub sound_first : (xs : List Act) (a : Act) (ws : List ℕ) → SoundList xs ws → IsSound a ws → SoundList (xs ++ (a ∷ [])) ws
 sound_first [] a ws h k = (k, tt)
 sound_first (x ∷ xs) a ws h k = (h.0, sound_first xs a ws h.1 k)
 

@@ -1,4 +1,5 @@
 pub mod Statements
+pub mod Sequences
 pub mod Made
 pub mod Cases
 pub mod MadeCases

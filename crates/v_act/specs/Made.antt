@@ -1,5 +1,5 @@
 -- A means of proof: what is made of parts, by their activations.
-use Rattle.std.specs.Prelude.{◌≡◌, ℕ, max, List, [], ◌∷◌, ◌++◌}
+use Rattle.std.specs.Prelude.{◌≡◌, ℕ, max, List}
 use Rattle.four_value.specs.Vector.{resize}
 use Rattle.gpi.specs.declared.acts.Act.{Act}
 use Rattle.gpi.specs.declared.acts.Acts.{Acts}
@@ -14,7 +14,6 @@ use Rattle.v_context.specs.Contexts.{value_in, IsSound}
 use Rattle.v_flat.specs.Statements.{take_updates}
 use Rattle.v_operator.specs.declared.checked.Checked.{Checked}
 use Rattle.v_target.specs.declared.checked.CheckedTarget.{CheckedTarget}
-use Rattle.v_act.specs.declared.sequences.BlockParts.{BlockParts}
 use Rattle.v_act.specs.Statements.{run_back}
 
 -- both are sound, and have the widths that they tell
@@ -36,20 +35,7 @@ AreAssignments k x f = EachIs (λ (p : CheckedTarget × Checked) (a : Act). Make
 abbrev pub AreChoices : Found (Term × (Act × Act)) → Found Act → Type 0
 AreChoices x f = EachIs (λ (p : Term × (Act × Act)) (a : Act). MakesIf p.0 p.1.0 p.1.1 a) x f
 
--- y is x with the statement a before it
-abbrev pub HasFirst : Act → BlockParts → BlockParts → Type 0
-HasFirst a x y = y.acts.items ≡ x.acts.items ++ (a ∷ [])
-
-abbrev pub AreMoreStatements : Found (Act × BlockParts) → Found BlockParts → Type 0
-AreMoreStatements x f = EachIs (λ (p : Act × BlockParts) (y : BlockParts). HasFirst p.0 p.1 y) x f
-
 -- the statements of the list, the first one first
 pub record AreInOrder (xs : List Act) (all : Acts) : Type 0 where
   pub runs : (r : Run) → run_list (acts_of all) r ≡ run_back xs r
   pub sound : (ws : List ℕ) → SoundList xs ws → SoundList (acts_of all) ws
-
-abbrev pub MakesWhole : BlockParts → Act → Type 0
-MakesWhole x a = MakesAct a (run_back x.acts.items) (SoundList x.acts.items)
-
-abbrev pub AreBlocks : Found BlockParts → Found Act → Type 0
-AreBlocks x f = EachIs (λ (y : BlockParts) (a : Act). MakesWhole y a) x f

@@ -1,7 +1,9 @@
 //! Blocks.
 
 ghost use Rattle.std.specs.Prelude.{IfOk};
-ghost use Rattle.v_act.specs.Made.{AreBlocks, AreInOrder, AreMoreStatements, HasFirst, MakesWhole};
+ghost use Rattle.v_scope.specs.Found.{both};
+ghost use Rattle.v_act.specs.Made.{AreInOrder};
+ghost use Rattle.v_act.specs.Sequences.{AreBlocks, AreMoreStatements, HasFirst, MakesWhole};
 ghost use Rattle.v_act.specs.Statements.{ChecksBlock, ChecksMoreStatements, ChecksNoStatement};
 
 use gpi::{Act, Acts};
@@ -49,7 +51,8 @@ impl BlockParts {
 
     /// A statement before those that stand behind it. Only want of memory is an error.
     pub fn before(first: Found<Act>, rest: Found<BlockParts>) -> Result<Found<BlockParts>, NoMemory>
-        ensures { IfOk result (ChecksMoreStatements first rest) }
+        ensures checks { IfOk result (ChecksMoreStatements first rest) }
+        ensures made { IfOk result (AreMoreStatements (both first rest)) }
     {
         of_both(first.both(rest))
     }
@@ -77,7 +80,8 @@ fn whole(alloc: Global, parts: BlockParts) -> Result<Act, NoMemory>
 /// `begin first .. end` (IEEE 1364-2005, clause 9.8.1), with a label or without, from what was found in its statements. Only want of
 /// memory is an error.
 pub fn block(alloc: Global, parts: Found<BlockParts>) -> Result<Found<Act>, NoMemory>
-    ensures { IfOk result (ChecksBlock parts) }
+    ensures checks { IfOk result (ChecksBlock parts) }
+    ensures made { IfOk result (AreBlocks parts) }
 {
     of_parts(alloc, parts)
 }

@@ -3,11 +3,14 @@ use Rattle.std.proofs.Common.{IfOk, subst}
 use Rattle.gpi.specs.declared.acts.Act.{Act}
 use Rattle.v_scope.specs.declared.found.Found.{Found}
 use Rattle.v_act.specs.declared.sequences.BlockParts.{BlockParts}
-use Rattle.v_act.specs.Made.{AreMoreStatements}
+use Rattle.v_act.specs.Sequences.{AreMoreStatements}
 use Rattle.v_act.proofs.Blocks.{more_result}
 use Rattle.v_act.proofs.sequences.BlockParts.before.Goals as goal
 
-pub returns : goal.returns
-returns c =
+pub returns-clause-checks : goal.returns-clause-checks
+returns-clause-checks c =
     more_result c.args.first c.args.rest c.of_both.result
     (subst (λ (x : Found (Act × BlockParts)). IfOk c.of_both.result (AreMoreStatements x)) c.both.ensures c.of_both.ensures)
+
+pub returns-clause-made : goal.returns-clause-made
+returns-clause-made c = subst (λ (x : Found (Act × BlockParts)). IfOk c.of_both.result (AreMoreStatements x)) c.both.ensures c.of_both.ensures

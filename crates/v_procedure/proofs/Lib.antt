@@ -1,0 +1,5 @@
+pub mod Rows
+pub mod Ended
+pub mod Forms
+pub mod Behind
+pub mod Looping
