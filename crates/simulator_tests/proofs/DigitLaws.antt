@@ -1,14 +1,11 @@
 -- Digits as a text.
-use Rattle.std.proofs.Common.{◌≡◌, ◌<◌, ◌++◌, ◌∷◌, [], ℕ, List, map, reverse, take, min, length, refl, ap, ◌∙◌, lit<}
-use Rattle.std.proofs.lemmas.List.{take_min}
+use Rattle.std.proofs.Common.{◌≡◌, ◌<◌, ◌++◌, ◌∷◌, [], ℕ, List, map, reverse, take, length, refl, ap, ◌∙◌, lit<}
 use Rattle.std.proofs.lemmas.Str.{encode_ascii}
 use Rattle.table_rows.specs.Shown.{latin}
 use Rattle.four_value.proofs.Letters.{text_front}
-use Rattle.four_value.specs.Limits.{most_digits}
 use Rattle.four_value.specs.Vector.{digit_byte, digit_letters, text}
 use Rattle.four_value.specs.declared.Digit.{Digit}
 use Rattle.four_value.specs.declared.Digit.TheVariants.{Zero, One, X, Z}
-use Rattle.simulator_tests.specs.Digits.{short_vector, vector_of}
 
 ascii_first : (b : ℕ) → b < 128 → (bs cs : List ℕ) → latin bs ≡ cs → latin (b ∷ bs) ≡ b ∷ cs
 ascii_first b h bs cs e = ap (λ (front : List ℕ). front ++ latin bs) (encode_ascii b h) ∙ ap (λ (ds : List ℕ). b ∷ ds) e
@@ -25,10 +22,3 @@ latin_digits (Z ∷ ds) = ascii_first 122 (lit< tt) _ _ (latin_digits ds)
 pub digits_shown : (ds : List Digit) (n : ℕ) → n ≡ length ds → latin (take n (text ds)) ≡ digit_letters ds
 digits_shown ds n e =
     ap (λ (k : ℕ). latin (take k (text ds))) e ∙ ap (λ (bs : List ℕ). latin bs) (text_front ds) ∙ latin_digits (reverse ds)
-
--- the first digits of a text that may have fewer
-pub first_digits : (text : List ℕ) (n : ℕ) → n ≡ min most_digits (length text) → take n text ≡ take most_digits text
-first_digits text n e = ap (λ (k : ℕ). take k text) e ∙ take_min most_digits text
-
-pub vector_short : (text front : List ℕ) (bits : List Digit) → bits ≡ short_vector front → front ≡ take most_digits text → bits ≡ vector_of text
-vector_short text front bits is e = is ∙ ap (λ (bytes : List ℕ). short_vector bytes) e

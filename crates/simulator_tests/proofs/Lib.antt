@@ -3,3 +3,4 @@ mod EventLaws
 mod CallLaws
 mod FolderLaws
 mod NumberLaws
+mod RowLaws

@@ -1,6 +1,6 @@
 -- The design of a row, and what is shown of it.
 use Rattle.std.specs.Prelude.{◌≡◌, ℕ, ◌==◌, List, [], ◌∷◌, ◌++◌, Option, Some, None, length, map, reverse, find, min, max, codes}
-use Rattle.std.specs.List.{flat_map}
+use Rattle.std.specs.List.{flat_map, slice_split}
 use Rattle.four_value.specs.Limits.{most_digits}
 use Rattle.four_value.specs.Vector.{all_x, digit_letters}
 use Rattle.four_value.specs.declared.Digit.{Digit}
@@ -21,42 +21,13 @@ use Rattle.gpi.specs.declared.targets.Target.TheVariants.{Whole}
 use Rattle.gpi.specs.declared.terms.Term.TheVariants.{Const}
 use Rattle.gpi.specs.declared.types.SigId.{SigId}
 use Rattle.gpi.specs.declared.types.Told.{Told}
-use Rattle.table_rows.specs.Rows.{decimal, part_at}
-use Rattle.simulator_tests.specs.Digits.{vector_of}
+use Rattle.table_rows.specs.Rows.{decimal, is_byte, part_at}
+use Rattle.row_acts.specs.Digits.{vector_of}
+use Rattle.row_acts.specs.Forms.{SpellsAct}
+use Rattle.row_acts.specs.Signals.{a, b, c, first_word, fourth_word, go, second_word, third_word, y, z}
+use Rattle.row_acts.specs.declared.forms.Declared.{Declared}
+use Rattle.simulator_tests.specs.Ranges.{range_of}
 use Rattle.simulator_tests.specs.Rests.{ComesTo}
-
--- ---- the signals, in the order of their numbers
-
-abbrev pub a : SigId
-a = record { 0 = 0 }
-
-abbrev pub b : SigId
-b = record { 0 = 1 }
-
-abbrev pub c : SigId
-c = record { 0 = 2 }
-
-abbrev pub go : SigId
-go = record { 0 = 3 }
-
--- the words `m[1]` to `m[4]`
-abbrev pub first_word : SigId
-first_word = record { 0 = 4 }
-
-abbrev pub second_word : SigId
-second_word = record { 0 = 5 }
-
-abbrev pub third_word : SigId
-third_word = record { 0 = 6 }
-
-abbrev pub fourth_word : SigId
-fourth_word = record { 0 = 7 }
-
-abbrev pub y : SigId
-y = record { 0 = 8 }
-
-abbrev pub z : SigId
-z = record { 0 = 9 }
 
 -- ---- the design
 
@@ -101,23 +72,32 @@ pub record IsGiven (row : List ℕ) (given : Process) : Type 0 where
   pub wakes : given.wakes ≡ []
   pub body : MakesAct given.body (run_list (settings row)) (SoundList (settings row))
 
--- a process of this kind
-pub record IsProcessOf (sort : Kind) (asked : Process) : Type 0 where
+-- what a row declares, where `y` has so many digits
+abbrev pub declared : List ℕ → ℕ → Declared
+declared row width = record { range = range_of (part_at 2 row); width = width }
+
+-- the words of a row's process, between spaces
+abbrev pub words_of : List ℕ → List (List ℕ)
+words_of row = slice_split (is_byte 32) (part_at 7 row)
+
+-- A process of this kind, which runs the statement that the words of the row make.
+pub record IsProcessOf (row : List ℕ) (sort : Kind) (width : ℕ) (asked : Process) : Type 0 where
   pub kind : asked.kind ≡ sort
   pub wakes : asked.wakes ≡ wakes_of sort
+  pub body : SpellsAct (declared row width) (words_of row) asked.body
 
 -- The row's process first, and then that of the inputs.
-pub record AreProcesses (row : List ℕ) (kind : Kind) (processes : List Process) : Type 0 where
+pub record AreProcesses (row : List ℕ) (kind : Kind) (width : ℕ) (processes : List Process) : Type 0 where
   pub asked : Process
   pub given : Process
-  pub is_asked : IsProcessOf kind asked
+  pub is_asked : IsProcessOf row kind width asked
   pub is_given : IsGiven row given
   pub both : processes ≡ asked ∷ given ∷ []
 
 pub record IsDesign (row : List ℕ) (kind : Kind) (width : ℕ) (flat : Flat) : Type 0 where
   pub signals : flat.signals ≡ registers width
   pub nodes : flat.nodes ≡ bare_top
-  pub processes : AreProcesses row kind flat.processes
+  pub processes : AreProcesses row kind width flat.processes
   pub step : flat.step_fs ≡ 1
 
 -- ---- what is shown

@@ -1,5 +1,3 @@
-pub mod Digits
-pub mod Words
 pub mod Ranges
 pub mod Vectors
 pub mod Calls

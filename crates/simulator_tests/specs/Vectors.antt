@@ -5,7 +5,7 @@ use Rattle.four_value.specs.Vector.{and_digit, digit_letters, equal, not_digit, 
 use Rattle.four_value.specs.declared.Digit.{Digit}
 use Rattle.four_value.specs.declared.Digit.TheVariants.{Zero, One}
 use Rattle.table_rows.specs.Rows.{part_at}
-use Rattle.simulator_tests.specs.Digits.{vector_of}
+use Rattle.row_acts.specs.Digits.{vector_of}
 
 -- a digit as a text
 abbrev pub digit_text : Digit → List ℕ

@@ -1,109 +1,29 @@
-//! Designs of one process over fixed signals, and what they come to.
-//!
-//! In Verilog: `reg [7:0] a, b; reg [3:0] c; reg go; reg [7:0] m [1:4]; reg [7:0] y, z;`, where `y` may have another width,
-//! and `a`, `y` and the words another range.
-ghost use Rattle.std.specs.Prelude.{◌≡◌, ◌≤◌, ◌<◌, ◌∷◌, ◌++◌, length, map, reverse, IfOk, OnOk, OnErr, option_map, option_to_list, string_bytes};
+//! Designs of one process over the signals of `row_acts`, and what they come to.
+ghost use Rattle.std.specs.Prelude.{◌≡◌, ◌≤◌, ◌++◌, map, IfOk, OnOk, OnErr, option_map, option_to_list, string_bytes};
 ghost use Rattle.std.specs.List.{flat_map};
 ghost use Rattle.four_value.specs.Limits.{most_digits};
 ghost use Rattle.four_value.specs.Vector.{digit_letters};
-ghost use Rattle.simulator_tests.specs.Digits.{digit_of, short_vector, vector_of};
+ghost use Rattle.row_acts.specs.Forms.{SpellsAct};
 ghost use Rattle.simulator_tests.specs.Ranges.{range_between, range_of};
 ghost use Rattle.simulator_tests.specs.Rests.{ComesTo, Settles};
-ghost use Rattle.simulator_tests.specs.Designs.{AreProcesses, IsDesign, IsGiven, IsProcessOf, ShowsSimulation, bare_top, change_of, last_told, last_value, other_text, register, registers, sets, values_text, wakes_of};
+ghost use Rattle.simulator_tests.specs.Designs.{AreProcesses, IsDesign, IsGiven, IsProcessOf, ShowsSimulation, bare_top, change_of, declared, last_told, last_value, other_text, register, registers, sets, values_text, wakes_of, words_of};
 
-use crate::parts::Parts;
+use crate::lines::words;
 use four_value::{Bits, Digit, MOST_DIGITS};
 use gpi::{
     Act, Acts, Advance, Flat, Gpi, Kind, Node, Object, Order, Process, Range, SigId, Signal,
-    Target, Term, Told, Wake, WakeEdge, Words,
+    Target, Term, Told, Wake, WakeEdge,
 };
 use list_kernel::ListKernel;
 use port_io::{Name, NoMemory, Sequence};
+use row_acts::{
+    A, B, C, Declared, FIRST_WORD, FOURTH_WORD, GO, SECOND_WORD, THIRD_WORD, Y, Z, act, vector,
+};
 use std::alloc::Global;
 use table_rows::{Row, push_bytes};
 
-/// `a`: 8 digits, in the range that a row says.
-pub const A: SigId = SigId(0);
-
-/// `b`: 8 digits.
-pub const B: SigId = SigId(1);
-
-/// `c`: 4 digits.
-pub const C: SigId = SigId(2);
-
-/// `go`: one digit, which the inputs set last.
-pub const GO: SigId = SigId(3);
-
-/// `m[1]`: 8 digits, as the other words of `m`.
-const FIRST_WORD: SigId = SigId(4);
-
-/// `m[2]`, the one word that the inputs set.
-const SECOND_WORD: SigId = SigId(5);
-
-/// `m[3]`.
-const THIRD_WORD: SigId = SigId(6);
-
-/// `m[4]`.
-const FOURTH_WORD: SigId = SigId(7);
-
-/// `y`: as many digits as a row says, which an answer shows first.
-pub const Y: SigId = SigId(8);
-
-/// `z`: 8 digits.
-pub const Z: SigId = SigId(9);
-
-/// The memory `m`, from `m[1]` to `m[4]`.
-pub const MEMORY: Words = Words {
-    first: FIRST_WORD,
-    low: 1,
-    count: 4,
-};
-
 /// The number of events at which a design is given up: one that comes to rest takes fewer.
 const MOST_EVENTS: u8 = 99;
-
-/// The vector of these digits, highest first: of more than `MOST_DIGITS` the first ones, and one x where there is none. It takes no
-/// memory.
-pub fn vector(text: &[u8]) -> Bits
-    ensures { result ≡ vector_of text.now }
-{
-    short_vector(&text[..(MOST_DIGITS as usize).min(text.len())])
-}
-
-/// The vector of no more than the most digits.
-fn short_vector(text: &[u8]) -> Bits
-    requires { length text.now ≤ most_digits }
-    ensures { result ≡ short_vector text.now }
-{
-    match text {
-        [] => Bits::all(1, Digit::X),
-        [highest, rest @ ..] => joined(*highest, rest),
-    }
-}
-
-/// The vector of a digit and those below it.
-fn joined(highest: u8, rest: &[u8]) -> Bits
-    requires { length rest.now < most_digits }
-    ensures { result ≡ reverse (map digit_of (highest ∷ rest.now)) }
-{
-    let mut bits = Bits::all(1, digit(highest));
-    for byte in rest {
-        bits = bits.concat(Bits::all(1, digit(*byte)));
-    }
-    bits
-}
-
-/// The digit that a byte stands for.
-fn digit(byte: u8) -> Digit
-    ensures { result ≡ digit_of byte }
-{
-    match byte {
-        b'0' => Digit::Zero,
-        b'1' => Digit::One,
-        b'z' => Digit::Z,
-        _ => Digit::X,
-    }
-}
 
 /// The digits of a vector, highest first. Only want of memory is an error, here and below.
 #[tactic(auto, using(crate::proofs::DigitLaws::digits_shown))]
@@ -231,17 +151,17 @@ fn range_of(text: &[u8]) -> Range
 }
 
 /// The statement that the words of a row make, where `y` has so many digits.
-fn act_of(alloc: Global, row: &Row<'_>, width: u8) -> Result<Act, NoMemory> {
-    let mut parts = Parts::new(alloc, range_of(row.part(2)), width);
-    for word in row.part(7).rsplit(|byte| *byte == b' ') {
-        parts.take(alloc, word)?;
-    }
-    Ok(parts.whole())
+fn act_of(alloc: Global, row: &Row<'_>, width: u8) -> Result<Act, NoMemory>
+    ensures { IfOk result (SpellsAct (declared row.now width) (words_of row.now)) }
+{
+    let range = range_of(row.part(2));
+    let words = words(alloc, row.part(7))?;
+    act(alloc, Declared { range, width }, &words)
 }
 
 /// The process of a row, where `y` has so many digits.
 fn asked(alloc: Global, row: &Row<'_>, kind: Kind, width: u8) -> Result<Process, NoMemory>
-    ensures { IfOk result (λ asked. IsProcessOf kind asked) }
+    ensures { IfOk result (λ asked. IsProcessOf row.now kind width asked) }
 {
     let wakes = wakes_of(alloc, kind)?;
     let body = act_of(alloc, row, width)?;
@@ -255,7 +175,7 @@ fn processes(
     kind: Kind,
     width: u8,
 ) -> Result<Sequence<Process>, NoMemory>
-    ensures { IfOk result (λ processes. AreProcesses row.now kind processes) }
+    ensures { IfOk result (λ processes. AreProcesses row.now kind width processes) }
 {
     let mut processes = Sequence::new(alloc);
     processes.push(asked(alloc, row, kind, width)?)?;

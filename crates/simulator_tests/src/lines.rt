@@ -138,8 +138,8 @@ pub fn name_text(alloc: Global, row: &Row<'_>) -> Result<String, NoMemory>
     Ok(quoted(alloc, name.bytes())?)
 }
 
-/// What stands between the spaces of a text.
-fn words(alloc: Global, text: &[u8]) -> Result<Vec<&[u8]>, AllocError>
+/// What stands between the spaces of a text. Only want of memory is an error.
+pub fn words(alloc: Global, text: &[u8]) -> Result<Vec<&[u8]>, AllocError>
     ensures { IfOk result (λ words. map (λ word. word.now) words.items ≡ slice_split (is_byte 32) text.now) }
 {
     text.split(|byte| *byte == b' ').collect(alloc)

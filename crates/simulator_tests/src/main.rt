@@ -6,7 +6,7 @@
 //!
 //! - `assign`, `always`: what a design comes to, whose process `assign y = ..` or `always @(go) ..` is; the rule is what Verilog
 //!   writes for it, and given are the range of `a`, `y` and the words, the values of `a`, `b` and `c`, the width of `y`, and the
-//!   process (`word.rt` tells how it is written);
+//!   process (`row_acts` tells how it is written);
 //! - `reductions`, `rem`, `shl`, `ne`: operators on vectors;
 //! - `store`, `sink`: reads of a store in memory (names and limits), and puts into a sink in memory; `current`, `folder`: a read
 //!   of the current folder, and of one whose reader gives so many bytes at a time and fails at that read; `writer`: a put into
@@ -19,9 +19,7 @@
 mod designs;
 mod files;
 mod lines;
-mod parts;
 mod vectors;
-mod word;
 
 use anyhow::{Result, ensure};
 use designs::design_text;

@@ -3,9 +3,10 @@ ghost use Rattle.std.specs.Prelude.{◌≡◌, IfOk, string_bytes};
 ghost use Rattle.four_value.specs.Vector.{digit_letters, equal, not_digit, rem};
 ghost use Rattle.simulator_tests.specs.Vectors.{digit_text, of_one_width, operator_text, reductions_text, vector_text};
 
-use crate::designs::{digits, vector};
+use crate::designs::digits;
 use four_value::{Bits, Digit};
 use port_io::NoMemory;
+use row_acts::vector;
 use std::alloc::Global;
 use table_rows::Row;
 

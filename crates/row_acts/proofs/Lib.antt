@@ -1,0 +1,6 @@
+mod DigitLaws
+mod Made
+mod Many
+mod Fronts
+mod SpellLaws
+mod Viewed
