@@ -1,12 +1,11 @@
 -- One more before those behind it.
-use Rattle.std.proofs.Common.{◌≡◌, ℕ, ◌+◌, ◌<◌, List, ◌∷◌, length, map, drop, get_or, sym, ap, subst}
+use Rattle.std.proofs.Common.{◌≡◌, ℕ, ◌+◌, ◌<◌, List, ◌∷◌, length, map, drop, get_or, sym, subst}
 use Rattle.std.proofs.lemmas.List.{drop_more}
 use Rattle.v_syntax.specs.declared.expression.Expression as code_expression
 use Rattle.v_syntax.specs.declared.statement.Statement as code
 use Rattle.v_syntax.specs.declared.statement.CaseItem as code_item
-use Rattle.v_syntax.specs.ExpressionTrees.{Tree}
 use Rattle.v_syntax.specs.ExpressionTrees as expression
-use Rattle.v_syntax.specs.StatementTrees.{StatementTrees, CaseTrees, more_statements, more_cases, view, view_case}
+use Rattle.v_syntax.specs.StatementTrees.{more_statements, more_cases, view, view_case}
 use Rattle.v_scope.specs.declared.found.Found.{Found}
 use Rattle.v_scope.specs.Scope.{Scope}
 use Rattle.v_flat.specs.Statements.{statement_checked, statements_checked}

@@ -4,7 +4,6 @@ use Rattle.std.proofs.lemmas.List.{drop_more}
 use Rattle.four_value.specs.declared.Digit.{Digit}
 use Rattle.gpi.specs.declared.acts.Act.{Act}
 use Rattle.gpi.specs.Activation.{Run, SoundList}
-use Rattle.gpi.specs.Activation as act
 use Rattle.v_syntax.specs.StatementTrees.{HeaderTree, StatementTree, For, no_statement}
 use Rattle.v_scope.specs.declared.rule.Broken.{Broken}
 use Rattle.v_scope.specs.declared.found.Found.{Found}
@@ -15,7 +14,7 @@ use Rattle.v_scope.specs.declared.meaning.DataObject.{DataObject}
 use Rattle.v_scope.specs.declared.meaning.Meaning.{Meaning}
 use Rattle.v_scope.specs.declared.meaning.Meaning.TheVariants.{Object}
 use Rattle.v_scope.specs.Scope.{Scope, find, nothing}
-use Rattle.v_flat.specs.Statements.{Turns, done, turn, turns, known_turns, counter, loop_name, all_turns, run_turns, leave_counter, with_counter, statement_checked, activation}
+use Rattle.v_flat.specs.Statements.{Turns, turn, turns, known_turns, counter, loop_name, all_turns, run_turns, leave_counter, with_counter, statement_checked, activation}
 use Rattle.v_flat.proofs.Holds.{holds_both}
 use Rattle.v_operator.specs.Checked.{IsObjectOf}
 use Rattle.v_operator.proofs.Combined.{made_holds}
