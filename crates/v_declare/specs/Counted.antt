@@ -1,4 +1,4 @@
--- Signals, as they are counted.
+-- A means of proof: signals, as they are counted.
 use Rattle.std.specs.Prelude.{◌≡◌, List, Some}
 use Rattle.v_flat.specs.Declarations.{Declared, find_declared}
 
