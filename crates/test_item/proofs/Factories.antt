@@ -8,10 +8,10 @@ use Rattle.py_syntax.specs.BlockTrees as tree
 use Rattle.py_syntax.specs.BlockTrees.{view_module_item}
 use Rattle.py_syntax.specs.declared.tree.ModuleItem.{ModuleItem}
 use Rattle.test_names.specs.Places.{first_place, noted, nowhere}
-use Rattle.test_rules.specs.File.{Maker, factory_of, file_of}
+use Rattle.test_rules.specs.File.{Maker, factory_of, file_of, is_made_name}
 use Rattle.test_rules.specs.Names.{Name}
 use Rattle.test_rules.proofs.Texts.{same_bytes}
-use Rattle.test_item.specs.Functions.{is_made_name, makes}
+use Rattle.test_item.specs.Functions.{makes}
 
 or_none : (a : Bool) → (a || false) ≡ a
 or_none true = refl

@@ -1,14 +1,22 @@
 -- The function whose header stands behind some items.
-use Rattle.std.proofs.Common.{◌≡◌, ◌+◌, ◌&&◌, not, ℕ, suc, Bool, List, [], ◌∷◌, ◌++◌, length, slice_get, Option, Some, None, refl, ap, ◌∙◌, if◌then◌else◌, arith}
-use Rattle.std.specs.Option.{is_some}
+use Rattle.std.proofs.Common.{◌≡◌, ◌+◌, ◌&&◌, not, ℕ, suc, Bool, false, List, [], ◌∷◌, ◌++◌, length, slice_get, Option, Some, None, refl, sym, ap, ◌∙◌, if◌then◌else◌, arith}
+use Rattle.std.proofs.slice.Lists.{last_more}
+use Rattle.std.specs.List.{last_or}
+use Rattle.std.specs.Option.{is_some, option_map_or}
 use Rattle.py_syntax.specs.BlockTrees.{ModuleItem, TextAt, LineAt, FunctionAt, Block}
 use Rattle.py_syntax.specs.ModuleTrees as line
 use Rattle.py_syntax.specs.declared.module.Parameter.{Parameter}
 use Rattle.py_syntax.specs.declared.module.Setting.{Setting}
-use Rattle.test_rules.specs.File.{Definition, file_of, functions_of, is_decorator, is_function, next_function, parameters_of}
+use Rattle.test_rules.specs.File.{Definition, file_of, functions_of, is_decorator, is_function, is_made_name, next_function, parameters_of}
 use Rattle.test_rules.specs.Names.{Name}
-use Rattle.test_rules.specs.Rules.{has_misfit, is_misfit_at, one_test}
-use Rattle.test_item.specs.Functions.{function_name, is_made_name, lacks_parameters, options_behind}
+use Rattle.test_rules.specs.Rules.{has_misfit, is_misfit_at, lacks_parameters, one_test}
+use Rattle.test_item.specs.Functions.{function_name, is_decorated_behind}
+
+-- the options of the decorator that stands directly behind these items, or of one that stands directly before them where there is none
+abbrev options_behind : Option (List Setting) → List ModuleItem → Option (List Setting)
+options_behind before [] = before
+options_behind before (LineAt l (line.Test ss) ∷ xs) = options_behind (Some ss) xs
+options_behind before (x ∷ xs) = options_behind None xs
 
 -- the functions of these items, and then of those
 functions_behind : (k : ℕ) (before : Option (List Setting)) (xs ys : List ModuleItem)
@@ -47,12 +55,32 @@ next_is xs ys l f ps b =
     ap (λ ds. slice_get ds n) (functions_behind 0 None xs (FunctionAt l f ps b ∷ ys) ∙ ap (λ j. functions_of 0 None xs ++ functions_of j (options_behind None xs) (FunctionAt l f ps b ∷ ys)) e)
     ∙ first_behind (functions_of 0 None xs) (behind xs l f ps b) (functions_of (suc n) None ys)
 
+-- there is one exactly where the last item is a decorator
+decorated : (before : Option (List Setting)) (last : Option ModuleItem) (xs : List ModuleItem) → is_some before ≡ option_map_or is_decorator last false
+    → is_some (options_behind before xs) ≡ option_map_or is_decorator (last_or last xs) false
+decorated before last [] h = h
+decorated before last (TextAt l ∷ xs) h = decorated None (Some (TextAt l)) xs refl
+decorated before last (FunctionAt l f ps b ∷ xs) h = decorated None (Some (FunctionAt l f ps b)) xs refl
+decorated before last (LineAt l (line.Test ss) ∷ xs) h = decorated (Some ss) (Some (LineAt l (line.Test ss))) xs refl
+decorated before last (LineAt l (line.Constant m c) ∷ xs) h = decorated None (Some (LineAt l (line.Constant m c))) xs refl
+decorated before last (LineAt l (line.Import m) ∷ xs) h = decorated None (Some (LineAt l (line.Import m))) xs refl
+decorated before last (LineAt l (line.FromImport ms ns) ∷ xs) h = decorated None (Some (LineAt l (line.FromImport ms ns))) xs refl
+decorated before last (LineAt l (line.Factory m f) ∷ xs) h = decorated None (Some (LineAt l (line.Factory m f))) xs refl
+decorated before last (LineAt l (line.AddOption m o cs) ∷ xs) h = decorated None (Some (LineAt l (line.AddOption m o cs))) xs refl
+decorated before last (LineAt l (line.GenerateTests m p q) ∷ xs) h = decorated None (Some (LineAt l (line.GenerateTests m p q))) xs refl
+decorated before last (LineAt l (line.Function m ps) ∷ xs) h = decorated None (Some (LineAt l (line.Function m ps))) xs refl
+
+decorated_behind : (xs : List ModuleItem) → is_some (options_behind None xs) ≡ is_decorated_behind xs
+decorated_behind xs = decorated None None xs refl
+
 pub misfit_by_parts : (xs ys : List ModuleItem) (x : ModuleItem)
     → has_misfit (file_of (xs ++ x ∷ ys)) (record { item = x; above = xs; below = ys })
-    ≡ (is_function x && lacks_parameters (is_some (options_behind None xs)) (is_made_name (file_of (xs ++ x ∷ ys)) (function_name x)) (parameters_of x))
+    ≡ (is_function x && lacks_parameters (is_decorated_behind xs) (is_made_name (file_of (xs ++ x ∷ ys)) (function_name x)) (parameters_of x))
 misfit_by_parts xs ys (TextAt l) = refl
 misfit_by_parts xs ys (LineAt l x) = refl
-misfit_by_parts xs ys (FunctionAt l f ps b) = ap (λ (o : Option Definition). misfits o) (next_is xs ys l f ps b)
+misfit_by_parts xs ys (FunctionAt l f ps b) =
+    ap (λ (o : Option Definition). misfits o) (next_is xs ys l f ps b)
+    ∙ ap (λ d. lacks_parameters d (is_made_name (file_of (xs ++ FunctionAt l f ps b ∷ ys)) f) ps) (decorated_behind xs)
   where
     misfits : Option Definition → Bool
     misfits o = is_misfit_at (file_of (xs ++ FunctionAt l f ps b ∷ ys)) o
@@ -60,28 +88,11 @@ misfit_by_parts xs ys (FunctionAt l f ps b) = ap (λ (o : Option Definition). mi
 -- a function is a test where it is decorated and no factory's
 pub test_by_parts : (xs ys : List ModuleItem) (l : ℕ) (f : Name) (ps : List Parameter) (b : Block)
     → one_test (file_of (xs ++ FunctionAt l f ps b ∷ ys)) (next_function (file_of (xs ++ FunctionAt l f ps b ∷ ys)) (file_of xs))
-    ≡ (if is_some (options_behind None xs) && not (is_made_name (file_of (xs ++ FunctionAt l f ps b ∷ ys)) f) then 1 else 0)
-test_by_parts xs ys l f ps b = ap (λ (o : Option Definition). one_test (file_of (xs ++ FunctionAt l f ps b ∷ ys)) o) (next_is xs ys l f ps b)
+    ≡ (if is_decorated_behind xs && not (is_made_name (file_of (xs ++ FunctionAt l f ps b ∷ ys)) f) then 1 else 0)
+test_by_parts xs ys l f ps b =
+    ap (λ (o : Option Definition). one_test (file_of (xs ++ FunctionAt l f ps b ∷ ys)) o) (next_is xs ys l f ps b)
+    ∙ ap (λ d. if d && not (is_made_name (file_of (xs ++ FunctionAt l f ps b ∷ ys)) f) then 1 else 0) (decorated_behind xs)
 
 -- the last item is a decorator
-pub decorated_by_last : (before : Option (List Setting)) (xs : List ModuleItem) (x : ModuleItem) → is_some (options_behind before (xs ++ x ∷ [])) ≡ is_decorator x
-decorated_by_last before [] (TextAt l) = refl
-decorated_by_last before [] (FunctionAt l f ps b) = refl
-decorated_by_last before [] (LineAt l (line.Test ss)) = refl
-decorated_by_last before [] (LineAt l (line.Constant m c)) = refl
-decorated_by_last before [] (LineAt l (line.Import m)) = refl
-decorated_by_last before [] (LineAt l (line.FromImport ms ns)) = refl
-decorated_by_last before [] (LineAt l (line.Factory m f)) = refl
-decorated_by_last before [] (LineAt l (line.AddOption m o cs)) = refl
-decorated_by_last before [] (LineAt l (line.GenerateTests m p q)) = refl
-decorated_by_last before [] (LineAt l (line.Function m ps)) = refl
-decorated_by_last before (TextAt l ∷ xs) x = decorated_by_last None xs x
-decorated_by_last before (FunctionAt l f ps b ∷ xs) x = decorated_by_last None xs x
-decorated_by_last before (LineAt l (line.Test ss) ∷ xs) x = decorated_by_last (Some ss) xs x
-decorated_by_last before (LineAt l (line.Constant m c) ∷ xs) x = decorated_by_last None xs x
-decorated_by_last before (LineAt l (line.Import m) ∷ xs) x = decorated_by_last None xs x
-decorated_by_last before (LineAt l (line.FromImport ms ns) ∷ xs) x = decorated_by_last None xs x
-decorated_by_last before (LineAt l (line.Factory m f) ∷ xs) x = decorated_by_last None xs x
-decorated_by_last before (LineAt l (line.AddOption m o cs) ∷ xs) x = decorated_by_last None xs x
-decorated_by_last before (LineAt l (line.GenerateTests m p q) ∷ xs) x = decorated_by_last None xs x
-decorated_by_last before (LineAt l (line.Function m ps) ∷ xs) x = decorated_by_last None xs x
+pub decorated_by_last : (xs : List ModuleItem) (x : ModuleItem) → is_decorated_behind (xs ++ x ∷ []) ≡ is_decorator x
+decorated_by_last xs x = ap (λ (o : Option ModuleItem). option_map_or is_decorator o false) (sym (last_more None xs x))

@@ -4,8 +4,7 @@ ghost use Rattle.std.specs.Prelude.{◌≡◌, List, map};
 ghost use Rattle.py_syntax.specs.BlockTrees as tree;
 ghost use Rattle.py_syntax.specs.BlockTrees.{view_module_item};
 ghost use Rattle.test_rules.specs.File.{further, is_decorator, is_function, starts_with_function};
-ghost use Rattle.test_rules.specs.Rules.{have_defaults, is_stray};
-ghost use Rattle.test_item.specs.Functions.{lacks_parameters};
+ghost use Rattle.test_rules.specs.Rules.{have_defaults, is_stray, lacks_parameters};
 
 use py_syntax::{ModuleItem, ModuleLine, Parameter};
 

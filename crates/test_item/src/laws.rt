@@ -1,16 +1,15 @@
 //! What follows of what an item breaks.
 
-ghost use Rattle.std.specs.Prelude.{◌≡◌, ◌+◌, ◌||◌, ◌&&◌, ◌++◌, ◌∷◌, [], ℕ, None, Option, List, is_some, not, if◌then◌else◌};
+ghost use Rattle.std.specs.Prelude.{◌≡◌, ◌+◌, ◌||◌, ◌&&◌, ◌++◌, ◌∷◌, [], ℕ, List, not, if◌then◌else◌};
 ghost use Rattle.std.specs.Option.{option_or};
 ghost use Rattle.py_syntax.specs.BlockTrees.{Block, FunctionAt, ModuleItem};
 ghost use Rattle.py_syntax.specs.declared.module.Parameter.{Parameter};
-ghost use Rattle.py_syntax.specs.declared.module.Setting.{Setting};
-ghost use Rattle.test_rules.specs.File.{File, Place, file_of, is_decorator, is_function, line_of, next_function, parameters_of, places};
+ghost use Rattle.test_rules.specs.File.{File, Place, file_of, is_decorator, is_function, line_of, is_made_name, next_function, parameters_of, places};
 ghost use Rattle.test_rules.specs.Names.{Name};
-ghost use Rattle.test_rules.specs.Rules.{defines_twice, first_broken, has_misfit, has_right_options, is_overfull, is_stray, is_unknown_import, one_test, refused_at, tests_among, tests_at};
+ghost use Rattle.test_rules.specs.Rules.{defines_twice, first_broken, has_misfit, has_right_options, is_overfull, is_stray, is_unknown_import, lacks_parameters, one_test, refused_at, tests_among, tests_at};
 ghost use Rattle.test_rules.specs.Uses.{inner_lines, own_uses, with_names};
 ghost use Rattle.test_uses.specs.Answer.{answer};
-ghost use Rattle.test_item.specs.Functions.{function_name, is_made_name, lacks_parameters, options_behind};
+ghost use Rattle.test_item.specs.Functions.{function_name, is_decorated_behind};
 ghost use Rattle.test_item.specs.OwnLine.{first_rule, lines_below, own_rule};
 
 /// The first rule that an item's own line breaks, from which of them it breaks.
@@ -23,19 +22,19 @@ pub fn own_rule_by_parts()
 /// factory names it.
 pub fn misfit_by_parts()
     ensures { (xs ys : List ModuleItem) (x : ModuleItem) → has_misfit (file_of (xs ++ x ∷ ys)) (record { item = x; above = xs; below = ys })
-        ≡ (is_function x && lacks_parameters (is_some (options_behind None xs)) (is_made_name (file_of (xs ++ x ∷ ys)) (function_name x)) (parameters_of x)) }
+        ≡ (is_function x && lacks_parameters (is_decorated_behind xs) (is_made_name (file_of (xs ++ x ∷ ys)) (function_name x)) (parameters_of x)) }
 {}
 
 /// A function is one test where a decorator stands directly above and no factory names it, and else none.
 pub fn test_by_parts()
     ensures { (xs ys : List ModuleItem) (l : ℕ) (f : Name) (ps : List Parameter) (b : Block)
         → one_test (file_of (xs ++ FunctionAt l f ps b ∷ ys)) (next_function (file_of (xs ++ FunctionAt l f ps b ∷ ys)) (file_of xs))
-        ≡ (if is_some (options_behind None xs) && not (is_made_name (file_of (xs ++ FunctionAt l f ps b ∷ ys)) f) then 1 else 0) }
+        ≡ (if is_decorated_behind xs && not (is_made_name (file_of (xs ++ FunctionAt l f ps b ∷ ys)) f) then 1 else 0) }
 {}
 
 /// A decorator stands directly behind some items exactly where the last of them is one.
 pub fn decorated_by_last()
-    ensures { (before : Option (List Setting)) (xs : List ModuleItem) (x : ModuleItem) → is_some (options_behind before (xs ++ x ∷ [])) ≡ is_decorator x }
+    ensures { (xs : List ModuleItem) (x : ModuleItem) → is_decorated_behind (xs ++ x ∷ []) ≡ is_decorator x }
 {}
 
 /// The first broken line of some items: the first item's own, or else the first of its block, or else the first of the items behind it.

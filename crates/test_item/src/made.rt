@@ -4,9 +4,9 @@ ghost use Rattle.std.specs.Prelude.{◌≡◌, ◌||◌, List, map, is_some, opt
 ghost use Rattle.std.specs.Option.{option_map};
 ghost use Rattle.py_syntax.specs.BlockTrees.{view_module_item};
 ghost use Rattle.test_names.specs.Places.{first_place};
-ghost use Rattle.test_rules.specs.File.{factory_of, file_of};
+ghost use Rattle.test_rules.specs.File.{factory_of, file_of, is_made_name};
 ghost use Rattle.test_rules.specs.Names.{Name};
-ghost use Rattle.test_item.specs.Functions.{is_made_name, makes};
+ghost use Rattle.test_item.specs.Functions.{makes};
 
 use port_io::NoMemory;
 use py_syntax::{ModuleItem, ModuleLine};

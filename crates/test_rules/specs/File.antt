@@ -165,9 +165,13 @@ choices f above n = filter_map (choice_of f.constants n) above.items
 abbrev pub is_generated : File → Name → Bool
 is_generated above n = list_any (generates n) above.items
 
--- A factory, which may stand anywhere, names the function.
+-- a factory, which may stand anywhere, names a function of this name
+abbrev pub is_made_name : File → Name → Bool
+is_made_name f n = list_any (λ x. bytes_eq x.function n) f.factories
+
+-- A factory names the function.
 abbrev pub is_made : File → Definition → Bool
-is_made f d = list_any (λ x. bytes_eq x.function d.name) f.factories
+is_made f d = is_made_name f d.name
 
 -- a test outside of factories
 abbrev pub is_test : File → Definition → Bool

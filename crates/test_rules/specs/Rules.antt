@@ -134,9 +134,12 @@ abbrev pub is_empty : {A : Type 0} → List A → Bool
 is_empty [] = true
 is_empty (x ∷ xs) = false
 
--- a decorated or a factory's function without a first parameter, or a test outside of factories with a further one without default
+-- A decorated or a factory's function lacks a first parameter, or a test outside of factories the default of a further one.
+abbrev pub lacks_parameters : Bool → Bool → List Parameter → Bool
+lacks_parameters decorated made ps = ((decorated || made) && is_empty ps) || ((decorated && not made) && not (have_defaults (further ps)))
+
 abbrev pub is_misfit : File → Definition → Bool
-is_misfit f d = ((is_some d.options || is_made f d) && is_empty d.parameters) || (is_test f d && not (have_defaults (further d.parameters)))
+is_misfit f d = lacks_parameters (is_some d.options) (is_made f d) d.parameters
 
 abbrev pub is_misfit_at : File → Option Definition → Bool
 is_misfit_at f None = false

@@ -8,8 +8,8 @@ ghost use Rattle.v_flat.specs.Checks.{all_made, is_constant, made, select_made, 
 use v_scope::{Meaning, Scope};
 use v_syntax::{Expression, Select, Selects};
 
-/// Whether a name is that of a constant.
-fn is_constant(scope: &Scope, name: &[u8]) -> bool
+/// Whether a name is that of a constant: a parameter, or a variable of a loop.
+pub fn is_constant(scope: &Scope, name: &[u8]) -> bool
     ensures { result ≡ is_constant (find name.now (means scope.now)) }
 {
     match scope.find(name) {

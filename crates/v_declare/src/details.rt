@@ -1,11 +1,11 @@
 //! What is declared of a name.
 
 ghost use Rattle.std.specs.Prelude.{◌≡◌, ◌&&◌, ℕ, List, [], option_map};
-ghost use Rattle.v_scope.specs.Scope.{width_of};
 ghost use Rattle.v_flat.specs.Objects.{count_of};
 ghost use Rattle.v_flat.specs.Declarations.{are_halves, is_direction_alone, is_input_reg, is_sort_alone, kind_of, same_bounds, whole_of};
 ghost use Rattle.v_declare.specs.Kept.{named_declared, sort_in};
 
+use v_names::range_size;
 use v_scope::{Bounds, DataKind};
 use v_syntax::Direction;
 
@@ -42,17 +42,6 @@ pub struct Line<'a> {
     pub declared: Declared,
 }
 
-/// How many indices a range has, both bounds counted.
-fn index_count(bounds: Bounds) -> u64
-    ensures { result ≡ width_of bounds }
-{
-    if bounds.left <= bounds.right {
-        u64::from(bounds.right - bounds.left) + 1
-    } else {
-        u64::from(bounds.left - bounds.right) + 1
-    }
-}
-
 impl Declared {
     /// How many signals it has: one, or as many as a memory has words.
     pub(crate) fn signal_count(self) -> u64
@@ -60,7 +49,7 @@ impl Declared {
     {
         match self.words {
             None => 1,
-            Some(words) => index_count(words),
+            Some(words) => range_size(words),
         }
     }
 

@@ -11,8 +11,9 @@ ghost use Rattle.v_declare.specs.Place.{place_in};
 use crate::Declared;
 use port_io::NoMemory;
 use std::alloc::Global;
+use v_constant::is_constant;
 use v_header::Ports;
-use v_parameter::{Constants, is_constant};
+use v_parameter::Constants;
 use v_scope::{Bounds, Found};
 use v_syntax::Range;
 

@@ -20,8 +20,8 @@ use Rattle.v_scope.specs.declared.meaning.DataObject.{DataObject}
 use Rattle.v_scope.specs.declared.meaning.Meaning.{Meaning}
 use Rattle.v_scope.specs.declared.meaning.Meaning.TheVariants.{Constant, Object, Later}
 use Rattle.v_scope.specs.Scope.{width_of, Scope, find}
-pub use Rattle.v_flat.specs.declared.manner.Manner.{Manner}
-pub use Rattle.v_flat.specs.declared.manner.Manner.TheVariants.{Procedural, Continuous}
+use Rattle.v_flat.specs.declared.manner.Manner.{Manner}
+use Rattle.v_flat.specs.declared.manner.Manner.TheVariants.{Procedural, Continuous}
 use Rattle.v_flat.specs.Objects.{range_of, words_of, nature_of}
 use Rattle.v_flat.specs.Expressions.{Values, no_signals, own_value, named_width, select_base, select_width}
 use Rattle.v_flat.specs.Checks.{sized, filled, by_nature, of_vector, of_memory}

@@ -9,16 +9,23 @@ ghost use Rattle.v_flat.specs.Objects.{range_of, words_of};
 use gpi::{Order, Range, SigId, Words};
 use v_scope::Bounds;
 
-/// How many indices a range has, both bounds counted, where they are at most 65,536 (clause 4.9).
-pub fn index_count(bounds: Bounds) -> u32
-    requires { width_of bounds ≤ most_words }
+/// The size of a range: how many indices it has, both bounds counted (clause 4.3.1).
+pub fn range_size(bounds: Bounds) -> u64
     ensures { result ≡ width_of bounds }
 {
     if bounds.left <= bounds.right {
-        bounds.right - bounds.left + 1
+        u64::from(bounds.right - bounds.left) + 1
     } else {
-        bounds.left - bounds.right + 1
+        u64::from(bounds.left - bounds.right) + 1
     }
+}
+
+/// How many words a memory of at most 65,536 has (clause 4.9).
+pub fn word_count(bounds: Bounds) -> u32
+    requires { width_of bounds ≤ most_words }
+    ensures { result ≡ width_of bounds }
+{
+    range_size(bounds) as u32
 }
 
 /// The width of a vector of 1 to 128 digits that has this range (clause 4.3.1).
@@ -26,7 +33,7 @@ pub fn width(bounds: Bounds) -> u8
     requires { IsWidth (width_of bounds) }
     ensures { result ≡ width_of bounds }
 {
-    index_count(bounds) as u8
+    range_size(bounds) as u8
 }
 
 /// The least index.
@@ -66,6 +73,6 @@ pub fn words(first: u32, bounds: Bounds) -> Words
     Words {
         first: SigId(first),
         low: low(bounds),
-        count: index_count(bounds),
+        count: word_count(bounds),
     }
 }

@@ -10,7 +10,7 @@ mod choice;
 mod name;
 mod selects;
 
-pub use bounds::{index_count, range, width, words};
+pub use bounds::{range, range_size, width, word_count, words};
 pub use choice::{Choice, chosen};
 pub use name::{named, second_select};
 pub use selects::{CheckedSelect, CheckedSelects, by_itself, fixed_index};

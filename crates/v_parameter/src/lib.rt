@@ -2,7 +2,7 @@
 //!
 //! [`parameters`] gives each parameter of a module its value: the one that the instance gives it ([`Given`]), or else that of its own
 //! expression, which may name the parameters before it. [`Constants`] are all of them in their order, with the scope in which
-//! declarations are read. [`is_constant`] tells whether a name is that of a parameter there.
+//! declarations are read.
 #![tactic(auto)]
 
 mod constants;
@@ -12,5 +12,4 @@ mod parameter_list;
 
 pub use constants::{Constant, Constants, Value};
 pub use given::Given;
-pub use one::is_constant;
 pub use parameter_list::parameters;

@@ -3,8 +3,8 @@
 ghost use Rattle.std.specs.Prelude.{◌≡◌, IfOk, Some};
 ghost use Rattle.gpi.specs.Terms.{IsWidth};
 ghost use Rattle.v_scope.specs.Found.{ended};
-ghost use Rattle.v_scope.specs.Scope.{find, means, width_of};
-ghost use Rattle.v_flat.specs.Checks.{constant_of, is_constant};
+ghost use Rattle.v_scope.specs.Scope.{means, width_of};
+ghost use Rattle.v_flat.specs.Checks.{constant_of};
 ghost use Rattle.v_flat.specs.Declarations.{constant_meaning, given_value};
 ghost use Rattle.v_syntax.specs.ExpressionTrees.{view};
 ghost use Rattle.v_names.specs.Proper.{AreProper, IsProper};
@@ -17,20 +17,11 @@ use four_value::Bits;
 use port_io::NoMemory;
 use std::alloc::Global;
 use v_check::constant;
+use v_constant::is_constant;
 use v_header::Parameter;
 use v_names::width;
 use v_range::vector_bounds;
-use v_scope::{Bounds, Broken, ElabRule, Found, Meaning, Scope};
-
-/// Whether a name is that of a constant.
-pub fn is_constant(scope: &Scope, name: &[u8]) -> bool
-    ensures { result ≡ is_constant (find name.now (means scope.now)) }
-{
-    match scope.find(name) {
-        Some(Meaning::Constant(_, _)) => true,
-        Some(_) | None => false,
-    }
-}
+use v_scope::{Bounds, Broken, ElabRule, Found, Scope};
 
 /// The value that the instance gives to a parameter, or else that of its own expression. Only want of memory is an error.
 fn value(
@@ -44,7 +35,7 @@ fn value(
 {
     match given.find(parameter.name.name.bytes()) {
         Some(value) => Ok(Found::Sound(value)),
-        None => Ok(constant(alloc, scope, parameter.value)?),
+        None => constant(alloc, scope, parameter.value),
     }
 }
 

@@ -12,6 +12,7 @@ ghost use Rattle.v_range.specs.Narrow.{IsVectorRange, narrowed};
 use crate::bounds;
 use port_io::NoMemory;
 use std::alloc::Global;
+use v_names::range_size;
 use v_scope::{Bounds, ElabRule, Found, MOST_DIGITS, Scope};
 use v_syntax::{Range, TokenNumber};
 
@@ -19,12 +20,7 @@ use v_syntax::{Range, TokenNumber};
 fn is_narrow(bounds: Bounds) -> bool
     ensures { result ≡ nat_le (width_of bounds) most_digits }
 {
-    let between = if bounds.left <= bounds.right {
-        bounds.right - bounds.left
-    } else {
-        bounds.left - bounds.right
-    };
-    between < u32::from(MOST_DIGITS)
+    range_size(bounds) <= u64::from(MOST_DIGITS)
 }
 
 /// At most 128 digits, or else TooWide is broken at this token.

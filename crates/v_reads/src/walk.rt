@@ -11,7 +11,7 @@ ghost use Rattle.v_reads.specs.Reads.{Adds, spans_of};
 use crate::Span;
 use port_io::NoMemory;
 use std::alloc::Global;
-use v_names::index_count;
+use v_names::word_count;
 use v_scope::{Meaning, Scope};
 use v_syntax::{Expression, Select, Selects};
 
@@ -23,7 +23,7 @@ fn add_name(spans: &mut Vec<Span>, scope: &Scope, name: &[u8]) -> Result<(), NoM
     if let Some(Meaning::Object(object)) = scope.find(name) {
         let count = match object.words {
             None => 1,
-            Some(words) => index_count(words),
+            Some(words) => word_count(words),
         };
         spans.push(Span {
             first: object.first,
