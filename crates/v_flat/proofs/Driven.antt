@@ -8,7 +8,8 @@ use Rattle.v_scope.specs.declared.meaning.DataKind.TheVariants.{Input, Net, Regi
 use Rattle.v_scope.specs.declared.meaning.Meaning.{Meaning}
 use Rattle.v_scope.specs.declared.meaning.Meaning.TheVariants.{Constant, Object, Later}
 use Rattle.v_scope.specs.Scope.{Scope, find}
-use Rattle.v_flat.specs.Targets.{Drive, meets, is_driven, once_more, net_driving, object_driving, name_driving, selected_drive, place_or, driving, all_driving, named_target, Continuous}
+use Rattle.v_flat.specs.Targets.{Drive, meets, is_driven, once_more, net_driving, object_driving, name_driving, selected_drive, place_or, driving, all_driving, named_target}
+use Rattle.v_flat.specs.declared.manner.Manner.TheVariants.{Continuous}
 use Rattle.v_flat.specs.Laws.{Missed, Apart}
 
 missed_last : (x d : Drive) (ds : List Drive) → meets d x ≡ false → Missed x ds → Missed x (ds ++ (d ∷ []))

@@ -3,6 +3,7 @@ use Rattle.std.specs.Prelude.{◌≡◌, ℕ, zero, suc, ◌+◌, List, [], ◌�
 use Rattle.std.specs.List.{filter, flat_map, list_any, range_with_len}
 use Rattle.four_value.specs.declared.Digit.{Digit}
 use Rattle.four_value.specs.declared.Digit.TheVariants.{X, Z}
+use Rattle.four_value.specs.Vector.{resize}
 use Rattle.gpi.specs.declared.types.SigId.{SigId}
 use Rattle.gpi.specs.declared.design.Spot.{Spot}
 use Rattle.gpi.specs.declared.design.Spot.TheVariants as spot
@@ -10,7 +11,9 @@ use Rattle.gpi.specs.declared.design.Kind.TheVariants as process_kind
 use Rattle.gpi.specs.declared.design.Wake.{Wake}
 use Rattle.gpi.specs.declared.design.WakeEdge.{WakeEdge}
 use Rattle.gpi.specs.declared.design.WakeEdge.TheVariants as wake_edge
-use Rattle.gpi.specs.Activation.{Map, Run}
+use Rattle.gpi.specs.Activation.{Map, Run, blocking}
+use Rattle.gpi.specs.Targets.{whole_update}
+use Rattle.gpi.specs.Terms.{read}
 use Rattle.gpi.specs.declared.design.Flat.{Flat}
 use Rattle.gpi.specs.Design.{Proc, procs_of}
 use Rattle.v_syntax.specs.declared.statement.Identifier.{Identifier}
@@ -20,7 +23,7 @@ use Rattle.v_syntax.specs.declared.item.Direction.TheVariants as direction
 use Rattle.v_syntax.specs.declared.item.Edge.{Edge}
 use Rattle.v_syntax.specs.declared.item.Edge.TheVariants as edge
 use Rattle.v_syntax.specs.declared.item.Event.{Event}
-use Rattle.v_syntax.specs.ExpressionTrees.{Tree, Named, Whole, TargetTree, NamedTarget, first_at}
+use Rattle.v_syntax.specs.ExpressionTrees.{Tree, Whole, TargetTree, NamedTarget, first_at}
 use Rattle.v_syntax.specs.StatementTrees.{StatementTree}
 use Rattle.v_syntax.specs.SourceTrees.{NetTree, Net as NetOf, Initially, RegisterTree, Register as RegisterOf, DriverTree, Driver, ControlTree, Implicit, Events, ConnectionTree, Connection, ConnectionsTree, Ordered, Named as NamedConnections, KindTree, Nets, Registers, Drivers, Always, Initial, Instance, ItemTree, ItemAt, ModuleTree}
 use Rattle.v_scope.specs.declared.rule.Broken.{Broken}
@@ -37,11 +40,11 @@ use Rattle.v_scope.specs.declared.meaning.DataObject.{DataObject}
 use Rattle.v_scope.specs.declared.meaning.Meaning.{Meaning}
 use Rattle.v_scope.specs.declared.meaning.Meaning.TheVariants.{Constant, Object, Later}
 use Rattle.v_scope.specs.Limits.{most_parts}
-use Rattle.v_scope.specs.Scope.{width_of, low_of, Scope, find, means, named, nothing}
+use Rattle.v_scope.specs.Scope.{width_of, low_of, Scope, find, means, nothing}
 use Rattle.v_flat.specs.Objects.{count_of}
 use Rattle.v_flat.specs.Checks.{checked, constant_of}
-use Rattle.v_flat.specs.Targets.{Drive, Driving, driving, as_target}
-use Rattle.v_flat.specs.Statements.{Span, reads, statement_reads, statement_checked, assign, activation, done}
+use Rattle.v_flat.specs.Targets.{Drive, Driving, driving, as_target, target_width, updates}
+use Rattle.v_flat.specs.Statements.{Span, reads, statement_reads, statement_checked, assign, assigned_value, activation, done}
 use Rattle.v_flat.specs.Headers.{Port, find_port, ports_of, parameters_of, open_parameters, all_names, later, module_name, items_in}
 use Rattle.v_flat.specs.Declarations.{Entries, Given, parameters, Declared, Place, declarations, in_order, kind_of}
 use Rattle.v_flat.specs.Paths.{Path, SignalAt, NodeAt, below, signal_of, node_of}
@@ -325,13 +328,20 @@ abbrev pub find_joint : List ℕ → List Joint → Option Tree
 find_joint n [] = None
 find_joint n (j ∷ js) = if bytes_eq j.port n then Some j.value else find_joint n js
 
--- the port's name stands in its own scope and the expression's names in another one, so the assignment is of a signal
+-- an input is assigned the value of its connection; o is the port
+abbrev pub input_run : Scope → DataObject → Tree → Map → Run
+input_run outer o e m = blocking (whole_update (Some o.first) (assigned_value (width_of o.bounds) outer e (read m))) (from m)
+
 abbrev pub input_joint : Scope → DataObject → Tree → Design → Design
-input_joint outer o e d = with_process (assigning (named (0 ∷ []) (Object (record o { kind = Net })) outer) (NamedTarget 0 (0 ∷ []) Whole) e d) d
+input_joint outer o e d = with_process (record { kind = process_kind.Assign; wakes = wakes_of (reads outer e) d; run = input_run outer o e }) d
+
+-- what an output is connected to is assigned its value
+abbrev pub output_run : Scope → DataObject → TargetTree → Map → Run
+output_run outer o t m = blocking (updates outer t (read m) (resize (read m o.first) (target_width outer t))) (from m)
 
 abbrev pub output_target : Scope → DataObject → Option TargetTree → Design → Design
 output_target outer o None d = d
-output_target outer o (Some t) d = with_process (assigning (named (0 ∷ []) (Object o) outer) t (Named 0 (0 ∷ []) Whole) d) d
+output_target outer o (Some t) d = with_process (record { kind = process_kind.Assign; wakes = any_change o.first ∷ []; run = output_run outer o t }) d
 
 abbrev pub port_joint : Scope → Option Tree → Option Direction → Option Meaning → Design → Design
 port_joint outer (Some e) (Some direction.Output) (Some (Object o)) d = output_target outer o (as_target e) d
