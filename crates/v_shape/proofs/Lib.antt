@@ -1,0 +1,5 @@
+pub mod Ends
+pub mod Walk
+pub mod Kept
+pub mod Nodes
+pub mod Trees

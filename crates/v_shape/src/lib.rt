@@ -1,0 +1,8 @@
+//! Laws of the shape of a design.
+//!
+//! Whatever text it stands for, a design's instances form one tree: [`instances_form_a_tree`].
+#![tactic(auto)]
+
+mod laws;
+
+pub use laws::instances_form_a_tree;
