@@ -4,7 +4,7 @@ use Rattle.v_scope.specs.declared.rule.Broken.{Broken}
 use Rattle.v_scope.specs.declared.rule.ElabRule.{ElabRule}
 use Rattle.v_scope.specs.declared.found.Found.{Found}
 use Rattle.v_scope.specs.declared.found.Found.TheVariants.{Sound, Noted, Lost}
-use Rattle.v_scope.specs.Found.{HoldsOk, ended, lost, needs, next, noted, wants}
+use Rattle.v_scope.specs.Found.{HoldsOk, both, each, ended, lost, needs, next, noted, wants}
 
 pub holds_next_so : {A B : Type 0} (Q : B → Type 0) (r : Result A Broken) (f : A → Result B Broken) → ((a : A) → r ≡ Ok a → HoldsOk Q (f a)) → HoldsOk Q (next r f)
 holds_next_so Q (Ok a) f h = h a refl
@@ -32,3 +32,11 @@ wants_sound false r p x a e = absurd (noted_not (record { rule = r; place = p })
 pub needs_sound : {A : Type 0} (t : Bool) (r : ElabRule) (p : ℕ) (x : Found A) (a : A) → needs t r p x ≡ Sound a → (t ≡ true) × (x ≡ Sound a)
 needs_sound true r p x a e = (refl, e)
 needs_sound false r p x a e = absurd (lost_not (record { rule = r; place = p }) x a e)
+
+-- the second of both
+pub sound_both : {A B : Type 0} (x : Found A) (y : Found B) (p : A × B) → both x y ≡ Sound p → y ≡ Sound p.1
+sound_both (Sound a) (Sound b) p e = cc
+sound_both (Sound a) (Noted r b) p e = cc
+sound_both (Sound a) (Lost r) p e = cc
+sound_both {A} {B} (Noted r a) y p e = absurd (noted_not r (each (λ (b : B). (a, b)) y) p e)
+sound_both (Lost r) y p e = absurd (lost_not r y p e)

@@ -127,7 +127,7 @@ tree_steps : Steps Anything Grows Between
 tree_steps = record {
   opens = λ m path out d constants ds h e. opens_between m path out d constants (in_order (ports_of m) ds);
   plain = λ path d ds p k s h. plain_holds (Between path d ds) p k s (λ t keeps. kept_between path d ds s t h keeps);
-  given = λ path d ds p v i c s m x h e. tt;
+  given = λ path d ds p v i c s m x h few e. tt;
   inner = λ path d ds i driven s e h few is g. inner_between path d ds i driven s e h g;
   closes = closes_grows;
 }

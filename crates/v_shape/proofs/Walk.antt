@@ -39,7 +39,7 @@ pub record Steps (P : ModuleTree → Outside → Design → Type 0) (I : Path �
       → J path d (in_order (ports_of m) ds) (opening m path out d (scope_of constants d (in_order (ports_of m) ds)) (in_order (ports_of m) ds))
   pub plain : (path : Path) (d : Design) (ds : List Declared) (p : ℕ) (k : KindTree) (s : State) → J path d ds s → Holds (J path d ds) (plain_item p k s)
   pub given : (path : Path) (d : Design) (ds : List Declared) (p : ℕ) (v : Option ConnectionsTree) (i : Identifier) (c : Option ConnectionsTree) (s : State)
-      (m : ModuleTree) (x : List Given × Joints) → J path d ds s → instance_checked p v i c s m ≡ Sound x
+      (m : ModuleTree) (x : List Given × Joints) → J path d ds s → nat_lt (length s.design.nodes) most_parts ≡ true → instance_checked p v i c s m ≡ Sound x
       → P m (record { given = x.0; scope = s.scope; joints = x.1.list }) s.design
   pub inner : (path : Path) (d : Design) (ds : List Declared) (i : Identifier) (driven : List Drive) (s : State) (e : Design) → J path d ds s
       → nat_lt (length s.design.nodes) most_parts ≡ true → is_fresh i.name s ≡ true → I (below path i.name) s.design e
@@ -88,7 +88,7 @@ module _ (P : ModuleTree → Outside → Design → Type 0) (I : Path → Design
         (sub (m.name ∷ above) inner (below path i.name) (record { given = x.0; scope = s.scope; joints = x.1.list }) s.design)
         (λ e. Ok (with_child i.name (length s.design.nodes) x.1.driven s e))
         (good (there m room above s.design (find_module m.name ms) inner is).0 (m.name ∷ above) inner (below path i.name) (record { given = x.0; scope = s.scope; joints = x.1.list }) s.design
-        (steps.given path d ds p v i c s inner x h (ended_sound (instance_checked p v i c s inner) x checks)))
+        (steps.given path d ds p v i c s inner x h (there m room above s.design (find_module m.name ms) inner is).1 (ended_sound (instance_checked p v i c s inner) x checks)))
         (λ e k. steps.inner path d ds i x.1.driven s e h (there m room above s.design (find_module m.name ms) inner is).1
         (fresh p v i c s inner x (ended_sound (instance_checked p v i c s inner) x checks)) k)))
 

@@ -1,11 +1,16 @@
 -- Laws of the design that a text stands for.
-use Rattle.std.specs.Prelude.{ℕ, List, Option, map}
+use Rattle.std.specs.Prelude.{ℕ, ◌≤◌, List, Option, length, map}
 use Rattle.gpi.specs.Soundness.{IsTree}
 use Rattle.v_syntax.specs.SourceTrees.{ModuleTree}
 use Rattle.v_scope.specs.Found.{HoldsOk}
+use Rattle.v_scope.specs.Limits.{most_parts}
 use Rattle.v_flat.specs.Paths.{node_of}
 use Rattle.v_flat.specs.Design.{Design, flat_design}
 
 -- node 0 is the top, every other node is the child of one, once, and node 0 is above all
 abbrev pub Instances_form_a_tree : Type 0
 Instances_form_a_tree = (ms : List ModuleTree) (top : Option (List ℕ)) → HoldsOk (λ (d : Design). IsTree (map node_of d.nodes)) (flat_design ms top)
+
+-- its instances and its processes are at most as many as a design may have
+abbrev pub Lists_are_short : Type 0
+Lists_are_short = (ms : List ModuleTree) (top : Option (List ℕ)) → HoldsOk (λ (d : Design). (length d.nodes ≤ most_parts) × (length d.processes ≤ most_parts)) (flat_design ms top)

@@ -5,4 +5,4 @@
 
 mod laws;
 
-pub use laws::instances_form_a_tree;
+pub use laws::{instances_form_a_tree, lists_are_short};
