@@ -6,3 +6,5 @@ pub mod Trees
 pub mod Joints
 pub mod Short
 pub mod Declared
+pub mod Names
+pub mod Order
