@@ -32,7 +32,7 @@ pub record Goes (w : Place) (P : List Declared → Type 0) : Type 0 where
   pub more : (ds : List Declared) (x : Declared) → P ds → IsNewOne w ds x → P (ds ++ (x ∷ []))
   pub again : (ds : List Declared) (x old : Declared) → P ds → find_declared x.name ds ≡ Some old → P (with_declared (whole_of old x) ds)
 
-span_some : (a b : ℕ) → 1 ≤ span a b
+pub span_some : (a b : ℕ) → 1 ≤ span a b
 span_some a b = go (nat_le a b)
   where
     go : (t : Bool) → 1 ≤ (if t then (b - a) + 1 else (a - b) + 1)

@@ -8,3 +8,4 @@ pub mod Short
 pub mod Declared
 pub mod Names
 pub mod Order
+pub mod Signals
