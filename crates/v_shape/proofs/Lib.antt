@@ -9,3 +9,4 @@ pub mod Declared
 pub mod Names
 pub mod Order
 pub mod Signals
+pub mod Paths

@@ -59,7 +59,7 @@ all_wide path first (d ∷ ds) h =
     widths_both (signals_of (below path d.name) (object_of first d) d.words) (all_signals path (first + count_of d.words) ds)
     (one_wide (below path d.name) (object_of first d) d.words h.0) (all_wide path (first + count_of d.words) ds h.1)
 
-all_many : (path : Path) (first : ℕ) (ds : List Declared) → length (all_signals path first ds) ≡ signals_in ds
+pub all_many : (path : Path) (first : ℕ) (ds : List Declared) → length (all_signals path first ds) ≡ signals_in ds
 all_many path first [] = refl
 all_many path first (d ∷ ds) =
     let e = length-append (signals_of (below path d.name) (object_of first d) d.words) (all_signals path (first + count_of d.words) ds) in
