@@ -1,16 +1,14 @@
 -- What holds of the declarations of an instance, one after the other.
-use Rattle.std.proofs.Common.{◌≡◌, ◌≤◌, ◌+◌, ◌-◌, ℕ, suc, Bool, true, false, not, ◌&&◌, List, [], ◌∷◌, ◌++◌, length, nat_le, Option, Some, None, is_none, Ok, map, refl, sym, arith, if◌then◌else◌}
+use Rattle.std.proofs.Common.{◌≡◌, ◌≤◌, ◌+◌, ◌-◌, ℕ, Bool, true, false, not, ◌&&◌, List, [], ◌∷◌, ◌++◌, nat_le, Option, Some, None, is_none, Ok, map, refl, sym, arith, if◌then◌else◌}
 use Rattle.std.proofs.lemmas.Bool.Decides.{nat_tests}
-use Rattle.std.specs.Prelude.{bytes_eq}
-use Rattle.std.specs.List.{list_any}
 use Rattle.gpi.specs.Terms.{IsWidth}
 use Rattle.v_syntax.specs.declared.statement.Identifier.{Identifier}
 use Rattle.v_syntax.specs.declared.item.Direction.{Direction}
-use Rattle.v_syntax.specs.SourceTrees.{RangeTree, Head, PortHeadTree, NetTree, Net as NetOf, TailTree, Words, Initially, RegisterTree, Register as RegisterOf, KindTree, Ports, Nets, Registers, Integers, Parameters, Drivers, Always, Initial, Instance, ItemTree, ItemAt, HeaderPortsTree, NamedPorts, DeclaredPorts, ModuleTree}
+use Rattle.v_syntax.specs.SourceTrees.{RangeTree, Head, PortHeadTree, TailTree, Words, Initially, RegisterTree, Register as RegisterOf, KindTree, Ports, Nets, Registers, Integers, Parameters, Drivers, Always, Initial, Instance, ItemTree, ItemAt, HeaderPortsTree, NamedPorts, DeclaredPorts, ModuleTree}
 use Rattle.v_scope.specs.declared.rule.ElabRule.TheVariants as rule
 use Rattle.v_scope.specs.declared.found.Found.{Found}
 use Rattle.v_scope.specs.declared.found.Found.TheVariants.{Sound}
-use Rattle.v_scope.specs.Found.{Holds, HoldsOk, and_then, ended, needs, next}
+use Rattle.v_scope.specs.Found.{Holds, HoldsOk, and_then, ended, needs}
 use Rattle.v_scope.specs.declared.meaning.Bounds.{Bounds}
 use Rattle.v_scope.specs.Limits.{most_digits, most_parts}
 use Rattle.v_scope.specs.Scope.{Scope, span, width_of}

@@ -1,5 +1,5 @@
 -- The declarations of an instance, in the order of ports and first declarations.
-use Rattle.std.proofs.Common.{◌≡◌, ◌≤◌, ◌+◌, ◌||◌, ◌⊎◌, inl, inr, ◌∙◌, ℕ, Bool, true, false, List, [], ◌∷◌, ◌++◌, map, length, Option, Some, None, Ok, refl, sym, ap, subst, arith, if◌then◌else◌}
+use Rattle.std.proofs.Common.{◌≡◌, ◌≤◌, ◌+◌, ◌||◌, ◌⊎◌, inl, inr, ◌∙◌, ℕ, Bool, true, false, List, [], ◌∷◌, ◌++◌, map, Option, Some, None, refl, sym, ap, subst, arith, if◌then◌else◌}
 use Rattle.std.specs.Prelude.{bytes_eq}
 use Rattle.std.specs.List.{list_any}
 use Rattle.std.proofs.lemmas.List.{map-append}
@@ -11,8 +11,8 @@ use Rattle.v_scope.specs.Scope.{width_of}
 use Rattle.v_flat.specs.Objects.{count_of}
 use Rattle.v_flat.specs.Headers.{Port, all_ports, distinct, items_in, port_name, ports_in, ports_of}
 use Rattle.v_flat.specs.Declarations.{Declared, Place, declarations, find_declared, in_order, listed, other_lines, port_lines, signals_in, whole_of, with_declared}
-use Rattle.v_shape.proofs.Declared.{Goes, IsNewOne, declared_hold}
-use Rattle.v_shape.proofs.Names.{Among, Differ, among_both, among_first, among_later, among_left, among_right, differ_both, is_itself, one_of_more, same_name}
+use Rattle.v_shape.proofs.Declared.{Goes, declared_hold}
+use Rattle.v_shape.proofs.Names.{Among, Differ, among_first, among_later, differ_both, is_itself, one_of_more, same_name}
 
 abbrev pub name_of : Declared → List ℕ
 name_of d = d.name
@@ -224,7 +224,7 @@ port_signals (p ∷ ps) d ds h = go (bytes_eq d.name p.name) refl (port_signals 
         ≤ as_port (b || list_any (bytes_eq d.name) (map port_name ps)) (count_of d.words) + signals_in (listed (find_declared p.name ds) ++ port_lines ps ds)
     go true e k =
         let none : list_any (bytes_eq d.name) (map port_name ps) ≡ false =
-            not_true (list_any (bytes_eq d.name) (map port_name ps)) (λ t. h.0 (ap (λ m. list_any (bytes_eq m) (map port_name ps)) (sym (same_name d.name p.name e)) ∙ t)) in
+        not_true (list_any (bytes_eq d.name) (map port_name ps)) (λ t. h.0 (ap (λ m. list_any (bytes_eq m) (map port_name ps)) (sym (same_name d.name p.name e)) ∙ t)) in
         let f = ap (λ t. as_port t (count_of d.words)) none in
         let g = signals_both (listed (find_declared p.name ds)) (port_lines ps ds) in omega (arith, k, f, g)
     go false e k =

@@ -1,11 +1,10 @@
 -- No two signals of a design have one path.
-use Rattle.std.proofs.Common.{◌≡◌, ◌<◌, ◌≤◌, ◌+◌, ◌⊎◌, inl, inr, ◌∙◌, not, ◌&&◌, ℕ, zero, suc, Bool, true, false, List, [], ◌∷◌, ◌++◌, map, length, slice_get, nat_lt, Option, Some, None, is_none, Ok, refl, sym, ap, subst, arith, length-append}
+use Rattle.std.proofs.Common.{◌≡◌, ◌<◌, ◌≤◌, ◌+◌, ◌⊎◌, inl, inr, ◌∙◌, not, ◌&&◌, ℕ, zero, suc, Bool, true, false, List, [], ◌∷◌, ◌++◌, map, length, slice_get, Option, Some, None, is_none, Ok, refl, sym, ap, subst, arith, length-append}
 use Rattle.std.proofs.lemmas.List.{append_assoc, map-append}
 use Rattle.std.specs.Prelude.{bytes_eq}
 use Rattle.std.specs.List.{list_any}
 use Rattle.four_value.specs.declared.Digit.{Digit}
-use Rattle.gpi.specs.declared.design.Spot.{Spot}
-use Rattle.gpi.specs.declared.design.Spot.TheVariants.{Inner, Sig, Words}
+use Rattle.gpi.specs.declared.design.Spot.TheVariants.{Inner}
 use Rattle.v_syntax.specs.declared.statement.Identifier.{Identifier}
 use Rattle.v_syntax.specs.SourceTrees.{ModuleTree}
 use Rattle.v_scope.specs.Found.{HoldsOk}
@@ -18,7 +17,7 @@ use Rattle.v_flat.specs.Headers.{ports_of}
 use Rattle.v_flat.specs.Targets.{Drive}
 use Rattle.v_flat.specs.Declarations.{Declared, Entries, Place, declarations, in_order}
 use Rattle.v_flat.specs.Paths.{Path, SignalAt, below}
-use Rattle.v_flat.specs.Design.{Design, Outside, State, all_signals, child_name, children, closed, is_fresh, object_of, opened, place_of, signals_of, start_of, with_child, word_signals}
+use Rattle.v_flat.specs.Design.{Design, Outside, State, all_signals, child_name, children, is_fresh, object_of, opened, place_of, signals_of, start_of, with_child, word_signals}
 use Rattle.v_shape.specs.Laws.{HaveOwnPaths, Paths_differ}
 use Rattle.v_shape.proofs.Kept.{Keeps, joints_keep, plain_holds}
 use Rattle.v_shape.proofs.Names.{Among, Differ, among_first, among_later, among_left, among_right, one_of_more}

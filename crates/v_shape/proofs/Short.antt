@@ -1,5 +1,5 @@
 -- A design has at most 65,536 instances and as many processes.
-use Rattle.std.proofs.Common.{◌≡◌, ◌<◌, ◌≤◌, ◌+◌, ◌∙◌, ℕ, suc, Bool, true, false, List, [], ◌∷◌, ◌++◌, length, nat_lt, nat_le, slice_set, Option, Some, None, Ok, refl, sym, ap, subst, arith, length-append}
+use Rattle.std.proofs.Common.{◌≡◌, ◌<◌, ◌≤◌, ◌+◌, ℕ, true, List, [], ◌∷◌, length, nat_lt, nat_le, Option, Some, None, refl, ap, arith, length-append}
 use Rattle.std.proofs.lemmas.Bool.Decides.{nat_tests}
 use Rattle.std.proofs.lemmas.List.{length-set}
 use Rattle.gpi.specs.Design.{Proc}
@@ -11,16 +11,16 @@ use Rattle.v_syntax.specs.SourceTrees.{NetTree, Net as NetOf, Words, Initially, 
 use Rattle.v_scope.specs.declared.rule.ElabRule.TheVariants as rule
 use Rattle.v_scope.specs.declared.found.Found.{Found}
 use Rattle.v_scope.specs.declared.found.Found.TheVariants as found
-use Rattle.v_scope.specs.Found.{Holds, HoldsOk, both, wants}
+use Rattle.v_scope.specs.Found.{Holds, both, wants}
 use Rattle.v_scope.specs.Limits.{most_parts}
 use Rattle.v_scope.specs.Scope.{Scope}
 use Rattle.v_flat.specs.Checks.{checked}
 use Rattle.v_flat.specs.Targets.{Drive, driving}
 use Rattle.v_flat.specs.Statements.{statement_checked, statement_reads}
 use Rattle.v_flat.specs.Headers.{open_parameters, parameters_of, ports_of}
-use Rattle.v_flat.specs.Declarations.{Declared, Entries, Given, declarations, in_order}
-use Rattle.v_flat.specs.Paths.{NodeAt, Path, below}
-use Rattle.v_flat.specs.Design.{Design, Joints, Outside, State, adding, always, always_item, assigning, beginning, closed, driver, events_of, given_of, in_turn, initial_item, instance_checked, is_fresh, joint_count, joints_of, net, net_count, opened, plain_item, register, register_count, running, wakes_of, whole_of, with_child}
+use Rattle.v_flat.specs.Declarations.{Declared, Given, in_order}
+use Rattle.v_flat.specs.Paths.{Path}
+use Rattle.v_flat.specs.Design.{Design, Joints, Outside, State, adding, always, always_item, assigning, beginning, driver, events_of, given_of, in_turn, initial_item, instance_checked, is_fresh, joint_count, joints_of, net, net_count, opened, plain_item, register, register_count, running, wakes_of, whole_of}
 use Rattle.v_flat.proofs.Holds.{holds_any, holds_each, holds_then, holds_wants}
 use Rattle.v_shape.specs.Laws.{Lists_are_short}
 use Rattle.v_shape.proofs.Ends.{sound_both, wants_sound}

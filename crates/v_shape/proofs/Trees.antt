@@ -1,24 +1,20 @@
 -- The instances of a design form a tree.
-use Rattle.std.proofs.Common.{◌≡◌, ◌<◌, ◌≤◌, ◌+◌, ◌==◌, ◌&&◌, ◌||◌, ◌∙◌, ℕ, suc, zero, min, Bool, true, false, IsTrue, List, [], ◌∷◌, ◌++◌, length, map, nat_lt, slice_set, Option, Some, None, Ok, refl, sym, ap, subst, arith, if◌then◌else◌}
+use Rattle.std.proofs.Common.{◌≡◌, ◌<◌, ◌≤◌, ◌+◌, ◌==◌, ◌&&◌, ◌||◌, ◌∙◌, ℕ, suc, zero, min, Bool, true, false, IsTrue, List, [], ◌∷◌, ◌++◌, length, map, nat_lt, slice_set, Some, refl, sym, ap, subst, arith, if◌then◌else◌}
 use Rattle.std.proofs.lemmas.List.{append_assoc, length-append, length-map}
 use Rattle.std.proofs.lemmas.Bool.Decides.{nat_tests}
 use Rattle.gpi.specs.declared.design.Spot.{Spot}
 use Rattle.gpi.specs.declared.design.Spot.TheVariants.{Inner, Sig, Words}
-use Rattle.gpi.specs.declared.design.Node.{Node}
 use Rattle.gpi.specs.Soundness.{IsPlaced, IsTree, at_parent, climbs, is_child, parent_from, times_among, times_child}
 use Rattle.v_syntax.specs.declared.statement.Identifier.{Identifier}
-use Rattle.v_syntax.specs.SourceTrees.{ConnectionsTree, KindTree, ModuleTree}
-use Rattle.v_scope.specs.declared.found.Found.TheVariants.{Sound}
-use Rattle.v_scope.specs.Found.{Holds}
-use Rattle.v_scope.specs.Limits.{most_parts}
+use Rattle.v_syntax.specs.SourceTrees.{ModuleTree}
 use Rattle.v_flat.specs.Targets.{Drive}
 use Rattle.v_flat.specs.Headers.{ports_of}
-use Rattle.v_flat.specs.Declarations.{Declared, Entries, Given, declarations, in_order}
+use Rattle.v_flat.specs.Declarations.{Declared, Entries, in_order}
 use Rattle.v_flat.specs.Paths.{NodeAt, Path, below, node_of}
-use Rattle.v_flat.specs.Design.{Design, Joints, Outside, State, children, closed, instance_checked, is_fresh, no_design, opened, place_of, plain_item, port_joints, with_child}
+use Rattle.v_flat.specs.Design.{Design, Outside, State, closed, opened, with_child}
 use Rattle.v_shape.specs.Laws.{Instances_form_a_tree}
 use Rattle.v_shape.proofs.Nodes.{AreAbove, Children, EachAbove, IsAbove, above_more, count, count_more, declared_above, each_above_more, is_behind, none_declared, one_if, set_behind, total, total_more}
-use Rattle.v_shape.proofs.Kept.{Keeps, KeepsParts, joints_keep, plain_holds}
+use Rattle.v_shape.proofs.Kept.{Keeps, joints_keep, plain_holds}
 use Rattle.v_shape.proofs.Walk.{Steps, design_holds, opening, scope_of}
 
 -- ---- while it is walked
@@ -105,7 +101,7 @@ inner_between path d ds i driven s e h g = record {
     sum_is v x y ex ey =
         let l3 = h.counts v in
         let l4 : total v g.news ≡ one_if (is_behind v (length d.nodes + suc (length h.news)) (length g.news)) =
-            g.counts v ∙ ap (λ n. one_if (is_behind v n (length g.news))) place in
+        g.counts v ∙ ap (λ n. one_if (is_behind v n (length g.news))) place in
         let l5 = more_behind v (length d.nodes) (length h.news) (length g.news) g.some in
         let l6 : one_if (length s.design.nodes == v) ≡ one_if (length d.nodes + suc (length h.news) == v) = ap (λ n. one_if (n == v)) place in
         omega (arith, ex, ey, l3, l4, l5, l6)

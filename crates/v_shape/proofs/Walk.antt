@@ -15,7 +15,7 @@ use Rattle.v_flat.specs.Targets.{Drive}
 use Rattle.v_flat.specs.Headers.{all_names, items_in, later, module_name, open_parameters, parameters_of, ports_of}
 use Rattle.v_flat.specs.Declarations.{Declared, Entries, Given, declarations, in_order, parameters}
 use Rattle.v_flat.specs.Paths.{Path, below}
-use Rattle.v_flat.specs.Design.{Design, Joints, Outside, State, Sub, children, closed, entries, find_module, flat_design, from_top, given_of, instance, instance_checked, instance_item, is_fresh, item, items, joint_count, joints_of, module_there, modules_checked, no_design, opened, place_of, plain_item, port_joints, top_of, walk, walk_items, with_child, with_room}
+use Rattle.v_flat.specs.Design.{Design, Joints, Outside, State, Sub, children, closed, entries, find_module, flat_design, from_top, given_of, instance, instance_checked, instance_item, is_fresh, item, items, joint_count, joints_of, module_there, modules_checked, no_design, opened, place_of, plain_item, port_joints, top_of, walk, walk_items, with_child}
 use Rattle.v_flat.proofs.Holds.{holds_ended, holds_next}
 use Rattle.v_shape.proofs.Ends.{ended_sound, holds_next_so, needs_sound, wants_sound}
 
