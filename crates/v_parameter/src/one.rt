@@ -35,7 +35,7 @@ fn value(
 {
     match given.find(parameter.name.name.bytes()) {
         Some(value) => Ok(Found::Sound(value)),
-        None => constant(alloc, scope, parameter.value),
+        None => Ok(constant(alloc, scope, parameter.value)?),
     }
 }
 
