@@ -25,7 +25,8 @@ use Rattle.v_operator.specs.Checked.{StandsFor, IsChecked}
 use Rattle.v_operator.proofs.Combined.{made_holds}
 use Rattle.v_target.specs.declared.checked.CheckedTarget.{CheckedTarget}
 use Rattle.v_assign.specs.Targets.{GetsAs, IsProcedural}
-use Rattle.v_act.specs.Made.{MakesAssignment, AreAssignments}
+use Rattle.v_act.specs.Assignments.{MakesAssignment}
+use Rattle.v_act.specs.Made.{AreAssignments}
 use Rattle.v_act.specs.Statements.{DoesAs, ChecksAssignment, IsFoundStatement}
 use Rattle.v_act.proofs.Done.{done_as, two_done, done_made}
 
@@ -53,15 +54,15 @@ assignment_does s kind t e c v a made h k = record {
 
 assignment_is : (kind : AssignmentKind) (x : Found CheckedTarget) (y : Found Checked) (f : Found Act) → AreAssignments kind (both x y) f
     → ChecksAssignment kind x y f
-assignment_is kind x y f made = λ s t e h k. record {
+assignment_is kind x y f made = λ s t e a h k. record {
   finds = done_made (λ (p : CheckedTarget × Checked) (a : Act). MakesAssignment kind p.0 p.1 a) (both x y) f made
-      ∙ two_done x y (target_checked s t) (checked s e)
-      (done_as (λ (c : CheckedTarget). c.width) counted_width x (target_checked s t) h.finds)
+      ∙ two_done x y a (checked s e)
+      (done_as (λ (c : CheckedTarget). c.width) counted_width x a h.finds)
       (done_as (λ (c : Checked). c.width) counted_width y (checked s e) k.finds);
   holds = made_holds (λ (p : CheckedTarget × Checked) (a : Act). MakesAssignment kind p.0 p.1 a)
       (λ (p : CheckedTarget × Checked). GetsAs s t p.0 × StandsFor s e p.1) (λ (a : Act). DoesAs s (Assignment kind t e) a) (both x y) f made
       (holds_both (λ (c : CheckedTarget). GetsAs s t c) (λ (c : Checked). StandsFor s e c) x y h.holds k.holds)
-      (λ p a q st. assignment_does s kind t e p.0 p.1 a q st.0 st.1);
+      (λ p b q st. assignment_does s kind t e p.0 p.1 b q st.0 st.1);
 }
 
 pub assignment_result : {E : Type 0} (kind : AssignmentKind) (x : Found CheckedTarget) (y : Found Checked) (r : Result (Found Act) E)
@@ -71,5 +72,5 @@ assignment_result kind x y (Err e) made = tt
 
 pub found_result : {E : Type 0} (s : Scope) (kind : AssignmentKind) (t : TargetTree) (e : Tree) (x : Found CheckedTarget) (y : Found Checked) (r : Result (Found Act) E)
     → IsProcedural s t x → IsChecked s e y → IfOk r (ChecksAssignment kind x y) → IfOk r (IsFoundStatement s (Assignment kind t e))
-found_result s kind t e x y (Ok f) h k made = made s t e h k
+found_result s kind t e x y (Ok f) h k made = made s t e (target_checked s t) h k
 found_result s kind t e x y (Err b) h k made = tt

@@ -1,5 +1,4 @@
 pub mod Statements
+pub mod Assignments
 pub mod Sequences
 pub mod Made
-pub mod Cases
-pub mod MadeCases

@@ -1,33 +1,16 @@
 -- A means of proof: what is made of parts, by their activations.
-use Rattle.std.specs.Prelude.{◌≡◌, ℕ, max, List}
-use Rattle.four_value.specs.Vector.{resize}
+use Rattle.std.specs.Prelude.{◌≡◌, ℕ, List}
 use Rattle.gpi.specs.declared.acts.Act.{Act}
 use Rattle.gpi.specs.declared.acts.Acts.{Acts}
 use Rattle.gpi.specs.declared.terms.Term.{Term}
-use Rattle.gpi.specs.Terms.{read, IsWidth}
-use Rattle.gpi.specs.Targets.{updates_of, target_width, IsSoundTarget}
-use Rattle.gpi.specs.Activation.{Run, MakesAct, MakesIf, SoundList, acts_of, run_list}
+use Rattle.gpi.specs.Activation.{Run, MakesIf, SoundList, acts_of, run_list}
 use Rattle.v_syntax.specs.declared.statement.AssignmentKind.{AssignmentKind}
 use Rattle.v_scope.specs.declared.found.Found.{Found}
 use Rattle.v_scope.specs.Found.{EachIs}
-use Rattle.v_context.specs.Contexts.{value_in, IsSound}
-use Rattle.v_flat.specs.Statements.{take_updates}
 use Rattle.v_operator.specs.declared.checked.Checked.{Checked}
 use Rattle.v_target.specs.declared.checked.CheckedTarget.{CheckedTarget}
+use Rattle.v_act.specs.Assignments.{MakesAssignment}
 use Rattle.v_act.specs.Statements.{run_back}
-
--- both are sound, and have the widths that they tell
-pub record FitTogether (t : CheckedTarget) (v : Checked) (ws : List ℕ) : Type 0 where
-  pub target : IsSoundTarget t.target ws
-  pub target_width_is : target_width t.target ≡ t.width
-  pub target_width : IsWidth t.width
-  pub value : IsSound v.form ws
-  pub value_width : IsWidth v.width
-
-abbrev pub MakesAssignment : AssignmentKind → CheckedTarget → Checked → Act → Type 0
-MakesAssignment k t v a = MakesAct a
-    (λ r. take_updates k (updates_of t.target (read r.signals) (resize (value_in v.form (max t.width v.width) (read r.signals)) t.width)) r)
-    (FitTogether t v)
 
 abbrev pub AreAssignments : AssignmentKind → Found (CheckedTarget × Checked) → Found Act → Type 0
 AreAssignments k x f = EachIs (λ (p : CheckedTarget × Checked) (a : Act). MakesAssignment k p.0 p.1 a) x f

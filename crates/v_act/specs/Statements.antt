@@ -14,12 +14,11 @@ use Rattle.v_scope.specs.declared.meaning.Meaning.{Meaning}
 use Rattle.v_scope.specs.declared.meaning.Meaning.TheVariants.{Object}
 use Rattle.v_scope.specs.Scope.{Scope, find}
 use Rattle.v_flat.specs.Checks.{checked}
-use Rattle.v_flat.specs.Targets.{target_checked}
 use Rattle.v_flat.specs.Statements.{done, turn, turns, known_turns, loop_name, statement_checked, activation, activations}
 use Rattle.v_operator.specs.declared.checked.Checked.{Checked}
 use Rattle.v_operator.specs.Checked.{IsObjectOf, AreNamesOf, IsChecked}
 use Rattle.v_target.specs.declared.checked.CheckedTarget.{CheckedTarget}
-use Rattle.v_assign.specs.Targets.{TargetNamesOf, IsProcedural}
+use Rattle.v_assign.specs.Targets.{TargetNamesOf, IsTarget}
 use Rattle.v_act.specs.declared.sequences.BlockParts.{BlockParts}
 
 -- ---- what a statement names
@@ -98,10 +97,11 @@ pub record ChecksNull (f : Found Act) : Type 0 where
   pub task : (s : Scope) (t : _) (es : _) → IsStatement s (TaskEnable t es) fine f
   pub delay : (s : Scope) (p : ℕ) (ds : List Digit) → IsStatement s (Delay p ds) fine f
 
+-- a is what the definition finds in the target, by the manner in which it is assigned to
 abbrev pub ChecksAssignment : AssignmentKind → Found CheckedTarget → Found Checked → Found Act → Type 0
 ChecksAssignment k x y f =
-    (s : Scope) (t : TargetTree) (e : Tree) → IsProcedural s t x → IsChecked s e y
-    → IsStatement s (Assignment k t e) (done (both (target_checked s t) (checked s e))) f
+    (s : Scope) (t : TargetTree) (e : Tree) (a : Found ℕ) → IsTarget s t a x → IsChecked s e y
+    → IsStatement s (Assignment k t e) (done (both a (checked s e))) f
 
 abbrev pub ChecksIf : Found Checked → Found Act → Found Act → Type 0
 ChecksIf x y f =

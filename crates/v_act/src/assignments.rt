@@ -5,7 +5,8 @@ ghost use Rattle.v_scope.specs.Scope.{means};
 ghost use Rattle.v_syntax.specs.ExpressionTrees.{view, view_target};
 ghost use Rattle.v_syntax.specs.StatementTrees.{Assignment};
 ghost use Rattle.v_names.specs.Proper.{AreProper};
-ghost use Rattle.v_act.specs.Made.{AreAssignments, MakesAssignment};
+ghost use Rattle.v_act.specs.Assignments.{MakesAssignment};
+ghost use Rattle.v_act.specs.Made.{AreAssignments};
 ghost use Rattle.v_act.specs.Statements.{ChecksAssignment, IsFoundStatement};
 
 use gpi::{Act, Term};
@@ -18,9 +19,10 @@ use v_scope::{Found, Scope};
 use v_syntax::{AssignmentKind, Expression, Target};
 use v_target::CheckedTarget;
 
-/// An assignment of a value, which is evaluated at the greater one of both widths, and then cut to the target's (IEEE 1364-2005, clause
-/// 5.4.1). Only want of memory is an error.
-fn made(
+/// `target = value` or `target <= value` of a target and a value in which no rule is broken, whatever scopes they were found in. The value
+/// is evaluated at the greater one of both widths, and then cut to the target's (IEEE 1364-2005, clause 5.4.1). Only want of memory is an
+/// error.
+pub fn assign(
     alloc: Global,
     kind: AssignmentKind,
     target: CheckedTarget,
@@ -46,9 +48,9 @@ fn of_both(
     ensures { IfOk result (AreAssignments kind found) }
 {
     match found {
-        Found::Sound((target, value)) => Ok(Found::Sound(made(alloc, kind, target, value)?)),
+        Found::Sound((target, value)) => Ok(Found::Sound(assign(alloc, kind, target, value)?)),
         Found::Noted(fault, (target, value)) => {
-            Ok(Found::Noted(fault, made(alloc, kind, target, value)?))
+            Ok(Found::Noted(fault, assign(alloc, kind, target, value)?))
         }
         Found::Lost(fault) => Ok(Found::Lost(fault)),
     }

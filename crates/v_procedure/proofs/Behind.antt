@@ -13,10 +13,10 @@ use Rattle.v_operator.specs.declared.checked.Checked.{Checked}
 use Rattle.v_operator.specs.Checked.{IsChecked}
 use Rattle.gpi.specs.declared.acts.Act.{Act}
 use Rattle.v_act.specs.declared.sequences.BlockParts.{BlockParts}
-use Rattle.v_act.specs.declared.cases.CaseLabels.{CaseLabels}
-use Rattle.v_act.specs.declared.cases.CaseParts.{CaseParts}
+use Rattle.v_case.specs.declared.cases.CaseLabels.{CaseLabels}
+use Rattle.v_case.specs.declared.cases.CaseParts.{CaseParts}
 use Rattle.v_act.specs.Statements.{ChecksMoreStatements, IsFoundStatement}
-use Rattle.v_act.specs.Cases.{AreLabels, ChecksMoreLabels}
+use Rattle.v_case.specs.Cases.{AreLabels, ChecksMoreLabels}
 use Rattle.v_procedure.specs.Lists.{AreFoundStatements, AreFoundCases, IsFoundCase, statement_list, case_list}
 
 pub more_labels : (s : Scope) (xs : List code_expression.Expression) (i : ℕ) (d : code_expression.Expression) (x : Found Checked) (y f : Found CaseLabels)

@@ -10,10 +10,10 @@ use Rattle.v_flat.specs.Statements.{statement_checked, statements_checked, cases
 use Rattle.v_operator.specs.declared.checked.Checked.{Checked}
 use Rattle.v_operator.specs.Checked.{IsChecked}
 use Rattle.v_act.specs.declared.sequences.BlockParts.{BlockParts}
-use Rattle.v_act.specs.declared.cases.CaseLabels.{CaseLabels}
-use Rattle.v_act.specs.declared.cases.CaseParts.{CaseParts}
+use Rattle.v_case.specs.declared.cases.CaseLabels.{CaseLabels}
+use Rattle.v_case.specs.declared.cases.CaseParts.{CaseParts}
 use Rattle.v_act.specs.Statements.{ChecksBlock, ChecksIf, ChecksIfElse, IsFoundStatement}
-use Rattle.v_act.specs.Cases.{AreLabels, ChecksCase, ChecksItem, ChecksDefault}
+use Rattle.v_case.specs.Cases.{AreLabels, ChecksCase, ChecksItem, ChecksDefault}
 use Rattle.v_procedure.specs.Lists.{AreFoundStatements, AreFoundCases, IsFoundCase}
 
 module _ (s : Scope) where

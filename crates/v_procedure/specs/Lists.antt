@@ -7,9 +7,9 @@ use Rattle.v_scope.specs.declared.found.Found.{Found}
 use Rattle.v_scope.specs.Scope.{Scope}
 use Rattle.v_flat.specs.Statements.{statements_checked, cases_checked}
 use Rattle.v_act.specs.declared.sequences.BlockParts.{BlockParts}
-use Rattle.v_act.specs.declared.cases.CaseParts.{CaseParts}
+use Rattle.v_case.specs.declared.cases.CaseParts.{CaseParts}
 use Rattle.v_act.specs.Statements.{AreStatements}
-use Rattle.v_act.specs.Cases.{AreCases}
+use Rattle.v_case.specs.Cases.{AreCases}
 
 -- the trees of the code's statements, and of its items
 abbrev pub statement_list : List code.Statement → StatementTrees

@@ -4,11 +4,11 @@ ghost use Rattle.std.specs.Prelude.{IfOk, map};
 ghost use Rattle.v_scope.specs.Scope.{means};
 ghost use Rattle.v_syntax.specs.ExpressionTrees.{view};
 ghost use Rattle.v_names.specs.Proper.{AreProper};
-ghost use Rattle.v_act.specs.Cases.{AreLabels};
+ghost use Rattle.v_case.specs.Cases.{AreLabels};
 
 use port_io::NoMemory;
 use std::alloc::Global;
-use v_act::CaseLabels;
+use v_case::CaseLabels;
 use v_check::check;
 use v_scope::{Found, Scope};
 use v_syntax::Expression;

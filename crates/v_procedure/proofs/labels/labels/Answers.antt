@@ -4,7 +4,7 @@ use Rattle.std.proofs.lemmas.List.{drop_all}
 use Rattle.v_syntax.specs.declared.expression.Expression as code
 use Rattle.v_syntax.specs.ExpressionTrees.{view}
 use Rattle.v_scope.specs.Scope.{means}
-use Rattle.v_act.specs.Cases.{AreLabels}
+use Rattle.v_case.specs.Cases.{AreLabels}
 use Rattle.v_procedure.proofs.Behind.{more_labels}
 use Rattle.v_procedure.proofs.labels.labels.Goals as goal
 

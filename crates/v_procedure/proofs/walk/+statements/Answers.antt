@@ -13,7 +13,7 @@ use Rattle.v_scope.specs.declared.meaning.DataObject.{DataObject}
 use Rattle.v_scope.specs.declared.meaning.Meaning.TheVariants.{Object}
 use Rattle.v_scope.specs.Scope.{Scope, find, means}
 use Rattle.v_act.specs.Statements.{IsFoundStatement}
-use Rattle.v_act.specs.Cases.{AreLabels}
+use Rattle.v_case.specs.Cases.{AreLabels}
 use Rattle.v_procedure.specs.Lists.{AreFoundStatements, AreFoundCases, IsFoundCase, statement_list, case_list}
 use Rattle.v_procedure.specs.Turns.{AreTurns}
 use Rattle.v_procedure.proofs.Rows.{row_statements, row_cases}

@@ -2,8 +2,8 @@
 
 ghost use Rattle.std.specs.Prelude.{◌≡◌, IfOk, OnOk};
 ghost use Rattle.v_flat.specs.Statements.{agreement_of};
-ghost use Rattle.v_act.specs.Cases.{ChecksCase, ChecksDefault, ChecksItem, ChecksMoreLabels, ChecksNoCase, ChecksNoLabel};
-ghost use Rattle.v_act.specs.MadeCases.{AddsLabels, AreCaseStatements, AreMoreDefaults, AreMoreItems, AreMoreLabels, AreNumbered, HasDefault, HasItem, HasLabel, MakesCaseStatement};
+ghost use Rattle.v_case.specs.Cases.{ChecksCase, ChecksDefault, ChecksItem, ChecksMoreLabels, ChecksNoCase, ChecksNoLabel};
+ghost use Rattle.v_case.specs.MadeCases.{AddsLabels, AreCaseStatements, AreMoreDefaults, AreMoreItems, AreMoreLabels, AreNumbered, HasDefault, HasItem, HasLabel, MakesCaseStatement};
 
 use gpi::{Act, Acts, CaseKind as Agreement, Label};
 use port_io::{NoMemory, Sequence};

@@ -1,7 +1,7 @@
 -- The next label, and all of them.
 use Rattle.std.proofs.Common.{refl}
-use Rattle.v_act.proofs.CaseStatements.{adding_none, adding_more, adding_all}
-use Rattle.v_act.proofs.cases.add_labels.Goals as goal
+use Rattle.v_case.proofs.CaseStatements.{adding_none, adding_more, adding_all}
+use Rattle.v_case.proofs.cases.add_labels.Goals as goal
 
 pub loop-form-init : goal.loop-form-init
 loop-form-init c = adding_none c.args.width c.args.item c.args.forms.items c.args.labels.now

@@ -3,11 +3,11 @@ use Rattle.std.proofs.Common.{IfOk, subst, ap, ◌∙◌}
 use Rattle.gpi.specs.declared.acts.Act.{Act}
 use Rattle.v_scope.specs.declared.found.Found.{Found}
 use Rattle.v_scope.specs.Found.{both}
-use Rattle.v_act.specs.declared.cases.CaseLabels.{CaseLabels}
-use Rattle.v_act.specs.declared.cases.CaseParts.{CaseParts}
-use Rattle.v_act.specs.MadeCases.{AreMoreItems}
-use Rattle.v_act.proofs.CaseItems.{items_result}
-use Rattle.v_act.proofs.cases.CaseParts.item.Goals as goal
+use Rattle.v_case.specs.declared.cases.CaseLabels.{CaseLabels}
+use Rattle.v_case.specs.declared.cases.CaseParts.{CaseParts}
+use Rattle.v_case.specs.MadeCases.{AreMoreItems}
+use Rattle.v_case.proofs.CaseItems.{items_result}
+use Rattle.v_case.proofs.cases.CaseParts.item.Goals as goal
 
 pub returns : goal.returns
 returns c =

@@ -31,13 +31,13 @@ use Rattle.v_flat.proofs.Holds.{holds_both}
 use Rattle.v_operator.specs.declared.checked.Checked.{Checked}
 use Rattle.v_operator.specs.Checked.{StandsFor}
 use Rattle.v_operator.proofs.Combined.{made_holds}
-use Rattle.v_act.specs.declared.cases.LabeledItem.{LabeledItem}
-use Rattle.v_act.specs.declared.cases.CaseParts.{CaseParts}
+use Rattle.v_case.specs.declared.cases.LabeledItem.{LabeledItem}
+use Rattle.v_case.specs.declared.cases.CaseParts.{CaseParts}
 use Rattle.v_act.specs.Statements.{DoesAs}
-use Rattle.v_act.specs.Cases.{any_form_agrees, SoundForms, choose_back, SoundItems, run_some, SoundSome, DoAsCases, ChecksCase}
-use Rattle.v_act.specs.MadeCases.{item_or, AddsLabels, AreNumbered, FitTogether, MakesCaseStatement, AreCaseStatements}
+use Rattle.v_case.specs.Cases.{any_form_agrees, SoundForms, choose_back, SoundItems, run_some, SoundSome, DoAsCases, ChecksCase}
+use Rattle.v_case.specs.MadeCases.{item_or, AddsLabels, AreNumbered, FitTogether, MakesCaseStatement, AreCaseStatements}
 use Rattle.v_act.proofs.Done.{done_unit, done_as, two_done, done_made}
-use Rattle.v_act.proofs.CaseItems.{any_last, forms_split, choose_last, items_split}
+use Rattle.v_case.proofs.CaseItems.{any_last, forms_split, choose_last, items_split}
 
 -- ---- the first label that agrees
 

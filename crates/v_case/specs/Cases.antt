@@ -21,9 +21,9 @@ use Rattle.v_flat.specs.Checks.{checked}
 use Rattle.v_flat.specs.Statements.{done, labels_checked, any_agrees, widest, case_width, values_of, either_run, chosen, default_run}
 use Rattle.v_operator.specs.declared.checked.Checked.{Checked}
 use Rattle.v_operator.specs.Checked.{IsChecked}
-use Rattle.v_act.specs.declared.cases.CaseLabels.{CaseLabels}
-use Rattle.v_act.specs.declared.cases.LabeledItem.{LabeledItem}
-use Rattle.v_act.specs.declared.cases.CaseParts.{CaseParts}
+use Rattle.v_case.specs.declared.cases.CaseLabels.{CaseLabels}
+use Rattle.v_case.specs.declared.cases.LabeledItem.{LabeledItem}
+use Rattle.v_case.specs.declared.cases.CaseParts.{CaseParts}
 use Rattle.v_act.specs.Statements.{LabelsNamesOf, CasesNamesOf, IsStatement}
 
 -- ---- labels

@@ -1,8 +1,8 @@
 -- The next item, and all of them.
 use Rattle.std.proofs.Common.{◌∙◌}
 use Rattle.gpi.specs.Activation.{acts_of}
-use Rattle.v_act.proofs.CaseStatements.{numbering_none, numbering_more}
-use Rattle.v_act.proofs.cases.numbered.Goals as goal
+use Rattle.v_case.proofs.CaseStatements.{numbering_none, numbering_more}
+use Rattle.v_case.proofs.cases.numbered.Goals as goal
 
 pub loop-item-init : goal.loop-item-init
 loop-item-init c =

@@ -23,12 +23,12 @@ use Rattle.v_flat.proofs.Holds.{holds_both}
 use Rattle.v_operator.specs.declared.checked.Checked.{Checked}
 use Rattle.v_operator.specs.Checked.{StandsFor}
 use Rattle.v_operator.proofs.Combined.{made_holds}
-use Rattle.v_act.specs.declared.cases.CaseLabels.{CaseLabels}
-use Rattle.v_act.specs.declared.cases.LabeledItem.{LabeledItem}
-use Rattle.v_act.specs.declared.cases.CaseParts.{CaseParts}
+use Rattle.v_case.specs.declared.cases.CaseLabels.{CaseLabels}
+use Rattle.v_case.specs.declared.cases.LabeledItem.{LabeledItem}
+use Rattle.v_case.specs.declared.cases.CaseParts.{CaseParts}
 use Rattle.v_act.specs.Statements.{DoesAs}
-use Rattle.v_act.specs.Cases.{any_form_agrees, SoundForms, DoAsLabels, choose_back, SoundItems, run_some, SoundSome, DoAsCases, ChecksMoreLabels, ChecksItem, ChecksDefault}
-use Rattle.v_act.specs.MadeCases.{HasLabel, AreMoreLabels, HasItem, AreMoreItems, HasDefault, AreMoreDefaults}
+use Rattle.v_case.specs.Cases.{any_form_agrees, SoundForms, DoAsLabels, choose_back, SoundItems, run_some, SoundSome, DoAsCases, ChecksMoreLabels, ChecksItem, ChecksDefault}
+use Rattle.v_case.specs.MadeCases.{HasLabel, AreMoreLabels, HasItem, AreMoreItems, HasDefault, AreMoreDefaults}
 use Rattle.v_act.proofs.Done.{done_unit, done_as, two_done, done_made}
 
 both_narrow : (a b : ℕ) → a ≤ most_digits → b ≤ most_digits → max a b ≤ most_digits

@@ -18,10 +18,10 @@ use Rattle.v_context.specs.Contexts.{value_in, IsSound}
 use Rattle.v_flat.specs.Expressions.{Values}
 use Rattle.v_flat.specs.Statements.{agreement_of, values_of}
 use Rattle.v_operator.specs.declared.checked.Checked.{Checked}
-use Rattle.v_act.specs.declared.cases.CaseLabels.{CaseLabels}
-use Rattle.v_act.specs.declared.cases.LabeledItem.{LabeledItem}
-use Rattle.v_act.specs.declared.cases.CaseParts.{CaseParts}
-use Rattle.v_act.specs.Cases.{any_form_agrees, SoundForms, choose_back, SoundItems, run_some, SoundSome}
+use Rattle.v_case.specs.declared.cases.CaseLabels.{CaseLabels}
+use Rattle.v_case.specs.declared.cases.LabeledItem.{LabeledItem}
+use Rattle.v_case.specs.declared.cases.CaseParts.{CaseParts}
+use Rattle.v_case.specs.Cases.{any_form_agrees, SoundForms, choose_back, SoundItems, run_some, SoundSome}
 
 -- y is x with the label c before it
 pub record HasLabel (c : Checked) (x y : CaseLabels) : Type 0 where

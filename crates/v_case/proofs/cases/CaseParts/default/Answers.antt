@@ -2,10 +2,10 @@
 use Rattle.std.proofs.Common.{subst}
 use Rattle.gpi.specs.declared.acts.Act.{Act}
 use Rattle.v_scope.specs.declared.found.Found.{Found}
-use Rattle.v_act.specs.declared.cases.CaseParts.{CaseParts}
-use Rattle.v_act.specs.MadeCases.{AreMoreDefaults}
-use Rattle.v_act.proofs.CaseItems.{defaults_are}
-use Rattle.v_act.proofs.cases.CaseParts.default.Goals as goal
+use Rattle.v_case.specs.declared.cases.CaseParts.{CaseParts}
+use Rattle.v_case.specs.MadeCases.{AreMoreDefaults}
+use Rattle.v_case.proofs.CaseItems.{defaults_are}
+use Rattle.v_case.proofs.cases.CaseParts.default.Goals as goal
 
 pub returns : goal.returns
 returns c =

@@ -2,10 +2,10 @@
 use Rattle.std.proofs.Common.{IfOk, subst}
 use Rattle.v_scope.specs.declared.found.Found.{Found}
 use Rattle.v_operator.specs.declared.checked.Checked.{Checked}
-use Rattle.v_act.specs.declared.cases.CaseParts.{CaseParts}
-use Rattle.v_act.specs.MadeCases.{AreCaseStatements}
-use Rattle.v_act.proofs.CaseStatements.{case_result}
-use Rattle.v_act.proofs.cases.case.Goals as goal
+use Rattle.v_case.specs.declared.cases.CaseParts.{CaseParts}
+use Rattle.v_case.specs.MadeCases.{AreCaseStatements}
+use Rattle.v_case.proofs.CaseStatements.{case_result}
+use Rattle.v_case.proofs.cases.case.Goals as goal
 
 pub returns : goal.returns
 returns c =

@@ -1,6 +1,6 @@
 -- A case statement from the value and the items.
-use Rattle.v_act.proofs.CaseStatements.{statement_result}
-use Rattle.v_act.proofs.cases.made.Goals as goal
+use Rattle.v_case.proofs.CaseStatements.{statement_result}
+use Rattle.v_case.proofs.cases.made.Goals as goal
 
 pub returns : goal.returns
 returns c =

@@ -2,10 +2,10 @@
 use Rattle.std.proofs.Common.{IfOk, subst}
 use Rattle.v_scope.specs.declared.found.Found.{Found}
 use Rattle.v_operator.specs.declared.checked.Checked.{Checked}
-use Rattle.v_act.specs.declared.cases.CaseLabels.{CaseLabels}
-use Rattle.v_act.specs.MadeCases.{AreMoreLabels}
-use Rattle.v_act.proofs.CaseItems.{labels_result}
-use Rattle.v_act.proofs.cases.CaseLabels.before.Goals as goal
+use Rattle.v_case.specs.declared.cases.CaseLabels.{CaseLabels}
+use Rattle.v_case.specs.MadeCases.{AreMoreLabels}
+use Rattle.v_case.proofs.CaseItems.{labels_result}
+use Rattle.v_case.proofs.cases.CaseLabels.before.Goals as goal
 
 pub returns : goal.returns
 returns c =

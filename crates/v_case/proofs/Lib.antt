@@ -1,0 +1,2 @@
+pub mod CaseItems
+pub mod CaseStatements
