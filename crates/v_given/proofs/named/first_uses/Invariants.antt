@@ -1,0 +1,11 @@
+-- The connections that are left, and the names that were seen.
+use Rattle.std.proofs.Common.{◌≡◌, ℕ, List, [], ◌++◌, map, drop}
+use Rattle.v_syntax.specs.SourceTrees.{view_connection}
+use Rattle.v_header.specs.Names.{texts}
+use Rattle.v_given.specs.Uses.{HasNames, first_uses}
+use Rattle.v_given.proofs.named.first_uses.Given as goal
+
+abbrev pub invariant-loop-at : goal.invariant-loop-at
+invariant-loop-at l =
+    (seen : List (List ℕ)) × (HasNames seen l.seen × (l.uses.items ++ first_uses (texts l.names) seen (map view_connection (drop l.at l.connections))
+    ≡ first_uses (texts l.names) [] (map view_connection l.connections)))
