@@ -15,7 +15,7 @@ use v_syntax::{Target, TokenNumber};
 use v_target::CheckedTarget;
 
 /// What is found in all parts of braces together, put together from the last one to the first. Only want of memory is an error.
-fn together(
+pub fn together(
     alloc: Global,
     mut parts: Vec<Found<CheckedTarget>>,
 ) -> Result<Found<TargetParts>, NoMemory>
