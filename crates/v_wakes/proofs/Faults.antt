@@ -1,0 +1,182 @@
+-- The broken rule that counts of many, and what is found in one event after the others.
+use Rattle.std.proofs.Common.{◌≡◌, ℕ, ◌+◌, ◌≤◌, ◌<◌, Bool, true, false, not, ◌&&◌, ◌||◌, nat_lt, List, [], ◌∷◌, ◌++◌, Option, None, Some, Result, Ok, Err, length, drop, get_or, refl, sym, ap, ◌∙◌, if◌then◌else◌, arith}
+use Rattle.std.proofs.lemmas.Bool.Decides.{nat_tests}
+use Rattle.std.proofs.lemmas.List.{append_assoc, append-nil, drop_all, drop_more}
+use Rattle.gpi.specs.declared.design.Wake.{Wake}
+use Rattle.v_syntax.specs.declared.item.Event.{Event}
+use Rattle.v_scope.specs.declared.rule.Broken.{Broken}
+use Rattle.v_scope.specs.declared.found.Found.{Found}
+use Rattle.v_scope.specs.declared.found.Found.TheVariants.{Sound, Noted, Lost}
+use Rattle.v_scope.specs.Rules.{number_of, earlier}
+use Rattle.v_scope.specs.Found.{both, each, ended}
+use Rattle.v_scope.specs.Scope.{Scope, find}
+use Rattle.v_scope.specs.declared.meaning.Bounds.{Bounds}
+use Rattle.v_scope.specs.declared.meaning.DataObject.{DataObject}
+use Rattle.v_scope.specs.declared.meaning.Meaning.{Meaning}
+use Rattle.v_scope.specs.declared.meaning.Meaning.TheVariants.{Constant, Object, Later}
+use Rattle.v_flat.specs.Design.{events_of, wake_by, wake_in}
+use Rattle.v_wakes.specs.Gathered.{gathered, with_fault}
+
+-- ---- of three rules the same one counts, whichever two are put together first
+
+abbrev before : ℕ → ℕ → ℕ → ℕ → Bool
+before p m q n = nat_lt p q || (not (nat_lt q p) && nat_lt m n)
+
+before_both : (p m q n r o : ℕ) → before p m q n ≡ true → before q n r o ≡ true → before p m r o ≡ true
+before_both p m q n r o h g = grind (arith, nat_tests, h, g)
+
+before_neither : (p m q n r o : ℕ) → before p m q n ≡ false → before q n r o ≡ false → before p m r o ≡ false
+before_neither p m q n r o h g = grind (arith, nat_tests, h, g)
+
+-- b counts, and not a
+unfoldable counts : Broken → Broken → Bool
+counts b a = before b.place (number_of b.rule) a.place (number_of a.rule)
+
+by_tests : (x y z : Bool) (a b : Broken) → (if x then b else (if y then a else (if z then b else a))) ≡ (if x || (not y && z) then b else a)
+by_tests true y z a b = refl
+by_tests false true z a b = refl
+by_tests false false z a b = refl
+
+by_counts : (a b : Broken) → earlier a b ≡ (if counts b a then b else a)
+unfolding counts
+by_counts a b = by_tests (nat_lt b.place a.place) (nat_lt a.place b.place) (nat_lt (number_of b.rule) (number_of a.rule)) a b
+
+-- x: b before a, y: c before b, z: c before a
+three : (a b c : Broken) (x y z : Bool) → (y ≡ true → x ≡ true → z ≡ true) → (y ≡ false → x ≡ false → z ≡ false)
+    → (if (if y then z else x) then (if y then c else b) else a) ≡ (if (if x then y else z) then c else (if x then b else a))
+three a b c true true true h g = refl
+three a b c true true false h g = absurd (let e = h refl refl in cc)
+three a b c true false z h g = refl
+three a b c false true z h g = refl
+three a b c false false true h g = absurd (let e = g refl refl in cc)
+three a b c false false false h g = refl
+
+counts_chosen : (y : Bool) (a b c : Broken) → counts (if y then c else b) a ≡ (if y then counts c a else counts b a)
+counts_chosen true a b c = refl
+counts_chosen false a b c = refl
+
+chosen_counts : (x : Bool) (a b c : Broken) → counts c (if x then b else a) ≡ (if x then counts c b else counts c a)
+chosen_counts true a b c = refl
+chosen_counts false a b c = refl
+
+counts_both : (a b c : Broken) → counts c b ≡ true → counts b a ≡ true → counts c a ≡ true
+unfolding counts
+counts_both a b c h g = before_both c.place (number_of c.rule) b.place (number_of b.rule) a.place (number_of a.rule) h g
+
+counts_neither : (a b c : Broken) → counts c b ≡ false → counts b a ≡ false → counts c a ≡ false
+unfolding counts
+counts_neither a b c h g = before_neither c.place (number_of c.rule) b.place (number_of b.rule) a.place (number_of a.rule) h g
+
+earliest : (a b c : Broken) → earlier a (earlier b c) ≡ earlier (earlier a b) c
+earliest a b c =
+    ap (λ (d : Broken). earlier a d) (by_counts b c)
+    ∙ by_counts a (if counts c b then c else b)
+    ∙ ap (λ (t : Bool). if t then (if counts c b then c else b) else a) (counts_chosen (counts c b) a b c)
+    ∙ three a b c (counts b a) (counts c b) (counts c a) (counts_both a b c) (counts_neither a b c)
+    ∙ ap (λ (t : Bool). if t then c else (if counts b a then b else a)) (sym (chosen_counts (counts b a) a b c))
+    ∙ sym (by_counts (if counts b a then b else a) c)
+    ∙ ap (λ (d : Broken). earlier d c) (sym (by_counts a b))
+
+-- ---- one event is a wake, or a rule is broken in it and there is none
+
+abbrev found_of : Result Wake Broken → Found Wake
+found_of (Ok w) = Sound w
+found_of (Err b) = Lost b
+
+in_plain : (e : Event) (o : DataObject) (w : Option Bounds) → wake_in e o w ≡ found_of (ended (wake_in e o w))
+in_plain e o None = refl
+in_plain e o (Some w) = refl
+
+wake_plain : (e : Event) (m : Option Meaning) → wake_by e m ≡ found_of (ended (wake_by e m))
+wake_plain e None = refl
+wake_plain e (Some Later) = refl
+wake_plain e (Some (Constant ds b)) = refl
+wake_plain e (Some (Object o)) = in_plain e o o.words
+
+-- ---- the loop
+
+unfoldable pub Gathers : Scope → List Event → ℕ → Option Broken → List Wake → Type 0
+Gathers s es i fault ws = gathered fault ws (events_of s (drop i es)) ≡ events_of s es
+
+sound_more : (ws : List Wake) (w : Wake) (fault : Option Broken) (x : Found (List Wake))
+    → gathered fault (ws ++ w ∷ []) x ≡ gathered fault ws (each (λ y. y.0 ∷ y.1) (both (Sound w) x))
+sound_more ws w None (Sound a) = ap (λ (xs : List Wake). (let r : Found (List Wake) = Sound xs in r)) (append_assoc ws (w ∷ []) a)
+sound_more ws w None (Noted b a) = ap (λ (xs : List Wake). (let r : Found (List Wake) = Noted b xs in r)) (append_assoc ws (w ∷ []) a)
+sound_more ws w None (Lost b) = refl
+sound_more ws w (Some c) (Sound a) = refl
+sound_more ws w (Some c) (Noted b a) = refl
+sound_more ws w (Some c) (Lost b) = refl
+
+lost_more : (ws : List Wake) (b : Broken) (fault : Option Broken) (x : Found (List Wake))
+    → gathered (Some (with_fault fault b)) ws x ≡ gathered fault ws (each (λ y. y.0 ∷ y.1) (both (Lost b) x))
+lost_more ws b None (Sound a) = refl
+lost_more ws b None (Noted c a) = refl
+lost_more ws b None (Lost c) = refl
+lost_more ws b (Some a) (Sound v) = refl
+lost_more ws b (Some a) (Noted c v) = ap (λ (e : Broken). (let r : Found (List Wake) = Lost e in r)) (sym (earliest a b c))
+lost_more ws b (Some a) (Lost c) = ap (λ (e : Broken). (let r : Found (List Wake) = Lost e in r)) (sym (earliest a b c))
+
+none_gathered : (x : Found (List Wake)) → gathered None [] x ≡ x
+none_gathered (Sound a) = refl
+none_gathered (Noted b a) = refl
+none_gathered (Lost b) = refl
+
+pub gathers_none : (s : Scope) (es : List Event) → Gathers s es 0 None []
+unfolding Gathers
+gathers_none s es = none_gathered (events_of s es)
+
+next_event : (s : Scope) (es : List Event) (i : ℕ) (e : Event) → i < length es → e ≡ get_or es i e
+    → events_of s (drop i es) ≡ each (λ x. x.0 ∷ x.1) (both (wake_by e (find e.name.name s)) (events_of s (drop (i + 1) es)))
+next_event s es i e h q =
+    ap (λ (xs : List Event). events_of s xs) (drop_more es i e h)
+    ∙ ap (λ (d : Event). events_of s (d ∷ drop (i + 1) es)) (sym q)
+
+plain_by : (s : Scope) (e : Event) (r : Result Wake Broken) → r ≡ ended (wake_by e (find e.name.name s)) → wake_by e (find e.name.name s) ≡ found_of r
+plain_by s e r h = wake_plain e (find e.name.name s) ∙ ap (λ (t : Result Wake Broken). found_of t) (sym h)
+
+pub gathers_sound : (s : Scope) (es : List Event) (i : ℕ) (e : Event) (fault more : Option Broken) (ws vs : List Wake) (r : Result Wake Broken) (w : Wake)
+    → i < length es → e ≡ get_or es i e → r ≡ ended (wake_by e (find e.name.name s)) → r ≡ Ok w → vs ≡ ws ++ w ∷ [] → more ≡ fault → Gathers s es i fault ws
+    → Gathers s es (i + 1) more vs
+unfolding Gathers
+gathers_sound s es i e fault more ws vs r w h q found is made same so_far =
+    let rest = events_of s (drop (i + 1) es) in
+    let sound : wake_by e (find e.name.name s) ≡ Sound w = plain_by s e r found ∙ ap (λ (t : Result Wake Broken). found_of t) is in
+    ap (λ (f : Option Broken). gathered f vs rest) same
+    ∙ ap (λ (xs : List Wake). gathered fault xs rest) made
+    ∙ sound_more ws w fault rest
+    ∙ ap (λ (x : Found Wake). gathered fault ws (each (λ y. y.0 ∷ y.1) (both x rest))) (sym sound)
+    ∙ ap (λ (x : Found (List Wake)). gathered fault ws x) (sym (next_event s es i e h q))
+    ∙ so_far
+
+pub gathers_lost : (s : Scope) (es : List Event) (i : ℕ) (e : Event) (fault more : Option Broken) (ws vs : List Wake) (r : Result Wake Broken) (b c : Broken)
+    → i < length es → e ≡ get_or es i e → r ≡ ended (wake_by e (find e.name.name s)) → r ≡ Err b → c ≡ with_fault fault b → more ≡ Some c → vs ≡ ws
+    → Gathers s es i fault ws → Gathers s es (i + 1) more vs
+unfolding Gathers
+gathers_lost s es i e fault more ws vs r b c h q found is counted grown same so_far =
+    let rest = events_of s (drop (i + 1) es) in
+    let gone : wake_by e (find e.name.name s) ≡ Lost b = plain_by s e r found ∙ ap (λ (t : Result Wake Broken). found_of t) is in
+    ap (λ (f : Option Broken). gathered f vs rest) grown
+    ∙ ap (λ (xs : List Wake). gathered (Some c) xs rest) same
+    ∙ ap (λ (d : Broken). gathered (Some d) ws rest) counted
+    ∙ lost_more ws b fault rest
+    ∙ ap (λ (x : Found Wake). gathered fault ws (each (λ y. y.0 ∷ y.1) (both x rest))) (sym gone)
+    ∙ ap (λ (x : Found (List Wake)). gathered fault ws x) (sym (next_event s es i e h q))
+    ∙ so_far
+
+at_end : (s : Scope) (es : List Event) (i : ℕ) (fault : Option Broken) (ws : List Wake) → length es ≤ i → Gathers s es i fault ws
+    → gathered fault ws (Sound []) ≡ events_of s es
+unfolding Gathers
+at_end s es i fault ws h so_far = ap (λ (xs : List Event). gathered fault ws (events_of s xs)) (sym (drop_all i es h)) ∙ so_far
+
+pub sound_end : (s : Scope) (es : List Event) (i : ℕ) (fault : Option Broken) (ws : List Wake) → length es ≤ i → Gathers s es i fault ws → fault ≡ None
+    → Sound ws ≡ events_of s es
+sound_end s es i fault ws h so_far is =
+    ap (λ (xs : List Wake). (let r : Found (List Wake) = Sound xs in r)) (sym (append-nil ws))
+    ∙ ap (λ (f : Option Broken). gathered f ws (Sound [])) (sym is)
+    ∙ at_end s es i fault ws h so_far
+
+pub lost_end : (s : Scope) (es : List Event) (i : ℕ) (fault : Option Broken) (ws : List Wake) (b : Broken) → length es ≤ i → Gathers s es i fault ws → fault ≡ Some b
+    → Lost b ≡ events_of s es
+lost_end s es i fault ws b h so_far is =
+    ap (λ (f : Option Broken). gathered f ws (Sound [])) (sym is)
+    ∙ at_end s es i fault ws h so_far
