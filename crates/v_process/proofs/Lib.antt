@@ -1,0 +1,5 @@
+pub mod Run
+pub mod Driving
+pub mod Opened
+pub mod Connected
+pub mod Items
