@@ -1,6 +1,5 @@
 -- Continuous assignments.
-use Rattle.std.proofs.Common.{◌≡◌, ℕ, List, [], Option, None, Result, Ok, Err, IfOk, OnErr, refl, sym, ap, ◌∙◌, subst}
-use Rattle.std.proofs.lemmas.List.{append-nil}
+use Rattle.std.proofs.Common.{◌≡◌, List, None, Result, Ok, Err, IfOk, OnErr}
 use Rattle.gpi.specs.declared.acts.Act.{Act}
 use Rattle.gpi.specs.declared.design.Kind.TheVariants.{Assign}
 use Rattle.gpi.specs.declared.design.Wake.{Wake}
@@ -12,14 +11,13 @@ use Rattle.v_scope.specs.declared.found.Found.{Found}
 use Rattle.v_scope.specs.Found.{each, both}
 use Rattle.v_scope.specs.Scope.{Scope}
 use Rattle.v_flat.specs.Checks.{checked}
-use Rattle.v_flat.specs.Targets.{Drive, driving}
+use Rattle.v_flat.specs.Targets.{driving}
 use Rattle.v_flat.specs.Statements.{done}
 use Rattle.v_drive.specs.declared.digits.DrivenDigits.{DrivenDigits}
-use Rattle.v_drive.specs.Digits.{Keeps, KeepsSame}
 use Rattle.v_operator.specs.declared.checked.Checked.{Checked}
 use Rattle.v_operator.specs.Checked.{IsChecked}
 use Rattle.v_target.specs.declared.checked.CheckedTarget.{CheckedTarget}
-use Rattle.v_assign.specs.Continuous.{IsContinuous, KeepsAtLeast, KeepsOrGrows}
+use Rattle.v_assign.specs.Continuous.{IsContinuous, KeepsOrGrows}
 use Rattle.v_assign.proofs.Grown.{on_err, target_grown}
 use Rattle.v_act.specs.Statements.{ChecksAssignment}
 use Rattle.v_process.specs.Made.{process, IsAssigning}
@@ -45,16 +43,6 @@ driver_result s t e ws x y u v (Ok f) h k made = driver_found s t e ws x y u v f
 driver_result s t e ws x y u v (Err b) h k made = tt
 
 -- ---- want of memory
-
-pub same_grown : (x y : DrivenDigits) → KeepsSame x y → KeepsOrGrows x y
-same_grown x y h = λ ds k. record { later = []; driven = subst (λ (es : List Drive). Keeps y es) (sym (append-nil ds)) (h ds k) }
-
-pub none_grown : (x : DrivenDigits) → KeepsOrGrows x x
-none_grown x = same_grown x x (λ ds k. k)
-
-pub same_result : {A E : Type 0} (x y : DrivenDigits) (r : Result A E) → OnErr r (KeepsSame x y) → OnErr r (KeepsOrGrows x y)
-same_result x y (Ok a) h = tt
-same_result x y (Err e) h = same_grown x y h
 
 pub grown_result : {A E : Type 0} (s : Scope) (t : TargetTree) (x y : DrivenDigits) (u : Found CheckedTarget) (r : Result A E) → IsContinuous None s t x u y
     → OnErr r (KeepsOrGrows x y)

@@ -1,5 +1,5 @@
 -- Processes of statements that were found.
-use Rattle.std.proofs.Common.{◌≡◌, ℕ, List, refl, sym, ap, ◌∙◌, subst}
+use Rattle.std.proofs.Common.{◌≡◌, List, refl, sym, ◌∙◌, subst}
 use Rattle.gpi.specs.declared.acts.Act.{Act}
 use Rattle.gpi.specs.declared.design.Kind.{Kind}
 use Rattle.gpi.specs.declared.design.Kind.TheVariants.{Always}
@@ -10,7 +10,7 @@ use Rattle.v_scope.specs.declared.found.Found.{Found}
 use Rattle.v_scope.specs.declared.found.Found.TheVariants.{Sound, Noted, Lost}
 use Rattle.v_scope.specs.Found.{each, both, Holds}
 use Rattle.v_scope.specs.Scope.{Scope}
-use Rattle.v_flat.specs.Statements.{done, statement_checked}
+use Rattle.v_flat.specs.Statements.{statement_checked}
 use Rattle.v_flat.specs.Design.{from}
 use Rattle.v_act.specs.Statements.{DoesAs, IsStatement, IsFoundStatement}
 use Rattle.v_act.proofs.Done.{done_unit, done_each, two_done}

@@ -1,5 +1,5 @@
 -- What it means that a connected port has its process (IEEE 1364-2005, clause 12.3.9.2): its assignment, as the definition makes it.
-use Rattle.std.specs.Prelude.{ℕ, List, [], ◌∷◌, None}
+use Rattle.std.specs.Prelude.{List, [], ◌∷◌, None}
 use Rattle.gpi.specs.declared.design.Kind.TheVariants.{Assign}
 use Rattle.gpi.specs.declared.design.Wake.{Wake}
 use Rattle.gpi.specs.declared.design.Process.{Process}
