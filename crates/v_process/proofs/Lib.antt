@@ -1,0 +1,4 @@
+pub mod Run
+pub mod Driving
+pub mod Opened
+pub mod Items

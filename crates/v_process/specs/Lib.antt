@@ -1,0 +1,4 @@
+pub mod Processes
+pub mod Ports
+pub mod Items
+pub mod Made
