@@ -1,0 +1,64 @@
+//! The walk over an expression that spells a target.
+
+ghost use Rattle.std.specs.Prelude.{IfOk};
+ghost use Rattle.v_scope.specs.Scope.{means};
+ghost use Rattle.v_syntax.specs.ExpressionTrees.{view, views};
+ghost use Rattle.v_flat.specs.Targets.{as_target, as_targets};
+ghost use Rattle.v_names.specs.Proper.{AreProper};
+ghost use Rattle.v_assign.specs.Continuous.{KeepsOrGrows};
+ghost use Rattle.v_output.specs.Outputs.{AreOutputs, IsOutput};
+
+use crate::together::together;
+use port_io::NoMemory;
+use std::alloc::Global;
+use v_assign::{braced, net_name};
+use v_drive::DrivenDigits;
+use v_scope::{ElabRule, Found, Scope};
+use v_syntax::{Expression, TokenNumber};
+use v_target::CheckedTarget;
+
+/// What is found in the target that an expression spells, to which an output is connected: what is broken first, its width where that is
+/// known, and the target that gets its updates; and which digits of nets are driven then (IEEE 1364-2005, clauses 6.1 and 12.3.9.2).
+/// `place` is that of the connection, which stands for those of all parts where they are driven twice. One that spells none breaks
+/// BadTarget there, and nothing of it is checked. Only want of memory is an error. Whatever the answer, those digits that were driven are.
+#[cycle(driving)]
+pub fn output(
+    alloc: Global,
+    scope: &Scope,
+    place: TokenNumber,
+    expression: &Expression,
+    driven: &mut DrivenDigits,
+) -> Result<Found<CheckedTarget>, NoMemory>
+    requires { AreProper (means scope.now) }
+    ensures ok { IfOk result (λ found. IsOutput place (means scope.now) (as_target (view expression.now)) driven.old found driven.new) }
+    ensures grows { KeepsOrGrows driven.old driven.new }
+{
+    match expression {
+        Expression::Operand(operand) => net_name(alloc, scope, Some(place), operand, driven),
+        Expression::Concatenation { at, parts } => {
+            let found = each_part(alloc, scope, place, parts, driven)?;
+            braced(alloc, *at, together(alloc, found)?)
+        }
+        _ => Ok(Found::broken(ElabRule::BadTarget, place)),
+    }
+}
+
+/// What is found in each part of braces, from left to right. Only want of memory is an error.
+#[cycle(driving)]
+fn each_part(
+    alloc: Global,
+    scope: &Scope,
+    place: TokenNumber,
+    expressions: &[Expression],
+    driven: &mut DrivenDigits,
+) -> Result<Vec<Found<CheckedTarget>>, NoMemory>
+    requires { AreProper (means scope.now) }
+    ensures ok { IfOk result (λ found. AreOutputs place (means scope.now) (as_targets (views expressions.now)) driven.old found.items driven.new) }
+    ensures grows { KeepsOrGrows driven.old driven.new }
+{
+    let mut found = Vec::new(alloc);
+    for expression in expressions {
+        found.push(output(alloc, scope, place, expression, driven)?)?;
+    }
+    Ok(found)
+}
