@@ -5,7 +5,6 @@
 #![tactic(auto)]
 
 mod spelled;
-mod together;
 mod walk;
 
 pub use spelled::spells_target;

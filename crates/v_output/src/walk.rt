@@ -8,10 +8,9 @@ ghost use Rattle.v_names.specs.Proper.{AreProper};
 ghost use Rattle.v_assign.specs.Continuous.{KeepsOrGrows};
 ghost use Rattle.v_output.specs.Outputs.{AreOutputs, IsOutput};
 
-use crate::together::together;
 use port_io::NoMemory;
 use std::alloc::Global;
-use v_assign::{braced, net_name};
+use v_assign::{braced, net_name, together};
 use v_drive::DrivenDigits;
 use v_scope::{ElabRule, Found, Scope};
 use v_syntax::{Expression, TokenNumber};
