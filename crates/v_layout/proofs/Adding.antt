@@ -1,7 +1,7 @@
 -- Lists to which parts are added in turn.
-use Rattle.std.proofs.Common.{◌≡◌, List, [], ◌++◌, Result, Ok, Err, refl, sym, ◌∙◌, ap}
+use Rattle.std.proofs.Common.{◌≡◌, List, ◌++◌, Result, Ok, Err, sym, ◌∙◌, ap}
 use Rattle.std.specs.Result.{OnErr}
-use Rattle.std.proofs.lemmas.List.{append_assoc, append-nil}
+use Rattle.std.proofs.lemmas.List.{append_assoc}
 use Rattle.v_layout.specs.Adds.{AddsSome}
 
 -- the new list is the old one with all behind it but for what is left
@@ -9,9 +9,6 @@ pub record IsLeft {A : Type 0} (old all left new : List A) : Type 0 where
   pub some : List A
   pub is : new ≡ old ++ some
   pub of : some ++ left ≡ all
-
-pub begun : {A : Type 0} (old all : List A) → IsLeft old all all old
-begun old all = record { some = []; is = sym (append-nil old); of = refl }
 
 -- one part more
 pub added : {A : Type 0} (old all left rest part new more : List A) → IsLeft old all left new → left ≡ part ++ rest → more ≡ new ++ part → IsLeft old all rest more
@@ -31,14 +28,6 @@ stopped {A} old all left rest part new more h e k = record {
       ∙ ap (λ (xs : List A). h.some ++ xs) (sym (append_assoc k.some k.rest rest) ∙ ap (λ (xs : List A). xs ++ rest) k.of ∙ sym e)
       ∙ h.of;
 }
-
--- none of the next part
-pub left_as_is : {A : Type 0} (old all left new : List A) → IsLeft old all left new → AddsSome old all new
-left_as_is old all left new h = record { some = h.some; rest = left; is = h.is; of = h.of }
-
-pub all_added : {A : Type 0} (old all left new : List A) → IsLeft old all left new → left ≡ [] → new ≡ old ++ all
-all_added {A} old all left new h e =
-    h.is ∙ ap (λ (xs : List A). old ++ xs) (sym (append-nil h.some) ∙ ap (λ (xs : List A). h.some ++ xs) (sym e) ∙ h.of)
 
 pub err_so : {A E P : Type 0} (r : Result A E) → P → OnErr r P
 err_so (Ok a) p = tt

@@ -1,15 +1,13 @@
 -- One turn of a loop over declared names, constants or words.
-use Rattle.std.proofs.Common.{◌≡◌, ℕ, zero, suc, ◌+◌, ◌-◌, ◌<◌, ◌≤◌, min, max, List, [], ◌∷◌, ◌++◌, length, drop, get_or, Some, Bool, true, false, nat_le, if◌then◌else◌, refl, sym, ap, ◌∙◌, arith}
-use Rattle.std.proofs.lemmas.Bool.Decides.{nat_tests}
+use Rattle.std.proofs.Common.{◌≡◌, ℕ, zero, suc, ◌+◌, ◌-◌, ◌<◌, ◌≤◌, List, [], ◌∷◌, ◌++◌, length, drop, get_or, Some, sym, ap, ◌∙◌, arith}
 use Rattle.std.proofs.lemmas.List.{append_assoc, append-nil}
 use Rattle.four_value.specs.declared.Digit.{Digit}
 use Rattle.gpi.specs.declared.design.Signal.{Signal}
 use Rattle.gpi.specs.declared.design.Spot.{Spot}
-use Rattle.v_scope.specs.declared.meaning.Bounds.{Bounds}
 use Rattle.v_scope.specs.declared.meaning.DataObject.{DataObject}
 use Rattle.v_scope.specs.declared.meaning.Meaning.{Meaning}
 use Rattle.v_scope.specs.declared.meaning.Meaning.TheVariants.{Object}
-use Rattle.v_scope.specs.Scope.{Scope, means, named, width_of}
+use Rattle.v_scope.specs.Scope.{Scope, means, named}
 use Rattle.v_flat.specs.Objects.{count_of}
 use Rattle.v_flat.specs.Declarations.{Declared, Entries, signals_in}
 use Rattle.v_flat.specs.Paths.{word_text}
@@ -83,15 +81,5 @@ named_signals t u n l e h = ap (λ (v : List ℕ). signals_at v (line_in l)) (e 
 abbrev pub word_signal : List ℕ → ℕ → Digit → ℕ → Signal
 word_signal t w start i = record { path = t ++ word_text (Some i); width = w; start = start }
 
-pub signal_is : (s : Signal) (t u : List ℕ) (w : ℕ) (start : Digit) (i : ℕ) → s.path ≡ u → s.width ≡ w → s.start ≡ start → u ≡ t ++ word_text (Some i) → s ≡ word_signal t w start i
-signal_is s t u w start i p e f q = λ j. record { path = (p ∙ q) j; width = e j; start = f j }
-
 pub word_here : (t : List ℕ) (w : ℕ) (start : Digit) (i h : ℕ) → i < h → words_at t w start i (h - i) ≡ (word_signal t w start i ∷ []) ++ words_at t w start (i + 1) (h - (i + 1))
 word_here t w start i h k = let e : h - i ≡ suc (h - (i + 1)) = omega (arith, k) in ap (λ (n : ℕ). words_at t w start i n) e
-
-width_by : (a b : ℕ) (t : Bool) → nat_le a b ≡ t → (if t then (b - a) + 1 else (a - b) + 1) ≡ (max a b + 1) - min a b
-width_by a b true h = grind (arith, nat_tests)
-width_by a b false h = grind (arith, nat_tests)
-
-pub width_is : (b : Bounds) → width_of b ≡ (max b.left b.right + 1) - min b.left b.right
-width_is b = width_by b.left b.right (nat_le b.left b.right) refl

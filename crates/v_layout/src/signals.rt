@@ -1,17 +1,16 @@
 //! The signals of declared names.
 
-ghost use Rattle.std.specs.Prelude.{◌≡◌, ℕ, List, ◌++◌, ◌∷◌, [], map, option_map, IfOk, OnErr, OnOk};
+ghost use Rattle.std.specs.Prelude.{◌≡◌, ℕ, List, ◌++◌, ◌∷◌, [], map, IfOk, OnErr, OnOk};
 ghost use Rattle.std.specs.List.{All};
 ghost use Rattle.gpi.specs.Terms.{IsWidth};
-ghost use Rattle.v_scope.specs.Scope.{low_of, width_of};
-ghost use Rattle.v_flat.specs.Declarations.{kind_of};
+ghost use Rattle.v_scope.specs.Scope.{width_of};
 ghost use Rattle.v_flat.specs.Paths.{Path, signal_of};
 ghost use Rattle.v_flat.specs.Design.{all_signals, start_of};
-ghost use Rattle.v_declare.specs.Kept.{named_declared, sort_in};
+ghost use Rattle.v_declare.specs.Kept.{named_declared};
 ghost use Rattle.v_declare.specs.Order.{line_in, lines_in};
 ghost use Rattle.v_layout.specs.Adds.{AddsSome};
 ghost use Rattle.v_layout.specs.Fits.{IsProperDeclared};
-ghost use Rattle.v_layout.specs.Steps.{signals_at, signals_below, words_at};
+ghost use Rattle.v_layout.specs.Steps.{memory_at, signals_at, signals_below, vector_at};
 ghost use Rattle.v_layout.specs.Texts.{HasText};
 
 use crate::paths::{dotted, word_path};
@@ -36,7 +35,7 @@ fn start(kind: DataKind) -> Digit
 /// One signal of what is declared. Only want of memory is an error.
 fn signal(alloc: Global, path: &[u8], declared: Declared) -> Result<Signal, NoMemory>
     requires { IsWidth (width_of declared.bounds) }
-    ensures { IfOk result (λ s. (s.path ≡ path.now) × ((s.width ≡ width_of declared.bounds) × (s.start ≡ start_of (kind_of declared.direction (option_map sort_in declared.sort))))) }
+    ensures { IfOk result (λ s. s ≡ vector_at path.now declared) }
 {
     Ok(Signal {
         path: Name::of(alloc, path)?,
@@ -54,8 +53,8 @@ fn add_words(
     signals: &mut Sequence<Signal>,
 ) -> Result<(), NoMemory>
     requires { IsWidth (width_of declared.bounds) }
-    ensures ok { OnOk result (signals.new ≡ signals.old ++ words_at path.now (width_of declared.bounds) (start_of (kind_of declared.direction (option_map sort_in declared.sort))) (low_of words) (width_of words)) }
-    ensures err { OnErr result (AddsSome signals.old (words_at path.now (width_of declared.bounds) (start_of (kind_of declared.direction (option_map sort_in declared.sort))) (low_of words) (width_of words)) signals.new) }
+    ensures ok { OnOk result (signals.new ≡ signals.old ++ memory_at path.now declared words) }
+    ensures err { OnErr result (AddsSome signals.old (memory_at path.now declared words) signals.new) }
 {
     let low = words.left.min(words.right);
     let high = words.left.max(words.right);
