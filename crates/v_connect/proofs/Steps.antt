@@ -105,7 +105,7 @@ none_next [] i h = refl
 none_next (p ∷ ps) zero h = cc
 none_next (p ∷ ps) (suc i) h = none_next ps i h
 
-from_get : (ps : List Port) (i : ℕ) (o : Option Port) → slice_get ps i ≡ o → AreFrom o (drop i ps) (drop (i + 1) ps)
+pub from_get : (ps : List Port) (i : ℕ) (o : Option Port) → slice_get ps i ≡ o → AreFrom o (drop i ps) (drop (i + 1) ps)
 from_get ps i (Some p) h = drop_next ps i p h
 from_get ps i None h = (none_from ps i h, (let e : i + 1 ≡ suc i = omega arith in ap (λ (k : ℕ). drop k ps) e ∙ none_next ps i h))
 
@@ -197,7 +197,7 @@ pub seen_too : (seen : List (List ℕ)) (k : List ℕ) (x : ℕ) (t new : List (
     → HasNames (k ∷ seen) new
 seen_too seen k x t new h e = λ n. ap (λ (o : Option ℕ). is_some o) (e n) ∙ seen_or (first_place t n) (bytes_eq n k) (list_any (bytes_eq n) seen) x (h n)
 
-once_by : (i : Identifier) (seen : List (List ℕ)) (b : Bool) (o : Option Port) → list_any (bytes_eq i.name) seen ≡ b → port_once i seen o ≡ (if b then None else o)
+pub once_by : (i : Identifier) (seen : List (List ℕ)) (b : Bool) (o : Option Port) → list_any (bytes_eq i.name) seen ≡ b → port_once i seen o ≡ (if b then None else o)
 once_by i seen true None h = refl
 once_by i seen false None h = refl
 once_by i seen b (Some p) h = ap (λ (c : Bool). if c then None else (let r : Option Port = Some p in r)) h

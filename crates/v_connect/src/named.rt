@@ -21,7 +21,7 @@ use v_scope::{Found, Scope};
 use v_syntax::NamedConnection;
 
 /// The port of a name that was not seen; none where there is none.
-fn unseen_port<'a>(ports: &'a Ports, seen: &Names, name: &[u8]) -> Option<Port<'a>>
+pub(crate) fn unseen_port<'a>(ports: &'a Ports, seen: &Names, name: &[u8]) -> Option<Port<'a>>
     ensures { option_map port_in result ≡ (if is_some (first_place seen.now name.now) then None else find_port name.now ports.now) }
 {
     if seen.find(name).is_some() {
