@@ -1,0 +1,4 @@
+pub mod Chains
+pub mod One
+pub mod Steps
+pub mod Counts
