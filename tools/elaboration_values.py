@@ -394,6 +394,11 @@ DIFFERENT_HIERARCHIES = [
     ("a_parameter_that_is_a_sum",
      "module top(output [7:0] y); parameter P = 4'd15 + 4'd1; assign y = {P, 1'b1}; endmodule", "y", [""],
      "a parameter without a range has its value's own width (4.10.1), which is that of the sum's operands; Icarus has room for the carry", {"y": ["00000001"]}),
+    ("a_word_by_a_sum_in_its_own_width",
+     "module top(input [3:0] c, output [3:0] y); reg [3:0] m [0:3]; initial begin m[0] = 5; m[1] = 6; m[2] = 7; m[3] = 8; end\n"
+     "  assign y = m[c + 4'd14]; endmodule", "c y m[0] m[1] m[2] m[3]", ["c=0010", "c=0101", "c=0000"],
+     "an index is self-determined (5.4.1), so the sum has four digits; Icarus has room for the carry in the index of a word, and not in that of a digit",
+     {"y": ["0101", "1000", "xxxx"]}),
     ("an_integer_below_zero",
      "module top(output [39:0] y, output z); integer i; initial i = -2; assign y = i; assign z = i < 0; endmodule",
      "y z i", [""], UNSIGNED, {"y": ["00000000" + "1" * 31 + "0"], "z": ["0"]}),
