@@ -1,7 +1,7 @@
 #!/usr/bin/env python3
 """Makes the table of Verilog designs that break a rule of elaboration, and of some that just don't.
 
-    tools/elaboration_rules.py          writes crates/elaboration_tests/data/rules.txt
+    tools/elaboration_rules.py          writes tools/data/elaboration_rules.txt
 
 What is expected of a text stands in this script: `§` stands in front of the token at which the rule is told, and `why` says in
 words why that rule is broken, and why there. The clauses are those of IEEE 1364-2005; `docs/VERILOG.md` and `docs/DECISIONS.md`
@@ -11,7 +11,7 @@ have the rules. No expected answer comes from a program. Each text is also given
 - a text that is refused here and that Icarus takes has the reason in its row (`takes`), and one that Icarus refuses has none.
 
 The script ends with the status 1, and writes nothing, where that doesn't hold, where a rule has fewer than four texts, or none in
-which a second rule is broken that counts less. The gate reads the table alone and needs neither this script nor Icarus.
+which a second rule is broken that counts less. No program reads the table yet; it waits for the elaboration of whole designs.
 
 A line of the table that begins with `#` is no row. A row has these parts, with a tab between two of them:
 
@@ -33,7 +33,7 @@ import tempfile
 from collections import namedtuple
 from pathlib import Path
 
-TABLE = Path(__file__).resolve().parent.parent / "crates" / "elaboration_tests" / "data" / "rules.txt"
+TABLE = Path(__file__).resolve().parent.parent / "tools" / "data" / "elaboration_rules.txt"
 RULES = (
     "NoTop UnknownModule RecursiveInstance DuplicateName UnknownName BadPort NotConstant BadRange TooWide TwoDrivers BadTarget "
     "LoopTooLong TooMany"

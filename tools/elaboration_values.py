@@ -1,12 +1,12 @@
 #!/usr/bin/env python3
 """Makes the table of Verilog designs with the values that their signals have under a fixed stimulus.
 
-    tools/elaboration_values.py          writes crates/elaboration_tests/data/values.txt
+    tools/elaboration_values.py          writes tools/data/elaboration_values.txt
 
 The designs are expressions of every operator (each as `assign y = ..`), bodies of processes, and small hierarchies. The values are
 those of Icarus Verilog (`iverilog -g2005`): for each design the script writes a bench whose registers, z at first, stand behind the
 top's inputs, and prints all signals after each step. Which signals there are, and in which order, stands in this script, worked out
-by hand from the rules. The gate reads the table alone and needs neither this script nor Icarus.
+by hand from the rules. No program reads the table yet; it waits for the elaboration of whole designs.
 
 Where the standard or `docs/VERILOG.md` has another value than Icarus on purpose, the row says why (`differs`), and what the signals
 have instead (`own`); the script looks that Icarus does differ there. It ends with the status 1, and writes nothing, where that isn't
@@ -34,7 +34,7 @@ import tempfile
 from collections import namedtuple
 from pathlib import Path
 
-TABLE = Path(__file__).resolve().parent.parent / "crates" / "elaboration_tests" / "data" / "values.txt"
+TABLE = Path(__file__).resolve().parent.parent / "tools" / "data" / "elaboration_values.txt"
 LEAST = {"expression": 60, "body": 40, "hierarchy": 15}
 
 # own: for each signal whose values differ from those of Icarus, its values in the steps

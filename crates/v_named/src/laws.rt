@@ -1,18 +1,26 @@
 //! Laws of names, as functions.
 
-ghost use Rattle.v_named.specs.Named.{Expressions_name_signals, Statements_name_signals, Targets_name_signals};
+ghost use Rattle.std.specs.Prelude.{ℕ, List};
+ghost use Rattle.v_syntax.specs.ExpressionTrees.{TargetTree, Tree};
+ghost use Rattle.v_syntax.specs.StatementTrees.{StatementTree};
+ghost use Rattle.v_scope.specs.Scope.{Scope};
+ghost use Rattle.v_operator.specs.Checked.{AreNamesOf};
+ghost use Rattle.v_assign.specs.Targets.{TargetNamesOf};
+ghost use Rattle.v_act.specs.Statements.{StatementNamesOf};
+ghost use Rattle.v_layout.specs.Named.{AreSignals};
 
 /// Each name in an expression is a signal where each name of its scope is one (IEEE 1364-2005, clause 5).
 pub fn expressions_name_signals()
-    ensures { Expressions_name_signals }
+    ensures { (s : Scope) (ws : List ℕ) → AreSignals s ws → (e : Tree) → AreNamesOf s e ws }
 {}
 
 /// Each name in a target is a signal where each name of its scope is one (IEEE 1364-2005, clauses 6.1 and 9.2).
 pub fn targets_name_signals()
-    ensures { Targets_name_signals }
+    ensures { (s : Scope) (ws : List ℕ) → AreSignals s ws → (t : TargetTree) → TargetNamesOf s t ws }
 {}
 
-/// Each name in a statement is a signal where each name of its scope is one, in the turns of loops too (IEEE 1364-2005, clause 9).
+/// Each name in a statement is a signal where each name of its scope is one, in the turns of loops too, whose variable is a constant there
+/// (IEEE 1364-2005, clause 9).
 pub fn statements_name_signals()
-    ensures { Statements_name_signals }
+    ensures { (s : Scope) (ws : List ℕ) → AreSignals s ws → (a : StatementTree) → StatementNamesOf s a ws }
 {}

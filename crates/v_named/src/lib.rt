@@ -1,7 +1,7 @@
 //! Laws of what is written in an instance: where each name of the scope is a signal of the design with its width (`AreSignals` of
 //! `v_layout`), so is each name in an expression, a target or a statement.
 //!
-//! The laws stand in `specs/Named.antt`, and the functions here carry them. They have no other use.
+//! The functions here carry the laws, and have no other use.
 #![tactic(auto)]
 
 mod laws;

@@ -17,8 +17,7 @@ use Rattle.v_flat.specs.Headers.{ports_of}
 use Rattle.v_flat.specs.Targets.{Drive}
 use Rattle.v_flat.specs.Declarations.{Declared, Entries, Place, declarations, in_order}
 use Rattle.v_flat.specs.Paths.{Path, SignalAt, below}
-use Rattle.v_flat.specs.Design.{Design, Outside, State, all_signals, child_name, children, is_fresh, object_of, opened, place_of, signals_of, start_of, with_child, word_signals}
-use Rattle.v_shape.specs.Laws.{HaveOwnPaths, Paths_differ}
+use Rattle.v_flat.specs.Design.{all_signals, child_name, children, Design, flat_design, is_fresh, object_of, opened, Outside, place_of, signals_of, start_of, State, with_child, word_signals}
 use Rattle.v_shape.proofs.Kept.{Keeps, joints_keep, plain_holds}
 use Rattle.v_shape.proofs.Names.{Among, Differ, among_first, among_later, among_left, among_right, one_of_more}
 use Rattle.v_shape.proofs.Nodes.{Children}
@@ -27,6 +26,11 @@ use Rattle.v_shape.proofs.Signals.{all_many}
 use Rattle.v_shape.proofs.Walk.{Steps, design_holds, opening, scope_of}
 
 -- ---- signals with one path
+
+-- signals at two numbers have two paths, or are two words of one memory
+abbrev HaveOwnPaths : List SignalAt → Type 0
+HaveOwnPaths ss =
+    (i j : ℕ) (x y : SignalAt) → slice_get ss i ≡ Some x → slice_get ss j ≡ Some y → x.path ≡ y.path → x.word ≡ y.word → i ≡ j
 
 abbrev Same : SignalAt → SignalAt → Type 0
 Same x y = (x.path ≡ y.path) × (x.word ≡ y.word)
@@ -251,7 +255,7 @@ own_paths (s ∷ ss) h zero (suc j) x y e f p w = let g : s ≡ x = cc in absurd
 own_paths (s ∷ ss) h (suc i) zero x y e f p w = let g : s ≡ y = cc in absurd (not_like s x ss i h.0 e (subst (λ (u : SignalAt). Same u x) (sym g) (sym p, sym w)))
 own_paths (s ∷ ss) h (suc i) (suc j) x y e f p w = ap suc (own_paths ss h.1 i j x y e f p w)
 
-pub paths_differ : Paths_differ
+pub paths_differ : (ms : List ModuleTree) (top : Option (List ℕ)) → HoldsOk (λ (d : Design). HaveOwnPaths d.signals) (flat_design ms top)
 paths_differ ms top =
     design_holds Starts Behind Amid path_steps (λ (d : Design). HaveOwnPaths d.signals) (λ m. omega arith)
     (λ path e b. subst HaveOwnPaths (sym b.signals) (own_paths b.more b.apart)) ms top

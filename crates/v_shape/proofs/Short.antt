@@ -11,7 +11,7 @@ use Rattle.v_syntax.specs.SourceTrees.{NetTree, Net as NetOf, Words, Initially, 
 use Rattle.v_scope.specs.declared.rule.ElabRule.TheVariants as rule
 use Rattle.v_scope.specs.declared.found.Found.{Found}
 use Rattle.v_scope.specs.declared.found.Found.TheVariants as found
-use Rattle.v_scope.specs.Found.{Holds, both, wants}
+use Rattle.v_scope.specs.Found.{Holds, HoldsOk, both, wants}
 use Rattle.v_scope.specs.Limits.{most_parts}
 use Rattle.v_scope.specs.Scope.{Scope}
 use Rattle.v_flat.specs.Checks.{checked}
@@ -20,9 +20,8 @@ use Rattle.v_flat.specs.Statements.{statement_checked, statement_reads}
 use Rattle.v_flat.specs.Headers.{open_parameters, parameters_of, ports_of}
 use Rattle.v_flat.specs.Declarations.{Declared, Given, in_order}
 use Rattle.v_flat.specs.Paths.{Path}
-use Rattle.v_flat.specs.Design.{Design, Joints, Outside, State, adding, always, always_item, assigning, beginning, driver, events_of, given_of, in_turn, initial_item, instance_checked, is_fresh, joint_count, joints_of, net, net_count, opened, plain_item, register, register_count, running, wakes_of, whole_of}
+use Rattle.v_flat.specs.Design.{adding, always, always_item, assigning, beginning, Design, driver, events_of, flat_design, given_of, in_turn, initial_item, instance_checked, is_fresh, joint_count, Joints, joints_of, net, net_count, opened, Outside, plain_item, register, register_count, running, State, wakes_of, whole_of}
 use Rattle.v_flat.proofs.Holds.{holds_any, holds_each, holds_then, holds_wants}
-use Rattle.v_shape.specs.Laws.{Lists_are_short}
 use Rattle.v_shape.proofs.Ends.{sound_both, wants_sound}
 use Rattle.v_shape.proofs.Joints.{as_many, few_added}
 use Rattle.v_shape.proofs.Kept.{Keeps, joints_keep, plain_keeps}
@@ -197,7 +196,7 @@ short_steps = record {
   };
 }
 
-pub lists_short : Lists_are_short
+pub lists_short : (ms : List ModuleTree) (top : Option (List ℕ)) → HoldsOk (λ (d : Design). (length d.nodes ≤ most_parts) × (length d.processes ≤ most_parts)) (flat_design ms top)
 lists_short ms top =
     design_holds HasRoom Behind Amid short_steps (λ (d : Design). (length d.nodes ≤ most_parts) × (length d.processes ≤ most_parts))
     (λ m. record { nodes = omega arith; processes = omega arith }) (λ path e g. (g.nodes, g.processes)) ms top

@@ -19,8 +19,7 @@ use Rattle.v_flat.specs.Headers.{ports_of}
 use Rattle.v_flat.specs.Targets.{Drive}
 use Rattle.v_flat.specs.Declarations.{Declared, Entries, Place, declarations, in_order, signals_in}
 use Rattle.v_flat.specs.Paths.{NodeAt, Path, SignalAt, below, node_of, signal_of}
-use Rattle.v_flat.specs.Design.{Design, Outside, State, all_signals, children, closed, object_of, opened, place_of, signals_of, spot_of, start_of, with_child, word_signals}
-use Rattle.v_shape.specs.Laws.{Signals_fit}
+use Rattle.v_flat.specs.Design.{all_signals, children, closed, Design, flat_design, object_of, opened, Outside, place_of, signals_of, spot_of, start_of, State, with_child, word_signals}
 use Rattle.v_shape.proofs.Declared.{span_some}
 use Rattle.v_shape.proofs.Kept.{Keeps, KeepsParts, joints_keep, plain_holds}
 use Rattle.v_shape.proofs.Nodes.{Children}
@@ -253,7 +252,7 @@ all_are : (n s : ℕ) (xs : List NodeAt) → AllSpots n s xs → are_nodes n s (
 all_are n s [] h = refl
 all_are n s (x ∷ xs) h = both_so (are_spots n s x.children) (are_nodes n s (map node_of xs)) (spots_are n s x.children h.0) (all_are n s xs h.1)
 
-pub signals_fit : Signals_fit
+pub signals_fit : (ms : List ModuleTree) (top : Option (List ℕ)) → HoldsOk (λ (d : Design). (length d.signals ≤ most_parts) × IsTrue (are_wide (map signal_of d.signals)) × IsTrue (are_nodes (length d.nodes) (length d.signals) (map node_of d.nodes))) (flat_design ms top)
 signals_fit ms top =
     design_holds Starts Behind Amid fit_steps (λ (d : Design). (length d.signals ≤ most_parts) × IsTrue (are_wide (map signal_of d.signals)) × IsTrue (are_nodes (length d.nodes) (length d.signals) (map node_of d.nodes)))
     (λ m. record { short = omega arith; wide = tt; spots = tt })

@@ -1,5 +1,5 @@
 -- The instances of a design form a tree.
-use Rattle.std.proofs.Common.{◌≡◌, ◌<◌, ◌≤◌, ◌+◌, ◌==◌, ◌&&◌, ◌||◌, ◌∙◌, ℕ, suc, zero, min, Bool, true, false, IsTrue, List, [], ◌∷◌, ◌++◌, length, map, nat_lt, slice_set, Some, refl, sym, ap, subst, arith, if◌then◌else◌}
+use Rattle.std.proofs.Common.{◌≡◌, ◌<◌, ◌≤◌, ◌+◌, ◌==◌, ◌&&◌, ◌||◌, ◌∙◌, ℕ, suc, zero, min, Bool, true, false, IsTrue, List, [], ◌∷◌, ◌++◌, length, map, nat_lt, slice_set, Option, Some, refl, sym, ap, subst, arith, if◌then◌else◌}
 use Rattle.std.proofs.lemmas.List.{append_assoc, length-append, length-map}
 use Rattle.std.proofs.lemmas.Bool.Decides.{nat_tests}
 use Rattle.gpi.specs.declared.design.Spot.{Spot}
@@ -7,12 +7,12 @@ use Rattle.gpi.specs.declared.design.Spot.TheVariants.{Inner, Sig, Words}
 use Rattle.gpi.specs.Soundness.{IsPlaced, IsTree, at_parent, climbs, is_child, parent_from, times_among, times_child}
 use Rattle.v_syntax.specs.declared.statement.Identifier.{Identifier}
 use Rattle.v_syntax.specs.SourceTrees.{ModuleTree}
+use Rattle.v_scope.specs.Found.{HoldsOk}
 use Rattle.v_flat.specs.Targets.{Drive}
 use Rattle.v_flat.specs.Headers.{ports_of}
 use Rattle.v_flat.specs.Declarations.{Declared, Entries, in_order}
 use Rattle.v_flat.specs.Paths.{NodeAt, Path, below, node_of}
-use Rattle.v_flat.specs.Design.{Design, Outside, State, closed, opened, with_child}
-use Rattle.v_shape.specs.Laws.{Instances_form_a_tree}
+use Rattle.v_flat.specs.Design.{closed, Design, flat_design, opened, Outside, State, with_child}
 use Rattle.v_shape.proofs.Nodes.{AreAbove, Children, EachAbove, IsAbove, above_more, count, count_more, declared_above, each_above_more, is_behind, none_declared, one_if, set_behind, total, total_more}
 use Rattle.v_shape.proofs.Kept.{Keeps, joints_keep, plain_holds}
 use Rattle.v_shape.proofs.Walk.{Steps, design_holds, opening, scope_of}
@@ -206,7 +206,7 @@ is_tree ns l h k = record {
   each = λ v u. is_placed ns h k v (let e = length-map ns node_of in omega (arith, e, u));
 }
 
-pub trees : Instances_form_a_tree
+pub trees : (ms : List ModuleTree) (top : Option (List ℕ)) → HoldsOk (λ (d : Design). IsTree (map node_of d.nodes)) (flat_design ms top)
 trees ms top =
     design_holds Anything Grows Between tree_steps (λ (d : Design). IsTree (map node_of d.nodes)) (λ m. tt)
     (λ path e g. subst (λ ns. IsTree (map node_of ns)) (sym g.nodes) (is_tree g.news g.some g.counts g.above)) ms top
