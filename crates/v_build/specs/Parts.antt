@@ -19,7 +19,7 @@ abbrev pub AreSoundIn : List Process → List ℕ → Type 0
 AreSoundIn [] ws = Unit {0}
 AreSoundIn (p ∷ ps) ws = IsSoundIn p ws × AreSoundIn ps ws
 
--- the signals, instances and processes of d, each of which is sound
+-- the signals, instances and processes of d; each process is sound
 pub record IsSoFar (d : Design) (p : Parts) : Type 0 where
   pub signals : p.signals ≡ map signal_of d.signals
   pub nodes : p.nodes.items ≡ map node_of d.nodes
