@@ -1,0 +1,5 @@
+mod Table
+mod Matches
+mod Joins
+mod Loop
+pub mod Names
