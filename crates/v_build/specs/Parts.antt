@@ -26,6 +26,12 @@ pub record IsSoFar (d : Design) (p : Parts) : Type 0 where
   pub processes : procs_of p.processes ≡ d.processes
   pub sound : AreSoundIn p.processes (widths p.signals)
 
+-- y is x with an instance more, at the path with this text
+pub record HasNode (x : Parts) (text : List ℕ) (y : Parts) : Type 0 where
+  pub signals : y.signals ≡ x.signals
+  pub nodes : y.nodes.items ≡ x.nodes.items ++ (record { path = text; children = [] } ∷ [])
+  pub processes : y.processes ≡ x.processes
+
 -- a flat design with these parts
 pub record IsFlatOf (p : Parts) (step : ℕ) (f : Flat) : Type 0 where
   pub signals : f.signals ≡ p.signals

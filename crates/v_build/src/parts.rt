@@ -4,7 +4,7 @@ ghost use Rattle.std.specs.Prelude.{◌≡◌, ◌<◌, IfOk, length};
 ghost use Rattle.gpi.specs.Design.{proc_of, widths};
 ghost use Rattle.v_flat.specs.Design.{Design, no_design, with_process};
 ghost use Rattle.v_flat.specs.Paths.{Path, path_text};
-ghost use Rattle.v_build.specs.Parts.{IsFlatOf, IsSoFar, IsSoundIn, named_nodes, opened_nodes};
+ghost use Rattle.v_build.specs.Parts.{HasNode, IsFlatOf, IsSoFar, IsSoundIn, named_nodes, opened_nodes};
 
 use gpi::{Flat, Node, Process, Signal, Spot};
 use port_io::{Name, NoMemory, Sequence};
@@ -35,7 +35,8 @@ impl Parts {
 
     /// With an instance more, at this path, in which no name is known yet. Only want of memory is an error.
     pub fn with_node(mut self, alloc: Global, path: &[u8]) -> Result<Parts, NoMemory>
-        ensures { (d : Design) (p : Path) → IsSoFar d self → path_text p ≡ path.now → IfOk result (IsSoFar (opened_nodes p d)) }
+        ensures so_far { (d : Design) (p : Path) → IsSoFar d self → path_text p ≡ path.now → IfOk result (IsSoFar (opened_nodes p d)) }
+        ensures made { IfOk result (HasNode self path.now) }
     {
         let node = Node {
             path: Name::of(alloc, path)?,
