@@ -24,8 +24,8 @@ fn has_value(given: bool, parameter: &Parameter) -> bool
     given || parameter.default.is_some()
 }
 
-/// The number of the first parameter of each name.
-fn numbers(alloc: Global, parameters: &[Parameter]) -> Result<Names, NoMemory>
+/// The number of the first parameter of each name. Only want of memory is an error.
+pub fn numbers(alloc: Global, parameters: &[Parameter]) -> Result<Names, NoMemory>
     ensures { IfOk result (λ names. AreNumbers parameters.now names) }
 {
     let mut names = Names::new(alloc);
@@ -35,8 +35,13 @@ fn numbers(alloc: Global, parameters: &[Parameter]) -> Result<Names, NoMemory>
     Ok(names)
 }
 
-/// The number of the parameter that an argument is for, or how many there are.
-fn place_of(parameters: &[Parameter], names: &Names, number: usize, argument: &Argument) -> usize
+/// The number of the parameter that an argument of this number is for, both from 0, or how many there are, where its name is none of theirs.
+pub fn place_of(
+    parameters: &[Parameter],
+    names: &Names,
+    number: usize,
+    argument: &Argument,
+) -> usize
     requires { AreNumbers parameters.now names.now }
     ensures { result ≡ place_of parameters.now number argument.now.name }
 {
@@ -47,7 +52,7 @@ fn place_of(parameters: &[Parameter], names: &Names, number: usize, argument: &A
 }
 
 /// Marks a parameter, and answers whether it is one and had no mark.
-fn mark(given: &mut [bool], place: usize) -> bool
+pub fn mark(given: &mut [bool], place: usize) -> bool
     ensures length { length given.new ≡ length given.old }
     ensures fresh { result ≡ (nat_lt place (length given.old) && not (slice_index_or given.old place false)) }
     ensures marked { (j : ℕ) → j < length given.old → slice_index_or given.new j false ≡ (place == j || slice_index_or given.old j false) }

@@ -1,13 +1,14 @@
 -- The function whose header stands behind some items.
-use Rattle.std.proofs.Common.{◌≡◌, ◌+◌, ◌&&◌, not, ℕ, suc, Bool, false, List, [], ◌∷◌, ◌++◌, length, slice_get, Option, Some, None, refl, sym, ap, ◌∙◌, if◌then◌else◌, arith}
+use Rattle.std.proofs.Common.{◌≡◌, ◌+◌, ◌&&◌, ◌||◌, not, ℕ, suc, Bool, true, false, List, [], ◌∷◌, ◌++◌, length, slice_get, Option, Some, None, refl, sym, ap, ◌∙◌, if◌then◌else◌, arith}
 use Rattle.std.proofs.slice.Lists.{last_more}
-use Rattle.std.specs.List.{last_or}
+use Rattle.std.proofs.lemmas.List.Folds.{list_any-append}
+use Rattle.std.specs.List.{last_or, list_any}
 use Rattle.std.specs.Option.{is_some, option_map_or}
 use Rattle.py_syntax.specs.BlockTrees.{ModuleItem, TextAt, LineAt, FunctionAt, Block}
 use Rattle.py_syntax.specs.ModuleTrees as line
 use Rattle.py_syntax.specs.declared.module.Parameter.{Parameter}
 use Rattle.py_syntax.specs.declared.module.Setting.{Setting}
-use Rattle.test_rules.specs.File.{Definition, file_of, functions_of, is_decorator, is_function, is_made_name, next_function, parameters_of}
+use Rattle.test_rules.specs.File.{Definition, File, file_of, functions_of, is_decorator, is_function, is_made_name, is_test, next_function, parameters_of}
 use Rattle.test_rules.specs.Names.{Name}
 use Rattle.test_rules.specs.Rules.{has_misfit, is_misfit_at, lacks_parameters, one_test}
 use Rattle.test_item.specs.Functions.{function_name, is_decorated_behind}
@@ -96,3 +97,32 @@ test_by_parts xs ys l f ps b =
 -- the last item is a decorator
 pub decorated_by_last : (xs : List ModuleItem) (x : ModuleItem) → is_decorated_behind (xs ++ x ∷ []) ≡ is_decorator x
 decorated_by_last xs x = ap (λ (o : Option ModuleItem). option_map_or is_decorator o false) (sym (last_more None xs x))
+
+or_none : (a : Bool) → (a || false) ≡ a
+or_none true = refl
+or_none false = refl
+
+-- whether the function of an item is a test, where it is decorated or not
+only_test : (f : File) (k : ℕ) (before : Option (List Setting)) (x : ModuleItem)
+    → list_any (is_test f) (functions_of k before (x ∷ [])) ≡ (is_function x && (is_some before && not (is_made_name f (function_name x))))
+only_test f k before (TextAt l) = refl
+only_test f k before (FunctionAt l g ps b) = or_none (is_some before && not (is_made_name f g))
+only_test f k before (LineAt l (line.Test ss)) = refl
+only_test f k before (LineAt l (line.Constant m c)) = refl
+only_test f k before (LineAt l (line.Import m)) = refl
+only_test f k before (LineAt l (line.FromImport ms ns)) = refl
+only_test f k before (LineAt l (line.Factory m g)) = refl
+only_test f k before (LineAt l (line.AddOption m o cs)) = refl
+only_test f k before (LineAt l (line.GenerateTests m p q)) = refl
+only_test f k before (LineAt l (line.Function m ps)) = refl
+
+-- one of the functions of these items and of one more is a test
+pub test_with_item : (f : File) (xs : List ModuleItem) (x : ModuleItem)
+    → list_any (is_test f) (file_of (xs ++ x ∷ [])).functions
+    ≡ (list_any (is_test f) (file_of xs).functions || (is_function x && (is_decorated_behind xs && not (is_made_name f (function_name x)))))
+test_with_item f xs x =
+    let k : ℕ = 0 + length (functions_of 0 None xs) in
+    ap (λ ds. list_any (is_test f) ds) (functions_behind 0 None xs (x ∷ []))
+    ∙ list_any-append (is_test f) (functions_of 0 None xs) (functions_of k (options_behind None xs) (x ∷ []))
+    ∙ ap (λ b. list_any (is_test f) (functions_of 0 None xs) || b)
+    (only_test f k (options_behind None xs) x ∙ ap (λ d. is_function x && (d && not (is_made_name f (function_name x)))) (decorated_behind xs))

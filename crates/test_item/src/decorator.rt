@@ -55,7 +55,7 @@ fn have_defaults(parameters: &[Parameter]) -> bool
 }
 
 /// The parameters behind the first.
-fn further(parameters: &[Parameter]) -> &[Parameter]
+pub fn further(parameters: &[Parameter]) -> &[Parameter]
     ensures { result.now ≡ further parameters.now }
 {
     match parameters {

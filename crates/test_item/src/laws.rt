@@ -1,10 +1,11 @@
 //! What follows of what an item breaks.
 
 ghost use Rattle.std.specs.Prelude.{◌≡◌, ◌+◌, ◌||◌, ◌&&◌, ◌++◌, ◌∷◌, [], ℕ, List, not, if◌then◌else◌};
+ghost use Rattle.std.specs.List.{list_any};
 ghost use Rattle.std.specs.Option.{option_or};
 ghost use Rattle.py_syntax.specs.BlockTrees.{Block, FunctionAt, ModuleItem};
 ghost use Rattle.py_syntax.specs.declared.module.Parameter.{Parameter};
-ghost use Rattle.test_rules.specs.File.{File, Place, file_of, is_decorator, is_function, line_of, is_made_name, next_function, parameters_of, places};
+ghost use Rattle.test_rules.specs.File.{File, Place, file_of, is_decorator, is_function, is_made_name, is_test, line_of, next_function, parameters_of, places};
 ghost use Rattle.test_rules.specs.Names.{Name};
 ghost use Rattle.test_rules.specs.Rules.{defines_twice, first_broken, has_misfit, has_right_options, is_overfull, is_stray, is_unknown_import, lacks_parameters, one_test, refused_at, tests_among, tests_at};
 ghost use Rattle.test_rules.specs.Uses.{inner_lines, own_uses, with_names};
@@ -47,4 +48,11 @@ pub fn first_by_items()
 /// The tests of a file at some items and one more are those at these items and those at that one: with these it is overfull or not.
 pub fn tests_with_item()
     ensures { (f : File) (xs : List ModuleItem) (x : ModuleItem) → tests_among f (places (xs ++ x ∷ [])) ≡ tests_among f (places xs) + tests_at f (file_of xs) x }
+{}
+
+/// One of the functions of some items and of one more is a test exactly where one of these items' is, or that item is a function that is: a decorator
+/// stands directly above, and no factory names it.
+pub fn test_with_item()
+    ensures { (f : File) (xs : List ModuleItem) (x : ModuleItem) → list_any (is_test f) (file_of (xs ++ x ∷ [])).functions
+        ≡ (list_any (is_test f) (file_of xs).functions || (is_function x && (is_decorated_behind xs && not (is_made_name f (function_name x))))) }
 {}

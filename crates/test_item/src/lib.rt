@@ -12,11 +12,11 @@ mod laws;
 mod made;
 mod uses;
 
-pub use decorator::{is_decorator, is_stray, lacks_parameters};
+pub use decorator::{further, is_decorator, is_stray, lacks_parameters};
 pub use imports::imports_unknown;
 pub use laws::{
     decorated_by_last, first_by_items, misfit_by_parts, own_rule_by_parts, test_by_parts,
-    tests_with_item,
+    test_with_item, tests_with_item,
 };
-pub use made::made_names;
+pub use made::{made_at, made_names};
 pub use uses::{of_inner_lines, of_own_uses};

@@ -14,7 +14,7 @@ use std::alloc::Global;
 use test_names::Names;
 
 /// The function that an item makes a factory for.
-fn made_at(item: &ModuleItem) -> Option<&[u8]>
+pub fn made_at(item: &ModuleItem) -> Option<&[u8]>
     ensures { option_copied result ≡ option_map (λ x. x.function) (factory_of (view_module_item item.now)) }
 {
     match item {

@@ -83,28 +83,26 @@ placed p i (x ∷ xs) = go (p x) (placed p (i + 1) xs)
     go false h = h
 
 -- a name that has a place keeps it
-pub known : (ns : List Name) (m : Name) (s : Numbered) (b : Bool) (o : Option ℕ) → b ≡ is_some o → o ≡ first_place s.names m → b ≡ true
+pub known : (ns : List Name) (m : Name) (s : Numbered) (b : Bool) (o : Option ℕ) → b ≡ is_some o → o ≡ first_place s.places m → b ≡ true
     → AreNumbered ns s → AreNumbered (with_names ns (m ∷ [])) s
 known ns m s b o e f w a =
     let here : is_among m ns ≡ true = sym (placed (bytes_eq m) 0 ns) ∙ ap (λ (q : Option ℕ). is_some q) (sym (a.places m) ∙ sym f) ∙ sym e ∙ w in
     let same : with_names ns (m ∷ []) ≡ ns = ap (λ c. ns ++ (only_if (not c) m ++ [])) here ∙ append-nil ns in
     subst (λ (l : List Name). AreNumbered l s) (sym same) a
 
-long : (ns : List Name) (m : Name) → length (ns ++ m ∷ []) ≡ length ns + 1
-long [] m = refl
-long (n ∷ ns) m = let e : length (ns ++ m ∷ []) ≡ length ns + 1 = long ns m in omega (arith, e)
-
 -- a name that has none gets the next
-pub new : (ns : List Name) (m : Name) (s t : Numbered) (b : Bool) (o : Option ℕ) → b ≡ is_some o → o ≡ first_place s.names m → b ≡ false
-    → t.next ≡ s.next + 1 → ((n : Name) → first_place t.names n ≡ noted m s.next (first_place s.names) n) → AreNumbered ns s → AreNumbered (with_names ns (m ∷ [])) t
-new ns m s t b o e f w next note a =
+pub new : (ns : List Name) (m : Name) (s t : Numbered) (b : Bool) (o : Option ℕ) (k : ℕ) (x : Name) → b ≡ is_some o → o ≡ first_place s.places m → b ≡ false
+    → k ≡ length s.names → x ≡ m → t.names ≡ s.names ++ x ∷ [] → ((n : Name) → first_place t.places n ≡ noted m k (first_place s.places) n)
+    → AreNumbered ns s → AreNumbered (with_names ns (m ∷ [])) t
+new ns m s t b o k x e f w count is more note a =
     let gone : is_among m ns ≡ false = sym (placed (bytes_eq m) 0 ns) ∙ ap (λ (q : Option ℕ). is_some q) (sym (a.places m) ∙ sym f) ∙ sym e ∙ w in
     let same : with_names ns (m ∷ []) ≡ ns ++ m ∷ [] = ap (λ c. ns ++ (only_if (not c) m ++ [])) gone in
+    let next : k ≡ length ns = count ∙ ap (λ (ms : List Name). length ms) a.names in
     subst (λ (l : List Name). AreNumbered l t) (sym same)
     (record {
-      next = next ∙ ap (λ k. k + 1) a.next ∙ sym (long ns m);
-      places = λ n. note n ∙ ap (λ q. option_or q (if bytes_eq n m then Some s.next else None)) (a.places n)
-          ∙ ap (λ k. option_or (position_from (bytes_eq n) 0 ns) (if bytes_eq n m then Some k else None)) (a.next ∙ (let z : length ns ≡ 0 + length ns = omega arith in z))
+      names = more ∙ ap (λ (ms : List Name). ms ++ x ∷ []) a.names ∙ ap (λ (y : Name). ns ++ y ∷ []) is;
+      places = λ n. note n ∙ ap (λ q. option_or q (if bytes_eq n m then Some k else None)) (a.places n)
+          ∙ ap (λ k. option_or (position_from (bytes_eq n) 0 ns) (if bytes_eq n m then Some k else None)) (next ∙ (let z : length ns ≡ 0 + length ns = omega arith in z))
           ∙ sym (one_behind (bytes_eq n) 0 ns m);
     })
 
@@ -189,3 +187,10 @@ parameter_more ps i p m s t h is e note before n =
     ∙ sym (one_behind (bytes_eq n) 0 old p.name)
     ∙ ap (λ l. position_from (bytes_eq n) 0 l)
     (sym (ap (λ ys. parameter_names ys) (taken ps i p h is) ∙ map-append (λ (x : Parameter). x.name) (take i ps) (p ∷ [])))
+
+-- their names
+pub parameter_named : (ps : List Parameter) (i : ℕ) (p : Parameter) (m : Name) (ns : List Name) → i < length ps → p ≡ get_or ps i p → m ≡ p.name
+    → ns ≡ parameter_names (take i ps) → ns ++ m ∷ [] ≡ parameter_names (take (i + 1) ps)
+parameter_named ps i p m ns h is e before =
+    ap (λ (ms : List Name). ms ++ m ∷ []) before ∙ ap (λ (n : Name). parameter_names (take i ps) ++ n ∷ []) e
+    ∙ sym (ap (λ ys. parameter_names ys) (taken ps i p h is) ∙ map-append (λ (x : Parameter). x.name) (take i ps) (p ∷ []))

@@ -1,5 +1,5 @@
 -- A means of proof: names that are numbered as they come.
-use Rattle.std.specs.Prelude.{◌≡◌, List, ◌++◌, length}
+use Rattle.std.specs.Prelude.{◌≡◌, List, ◌++◌}
 use Rattle.std.specs.List.{position_from}
 use Rattle.std.specs.Str.{bytes_eq}
 use Rattle.test_names.specs.Places.{first_place}
@@ -10,7 +10,7 @@ use Rattle.test_locals.specs.declared.numbered.Numbered.{Numbered}
 abbrev pub with_names : List Name → List Name → List Name
 with_names ns ms = ns ++ others_than ns ms
 
--- each of these names has its first place among them, and the next place is behind the last
+-- these names, each of which has its first place among them
 pub record AreNumbered (ns : List Name) (s : Numbered) : Type 0 where
-  pub next : s.next ≡ length ns
-  pub places : (n : Name) → first_place s.names n ≡ position_from (bytes_eq n) 0 ns
+  pub names : s.names ≡ ns
+  pub places : (n : Name) → first_place s.places n ≡ position_from (bytes_eq n) 0 ns

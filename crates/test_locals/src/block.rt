@@ -43,9 +43,20 @@ fn add_block(alloc: Global, before: Numbered, block: &[BlockItem]) -> Result<Num
     Ok(names)
 }
 
-/// The names of a function's own, each with its place: parameters first, then what the block assigns, in order of first assignment (the
-/// language reference, 4.2.1). Of two parameters of one name the first counts, and the second takes a place too. Only want of memory is an
-/// error.
+/// The names of a function's own, each in its place: parameters first, then what the block assigns, in order of first assignment (the language
+/// reference, 4.2.1). Of two parameters of one name both have a place, and the first counts. Only want of memory is an error.
+pub fn own_names(
+    alloc: Global,
+    parameters: &[Parameter],
+    block: &[BlockItem],
+) -> Result<Numbered, NoMemory>
+    ensures { IfOk result (AreNumbered (own_names parameters.now (block_of block.now))) }
+{
+    let before = of_parameters(alloc, parameters)?;
+    add_block(alloc, before, block)
+}
+
+/// The place that each name of a function's own has among them, of two the first. Only want of memory is an error.
 pub fn locals(
     alloc: Global,
     parameters: &[Parameter],
@@ -53,7 +64,6 @@ pub fn locals(
 ) -> Result<Names, NoMemory>
     ensures { IfOk result (λ names. (n : Name) → first_place names n ≡ position_from (bytes_eq n) 0 (own_names parameters.now (block_of block.now))) }
 {
-    let before = of_parameters(alloc, parameters)?;
-    let after = add_block(alloc, before, block)?;
-    Ok(after.names)
+    let own = own_names(alloc, parameters, block)?;
+    Ok(own.places)
 }

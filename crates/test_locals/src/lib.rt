@@ -1,10 +1,11 @@
 //! The names of a function's own: its parameters, and what its block assigns.
 //!
-//! [`locals`] makes the table of them for one function.
+//! [`own_names`] has those of one function in their places, and [`locals`] the table of their places alone.
 #![tactic(auto)]
 
 mod assigned;
 mod block;
 mod numbered;
 
-pub use block::locals;
+pub use block::{locals, own_names};
+pub use numbered::Numbered;

@@ -1,40 +1,38 @@
 //! Names that are numbered as they come.
 
-ghost use Rattle.std.specs.Prelude.{◌≡◌, ◌+◌, [], ◌∷◌, List, IfOk};
+ghost use Rattle.std.specs.Prelude.{◌≡◌, [], ◌∷◌, List, IfOk};
 ghost use Rattle.test_rules.specs.Names.{Name};
 ghost use Rattle.test_rules.specs.Uses.{parameter_names};
 ghost use Rattle.test_locals.specs.Own.{AreNumbered, with_names};
 
-use port_io::{Name, NoMemory};
+use port_io::{Name, NoMemory, Sequence};
 use py_syntax::Parameter;
 use std::alloc::Global;
 use test_names::Names;
 
-/// Names, and the place of the next one.
+/// Names of a function's own.
 #[derive(Drop)]
-pub(crate) struct Numbered {
-    pub names: Names,
-    pub next: usize,
+pub struct Numbered {
+    /// Each in its place. Of two parameters of one name both stand there.
+    pub names: Sequence<Name>,
+    /// The place of each, from 0; of two the first.
+    pub places: Names,
 }
 
-/// The place behind this one; memory is wanting where it has no number.
-fn place_behind(place: usize) -> Result<usize, NoMemory>
-    ensures { IfOk result (λ next. next ≡ place + 1) }
-{
-    place.checked_add(1).ok_or(NoMemory)
-}
-
-/// Gives a name the next place, unless it has one. Only want of memory is an error, also where the next place has no number.
+/// Gives a name the next place, unless it has one. Only want of memory is an error.
 fn add(alloc: Global, before: Numbered, name: &[u8]) -> Result<Numbered, NoMemory>
     ensures { IfOk result (λ after. (ns : List Name) → AreNumbered ns before → AreNumbered (with_names ns (name.now ∷ [])) after) }
 {
-    if before.names.find(name).is_some() {
+    if before.places.find(name).is_some() {
         return Ok(before);
     }
-    let next = place_behind(before.next)?;
-    let mut names = before.names;
-    names.note(alloc, name, before.next)?;
-    Ok(Numbered { names, next })
+    let Numbered {
+        mut names,
+        mut places,
+    } = before;
+    places.note(alloc, name, names.len())?;
+    names.push(Name::of(alloc, name)?)?;
+    Ok(Numbered { names, places })
 }
 
 /// Gives names the next places, each unless it has one. Only want of memory is an error.
@@ -52,12 +50,11 @@ pub(crate) fn add_all(alloc: Global, before: Numbered, found: &[Name]) -> Result
 pub(crate) fn of_parameters(alloc: Global, parameters: &[Parameter]) -> Result<Numbered, NoMemory>
     ensures { IfOk result (λ after. AreNumbered (parameter_names parameters.now) after) }
 {
-    let mut names = Names::new(alloc);
+    let mut names = Sequence::new(alloc);
+    let mut places = Names::new(alloc);
     for (place, parameter) in parameters.iter().enumerate() {
-        names.note(alloc, parameter.name.bytes(), place)?;
+        places.note(alloc, parameter.name.bytes(), place)?;
+        names.push(Name::of(alloc, parameter.name.bytes())?)?;
     }
-    Ok(Numbered {
-        names,
-        next: parameters.len(),
-    })
+    Ok(Numbered { names, places })
 }

@@ -18,7 +18,7 @@ fn parameters_of(item: &ModuleItem) -> &[Parameter]
 }
 
 /// The parameters of the item with this number, if there is one.
-pub(crate) fn parameters_at(items: &[ModuleItem], number: usize) -> Option<&[Parameter]>
+pub fn parameters_at(items: &[ModuleItem], number: usize) -> Option<&[Parameter]>
     ensures { option_copied result ≡ option_map parameters_of (slice_get (map view_module_item items.now) number) }
 {
     let item = items.get(number)?;

@@ -10,6 +10,7 @@ mod laws;
 mod scope;
 mod tables;
 
+pub use item::parameters_at;
 pub use laws::names_alone_matter;
 pub use scope::FileScope;
 pub use tables::Tables;

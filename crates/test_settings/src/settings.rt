@@ -14,7 +14,7 @@ use test_rules::is_right_value;
 use test_uses::expects_kind;
 
 /// The value of an option: a kind of fault stays a name.
-fn chosen_value<'a, V: Values>(values: &'a V, setting: &'a Setting) -> &'a Const
+pub fn chosen_value<'a, V: Values>(values: &'a V, setting: &'a Setting) -> &'a Const
     ensures { result.now ≡ chosen_value (V.file values.now) setting.now }
 {
     if expects_kind(setting) {

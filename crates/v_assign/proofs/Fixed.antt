@@ -7,7 +7,7 @@ use Rattle.v_scope.specs.declared.rule.ElabRule.{ElabRule}
 use Rattle.v_scope.specs.declared.rule.ElabRule.TheVariants as rule
 use Rattle.v_scope.specs.declared.found.Found.{Found}
 use Rattle.v_scope.specs.declared.found.Found.TheVariants.{Sound, Noted, Lost}
-use Rattle.v_scope.specs.Found.{each, both, and_then, settled, needs, broken, Holds}
+use Rattle.v_scope.specs.Found.{each, both, followed, and_then, settled, needs, broken, Holds}
 use Rattle.v_scope.specs.Limits.{most_digits}
 use Rattle.v_scope.specs.declared.meaning.Bounds.{Bounds}
 use Rattle.v_scope.specs.declared.meaning.Meaning.{Meaning}
@@ -30,6 +30,14 @@ settles_each : {A B : Type 0} (P : A → Type 0) (Q : B → Type 0) (f : A → B
 settles_each P Q f (Sound a) h k = k a h
 settles_each P Q f (Noted b a) h k = absurd h
 settles_each P Q f (Lost b) h k = tt
+
+settles_followed : {A B : Type 0} (P : A → Type 0) (Q : B → Type 0) (x : Found A) (y : Found B) → Settles P x → Settles Q y
+    → Settles (λ (p : A × B). P p.0 × Q p.1) (followed x y)
+settles_followed P Q (Sound a) (Sound b) h k = (h, k)
+settles_followed P Q (Sound a) (Noted c b) h k = absurd k
+settles_followed P Q (Sound a) (Lost c) h k = tt
+settles_followed P Q (Noted c a) y h k = absurd h
+settles_followed P Q (Lost c) y h k = tt
 
 settles_both : {A B : Type 0} (P : A → Type 0) (Q : B → Type 0) (x : Found A) (y : Found B) → Settles P x → Settles Q y
     → Settles (λ (p : A × B). P p.0 × Q p.1) (both x y)
@@ -115,8 +123,8 @@ made_part s p b (Part q l r) =
     (λ x h. range_settles ((made s l && made s r) ≡ true) q p b (number_or (number x.0)) (number_or (number x.1)) (both_true (made s l) (made s r) h.0 h.1))
 made_part s p b (IndexedPart q c n) =
     settles_each (λ (x : Unit {0} × ℕ). (made s c ≡ true) × (made s n ≡ true)) (λ (w : ℕ). (made s c && made s n) ≡ true) (λ (x : Unit {0} × ℕ). x.1)
-    (both (index true s c (checked s c)) (and_then (constant s n (checked s n)) (λ (ds : List Digit). and_then (counted (first_at n) ds) (narrow p))))
-    (settles_both (λ (u : Unit {0}). made s c ≡ true) (λ (w : ℕ). made s n ≡ true) (index true s c (checked s c))
+    (followed (index true s c (checked s c)) (and_then (constant s n (checked s n)) (λ (ds : List Digit). and_then (counted (first_at n) ds) (narrow p))))
+    (settles_followed (λ (u : Unit {0}). made s c ≡ true) (λ (w : ℕ). made s n ≡ true) (index true s c (checked s c))
     (and_then (constant s n (checked s n)) (λ (ds : List Digit). and_then (counted (first_at n) ds) (narrow p))) (made_index s c)
     (settles_then (λ (ds : List Digit). made s n ≡ true) (λ (w : ℕ). made s n ≡ true) (constant s n (checked s n))
     (λ (ds : List Digit). and_then (counted (first_at n) ds) (narrow p)) (made_constant s n)
@@ -141,8 +149,8 @@ made_memory s p b Whole = tt
 made_memory s p b (One sel) = made_word s b sel
 made_memory s p b (OfWord q i sel) =
     settles_each (λ (x : Unit {0} × ℕ). (made s i ≡ true) × (select_made s sel ≡ true)) (λ (w : ℕ). (made s i && select_made s sel) ≡ true) (λ (x : Unit {0} × ℕ). x.1)
-    (both (index true s i (checked s i)) (part true s p b sel))
-    (settles_both (λ (u : Unit {0}). made s i ≡ true) (λ (w : ℕ). select_made s sel ≡ true) (index true s i (checked s i)) (part true s p b sel) (made_index s i) (made_part s p b sel))
+    (followed (index true s i (checked s i)) (part true s p b sel))
+    (settles_followed (λ (u : Unit {0}). made s i ≡ true) (λ (w : ℕ). select_made s sel ≡ true) (index true s i (checked s i)) (part true s p b sel) (made_index s i) (made_part s p b sel))
     (λ x h. both_true (made s i) (select_made s sel) h.0 h.1)
 
 made_nature : (s : Scope) (p : ℕ) (sel : SelectsTree) (n : Nature)

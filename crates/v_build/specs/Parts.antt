@@ -1,7 +1,8 @@
 -- What the code has built of a design so far.
-use Rattle.std.specs.Prelude.{◌≡◌, ℕ, IsTrue, List, [], ◌∷◌, ◌++◌, map, length, slice_set}
+use Rattle.std.specs.Prelude.{◌≡◌, ◌≤◌, ℕ, IsTrue, List, [], ◌∷◌, ◌++◌, map, length, slice_set}
 use Rattle.gpi.specs.declared.design.Flat.{Flat}
 use Rattle.gpi.specs.declared.design.Process.{Process}
+use Rattle.gpi.specs.declared.design.Signal.{Signal}
 use Rattle.gpi.specs.declared.design.Spot.{Spot}
 use Rattle.gpi.specs.Activation.{IsSound}
 use Rattle.gpi.specs.Design.{procs_of, widths}
@@ -31,6 +32,17 @@ pub record HasNode (x : Parts) (text : List ℕ) (y : Parts) : Type 0 where
   pub signals : y.signals ≡ x.signals
   pub nodes : y.nodes.items ≡ x.nodes.items ++ (record { path = text; children = [] } ∷ [])
   pub processes : y.processes ≡ x.processes
+
+-- y is x with other names in an instance
+pub record HasChildren (x y : Parts) : Type 0 where
+  pub signals : y.signals ≡ x.signals
+  pub nodes : length y.nodes.items ≡ length x.nodes.items
+
+-- y has the signals of x, maybe others behind them, and at least as many instances
+pub record Grows (x y : Parts) : Type 0 where
+  pub more : List Signal
+  pub signals : y.signals ≡ x.signals ++ more
+  pub nodes : length x.nodes.items ≤ length y.nodes.items
 
 -- a flat design with these parts
 pub record IsFlatOf (p : Parts) (step : ℕ) (f : Flat) : Type 0 where

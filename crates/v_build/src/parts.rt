@@ -4,7 +4,7 @@ ghost use Rattle.std.specs.Prelude.{◌≡◌, ◌<◌, IfOk, length};
 ghost use Rattle.gpi.specs.Design.{proc_of, widths};
 ghost use Rattle.v_flat.specs.Design.{Design, no_design, with_process};
 ghost use Rattle.v_flat.specs.Paths.{Path, path_text};
-ghost use Rattle.v_build.specs.Parts.{HasNode, IsFlatOf, IsSoFar, IsSoundIn, named_nodes, opened_nodes};
+ghost use Rattle.v_build.specs.Parts.{HasChildren, HasNode, IsFlatOf, IsSoFar, IsSoundIn, named_nodes, opened_nodes};
 
 use gpi::{Flat, Node, Process, Signal, Spot};
 use port_io::{Name, NoMemory, Sequence};
@@ -55,7 +55,8 @@ impl Parts {
         children: Sequence<(Name, Spot)>,
     ) -> Result<Parts, NoMemory>
         requires { node < length self.nodes.items }
-        ensures { (d : Design) (p : Path) → IsSoFar d self → path_text p ≡ path.now → IfOk result (IsSoFar (named_nodes node p children d)) }
+        ensures so_far { (d : Design) (p : Path) → IsSoFar d self → path_text p ≡ path.now → IfOk result (IsSoFar (named_nodes node p children d)) }
+        ensures made { IfOk result (HasChildren self) }
     {
         self.nodes[node] = Node {
             path: Name::of(alloc, path)?,

@@ -1,4 +1,3 @@
-pub mod Chains
 pub mod One
 pub mod Steps
 pub mod Counts

@@ -1,5 +1,5 @@
 -- What is found in one connection.
-use Rattle.std.proofs.Common.{◌≡◌, ℕ, List, [], ◌∷◌, ◌++◌, Option, Some, None, is_some, Result, Ok, Err, IfOk, true, false, refl, sym, ap, ◌∙◌, subst}
+use Rattle.std.proofs.Common.{◌≡◌, ℕ, List, [], ◌∷◌, ◌++◌, Option, Some, None, Result, Ok, Err, IfOk, true, false, refl, sym, ap, ◌∙◌, subst}
 use Rattle.std.proofs.lemmas.List.{append-nil}
 use Rattle.v_syntax.specs.declared.item.Direction.{Direction}
 use Rattle.v_syntax.specs.declared.item.Direction.TheVariants as direction
@@ -126,17 +126,17 @@ drives_joined s e t z f g y is r h k made =
     (λ c j same gets. subst (λ (i : Joined). IsJoined s (Some direction.Output) e i) (sym same)
     (subst (λ (o : Option TargetTree). IsTargetOf s o c) (sym is) gets)))
 
-output_by : (q : ℕ) (s : Scope) (e : Tree) (o : Option TargetTree) (x y : DrivenDigits) (f : Found CheckedTarget) (g : Found Joined) → as_target e ≡ o → is_some o ≡ true
-    → IsOutput q s o x f y → EachIs (λ (c : CheckedTarget) (j : Joined). j ≡ joined_kind.Target c) f g → (ds : List Drive) → Keeps x ds
+output_by : (q : ℕ) (s : Scope) (e : Tree) (o : Option TargetTree) (x y : DrivenDigits) (f : Found CheckedTarget) (g : Found Joined) → as_target e ≡ o
+    → IsOutput q s o x (Some f) y → EachIs (λ (c : CheckedTarget) (j : Joined). j ≡ joined_kind.Target c) f g → (ds : List Drive) → Keeps x ds
     → JoinsAs s (Some direction.Output) e (output_joined q s e ds o) g y
-output_by q s e None x y f g is spells h made = cc
-output_by q s e (Some t) x y f g is spells h made = λ ds k.
+output_by q s e None x y f g is h made = absurd h
+output_by q s e (Some t) x y f g is h made = λ ds k.
     let z = driving (Some q) s t ds in
     drives_joined s e t z f g y is (widths_done (λ (c : CheckedTarget). c.width) f z.width (h ds k).target.finds) (h ds k).target.holds (h ds k).driven made
 
-pub output_found : (q : ℕ) (s : Scope) (e : Tree) (x y : DrivenDigits) (f : Found CheckedTarget) (g : Found Joined) → is_some (as_target e) ≡ true
-    → IsOutput q s (as_target e) x f y → EachIs (λ (c : CheckedTarget) (j : Joined). j ≡ joined_kind.Target c) f g → IsFoundJoined q s (Some direction.Output) e x g y
-output_found q s e x y f g spells h made = output_by q s e (as_target e) x y f g refl spells h made
+pub output_found : (q : ℕ) (s : Scope) (e : Tree) (x y : DrivenDigits) (f : Found CheckedTarget) (g : Found Joined)
+    → IsOutput q s (as_target e) x (Some f) y → EachIs (λ (c : CheckedTarget) (j : Joined). j ≡ joined_kind.Target c) f g → IsFoundJoined q s (Some direction.Output) e x g y
+output_found q s e x y f g h made = output_by q s e (as_target e) x y f g refl h made
 
 -- without a value only the rule counts
 lost_joins : {A : Type 0} (s : Scope) (d : Option Direction) (e : Tree) (b : Broken) (x : Found A) (v : Found Joined) (y : DrivenDigits) → done v ≡ done x
@@ -151,16 +151,16 @@ lost_joins s d e b (Lost z) (Lost c) y h = let same : z ≡ c = cc in ap (λ (r 
 lost_joins s d e b (Lost z) (Sound j) y h = cc
 lost_joins s d e b (Lost z) (Noted c j) y h = cc
 
-none_by : (q : ℕ) (s : Scope) (e : Tree) (o : Option TargetTree) (x : DrivenDigits) (v : Found Joined) → is_some o ≡ false → done v ≡ done (checked s e) → (ds : List Drive)
-    → JoinsAs s (Some direction.Output) e (output_joined q s e ds o) (lost (at rule.BadTarget q) v) x
-none_by q s e (Some t) x v spells h = cc
-none_by q s e None x v spells h = λ ds. lost_joins s (Some direction.Output) e (at rule.BadTarget q) (checked s e) v x h
+none_by : (q : ℕ) (s : Scope) (e : Tree) (o : Option TargetTree) (x y : DrivenDigits) (v : Found Joined) → IsOutput q s o x None y → done v ≡ done (checked s e)
+    → (ds : List Drive) → JoinsAs s (Some direction.Output) e (output_joined q s e ds o) (lost (at rule.BadTarget q) v) y
+none_by q s e (Some t) x y v none h = absurd none
+none_by q s e None x y v none h = λ ds. lost_joins s (Some direction.Output) e (at rule.BadTarget q) (checked s e) v y h
 
-pub no_target_found : (q : ℕ) (s : Scope) (e : Tree) (x : DrivenDigits) (v g : Found Joined) → is_some (as_target e) ≡ false → IsFoundValue s e v
-    → g ≡ lost (at rule.BadTarget q) v → IsFoundJoined q s (Some direction.Output) e x g x
-no_target_found q s e x v g spells h is = λ ds k.
-    subst (λ (f : Found Joined). JoinsAs s (Some direction.Output) e (output_joined q s e ds (as_target e)) f x) (sym is)
-    (none_by q s e (as_target e) x v spells h.rule_is ds)
+pub no_target_found : (q : ℕ) (s : Scope) (e : Tree) (x y : DrivenDigits) (v g : Found Joined) → IsOutput q s (as_target e) x None y → IsFoundValue s e v
+    → g ≡ lost (at rule.BadTarget q) v → IsFoundJoined q s (Some direction.Output) e x g y
+no_target_found q s e x y v g none h is = λ ds k.
+    subst (λ (f : Found Joined). JoinsAs s (Some direction.Output) e (output_joined q s e ds (as_target e)) f y) (sym is)
+    (none_by q s e (as_target e) x y v none h.rule_is ds)
 
 -- ---- connections
 

@@ -29,7 +29,7 @@ use Rattle.v_connect.specs.declared.joint.Joint as code
 use Rattle.v_connect.specs.declared.joint.Joints as code_joints
 use Rattle.v_connect.specs.Joints.{AreJoints, AreFound}
 use Rattle.v_connect.specs.Found.{connected, IsListed, Goes, after, behind, ThenConnects}
-use Rattle.v_connect.proofs.Chains.{one_link, last_link}
+use Rattle.v_scope.proofs.Chains.{one_link, last_link}
 
 -- ---- joints behind others
 

@@ -15,7 +15,7 @@ use std::alloc::Global;
 use v_check::check;
 use v_drive::DrivenDigits;
 use v_operator::Checked;
-use v_output::{output, spells_target};
+use v_output::output;
 use v_reads::{Span, reads};
 use v_scope::{Broken, ElabRule, Found, Scope};
 use v_syntax::{Direction, Expression, TokenNumber};
@@ -66,14 +66,15 @@ fn target(
     ensures ok { IfOk result (λ found. IsFoundOutput place (means scope.now) (view expression.now) driven.old found driven.new) }
     ensures grows { KeepsOrGrows driven.old driven.new }
 {
-    if spells_target(expression) {
-        Ok(of_target(output(alloc, scope, place, expression, driven)?))
-    } else {
-        let fault = Broken {
-            rule: ElabRule::BadTarget,
-            place,
-        };
-        Ok(value(alloc, scope, expression)?.lost(fault))
+    match output(alloc, scope, place, expression, driven)? {
+        Some(found) => Ok(of_target(found)),
+        None => {
+            let fault = Broken {
+                rule: ElabRule::BadTarget,
+                place,
+            };
+            Ok(value(alloc, scope, expression)?.lost(fault))
+        }
     }
 }
 

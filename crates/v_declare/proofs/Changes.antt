@@ -12,7 +12,7 @@ use Rattle.v_scope.specs.declared.meaning.Bounds.{Bounds}
 use Rattle.v_flat.specs.Declarations.{Declared, Place, is_free, is_new, are_halves, same_bounds, whole_of, find_declared, with_declared, declared_too, declare_again, declare, declare_memory, bounds_in, known_names}
 use Rattle.v_declare.specs.Kept.{put_declared}
 use Rattle.v_declare.specs.Steps.{may_be, has_room, first_found, again_found, either_found, name_found, memory_of, sized_found, memory_found}
-use Rattle.v_declare.proofs.Chains.{lost_each}
+use Rattle.v_scope.proofs.Chains.{lost_each}
 use Rattle.v_declare.proofs.Counts.{put_absent, put_present, found_name}
 
 abbrev put_in : List Declared → Declared → List Declared

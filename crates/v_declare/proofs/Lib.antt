@@ -1,5 +1,4 @@
 pub mod Tables
-pub mod Chains
 pub mod Counts
 pub mod Changes
 pub mod Loops

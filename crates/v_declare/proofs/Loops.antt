@@ -14,7 +14,7 @@ use Rattle.v_syntax.specs.declared.item.Direction.{Direction}
 use Rattle.v_flat.specs.Declarations.{Sort, Declared, Place, declare, declare_all, declare_register, declare_registers, declared_as, declare_ports, declare_line, declare_lines, declare_header, names_checked, find_direction}
 use Rattle.v_flat.specs.Headers.{HeadedPort}
 use Rattle.test_names.specs.Places.{first_place, noted}
-use Rattle.v_declare.proofs.Chains.{one_link}
+use Rattle.v_scope.proofs.Chains.{one_link}
 
 -- y is what is found with one name more, and left are the names behind it
 pub one_name : (w : Place) (d : Option Direction) (k : Option Sort) (b : Bounds) (i : Identifier) (is left : List Identifier) (x y whole : Found (List Declared))

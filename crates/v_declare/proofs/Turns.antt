@@ -16,7 +16,7 @@ use Rattle.v_header.specs.declared.heads.HeadedPort as code_port
 use Rattle.v_header.specs.Heads.{headed_in, headed_port_in}
 use Rattle.v_declare.specs.declared.details.Declared as code
 use Rattle.v_declare.specs.Kept.{named_declared, sort_in}
-use Rattle.v_declare.proofs.Chains.{last_link}
+use Rattle.v_scope.proofs.Chains.{last_link}
 use Rattle.v_declare.proofs.Loops.{one_name, one_register, one_item, item_broken, one_port, port_broken}
 
 -- what is left, from the element of this turn on

@@ -4,7 +4,7 @@ use Rattle.v_scope.specs.declared.rule.Broken.{Broken}
 use Rattle.v_scope.specs.declared.rule.ElabRule.{ElabRule}
 use Rattle.v_scope.specs.declared.found.Found.{Found}
 use Rattle.v_scope.specs.declared.found.Found.TheVariants.{Sound, Noted, Lost}
-use Rattle.v_scope.specs.Found.{noted, lost, each, both, and_then, settled, wants, needs, ended, next}
+use Rattle.v_scope.specs.Found.{noted, lost, each, both, followed, and_then, settled, wants, needs, ended, next}
 use Rattle.v_scope.specs.Found.{Holds, HoldsOk}
 
 pub holds_noted : {A : Type 0} (P : A → Type 0) (b : Broken) (x : Found A) → Holds P (noted b x)
@@ -33,6 +33,14 @@ holds_both P Q (Sound a) (Noted c b) h k = tt
 holds_both P Q (Sound a) (Lost c) h k = tt
 holds_both {A} {B} P Q (Noted c a) y h k = holds_noted (λ (p : A × B). P p.0 × Q p.1) c (each (λ b. (a, b)) y)
 holds_both {A} {B} P Q (Lost c) y h k = holds_lost (λ (p : A × B). P p.0 × Q p.1) c y
+
+pub holds_followed : {A B : Type 0} (P : A → Type 0) (Q : B → Type 0) (x : Found A) (y : Found B) → Holds P x → Holds Q y
+    → Holds (λ (p : A × B). P p.0 × Q p.1) (followed x y)
+holds_followed P Q (Sound a) (Sound b) h k = (h, k)
+holds_followed P Q (Sound a) (Noted c b) h k = tt
+holds_followed P Q (Sound a) (Lost c) h k = tt
+holds_followed {A} {B} P Q (Noted c a) y h k = holds_noted (λ (p : A × B). P p.0 × Q p.1) c (each (λ b. (a, b)) y)
+holds_followed P Q (Lost c) y h k = tt
 
 pub holds_settled : {A : Type 0} (P : A → Type 0) (x : Found A) → Holds P x → Holds P (settled x)
 holds_settled P (Sound a) h = h

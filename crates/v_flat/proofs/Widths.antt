@@ -7,7 +7,7 @@ use Rattle.v_syntax.specs.ExpressionTrees.{Tree, Number, Named, Bracketed, Unary
 use Rattle.v_scope.specs.declared.rule.ElabRule.TheVariants as rule
 use Rattle.v_scope.specs.declared.found.Found.{Found}
 use Rattle.v_scope.specs.declared.found.Found.TheVariants.{Sound, Noted, Lost}
-use Rattle.v_scope.specs.Found.{each, both, and_then, settled, broken, wants, needs}
+use Rattle.v_scope.specs.Found.{each, both, followed, and_then, settled, broken, wants, needs}
 use Rattle.v_scope.specs.declared.meaning.Bounds.{Bounds}
 use Rattle.v_scope.specs.declared.meaning.DataObject.{DataObject}
 use Rattle.v_scope.specs.declared.meaning.Meaning.{Meaning}
@@ -18,7 +18,7 @@ use Rattle.v_flat.specs.Objects.{nature_of, nature_of_object}
 use Rattle.v_flat.specs.Expressions.{width, widths, named_width, object_width, select_width, own_value, own_number, no_signals, number_or, meaning, unary_class, binary_class, unary_width, binary_width}
 use Rattle.v_flat.specs.Checks.{checked, all_checked, made, known, known_by, constant, index, sized, filled, narrow, counted, part_width, go_with, by_nature, of_vector, of_memory, part, select_at}
 use Rattle.v_scope.specs.Found.{Holds}
-use Rattle.v_flat.proofs.Holds.{holds_then, holds_each, holds_both, holds_settled, holds_wants, holds_needs, holds_any}
+use Rattle.v_flat.proofs.Holds.{holds_then, holds_each, holds_both, holds_followed, holds_settled, holds_wants, holds_needs, holds_any}
 
 sized_found : (p n : ℕ) (x : Found ℕ) → Holds (λ (w : ℕ). n ≡ w) x → Holds (λ (w : ℕ). n ≡ w) (sized p x)
 sized_found p n x h = holds_then (λ (w : ℕ). n ≡ w) (λ (w : ℕ). n ≡ w) x (λ w. wants (nat_le w most_digits) rule.TooWide p (Sound w)) h
@@ -54,9 +54,9 @@ one_found n (Sound u) = refl
 one_found n (Noted b u) = tt
 one_found n (Lost b) = tt
 
-second_found : (A : Type 0) (n : ℕ) (x : Found A) (y : Found ℕ) → Holds (λ (w : ℕ). n ≡ w) y → Holds (λ (w : ℕ). n ≡ w) (each (λ z. z.1) (both x y))
-second_found A n x y h = holds_each (λ (z : A × ℕ). Unit {0} × (n ≡ z.1)) (λ (w : ℕ). n ≡ w) (λ z. z.1) (both x y)
-    (holds_both (λ (a : A). Unit {0}) (λ (w : ℕ). n ≡ w) x y (holds_any x) h) (λ z k. k.1)
+second_found : (A : Type 0) (n : ℕ) (x : Found A) (y : Found ℕ) → Holds (λ (w : ℕ). n ≡ w) y → Holds (λ (w : ℕ). n ≡ w) (each (λ z. z.1) (followed x y))
+second_found A n x y h = holds_each (λ (z : A × ℕ). Unit {0} × (n ≡ z.1)) (λ (w : ℕ). n ≡ w) (λ z. z.1) (followed x y)
+    (holds_followed (λ (a : A). Unit {0}) (λ (w : ℕ). n ≡ w) x y (holds_any x) h) (λ z k. k.1)
 
 -- two selects on a vector
 word_wrong : (s : Scope) (i : Tree) (n p : ℕ) → Holds (λ (w : ℕ). n ≡ w) (and_then (index false s i (checked s i)) (λ u. broken rule.BadRange p))

@@ -6,7 +6,7 @@ use Rattle.v_syntax.specs.ExpressionTrees.{Tree, Number, Named, Bracketed, Unary
 use Rattle.v_scope.specs.declared.rule.ElabRule.TheVariants as rule
 use Rattle.v_scope.specs.declared.found.Found.{Found}
 use Rattle.v_scope.specs.declared.found.Found.TheVariants.{Sound}
-use Rattle.v_scope.specs.Found.{each, both, and_then, settled, broken, wants, needs}
+use Rattle.v_scope.specs.Found.{each, both, followed, and_then, settled, broken, wants, needs}
 use Rattle.v_scope.specs.declared.meaning.Bounds.{Bounds}
 use Rattle.v_scope.specs.declared.meaning.Meaning.{Meaning}
 use Rattle.v_scope.specs.declared.meaning.Meaning.TheVariants.{Constant}
@@ -133,7 +133,7 @@ abbrev mutual
   pub of_memory : Bool → Scope → ℕ → Bounds → SelectsTree → Found ℕ
   of_memory fixed s p b Whole = broken rule.BadRange p
   of_memory fixed s p b (One sel) = word fixed s b sel
-  of_memory fixed s p b (OfWord q i sel) = each (λ x. x.1) (both (index fixed s i (checked s i)) (part fixed s p b sel))
+  of_memory fixed s p b (OfWord q i sel) = each (λ x. x.1) (followed (index fixed s i (checked s i)) (part fixed s p b sel))
 
   -- the index of a word
   pub word : Bool → Scope → Bounds → SelectTree → Found ℕ
@@ -146,7 +146,7 @@ abbrev mutual
   part fixed s p b (Part q l r) =
       and_then (both (constant s l (checked s l)) (constant s r (checked s r))) (λ x. part_width q p b (number_or (number x.0)) (number_or (number x.1)))
   part fixed s p b (IndexedPart q c n) =
-      each (λ x. x.1) (both (index fixed s c (checked s c)) (and_then (constant s n (checked s n)) (λ ds. and_then (counted (first_at n) ds) (narrow p))))
+      each (λ x. x.1) (followed (index fixed s c (checked s c)) (and_then (constant s n (checked s n)) (λ ds. and_then (counted (first_at n) ds) (narrow p))))
 
 -- the value of an expression that has to be a constant
 abbrev pub constant_of : Scope → Tree → Found (List Digit)

@@ -67,7 +67,7 @@ constant_meaning (Some r) b ds = Constant (resize ds (width_of b)) b
 abbrev pub is_free : List ℕ → Entries → Bool
 is_free n es = is_none (means es n)
 
--- s has the parameters so far; others are the names that are no constants here
+-- s has the parameters so far; others are all names that are declared, of which those that s hasn't are no constants here
 abbrev pub parameter : Parameter → List Given → Scope → Entries → Found Entries
 parameter p given others s =
     wants (is_free p.name.name s) rule.DuplicateName p.name.at (each (λ x. s ++ ((p.name.name, constant_meaning p.range x.0 x.1) ∷ []))

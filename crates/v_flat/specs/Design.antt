@@ -299,8 +299,7 @@ joints_of s None ps driven = Sound (record { list = []; driven = driven })
 joints_of s (Some (Ordered es)) ps driven = ordered_joints s es ps driven
 joints_of s (Some (NamedConnections cs)) ps driven = named_joints s ps [] cs driven
 
--- how many assignments the connections make: one to a port that isn't there, or stood there before, and one of an output to
--- what is no target make none
+-- how many assignments the connection of a port makes: that of an output to what is no target makes none
 abbrev pub joint_made : Option Direction → Tree → ℕ
 joint_made (Some direction.Output) e = if is_some (as_target e) then 1 else 0
 joint_made d e = 1
@@ -318,12 +317,13 @@ abbrev pub named_count : List Port → List (List ℕ) → List ConnectionTree �
 named_count ps seen [] = 0
 named_count ps seen (Connection q i v ∷ cs) = named_made (port_once i seen (find_port i.name ps)) v + named_count ps (i.name ∷ seen) cs
 
+-- how many assignments all of them make; one to a port that isn't there, or stood there before, makes none
 abbrev pub joint_count : Option ConnectionsTree → List Port → ℕ
 joint_count None ps = 0
 joint_count (Some (Ordered es)) ps = ordered_count es ps
 joint_count (Some (NamedConnections cs)) ps = named_count ps [] cs
 
--- the assignments of the connected ports, in the order of ports; outer is the scope of the connections, and s that of the ports
+-- what a port is joined to
 abbrev pub find_joint : List ℕ → List Joint → Option Tree
 find_joint n [] = None
 find_joint n (j ∷ js) = if bytes_eq j.port n then Some j.value else find_joint n js
@@ -348,6 +348,7 @@ port_joint outer (Some e) (Some direction.Output) (Some (Object o)) d = output_t
 port_joint outer (Some e) c (Some (Object o)) d = input_joint outer o e d
 port_joint outer _ c _ d = d
 
+-- the assignments of the connected ports, in the order of ports; outer is the scope of the connections, and s that of the ports
 abbrev pub port_joints : Scope → List Joint → Scope → List Port → Design → Design
 port_joints outer js s [] d = d
 port_joints outer js s (p ∷ ps) d = port_joints outer js s ps (port_joint outer (find_joint p.name js) p.direction (find p.name s) d)

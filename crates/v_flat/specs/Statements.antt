@@ -58,7 +58,7 @@ counter p (Some (Object o)) = counter_in p o o.words o.kind
 abbrev pub same_counter : Identifier → Identifier → Scope → Found (Unit {0})
 same_counter i j s = if bytes_eq i.name j.name then fine else lost (at rule.BadTarget j.at) (counter j.at (find j.name s))
 
--- in a turn the counter is a constant
+-- the scope of a turn: its counter is a constant
 abbrev pub turn : List ℕ → DataObject → List Digit → Scope → Scope
 turn n o v s = named n (Constant v o.bounds) s
 
@@ -146,7 +146,7 @@ known_turns (Sound x) = x
 known_turns (Noted b x) = x
 known_turns (Lost b) = ([], [])
 
--- what a loop is: the values of its turns with the scope of each, and what is assigned at the end
+-- what is made of the register that a name means, or else something other
 abbrev pub with_counter : {A : Type 0} → Option Meaning → (DataObject → A) → A → A
 with_counter (Some (Object o)) f other = f o
 with_counter _ f other = other

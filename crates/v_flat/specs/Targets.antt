@@ -126,7 +126,8 @@ abbrev pub place_or : Option ℕ → ℕ → ℕ
 place_or None p = p
 place_or (Some q) p = q
 
--- the target of a continuous assignment, part by part from left to right; a connection has one place for all parts
+-- the target of a continuous assignment, part by part from left to right, with what drives afterwards, also where a rule is noted; where digits
+-- are driven twice, a connection has one place for all parts
 abbrev mutual
   pub driving : Option ℕ → Scope → TargetTree → List Drive → Driving
   driving q s (NamedTarget p n sel) driven = name_driving (place_or q p) s sel driven (find n s) (named_target Continuous s p sel (find n s))

@@ -25,8 +25,8 @@ fn table(alloc: Global, names: &[&[u8]]) -> Result<Names, NoMemory>
     ensures { IfOk result (HasNames (texts names.now)) }
 {
     let mut table = Names::new(alloc);
-    for at in 0..names.len() {
-        table.note(alloc, names[at], at)?;
+    for (place, name) in names.iter().enumerate() {
+        table.note(alloc, name, place)?;
     }
     Ok(table)
 }
@@ -49,10 +49,10 @@ fn first_uses(
     let known = table(alloc, names)?;
     let mut seen = Names::new(alloc);
     let mut uses = Vec::new(alloc);
-    for at in 0..connections.len() {
-        let name = connections[at].port.name.bytes();
+    for (place, connection) in connections.iter().enumerate() {
+        let name = connection.port.name.bytes();
         uses.push(is_first_use(&known, &seen, name))?;
-        seen.note(alloc, name, at)?;
+        seen.note(alloc, name, place)?;
     }
     Ok(uses)
 }

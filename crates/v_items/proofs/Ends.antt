@@ -29,7 +29,7 @@ many_procs : (ps : List Process) → length (procs_of ps) ≡ length ps
 many_procs [] = refl
 many_procs (p ∷ ps) = ap suc (many_procs ps)
 
-same_count : (s : State) (x : code.State) → IsState s x → length x.parts.processes ≡ length s.design.processes
+pub same_count : (s : State) (x : code.State) → IsState s x → length x.parts.processes ≡ length s.design.processes
 same_count s x h = sym (many_procs x.parts.processes) ∙ ap (λ (ps : List Proc). length ps) h.parts.processes
 
 ends : (b : Bool) (p : ℕ) (u : Found State) (f : Found code.State) → EachIs GoesOn u f → Holds (λ (y : code.State). Holds (λ (t : State). IsState t y) u) f

@@ -15,7 +15,7 @@ use Rattle.v_scope.proofs.Gathered.{then_same}
 use Rattle.v_flat.specs.Design.{State, in_turn}
 use Rattle.v_names.specs.Proper.{AreProper}
 use Rattle.v_layout.specs.Named.{AreSignals}
-use Rattle.v_declare.proofs.Chains.{last_link, one_link}
+use Rattle.v_scope.proofs.Chains.{last_link, one_link}
 use Rattle.v_items.specs.declared.state.State as code
 use Rattle.v_items.specs.States.{GoesOn, IsReady, IsState, Stays}
 use Rattle.v_items.specs.Steps.{GoesThrough, IsStep}

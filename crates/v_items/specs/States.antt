@@ -1,5 +1,5 @@
 -- An instance between two of its items, as the code has it and as the definition has it, and what items make of it.
-use Rattle.std.specs.Prelude.{◌≡◌, ◌≤◌, ℕ, List, ◌++◌, length, Result, Ok, Err}
+use Rattle.std.specs.Prelude.{◌≡◌, ◌≤◌, ℕ, length, Result, Ok, Err}
 use Rattle.gpi.specs.Design.{widths}
 use Rattle.v_syntax.specs.SourceTrees.{KindTree}
 use Rattle.v_scope.specs.declared.rule.Broken.{Broken}
@@ -10,7 +10,7 @@ use Rattle.v_flat.specs.Design.{State, plain_item}
 use Rattle.v_names.specs.Proper.{AreProper}
 use Rattle.v_drive.specs.Digits.{Keeps}
 use Rattle.v_build.specs.Parts.{IsSoFar}
-use Rattle.v_layout.specs.Named.{AreSignals}
+use Rattle.v_layout.specs.Named.{StaySignals}
 use Rattle.v_items.specs.declared.state.State as code
 
 -- x has what further items ask of the state s: what names mean, how many signals there are, and which digits are driven
@@ -29,7 +29,7 @@ pub record IsState (s : State) (x : code.State) : Type 0 where
 -- than a design may have
 pub record IsReady (x : code.State) : Type 0 where
   pub proper : AreProper (means x.scope)
-  pub signals : (more : List ℕ) → AreSignals (means x.scope) (widths x.parts.signals ++ more)
+  pub signals : StaySignals (means x.scope) (widths x.parts.signals)
   pub few : length x.parts.signals ≤ most_parts
 
 -- names mean in y what they mean in x; and y has the same signals, instances and known names

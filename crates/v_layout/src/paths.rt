@@ -20,7 +20,6 @@ pub(crate) fn dotted(alloc: Global, path: &[u8], name: &[u8]) -> Result<Vec<u8>,
 
 /// The path of what has this name in the instance of a path, `top.inner.name` (IEEE 1364-2005, clause 12.5). Only want of memory is an
 /// error.
-
 pub fn path_below(alloc: Global, path: &[u8], name: &[u8]) -> Result<Vec<u8>, NoMemory>
     ensures { IfOk result (λ text. (p : Path) → HasText p path.now → HasText (below p name.now) text.items) }
 {

@@ -75,6 +75,13 @@ impl Tokens {
         &self.tokens[i]
     }
 
+    /// The byte places of all tokens in order, and behind them the end of the text.
+    pub fn places(&self) -> &[u32]
+        ensures { result.now ≡ self.now.places }
+    {
+        &self.places
+    }
+
     /// All tokens in order.
     pub fn as_slice(&self) -> &[Token]
         ensures all { result.now ≡ self.now.tokens }

@@ -10,7 +10,7 @@ use Rattle.v_syntax.specs.ExpressionTrees.{Tree, SelectTree, Bit, Part, IndexedP
 use Rattle.v_scope.specs.declared.rule.ElabRule.TheVariants as rule
 use Rattle.v_scope.specs.declared.found.Found.{Found}
 use Rattle.v_scope.specs.declared.found.Found.TheVariants.{Sound}
-use Rattle.v_scope.specs.Found.{each, both, and_then, needs, Holds}
+use Rattle.v_scope.specs.Found.{each, both, followed, and_then, needs, Holds}
 use Rattle.v_scope.specs.declared.meaning.Bounds.{Bounds}
 use Rattle.v_scope.specs.Scope.{Scope, span}
 use Rattle.v_scope.proofs.Gathered.{same_each, each_each, each_needs, each_then, then_same}
@@ -19,7 +19,7 @@ use Rattle.v_scope.proofs.CutWidths.{fits_cut}
 use Rattle.v_flat.specs.Expressions.{number_or, own_number, own_value, no_signals, width, lesser, select_base}
 use Rattle.v_flat.specs.Checks.{checked, index, constant_of, counted, narrow, part_width, go_with}
 use Rattle.v_operator.specs.Checked.{IsCount}
-use Rattle.v_flat.proofs.Holds.{holds_both, holds_each, holds_then, holds_needs}
+use Rattle.v_flat.proofs.Holds.{holds_both, holds_followed, holds_each, holds_then, holds_needs}
 use Rattle.v_flat.proofs.Widths.{count_found}
 use Rattle.v_constant.proofs.Unsignalled.{one_meaning}
 use Rattle.v_names.specs.declared.choice.Choice.{Choice}
@@ -56,16 +56,16 @@ width_of_indexed : (s : Scope) (p : ℕ) (n : Tree) (w : Found ℕ) → w ≡ ea
 width_of_indexed s p n w e = ap (λ (x : Found ℕ). and_then x (narrow p)) e ∙ narrow_counted p (and_then (constant_of s n) (counted (first_at n)))
 
 indexed_chosen : (fixed : Bool) (s : Scope) (p : ℕ) (b : Bounds) (q : ℕ) (c n : Tree) (x : Found Term) (w : Found ℕ) → IsIndex fixed s c x
-    → IsCount s n w → IsChosen fixed s p b (IndexedPart q c n) (each pair_choice (both x (and_then w (narrow p))))
+    → IsCount s n w → IsChosen fixed s p b (IndexedPart q c n) (each pair_choice (followed x (and_then w (narrow p))))
 indexed_chosen fixed s p b q c n x w h e =
     let y = and_then (and_then (constant_of s n) (counted (first_at n))) (narrow p) in
     let f : and_then w (narrow p) ≡ each counted_width y = width_of_indexed s p n w e in record {
-      finds = each_each {A = Term × ℕ} {B = Choice} {C = ℕ} (λ (z : Choice). z.width) pair_choice (both x (and_then w (narrow p)))
+      finds = each_each {A = Term × ℕ} {B = Choice} {C = ℕ} (λ (z : Choice). z.width) pair_choice (followed x (and_then w (narrow p)))
           ∙ second_of x (index fixed s c (checked s c)) (and_then w (narrow p)) (λ (v : ℕ). v) y h.finds (same_each (and_then w (narrow p)) ∙ f)
-          ∙ ap (λ (v : Found ℕ). each counted_width (each {A = Unit {0} × ℕ} (λ (z : Unit {0} × ℕ). z.1) (both (index fixed s c (checked s c)) v)))
+          ∙ ap (λ (v : Found ℕ). each counted_width (each {A = Unit {0} × ℕ} (λ (z : Unit {0} × ℕ). z.1) (followed (index fixed s c (checked s c)) v)))
           (constant_then s n (counted (first_at n)) (narrow p));
-      holds = holds_each (λ (z : Term × ℕ). StandsAlone s c z.0 × ((own_number s n ≡ z.1) × IsWidth z.1)) (λ (z : Choice). Chooses s (IndexedPart q c n) z) pair_choice (both x (and_then w (narrow p)))
-          (holds_both (λ (t : Term). StandsAlone s c t) (λ (v : ℕ). (own_number s n ≡ v) × IsWidth v) x (and_then w (narrow p)) h.holds
+      holds = holds_each (λ (z : Term × ℕ). StandsAlone s c z.0 × ((own_number s n ≡ z.1) × IsWidth z.1)) (λ (z : Choice). Chooses s (IndexedPart q c n) z) pair_choice (followed x (and_then w (narrow p)))
+          (holds_followed (λ (t : Term). StandsAlone s c t) (λ (v : ℕ). (own_number s n ≡ v) × IsWidth v) x (and_then w (narrow p)) h.holds
           (subst (λ (v : Found ℕ). Holds (λ (v : ℕ). (own_number s n ≡ v) × IsWidth v) v) (sym f)
           (holds_each (λ (v : ℕ). (own_number s n ≡ v) × IsWidth v) (λ (v : ℕ). (own_number s n ≡ v) × IsWidth v) counted_width y (narrow_count s p n) (λ v k. cut_width (own_number s n) v k))))
           (λ z k. record { proper = k.1.1; own = k.1.0; base = λ m. ap (λ (ds : List Digit). number ds) (k.0.means m); sound = λ ws names. k.0.sound ws names.0 });

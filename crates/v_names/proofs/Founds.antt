@@ -6,9 +6,9 @@ use Rattle.v_syntax.specs.ExpressionTrees.{Tree, first_at}
 use Rattle.v_scope.specs.declared.rule.ElabRule.TheVariants as rule
 use Rattle.v_scope.specs.declared.found.Found.{Found}
 use Rattle.v_scope.specs.declared.found.Found.TheVariants.{Sound, Noted, Lost}
-use Rattle.v_scope.specs.Found.{noted, each, both, and_then, settled, needs, Holds}
+use Rattle.v_scope.specs.Found.{noted, each, followed, and_then, settled, needs, Holds}
 use Rattle.v_scope.specs.Scope.{Scope}
-use Rattle.v_scope.proofs.Gathered.{same_each, each_each, each_noted, each_needs, both_each, holds_so}
+use Rattle.v_scope.proofs.Gathered.{same_each, each_each, each_noted, each_needs, followed_each, holds_so}
 use Rattle.v_scope.specs.Limits.{counted_width}
 use Rattle.v_scope.proofs.CutWidths.{fits_cut}
 use Rattle.v_flat.specs.Expressions.{own_value, no_signals, meaning}
@@ -18,17 +18,17 @@ use Rattle.v_flat.proofs.Widths.{widths_found, constant_found}
 
 -- the second of two, where the first has no value that counts
 pub second_of : {A B : Type 0} (x : Found A) (u : Found (Unit {0})) (y : Found B) (g : B → ℕ) (z : Found ℕ) → each (λ (a : A). tt) x ≡ u → each g y ≡ each counted_width z
-    → each {A = A × B} (λ (p : A × B). g p.1) (both x y) ≡ each counted_width (each {A = Unit {0} × ℕ} (λ (p : Unit {0} × ℕ). p.1) (both u z))
+    → each {A = A × B} (λ (p : A × B). g p.1) (followed x y) ≡ each counted_width (each {A = Unit {0} × ℕ} (λ (p : Unit {0} × ℕ). p.1) (followed u z))
 second_of {A} {B} x u y g z h k =
-    sym (each_each {A = A × B} {B = Unit {0} × ℕ} {C = ℕ} (λ (p : Unit {0} × ℕ). p.1) (λ (p : A × B). (tt, g p.1)) (both x y))
+    sym (each_each {A = A × B} {B = Unit {0} × ℕ} {C = ℕ} (λ (p : Unit {0} × ℕ). p.1) (λ (p : A × B). (tt, g p.1)) (followed x y))
     ∙ ap (λ (v : Found (Unit {0} × ℕ)). each {A = Unit {0} × ℕ} (λ (p : Unit {0} × ℕ). p.1) v)
-    (sym (both_each {A = A} {B = B} {C = Unit {0}} {D = ℕ} (λ (a : A). tt) g x y)
-    ∙ ap (λ (v : Found (Unit {0})). both v (each g y)) h
-    ∙ ap (λ (v : Found ℕ). both u v) k
-    ∙ ap (λ (v : Found (Unit {0})). both v (each counted_width z)) (sym (same_each u))
-    ∙ both_each {A = Unit {0}} {B = ℕ} {C = Unit {0}} {D = ℕ} (λ (a : Unit {0}). a) counted_width u z)
-    ∙ each_each {A = Unit {0} × ℕ} {B = Unit {0} × ℕ} {C = ℕ} (λ (p : Unit {0} × ℕ). p.1) (λ (p : Unit {0} × ℕ). (p.0, counted_width p.1)) (both u z)
-    ∙ sym (each_each {A = Unit {0} × ℕ} {B = ℕ} {C = ℕ} counted_width (λ (p : Unit {0} × ℕ). p.1) (both u z))
+    (sym (followed_each {A = A} {B = B} {C = Unit {0}} {D = ℕ} (λ (a : A). tt) g x y)
+    ∙ ap (λ (v : Found (Unit {0})). followed v (each g y)) h
+    ∙ ap (λ (v : Found ℕ). followed u v) k
+    ∙ ap (λ (v : Found (Unit {0})). followed v (each counted_width z)) (sym (same_each u))
+    ∙ followed_each {A = Unit {0}} {B = ℕ} {C = Unit {0}} {D = ℕ} (λ (a : Unit {0}). a) counted_width u z)
+    ∙ each_each {A = Unit {0} × ℕ} {B = Unit {0} × ℕ} {C = ℕ} (λ (p : Unit {0} × ℕ). p.1) (λ (p : Unit {0} × ℕ). (p.0, counted_width p.1)) (followed u z)
+    ∙ sym (each_each {A = Unit {0} × ℕ} {B = ℕ} {C = ℕ} counted_width (λ (p : Unit {0} × ℕ). p.1) (followed u z))
 
 pub holds_so_too : {A : Type 0} (P Q : A → Type 0) (x : Found A) → Holds P x → Holds Q x → Holds (λ (a : A). P a × Q a) x
 holds_so_too P Q (Sound a) h k = (h, k)

@@ -11,7 +11,7 @@ use Rattle.v_syntax.specs.ExpressionTrees.{Tree, Named, SelectsTree, Whole, One,
 use Rattle.v_scope.specs.declared.rule.ElabRule.TheVariants as rule
 use Rattle.v_scope.specs.declared.found.Found.{Found}
 use Rattle.v_scope.specs.declared.found.Found.TheVariants.{Sound}
-use Rattle.v_scope.specs.Found.{each, both, and_then, broken, Holds}
+use Rattle.v_scope.specs.Found.{each, followed, and_then, broken, Holds}
 use Rattle.v_scope.specs.declared.meaning.Bounds.{Bounds}
 use Rattle.v_scope.specs.declared.meaning.DataObject.{DataObject}
 use Rattle.v_scope.specs.declared.meaning.Meaning.{Meaning}
@@ -23,7 +23,7 @@ use Rattle.v_context.specs.declared.contextual.Contextual.TheVariants.{Settled}
 use Rattle.v_flat.specs.Objects.{Nature, nature_of_object, range_of, words_of}
 use Rattle.v_flat.specs.Expressions.{own_value, select_base, select_width, object_width, object_part}
 use Rattle.v_flat.specs.Checks.{checked, index, part, by_nature, of_vector, of_memory, select_at}
-use Rattle.v_flat.proofs.Holds.{holds_then, holds_any, holds_both}
+use Rattle.v_flat.proofs.Holds.{holds_then, holds_any, holds_followed}
 use Rattle.v_operator.specs.declared.checked.Checked.{Checked}
 use Rattle.v_operator.specs.Checked.{StandsFor, IsChecked, IsObjectOf}
 use Rattle.v_operator.proofs.Combined.{made_width, made_holds}
@@ -175,15 +175,15 @@ word_part_stands s q i sel x words b y c v made st k = record {
 }
 
 word_part_named : (s : Scope) (p q : ℕ) (i : Tree) (sel : SelectTree) (x : Option Meaning) (words : Words) (b : Bounds) (y : Found Term) (z : CheckedSelect) (f : Found Checked) → IsMemory x words b
-    → IsIndex false s i y → IsSelect false s sel z → AreWordParts words (width_of b) b (both y (choice_from p b z)) f → IsName s p (OfWord q i sel) x f
+    → IsIndex false s i y → IsSelect false s sel z → AreWordParts words (width_of b) b (followed y (choice_from p b z)) f → IsName s p (OfWord q i sel) x f
 word_part_named s p q i sel x words b y z f v h g made = let k = chosen false s p b sel z g in record {
-  finds = made_width (λ (w : Term × Choice) (c : Checked). MakesWordPart words (width_of b) b w c) (λ (c : Checked). c.width) (λ (w : Term × Choice). w.1.width) (both y (choice_from p b z)) f made
+  finds = made_width (λ (w : Term × Choice) (c : Checked). MakesWordPart words (width_of b) b w c) (λ (c : Checked). c.width) (λ (w : Term × Choice). w.1.width) (followed y (choice_from p b z)) f made
       (λ w c q. q.width_is)
       ∙ second_of y (index false s i (checked s i)) (choice_from p b z) (λ (c : Choice). c.width) (part false s p b sel) h.finds k.finds
       ∙ ap (λ (n : Nature). each counted_width (asked s p (OfWord q i sel) n)) (sym v.nature);
   holds = made_holds (λ (w : Term × Choice) (c : Checked). MakesWordPart words (width_of b) b w c) (λ (w : Term × Choice). StandsAlone s i w.0 × Chooses s sel w.1)
-      (λ (c : Checked). StandsForName s (OfWord q i sel) x c) (both y (choice_from p b z)) f made
-      (holds_both (λ (t : Term). StandsAlone s i t) (λ (c : Choice). Chooses s sel c) y (choice_from p b z) h.holds k.holds)
+      (λ (c : Checked). StandsForName s (OfWord q i sel) x c) (followed y (choice_from p b z)) f made
+      (holds_followed (λ (t : Term). StandsAlone s i t) (λ (c : Choice). Chooses s sel c) y (choice_from p b z) h.holds k.holds)
       (λ w c m st. word_part_stands s q i sel x words b w c v m st.0 st.1);
 }
 

@@ -13,7 +13,7 @@ use Rattle.v_syntax.specs.ExpressionTrees.{SelectsTree}
 use Rattle.v_scope.specs.declared.rule.ElabRule.TheVariants as rule
 use Rattle.v_scope.specs.declared.found.Found.{Found}
 use Rattle.v_scope.specs.declared.found.Found.TheVariants.{Sound}
-use Rattle.v_scope.specs.Found.{each, both, and_then, broken, needs, Holds}
+use Rattle.v_scope.specs.Found.{each, both, followed, and_then, broken, needs, Holds}
 use Rattle.v_scope.specs.declared.meaning.Bounds.{Bounds}
 use Rattle.v_scope.specs.declared.meaning.DataObject.{DataObject}
 use Rattle.v_scope.specs.declared.meaning.Meaning.{Meaning}
@@ -63,7 +63,7 @@ range_choice q p b ds es = range_of_numbers q p b (number_or (number ds)) (numbe
 abbrev pub choice_from : ℕ → Bounds → CheckedSelect → Found Choice
 choice_from p b (code.Bit q x) = each bit_choice x
 choice_from p b (code.Part q x y) = and_then (both x y) (λ z. range_choice q p b z.0 z.1)
-choice_from p b (code.IndexedPart q x w) = each pair_choice (both x (and_then w (narrow p)))
+choice_from p b (code.IndexedPart q x w) = each pair_choice (followed x (and_then w (narrow p)))
 
 -- ---- what a name is
 
@@ -135,7 +135,7 @@ WordMade words n (code.IndexedPart q x w) f = f ≡ broken rule.BadRange q
 abbrev pub MemoryMade : ℕ → Words → ℕ → Bounds → CheckedSelects → Found Checked → Type 0
 MemoryMade p words n b code_selects.Whole f = f ≡ broken rule.BadRange p
 MemoryMade p words n b (code_selects.One x) f = WordMade words n x f
-MemoryMade p words n b (code_selects.OfWord i x) f = AreWordParts words n b (both i (choice_from p b x)) f
+MemoryMade p words n b (code_selects.OfWord i x) f = AreWordParts words n b (followed i (choice_from p b x)) f
 
 abbrev pub NamesObject : ℕ → DataObject → CheckedSelects → Found Checked → Type 0
 NamesObject p o y f = (s : Scope) (sel : SelectsTree) → AreSelects false s sel y → IsName s p sel (Some (Object o)) f

@@ -145,7 +145,7 @@ pub fn chosen(place: TokenNumber, bounds: Bounds, select: CheckedSelect) -> Foun
         CheckedSelect::Bit { index, .. } => bit(index),
         CheckedSelect::Part { at, left, right } => found_part(at, place, bounds, left.both(right)),
         CheckedSelect::IndexedPart { base, width, .. } => {
-            paired(base.both(narrowed(place, width)))
+            paired(base.followed_by(narrowed(place, width)))
         }
     }
 }

@@ -181,7 +181,7 @@ fn memory(
         CheckedSelects::Whole => Ok(Found::broken(ElabRule::BadRange, place)),
         CheckedSelects::One(select) => Ok(word_select(alloc, words, width, select)?),
         CheckedSelects::OfWord(index, select) => {
-            let found = index.both(chosen(place, bounds, select));
+            let found = index.followed_by(chosen(place, bounds, select));
             Ok(chosen_from_word(alloc, words, width, bounds, found)?)
         }
     }

@@ -1,6 +1,6 @@
 -- The state before the first item, and that it is ready for the next one.
 use Rattle.v_names.specs.Proper.{AreProper}
-use Rattle.std.proofs.Common.{true, ◌≡◌, ◌∙◌, ℕ, List, [], ◌∷◌, ◌++◌, map, length, None, refl, sym, ap, subst, arith, length-append}
+use Rattle.std.proofs.Common.{true, ◌≡◌, ◌<◌, ◌∙◌, ℕ, List, [], ◌∷◌, ◌++◌, map, length, None, refl, sym, ap, subst, arith, length-append}
 use Rattle.std.proofs.lemmas.List.{append_assoc, append-nil, length-map, map-append}
 use Rattle.four_value.specs.declared.Digit.TheVariants.{X}
 use Rattle.gpi.specs.Activation.{IsSound}
@@ -20,7 +20,7 @@ use Rattle.v_shape.proofs.Signals.{all_many}
 use Rattle.v_parameter.specs.declared.constants.Constants.{Constants}
 use Rattle.v_parameter.specs.Constants.{AreConstants, entries_of}
 use Rattle.v_build.specs.declared.parts.Parts.{Parts}
-use Rattle.v_build.specs.Parts.{AreSoundIn, IsSoFar, IsSoundIn, opened_nodes}
+use Rattle.v_build.specs.Parts.{AreSoundIn, Grows, HasNode, IsSoFar, IsSoundIn, opened_nodes}
 use Rattle.v_layout.specs.Fits.{Fit}
 use Rattle.v_layout.specs.Named.{AreSignals}
 use Rattle.v_layout.specs.Texts.{HasText}
@@ -133,3 +133,16 @@ is_ready text c ds x y s ks driven signals constants fit scope same adds = recor
     all : signals ≡ map signal_of (so_far ++ all_signals (text ∷ []) (length so_far) ds)
     all = adds (text ∷ []) (length so_far) here ∙ ap (λ ss. ss ++ map signal_of (all_signals (text ∷ []) (length so_far) ds)) (same ∙ sym (all_paths x.signals))
         ∙ sym (map-append signal_of so_far (all_signals (text ∷ []) (length so_far) ds))
+
+-- ---- what is there more
+
+pub more_there : (x y : Parts) (text : List ℕ) (signals : List Signal) (ds : List Declared) → HasNode x text y → AddsSignals text ds y.signals signals
+    → Grows x (record { signals = signals; nodes = y.nodes; processes = y.processes })
+more_there x y text signals ds h adds = record {
+  more = map signal_of (all_signals (text ∷ []) 0 ds);
+  signals = adds (text ∷ []) 0 (record { named = λ e. cc; is = refl }) ∙ ap (λ ss. ss ++ map signal_of (all_signals (text ∷ []) 0 ds)) h.signals;
+  nodes = let e = ap length h.nodes in let k = length-append x.nodes.items (record { path = text; children = [] } ∷ []) in omega (arith, e, k);
+}
+
+pub node_there : (x y : Parts) (text : List ℕ) → HasNode x text y → length x.nodes.items < length y.nodes.items
+node_there x y text h = let e = ap length h.nodes in let k = length-append x.nodes.items (record { path = text; children = [] } ∷ []) in omega (arith, e, k)

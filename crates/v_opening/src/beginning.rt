@@ -1,8 +1,9 @@
 //! The state before the first item.
 
-ghost use Rattle.std.specs.Prelude.{IfOk, length};
+ghost use Rattle.std.specs.Prelude.{◌<◌, IfOk, length};
 ghost use Rattle.v_flat.specs.Declarations.{in_order};
 ghost use Rattle.v_parameter.specs.Constants.{AreConstants};
+ghost use Rattle.v_build.specs.Parts.{Grows};
 ghost use Rattle.v_layout.specs.Fits.{Fit};
 ghost use Rattle.v_items.specs.States.{IsReady};
 ghost use Rattle.v_opening.specs.Opens.{Opens};
@@ -31,6 +32,8 @@ pub fn opening(
     requires fit { Fit (length parts.signals) (in_order ports.now declared.now) }
     ensures opens { IfOk result (Opens path.now constants.now (in_order ports.now declared.now) parts) }
     ensures ready { IfOk result IsReady }
+    ensures grows { IfOk result (λ state. Grows parts state.parts) }
+    ensures node { IfOk result (λ state. length parts.nodes.items < length state.parts.nodes.items) }
 {
     let first = parts.signals.len() as u32;
     let lines = in_order(alloc, ports, declared)?;

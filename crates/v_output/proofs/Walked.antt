@@ -14,7 +14,7 @@ use Rattle.v_assign.specs.Targets.{ChecksBraces}
 use Rattle.v_assign.specs.Continuous.{IsContinuous, AreContinuous, AreTogether, KeepsOrGrows}
 use Rattle.v_assign.proofs.Grown.{target_grown}
 use Rattle.v_assign.proofs.Onward.{Onward, braces_drive}
-use Rattle.v_output.specs.Outputs.{IsOutput, AreOutputs}
+use Rattle.v_output.specs.Spelled.{IsSpelled, AreSpelled}
 use Rattle.v_output.proofs.Forms.{views_here}
 
 -- ---- from left to right
@@ -36,7 +36,7 @@ onward_tree q s all x y z fs t ts f on h = λ gs a k.
     (on (f ∷ gs) a (λ ds r. ((h ds r).target, k (driving q s t ds).driven (h ds r).driven)))
 
 onward_more : (q : ℕ) (s : Scope) (all : Option TargetTrees) (x y z : DrivenDigits) (fs : List (Found CheckedTarget)) (t : Option TargetTree) (ts : Option TargetTrees)
-    (f : Found CheckedTarget) → OnwardFrom q s all x fs (one_target t ts) y → IsOutput q s t y f z → OnwardFrom q s all x (fs ++ (f ∷ [])) ts z
+    (f : Found CheckedTarget) → OnwardFrom q s all x fs (one_target t ts) y → IsSpelled q s t y f z → OnwardFrom q s all x (fs ++ (f ∷ [])) ts z
 onward_more q s None x y z fs t ts f on h = tt
 onward_more q s (Some all) x y z fs None ts f on h = absurd on
 onward_more q s (Some all) x y z fs (Some t) None f on h = absurd on
@@ -44,7 +44,7 @@ onward_more q s (Some all) x y z fs (Some t) (Some ts) f on h = onward_tree (Som
 
 pub onward_next : (q : ℕ) (s : Scope) (es : List code.Expression) (i : ℕ) (e : code.Expression) (all : Option TargetTrees) (x y z : DrivenDigits)
     (fs gs : List (Found CheckedTarget)) (f : Found CheckedTarget) → i < length es → e ≡ get_or es i e → gs ≡ fs ++ (f ∷ [])
-    → OnwardFrom q s all x fs (as_targets (views (drop i es))) y → IsOutput q s (as_target (view e)) y f z
+    → OnwardFrom q s all x fs (as_targets (views (drop i es))) y → IsSpelled q s (as_target (view e)) y f z
     → OnwardFrom q s all x gs (as_targets (views (drop (i + 1) es))) z
 onward_next q s es i e all x y z fs gs f l is more on h =
     subst (λ (hs : List (Found CheckedTarget)). OnwardFrom q s all x hs (as_targets (views (drop (i + 1) es))) z) (sym more)
@@ -52,12 +52,12 @@ onward_next q s es i e all x y z fs gs f l is more on h =
     (subst (λ (ts : Trees). OnwardFrom q s all x fs (as_targets ts) y) (views_here es i e l is) on) h)
 
 onward_last : (q : ℕ) (s : Scope) (all : Option TargetTrees) (x y : DrivenDigits) (fs : List (Found CheckedTarget)) → OnwardFrom q s all x fs (Some no_target) y
-    → AreOutputs q s all x fs y
+    → AreSpelled q s all x fs y
 onward_last q s None x y fs on = tt
 onward_last q s (Some all) x y fs on = subst (λ (hs : List (Found CheckedTarget)). AreContinuous (Some q) s all x hs y) (append-nil fs) (on [] y (λ ds k. k))
 
 pub onward_end : (q : ℕ) (s : Scope) (es : List code.Expression) (i : ℕ) (all : Option TargetTrees) (x y : DrivenDigits) (fs : List (Found CheckedTarget)) → length es ≤ i
-    → OnwardFrom q s all x fs (as_targets (views (drop i es))) y → AreOutputs q s all x fs y
+    → OnwardFrom q s all x fs (as_targets (views (drop i es))) y → AreSpelled q s all x fs y
 onward_end q s es i all x y fs past on =
     onward_last q s all x y fs (subst (λ (xs : List code.Expression). OnwardFrom q s all x fs (as_targets (views xs)) y) (drop_all i es past) on)
 
@@ -68,8 +68,8 @@ either_way (Ok a) = tt
 either_way (Err e) = tt
 
 pub braces_output : {E : Type 0} (q : ℕ) (s : Scope) (p : ℕ) (ts : Option TargetTrees) (x y : DrivenDigits) (fs : List (Found CheckedTarget)) (f : Found TargetParts)
-    (r : Result (Found CheckedTarget) E) → AreOutputs q s ts x fs y → AreTogether fs f → IfOk r (ChecksBraces p f)
-    → IfOk r (λ (g : Found CheckedTarget). IsOutput q s (joined_target p ts) x g y)
+    (r : Result (Found CheckedTarget) E) → AreSpelled q s ts x fs y → AreTogether fs f → IfOk r (ChecksBraces p f)
+    → IfOk r (λ (g : Found CheckedTarget). IsSpelled q s (joined_target p ts) x g y)
 braces_output q s p None x y fs f r all found made = either_way r
 braces_output q s p (Some ts) x y fs f r all found made = braces_drive (Some q) s p ts x y fs f r all found made
 

@@ -1,19 +1,17 @@
 -- What it means that the target was checked to which an output is connected (IEEE 1364-2005, clauses 6.1 and 12.3.9.2).
-use Rattle.std.specs.Prelude.{ℕ, List, Option, None, Some}
-use Rattle.v_syntax.specs.ExpressionTrees.{TargetTree, TargetTrees}
+use Rattle.std.specs.Prelude.{ℕ, Option, None, Some}
+use Rattle.v_syntax.specs.ExpressionTrees.{TargetTree}
 use Rattle.v_scope.specs.declared.found.Found.{Found}
 use Rattle.v_scope.specs.Scope.{Scope}
 use Rattle.v_drive.specs.declared.digits.DrivenDigits.{DrivenDigits}
+use Rattle.v_drive.specs.Digits.{KeepsSame}
 use Rattle.v_target.specs.declared.checked.CheckedTarget.{CheckedTarget}
-use Rattle.v_assign.specs.Continuous.{IsContinuous, AreContinuous}
+use Rattle.v_assign.specs.Continuous.{IsContinuous}
 
--- the target that the expression spells is that of a continuous assignment, all of whose parts have the place q; where it spells none, the
--- expression is none that an output may have
-abbrev pub IsOutput : ℕ → Scope → Option TargetTree → DrivenDigits → Found CheckedTarget → DrivenDigits → Type 0
-IsOutput q s None x f y = Unit {0}
-IsOutput q s (Some t) x f y = IsContinuous (Some q) s t x f y
-
--- the same of the parts of braces
-abbrev pub AreOutputs : ℕ → Scope → Option TargetTrees → DrivenDigits → List (Found CheckedTarget) → DrivenDigits → Type 0
-AreOutputs q s None x fs y = Unit {0}
-AreOutputs q s (Some ts) x fs y = AreContinuous (Some q) s ts x fs y
+-- something was found exactly where the expression spells a target, and then it is that of a continuous assignment, all of whose parts have
+-- the place q; else no digit is driven anew
+abbrev pub IsOutput : ℕ → Scope → Option TargetTree → DrivenDigits → Option (Found CheckedTarget) → DrivenDigits → Type 0
+IsOutput q s None x None y = KeepsSame x y
+IsOutput q s None x (Some f) y = ⊥
+IsOutput q s (Some t) x None y = ⊥
+IsOutput q s (Some t) x (Some f) y = IsContinuous (Some q) s t x f y

@@ -6,6 +6,7 @@
 
 mod spelled;
 mod walk;
+mod whole;
 
 pub use spelled::spells_target;
-pub use walk::output;
+pub use whole::output;

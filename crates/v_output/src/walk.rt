@@ -6,7 +6,7 @@ ghost use Rattle.v_syntax.specs.ExpressionTrees.{view, views};
 ghost use Rattle.v_flat.specs.Targets.{as_target, as_targets};
 ghost use Rattle.v_names.specs.Proper.{AreProper};
 ghost use Rattle.v_assign.specs.Continuous.{KeepsOrGrows};
-ghost use Rattle.v_output.specs.Outputs.{AreOutputs, IsOutput};
+ghost use Rattle.v_output.specs.Spelled.{AreSpelled, IsSpelled};
 
 use port_io::NoMemory;
 use std::alloc::Global;
@@ -16,12 +16,10 @@ use v_scope::{ElabRule, Found, Scope};
 use v_syntax::{Expression, TokenNumber};
 use v_target::CheckedTarget;
 
-/// What is found in the target that an expression spells, to which an output is connected: what is broken first, its width where that is
-/// known, and the target that gets its updates; and which digits of nets are driven then (IEEE 1364-2005, clauses 6.1 and 12.3.9.2).
-/// `place` is that of the connection, which stands for those of all parts where they are driven twice. One that spells none breaks
-/// BadTarget there, and nothing of it is checked. Only want of memory is an error. Whatever the answer, those digits that were driven are.
+/// What is found in the target that an expression spells, and which digits of nets are driven then, all whose parts have this place. Only
+/// want of memory is an error. Whatever the answer, those digits that were driven are.
 #[cycle(driving)]
-pub fn output(
+pub(crate) fn spelled_target(
     alloc: Global,
     scope: &Scope,
     place: TokenNumber,
@@ -29,7 +27,7 @@ pub fn output(
     driven: &mut DrivenDigits,
 ) -> Result<Found<CheckedTarget>, NoMemory>
     requires { AreProper (means scope.now) }
-    ensures ok { IfOk result (λ found. IsOutput place (means scope.now) (as_target (view expression.now)) driven.old found driven.new) }
+    ensures ok { IfOk result (λ found. IsSpelled place (means scope.now) (as_target (view expression.now)) driven.old found driven.new) }
     ensures grows { KeepsOrGrows driven.old driven.new }
 {
     match expression {
@@ -52,12 +50,12 @@ fn each_part(
     driven: &mut DrivenDigits,
 ) -> Result<Vec<Found<CheckedTarget>>, NoMemory>
     requires { AreProper (means scope.now) }
-    ensures ok { IfOk result (λ found. AreOutputs place (means scope.now) (as_targets (views expressions.now)) driven.old found.items driven.new) }
+    ensures ok { IfOk result (λ found. AreSpelled place (means scope.now) (as_targets (views expressions.now)) driven.old found.items driven.new) }
     ensures grows { KeepsOrGrows driven.old driven.new }
 {
     let mut found = Vec::new(alloc);
     for expression in expressions {
-        found.push(output(alloc, scope, place, expression, driven)?)?;
+        found.push(spelled_target(alloc, scope, place, expression, driven)?)?;
     }
     Ok(found)
 }

@@ -1,14 +1,17 @@
 -- What a caller of the parser sees.
-use Rattle.std.proofs.Common.{◌≡◌, List, Result, Ok, Err, refl, sym, ap, subst, ◌∙◌}
+use Rattle.std.proofs.Common.{◌≡◌, List, map, Result, Ok, Err, refl, sym, ap, subst, ◌∙◌}
 use Rattle.std.specs.Prelude.{IfOk, IfErr}
 use Rattle.v_syntax.specs.declared.token.Token.{Token}
-use Rattle.v_syntax.specs.SourceTrees.{ModuleTree}
+use Rattle.v_syntax.specs.declared.source.Module.{Module}
+use Rattle.v_syntax.specs.declared.source.Source.{Source}
+use Rattle.v_syntax.specs.SourceTrees.{ModuleTree, view, view_module}
 use Rattle.v_syntax.specs.Refusal.{IsSource, IsSyntaxAt, IsTooDeepAt, height_limit}
+use Rattle.v_lex.specs.Lexing.{Lexed}
 use Rattle.v_phrase.specs.Stops.{Stop, Syntax, TooDeep}
 use Rattle.v_parse.specs.declared.fault.ParseFault.{ParseFault}
 use Rattle.v_parse.specs.declared.fault.ParseFault.TheVariants as faults
 use Rattle.v_parse.specs.Reading.{source_of}
-use Rattle.v_parse.specs.Answers.{IsFault, IsRead, Tells}
+use Rattle.v_parse.specs.Answers.{IsFault, IsPlaced, IsRead, MakesSource, Tells}
 use Rattle.v_parse.proofs.Source.{source_sound, source_again, source_syntax, source_deep}
 
 abbrev Read : Type 0
@@ -54,3 +57,16 @@ module _ {X : Type 0} (view : X → List ModuleTree) (text : List Token) where
 
     pub parse_refused : IfErr r (λ f. IsFault text f)
     parse_refused = refused_of r given
+
+-- ---- modules that are put into a source
+
+pub made_tells : (text : List Token) (ms : List Module) (read : Lexed) (r : Result Source ParseFault) → source_of 63 text ≡ Ok (map view_module ms) → MakesSource ms read r
+    → Tells view text r (source_of 63 text)
+made_tells text ms read (Ok s) h made = h ∙ ap (λ (xs : List Module). (let x : Read = Ok (map view_module xs) in x)) (sym made.modules_are)
+made_tells text ms read (Err faults.OutOfMemory) h made = tt
+made_tells text ms read (Err (faults.Syntax p)) h made = absurd (cc)
+made_tells text ms read (Err (faults.TooDeep p)) h made = absurd (cc)
+
+pub placed_source : (ms : List Module) (read : Lexed) (r : Result Source ParseFault) → MakesSource ms read r → IfOk r (IsPlaced read)
+placed_source ms read (Ok s) made = made.is_placed
+placed_source ms read (Err f) made = tt

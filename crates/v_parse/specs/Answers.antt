@@ -1,8 +1,11 @@
 -- What a fault says of a text.
 use Rattle.std.specs.Prelude.{◌≡◌, ℕ, ◌-◌, List, length, Result, Ok, Err}
 use Rattle.v_syntax.specs.declared.token.Token.{Token}
+use Rattle.v_syntax.specs.declared.source.Module.{Module}
+use Rattle.v_syntax.specs.declared.source.Source.{Source}
 use Rattle.v_syntax.specs.SourceTrees.{ModuleTree}
 use Rattle.v_syntax.specs.Refusal.{IsSyntaxAt, IsTooDeepAt}
+use Rattle.v_lex.specs.Lexing.{Lexed}
 use Rattle.v_phrase.specs.Stops.{Stop, Syntax, TooDeep}
 use Rattle.v_parse.specs.declared.fault.ParseFault.{ParseFault}
 use Rattle.v_parse.specs.declared.fault.ParseFault.TheVariants as faults
@@ -17,6 +20,22 @@ IsFault text (faults.TooDeep p) = IsTooDeepAt text p
 abbrev pub IsRead : {X : Type 0} → (X → Type 0) → Result X ParseFault → Type 0
 IsRead is (Ok x) = is x
 IsRead is (Err e) = e ≡ faults.OutOfMemory
+
+-- the source has the places of the text's tokens, and its step
+pub record IsPlaced (text : Lexed) (s : Source) : Type 0 where
+  pub places : s.places.items ≡ text.places
+  pub step : s.step ≡ text.step
+
+-- ---- what is made of modules that were read
+
+-- A means of proof: the source has these modules, and the places and the step of the text.
+pub record Makes (modules : List Module) (text : Lexed) (s : Source) : Type 0 where
+  pub modules_are : s.modules.items ≡ modules
+  pub is_placed : IsPlaced text s
+
+abbrev pub MakesSource : List Module → Lexed → Result Source ParseFault → Type 0
+MakesSource modules text (Ok s) = Makes modules text s
+MakesSource modules text (Err f) = f ≡ faults.OutOfMemory
 
 -- ---- what the list reader gives
 

@@ -1,34 +1,34 @@
 //! Whole texts.
 
-ghost use Rattle.std.specs.Prelude.{◌≡◌, ◌-◌, ◌<◌, ◌^◌, ℕ, List, length, IfOk, IfErr};
+ghost use Rattle.std.specs.Prelude.{◌≡◌, ◌-◌, ◌<◌, ◌^◌, ℕ, List, length, map, IfOk, IfErr};
 ghost use Rattle.v_syntax.specs.declared.token.Token.{Token};
-ghost use Rattle.v_syntax.specs.SourceTrees.{ModuleTree, view};
+ghost use Rattle.v_syntax.specs.SourceTrees.{ModuleTree, view, view_module};
 ghost use Rattle.v_syntax.specs.Refusal.{IsSource, height_limit};
 ghost use Rattle.v_lex.specs.Row.{Reads};
 ghost use Rattle.v_lex.specs.Lexing.{Lexed};
 ghost use Rattle.v_phrase.specs.Stops.{Gives};
 ghost use Rattle.v_parse.specs.Reading.{source_of};
-ghost use Rattle.v_parse.specs.Answers.{IsFault, IsRead, Tells};
+ghost use Rattle.v_parse.specs.Answers.{IsFault, IsPlaced, IsRead, MakesSource, Tells};
 
 use crate::ParseFault;
 use crate::modules::modules;
 use std::alloc::Global;
 use v_lex::Tokens;
 use v_phrase::{ReadError, next, syntax_error};
-use v_syntax::{Source, Token};
+use v_syntax::{Module, Source, Token};
 
 /// The levels below a tree of the greatest height.
 const ROOM: usize = 63;
 
 /// Modules that nothing stands behind.
 #[tactic(auto, unfolding(crate::specs::Reading::source_of))]
-fn source(alloc: Global, text: &[Token]) -> Result<Source, ReadError>
-    ensures { Gives view result (source_of 63 text.now) }
+fn all_modules(alloc: Global, text: &[Token]) -> Result<Vec<Module>, ReadError>
+    ensures { Gives (λ modules. map view_module modules.items) result (source_of 63 text.now) }
 {
     let (modules, rest) = modules(alloc, text.len(), ROOM, text)?;
     match next(rest) {
         Some(_) => Err(syntax_error(rest)),
-        None => Ok(Source { modules }),
+        None => Ok(modules),
     }
 }
 
@@ -40,16 +40,30 @@ fn number_of(text: &[Token], left: usize) -> u32
     text.len().saturating_sub(left) as u32
 }
 
-/// [`parse`], by where its reader stops.
-fn read(alloc: Global, text: &[Token]) -> Result<Source, ParseFault>
+/// The modules of a whole text, by where their reader stops.
+fn read(alloc: Global, text: &[Token]) -> Result<Vec<Module>, ParseFault>
     requires { length text.now < 2 ^ 32 }
-    ensures { Tells view text.now result (source_of 63 text.now) }
+    ensures { Tells (λ modules. map view_module modules.items) text.now result (source_of 63 text.now) }
 {
-    match source(alloc, text) {
-        Ok(source) => Ok(source),
+    match all_modules(alloc, text) {
+        Ok(modules) => Ok(modules),
         Err(ReadError::Syntax(left)) => Err(ParseFault::Syntax(number_of(text, left))),
         Err(ReadError::TooDeep(left)) => Err(ParseFault::TooDeep(number_of(text, left))),
         Err(ReadError::OutOfMemory) => Err(ParseFault::OutOfMemory),
+    }
+}
+
+/// These modules, with the places of the tokens and the step of the text. Only want of memory is an error.
+fn placed(alloc: Global, modules: Vec<Module>, tokens: &Tokens) -> Result<Source, ParseFault>
+    ensures { MakesSource modules.items tokens.now result }
+{
+    match tokens.places().to_vec(alloc) {
+        Ok(places) => Ok(Source {
+            modules,
+            places,
+            step: tokens.step(),
+        }),
+        Err(_) => Err(ParseFault::OutOfMemory),
     }
 }
 
@@ -61,8 +75,13 @@ pub fn parse(alloc: Global, tokens: &Tokens) -> Result<Source, ParseFault>
     ensures only { (ms : List ModuleTree) → IsSource height_limit tokens.now.tokens ms → IsRead (λ s. view s ≡ ms) result }
     // A fault is at the first token that no partial tree within the height spells.
     ensures refused { IfErr result (λ f. IsFault tokens.now.tokens f) }
+    // The places of the tokens and the step are those of the text.
+    ensures placed { IfOk result (IsPlaced tokens.now) }
 {
-    read(alloc, tokens.as_slice())
+    match read(alloc, tokens.as_slice()) {
+        Ok(modules) => placed(alloc, modules, tokens),
+        Err(fault) => Err(fault),
+    }
 }
 
 /// A text has at most one tree, whatever its height.

@@ -35,8 +35,9 @@ use Rattle.v_connect.specs.Joints.{AreJoints, IsJoined, IsTargetOf, IsValue}
 use Rattle.v_build.specs.Parts.{IsSoFar, IsSoundIn}
 use Rattle.v_build.specs.declared.parts.Parts.{Parts}
 use Rattle.v_build.proofs.More.{process_more}
+use Rattle.v_layout.specs.Named.{StaySignals}
 use Rattle.v_named.proofs.Trees.{expression_names, target_names}
-use Rattle.v_ports.specs.Ports.{AreSignalsOf, Differ}
+use Rattle.v_ports.specs.Ports.{Differ}
 use Rattle.v_ports.specs.Steps.{AddsProcess, first_joined, object_in}
 use Rattle.v_ports.proofs.Matches.{Matches, matches}
 
@@ -96,7 +97,7 @@ first_signal o (Some w) ws h = (h.first, h.each o.first (omega arith) (let e = h
 abbrev pub with_processes : Parts → List Process → Parts
 with_processes x ps = record { signals = x.signals; nodes = x.nodes; processes = ps }
 
-module _ (outer : Scope) (x : Parts) (around : AreSignalsOf x outer) where
+module _ (outer : Scope) (x : Parts) (around : StaySignals outer (widths x.signals)) where
   one_more : (p : Process) (old new : List Process) (d u : Design) → new ≡ old ++ p ∷ [] → IsSoundIn p (widths x.signals) → u ≡ with_process (proc_of p) d
       → IsSoFar d (with_processes x old) → IsSoFar u (with_processes x new)
   one_more p old new d u e s is h =
@@ -191,7 +192,7 @@ AddsAll f s count (p ∷ ps) old new = (mid : List Process) × (AddsProcess (f p
 abbrev AreOf : List Port → List Port → Type 0
 AreOf all ps = (k : ℕ) (p : Port) → slice_get ps k ≡ Some p → (i : ℕ) × (slice_get all i ≡ Some p)
 
-module _ (outer s : Scope) (all : List Port) (js : List Joint) (cs : List code_joint.Joint) (x : Parts) (around : AreSignalsOf x outer) (inside : AreSignalsOf x s)
+module _ (outer s : Scope) (all : List Port) (js : List Joint) (cs : List code_joint.Joint) (x : Parts) (around : StaySignals outer (widths x.signals)) (inside : StaySignals s (widths x.signals))
     (differ : Differ (map port_name all)) (are : AreJoints outer all js cs) where
   these_more : (ps : List Port) (old new : List Process) (d : Design) → AreOf all ps → AddsAll (first_joined cs) s (length x.signals) ps old new
       → IsSoFar d (with_processes x old) → IsSoFar (port_joints outer js s ps d) (with_processes x new)

@@ -4,7 +4,7 @@ use Rattle.v_scope.specs.declared.rule.Broken.{Broken}
 use Rattle.v_scope.specs.declared.rule.ElabRule.{ElabRule}
 use Rattle.v_scope.specs.declared.found.Found.{Found}
 use Rattle.v_scope.specs.declared.found.Found.TheVariants.{Sound, Noted, Lost}
-use Rattle.v_scope.specs.Found.{noted, lost, each, both, and_then, wants, needs, Holds, EachIs}
+use Rattle.v_scope.specs.Found.{noted, lost, each, both, followed, and_then, wants, needs, Holds, EachIs}
 
 pub same_each : {A : Type 0} (x : Found A) → each (λ (a : A). a) x ≡ x
 same_each (Sound a) = refl
@@ -73,6 +73,16 @@ both_each f g (Noted d a) (Lost c) = refl
 both_each f g (Lost d) (Sound b) = refl
 both_each f g (Lost d) (Noted c b) = refl
 both_each f g (Lost d) (Lost c) = refl
+
+pub followed_each : {A B C D : Type 0} (f : A → C) (g : B → D) (x : Found A) (y : Found B)
+    → followed (each f x) (each g y) ≡ each (λ (p : A × B). (f p.0, g p.1)) (followed x y)
+followed_each f g (Sound a) (Sound b) = refl
+followed_each f g (Sound a) (Noted c b) = refl
+followed_each f g (Sound a) (Lost c) = refl
+followed_each f g (Noted d a) (Sound b) = refl
+followed_each f g (Noted d a) (Noted c b) = refl
+followed_each f g (Noted d a) (Lost c) = refl
+followed_each f g (Lost d) y = refl
 
 pub holds_so : {A : Type 0} (P Q : A → Type 0) (x : Found A) → Holds P x → ((a : A) → P a → Q a) → Holds Q x
 holds_so P Q (Sound a) h k = k a h

@@ -53,6 +53,12 @@ both (Sound a) y = each (λ b. (a, b)) y
 both (Noted x a) y = noted x (each (λ b. (a, b)) y)
 both (Lost x) y = lost x y
 
+-- the first and what stands behind it, which counts only where the first has a value
+abbrev pub followed : {A B : Type 0} → Found A → Found B → Found (A × B)
+followed (Sound a) y = each (λ b. (a, b)) y
+followed (Noted x a) y = noted x (each (λ b. (a, b)) y)
+followed (Lost x) y = Lost x
+
 -- what is asked only where there is a value
 abbrev pub and_then : {A B : Type 0} → Found A → (A → Found B) → Found B
 and_then (Sound a) f = f a

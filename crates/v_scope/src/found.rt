@@ -1,7 +1,7 @@
 //! What a part of a text gives: its value, or the first rule that is broken in it.
 
 ghost use Rattle.std.specs.Prelude.{◌≡◌};
-ghost use Rattle.v_scope.specs.Found.{EachIs, ForValue, both, broken, ended, lost, needs, noted, settled, wants};
+ghost use Rattle.v_scope.specs.Found.{EachIs, ForValue, both, broken, ended, followed, lost, needs, noted, settled, wants};
 
 use crate::{Broken, ElabRule, earlier};
 use v_syntax::TokenNumber;
@@ -122,6 +122,16 @@ impl<A: Drop> Found<A> {
                 Found::Noted(fault, _value) => Found::Lost(earlier(first, fault)),
                 Found::Lost(fault) => Found::Lost(earlier(first, fault)),
             },
+        }
+    }
+
+    /// Both, where what stands behind counts only where this one has a value: what is broken there then says nothing more.
+    pub fn followed_by<B: Drop>(self, other: Found<B>) -> Found<(A, B)>
+        ensures { result ≡ followed self other }
+    {
+        match self {
+            Found::Lost(first) => Found::Lost(first),
+            valued => valued.both(other),
         }
     }
 }

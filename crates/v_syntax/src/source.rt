@@ -47,4 +47,8 @@ pub struct Module {
 #[derive(Drop)]
 pub struct Source {
     pub modules: Vec<Module>,
+    /// The byte at which each token begins, and behind them the end of the text.
+    pub places: Vec<u32>,
+    /// The least precision of all `timescale` directives, in femtoseconds (clause 19.8).
+    pub step: u64,
 }

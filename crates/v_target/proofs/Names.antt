@@ -13,7 +13,7 @@ use Rattle.v_syntax.specs.ExpressionTrees.{Tree, SelectsTree, Whole, One, OfWord
 use Rattle.v_scope.specs.declared.rule.ElabRule.TheVariants as rule
 use Rattle.v_scope.specs.declared.found.Found.{Found}
 use Rattle.v_scope.specs.declared.found.Found.TheVariants.{Sound}
-use Rattle.v_scope.specs.Found.{each, both, and_then, broken, needs, Holds}
+use Rattle.v_scope.specs.Found.{each, followed, and_then, broken, needs, Holds}
 use Rattle.v_scope.specs.declared.meaning.Bounds.{Bounds}
 use Rattle.v_scope.specs.declared.meaning.DataObject.{DataObject}
 use Rattle.v_scope.specs.declared.meaning.Meaning.TheVariants.{Constant, Later}
@@ -27,7 +27,7 @@ use Rattle.v_flat.specs.Expressions.{no_signals, own_value, select_base, select_
 use Rattle.v_flat.specs.Checks.{checked, index, part, by_nature, of_vector, of_memory, select_at}
 use Rattle.v_flat.specs.declared.manner.Manner.{Manner}
 use Rattle.v_flat.specs.Targets.{fits_kind, inside_drive, is_fixed, object_update}
-use Rattle.v_flat.proofs.Holds.{holds_any, holds_both, holds_each, holds_lost, holds_needs, holds_then}
+use Rattle.v_flat.proofs.Holds.{holds_any, holds_each, holds_followed, holds_lost, holds_needs, holds_then}
 use Rattle.v_names.specs.declared.choice.Choice.{Choice}
 use Rattle.v_names.specs.declared.selects.CheckedSelect.{CheckedSelect}
 use Rattle.v_names.specs.declared.selects.CheckedSelect.TheVariants as code
@@ -112,11 +112,11 @@ one_found fixed s p (IndexedPart q c n) words b (code.Part o y z) w h = absurd h
 word_part_found : (fixed : Bool) (s : Scope) (p : ℕ) (i : Tree) (sel : SelectTree) (words : Words) (b : Bounds) (x : Found Term)
     (z : CheckedSelect) (y : Found Choice)
     → ChecksChoice p b z y → IsIndex fixed s i x → IsSelect fixed s sel z
-    → width_found (each (λ (y : Term × Choice). word_part_target words (width_of b) b y) (both x y))
+    → width_found (each (λ (y : Term × Choice). word_part_target words (width_of b) b y) (followed x y))
     ≡ each counted_width (each {A = Unit {0} × ℕ} (λ (y : Unit {0} × ℕ). y.1)
-    (both (index fixed s i (checked s i)) (part fixed s p b sel)))
+    (followed (index fixed s i (checked s i)) (part fixed s p b sel)))
 word_part_found fixed s p i sel words b x z y c h k =
-    each_each {A = Term × Choice} (λ (c : CheckedTarget). c.width) (λ (y : Term × Choice). word_part_target words (width_of b) b y) (both x y)
+    each_each {A = Term × Choice} (λ (c : CheckedTarget). c.width) (λ (y : Term × Choice). word_part_target words (width_of b) b y) (followed x y)
     ∙ second_of x (index fixed s i (checked s i)) y (λ (c : Choice). c.width) (part fixed s p b sel) h.finds (c fixed s sel k).finds
 
 memory_found : (fixed : Bool) (s : Scope) (p : ℕ) (sel : SelectsTree) (words : Words) (b : Bounds) (y : CheckedSelects)
@@ -269,8 +269,8 @@ memory_gets fixed s p (OfWord q i sel) o r (code_selects.OfWord x z) f e w h k =
     (holds_each (λ (y : Term × Choice). StandsAlone s i y.0 × Chooses s sel y.1)
     (λ (c : CheckedTarget). GetsAsName s (OfWord q i sel) (Some (meant.Object o)) c)
     (λ (y : Term × Choice). word_part_target (words_of o.first r) (width_of o.bounds) o.bounds y)
-    (both x k.0)
-    (holds_both (λ (t : Term). StandsAlone s i t) (λ (c : Choice). Chooses s sel c) x k.0 h.0.holds (k.1.0 fixed s sel h.1).holds)
+    (followed x k.0)
+    (holds_followed (λ (t : Term). StandsAlone s i t) (λ (c : Choice). Chooses s sel c) x k.0 h.0.holds (k.1.0 fixed s sel h.1).holds)
     (λ y c. word_part_gets s q i sel o r y e w c.0 c.1))
 memory_gets fixed s p Whole o r (code_selects.One y) f e w h k = absurd h
 memory_gets fixed s p Whole o r (code_selects.OfWord y z) f e w h k = absurd h

@@ -10,7 +10,7 @@ use Rattle.gpi.specs.Targets.{object_width}
 use Rattle.v_scope.specs.declared.rule.ElabRule.TheVariants as rule
 use Rattle.v_scope.specs.declared.found.Found.{Found}
 use Rattle.v_scope.specs.declared.found.Found.TheVariants.{Sound}
-use Rattle.v_scope.specs.Found.{each, both, broken}
+use Rattle.v_scope.specs.Found.{each, followed, broken}
 use Rattle.v_scope.specs.declared.meaning.Bounds.{Bounds}
 use Rattle.v_scope.specs.declared.meaning.DataObject.{DataObject}
 use Rattle.v_scope.specs.Scope.{width_of}
@@ -54,7 +54,7 @@ abbrev pub MemoryMade : ℕ → Words → ℕ → Bounds → CheckedSelects → 
 MemoryMade p words w b code_selects.Whole f = f ≡ broken rule.BadRange p
 MemoryMade p words w b (code_selects.One x) f = f ≡ word_target words w x
 MemoryMade p words w b (code_selects.OfWord i x) f =
-    OfChoice p b x (λ (y : Found Choice). each (λ (z : Term × Choice). word_part_target words w b z) (both i y)) f
+    OfChoice p b x (λ (y : Found Choice). each (λ (z : Term × Choice). word_part_target words w b z) (followed i y)) f
 
 abbrev pub ObjectMade : ℕ → DataObject → Option Bounds → CheckedSelects → Found CheckedTarget → Type 0
 ObjectMade p o None x f = VectorMade p (Signal (record { 0 = o.first }) (width_of o.bounds)) o.bounds x f

@@ -79,7 +79,7 @@ fn memory(
         CheckedSelects::Whole => Found::broken(ElabRule::BadRange, place),
         CheckedSelects::One(select) => word_select(words, width, select),
         CheckedSelects::OfWord(index, select) => {
-            index.both(chosen(place, bounds, select)).each(|(index, choice)| {
+            index.followed_by(chosen(place, bounds, select)).each(|(index, choice)| {
                 digits(Object::Word(words, index, width), bounds, choice)
             })
         }

@@ -1,5 +1,5 @@
 -- The modules before one, their names and their numbers.
-use Rattle.std.proofs.Common.{◌≡◌, ℕ, suc, ◌+◌, ◌<◌, ◌≤◌, Bool, true, false, not, ◌||◌, List, [], ◌∷◌, ◌++◌, length, map, take, drop, get_or, Option, None, Some, option_map, Ok, Err, is_some, bytes_eq, if◌then◌else◌, refl, sym, ap, ◌∙◌, arith}
+use Rattle.std.proofs.Common.{◌≡◌, ℕ, suc, ◌+◌, ◌<◌, ◌≤◌, Bool, true, false, not, ◌||◌, List, [], ◌∷◌, ◌++◌, length, map, take, drop, get_or, Option, None, Some, option_map, Ok, Err, is_some, bytes_eq, if◌then◌else◌, refl, sym, subst, ap, ◌∙◌, arith}
 use Rattle.std.specs.Borrow.{Bor}
 use Rattle.std.specs.Prelude.{slice_get, option_and_then, option_copied}
 use Rattle.std.specs.Slice.{IsItemAt}
@@ -197,21 +197,23 @@ tree_at xs i d h =
     ap (λ (x : Module). view_module x) (get_or_default xs i d (get_or xs i d) h)
     ∙ sym (get_or-map view_module xs i (get_or xs i d) (view_module (get_or xs i d)) h)
 
+module_here : (xs : List Module) (i : ℕ) (d : Module) → i < length xs → d ≡ get_or xs i d → view_module d ≡ get_or (map view_module xs) i (view_module d)
+module_here xs i d h is = subst (λ (m : Module). view_module m ≡ get_or (map view_module xs) i (view_module m)) (sym is) (tree_at xs i d h)
+
 inside : (xs : List Module) (i : ℕ) → i < length xs → i < length (map view_module xs)
 inside xs i h = let e = length-map xs view_module in omega (arith, e, h)
 
-pub twice_here : (xs : List Module) (i : ℕ) (d : Module) (numbers : List (List ℕ × ℕ)) (n : List ℕ) → i < length xs → n ≡ (get_or xs i d).name.name
-    → is_some (first_place numbers n) ≡ true → Numbered (map view_module xs) i numbers
-    → modules_checked [] (map view_module xs) ≡ Err (at rule.DuplicateName (get_or xs i d).name.at)
-twice_here xs i d numbers n h name twice so_far =
-    numbered_twice (map view_module xs) i (view_module (get_or xs i d)) numbers (inside xs i h) (tree_at xs i d h) so_far
+pub twice_here : (xs : List Module) (i : ℕ) (d : Module) (numbers : List (List ℕ × ℕ)) (n : List ℕ) → i < length xs → d ≡ get_or xs i d → n ≡ d.name.name
+    → is_some (first_place numbers n) ≡ true → Numbered (map view_module xs) i numbers → modules_checked [] (map view_module xs) ≡ Err (at rule.DuplicateName d.name.at)
+twice_here xs i d numbers n h is name twice so_far =
+    numbered_twice (map view_module xs) i (view_module d) numbers (inside xs i h) (module_here xs i d h is) so_far
     (ap (λ (k : List ℕ). is_some (first_place numbers k)) (sym name) ∙ twice)
 
-pub once_here : (xs : List Module) (i : ℕ) (d : Module) (numbers more : List (List ℕ × ℕ)) (n k : List ℕ) → i < length xs → n ≡ (get_or xs i d).name.name
-    → is_some (first_place numbers n) ≡ false → k ≡ (get_or xs i d).name.name → ((q : List ℕ) → first_place more q ≡ noted k i (first_place numbers) q)
+pub once_here : (xs : List Module) (i : ℕ) (d : Module) (numbers more : List (List ℕ × ℕ)) (n k : List ℕ) → i < length xs → d ≡ get_or xs i d → n ≡ d.name.name
+    → is_some (first_place numbers n) ≡ false → k ≡ d.name.name → ((q : List ℕ) → first_place more q ≡ noted k i (first_place numbers) q)
     → Numbered (map view_module xs) i numbers → Numbered (map view_module xs) (i + 1) more
-once_here xs i d numbers more n k h name once same made so_far =
-    numbered_more (map view_module xs) i (view_module (get_or xs i d)) numbers more (inside xs i h) (tree_at xs i d h) so_far
+once_here xs i d numbers more n k h is name once same made so_far =
+    numbered_more (map view_module xs) i (view_module d) numbers more (inside xs i h) (module_here xs i d h is) so_far
     (ap (λ (q : List ℕ). is_some (first_place numbers q)) (sym name) ∙ once)
     (λ q. made q ∙ ap (λ (m : List ℕ). noted m i (first_place numbers) q) same)
 

@@ -16,15 +16,15 @@ pub fn module_numbers(alloc: Global, modules: &[Module]) -> Result<Result<Names,
     ensures { IfOk result (ChecksModules (map view_module modules.now)) }
 {
     let mut numbers = Names::new(alloc);
-    for at in 0..modules.len() {
-        let name = &modules[at].name;
+    for (place, module) in modules.iter().enumerate() {
+        let name = &module.name;
         if numbers.find(name.name.bytes()).is_some() {
             return Ok(Err(Broken {
                 rule: ElabRule::DuplicateName,
                 place: name.at,
             }));
         }
-        numbers.note(alloc, name.name.bytes(), at)?;
+        numbers.note(alloc, name.name.bytes(), place)?;
     }
     Ok(Ok(numbers))
 }

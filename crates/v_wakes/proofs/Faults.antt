@@ -1,81 +1,20 @@
--- The broken rule that counts of many, and what is found in one event after the others.
-use Rattle.std.proofs.Common.{◌≡◌, ℕ, ◌+◌, ◌≤◌, ◌<◌, Bool, true, false, not, ◌&&◌, ◌||◌, nat_lt, List, [], ◌∷◌, ◌++◌, Option, None, Some, Result, Ok, Err, length, drop, get_or, refl, sym, ap, ◌∙◌, if◌then◌else◌, arith}
-use Rattle.std.proofs.lemmas.Bool.Decides.{nat_tests}
+-- What is found in one event after the others.
+use Rattle.std.proofs.Common.{◌≡◌, ℕ, ◌+◌, ◌≤◌, ◌<◌, List, [], ◌∷◌, ◌++◌, Option, None, Some, Result, Ok, Err, length, drop, get_or, refl, sym, ap, ◌∙◌}
 use Rattle.std.proofs.lemmas.List.{append_assoc, append-nil, drop_all, drop_more}
 use Rattle.gpi.specs.declared.design.Wake.{Wake}
 use Rattle.v_syntax.specs.declared.item.Event.{Event}
 use Rattle.v_scope.specs.declared.rule.Broken.{Broken}
 use Rattle.v_scope.specs.declared.found.Found.{Found}
 use Rattle.v_scope.specs.declared.found.Found.TheVariants.{Sound, Noted, Lost}
-use Rattle.v_scope.specs.Rules.{number_of, earlier}
 use Rattle.v_scope.specs.Found.{both, each, ended}
 use Rattle.v_scope.specs.Scope.{Scope, find}
+use Rattle.v_scope.proofs.Chains.{earliest}
 use Rattle.v_scope.specs.declared.meaning.Bounds.{Bounds}
 use Rattle.v_scope.specs.declared.meaning.DataObject.{DataObject}
 use Rattle.v_scope.specs.declared.meaning.Meaning.{Meaning}
 use Rattle.v_scope.specs.declared.meaning.Meaning.TheVariants.{Constant, Object, Later}
 use Rattle.v_flat.specs.Design.{events_of, wake_by, wake_in}
 use Rattle.v_wakes.specs.Gathered.{gathered, with_fault}
-
--- ---- of three rules the same one counts, whichever two are put together first
-
-abbrev before : ℕ → ℕ → ℕ → ℕ → Bool
-before p m q n = nat_lt p q || (not (nat_lt q p) && nat_lt m n)
-
-before_both : (p m q n r o : ℕ) → before p m q n ≡ true → before q n r o ≡ true → before p m r o ≡ true
-before_both p m q n r o h g = grind (arith, nat_tests, h, g)
-
-before_neither : (p m q n r o : ℕ) → before p m q n ≡ false → before q n r o ≡ false → before p m r o ≡ false
-before_neither p m q n r o h g = grind (arith, nat_tests, h, g)
-
--- b counts, and not a
-unfoldable counts : Broken → Broken → Bool
-counts b a = before b.place (number_of b.rule) a.place (number_of a.rule)
-
-by_tests : (x y z : Bool) (a b : Broken) → (if x then b else (if y then a else (if z then b else a))) ≡ (if x || (not y && z) then b else a)
-by_tests true y z a b = refl
-by_tests false true z a b = refl
-by_tests false false z a b = refl
-
-by_counts : (a b : Broken) → earlier a b ≡ (if counts b a then b else a)
-unfolding counts
-by_counts a b = by_tests (nat_lt b.place a.place) (nat_lt a.place b.place) (nat_lt (number_of b.rule) (number_of a.rule)) a b
-
--- x: b before a, y: c before b, z: c before a
-three : (a b c : Broken) (x y z : Bool) → (y ≡ true → x ≡ true → z ≡ true) → (y ≡ false → x ≡ false → z ≡ false)
-    → (if (if y then z else x) then (if y then c else b) else a) ≡ (if (if x then y else z) then c else (if x then b else a))
-three a b c true true true h g = refl
-three a b c true true false h g = absurd (let e = h refl refl in cc)
-three a b c true false z h g = refl
-three a b c false true z h g = refl
-three a b c false false true h g = absurd (let e = g refl refl in cc)
-three a b c false false false h g = refl
-
-counts_chosen : (y : Bool) (a b c : Broken) → counts (if y then c else b) a ≡ (if y then counts c a else counts b a)
-counts_chosen true a b c = refl
-counts_chosen false a b c = refl
-
-chosen_counts : (x : Bool) (a b c : Broken) → counts c (if x then b else a) ≡ (if x then counts c b else counts c a)
-chosen_counts true a b c = refl
-chosen_counts false a b c = refl
-
-counts_both : (a b c : Broken) → counts c b ≡ true → counts b a ≡ true → counts c a ≡ true
-unfolding counts
-counts_both a b c h g = before_both c.place (number_of c.rule) b.place (number_of b.rule) a.place (number_of a.rule) h g
-
-counts_neither : (a b c : Broken) → counts c b ≡ false → counts b a ≡ false → counts c a ≡ false
-unfolding counts
-counts_neither a b c h g = before_neither c.place (number_of c.rule) b.place (number_of b.rule) a.place (number_of a.rule) h g
-
-earliest : (a b c : Broken) → earlier a (earlier b c) ≡ earlier (earlier a b) c
-earliest a b c =
-    ap (λ (d : Broken). earlier a d) (by_counts b c)
-    ∙ by_counts a (if counts c b then c else b)
-    ∙ ap (λ (t : Bool). if t then (if counts c b then c else b) else a) (counts_chosen (counts c b) a b c)
-    ∙ three a b c (counts b a) (counts c b) (counts c a) (counts_both a b c) (counts_neither a b c)
-    ∙ ap (λ (t : Bool). if t then c else (if counts b a then b else a)) (sym (chosen_counts (counts b a) a b c))
-    ∙ sym (by_counts (if counts b a then b else a) c)
-    ∙ ap (λ (d : Broken). earlier d c) (sym (by_counts a b))
 
 -- ---- one event is a wake, or a rule is broken in it and there is none
 

@@ -8,5 +8,5 @@ returns-then-is_some c = λ ns a.
 
 pub returns : goal.returns
 returns c = λ ns a.
-    new ns c.args.name.now c.args.before _ c.is_some.result c.find.result c.is_some.ensures c.find.ensures c.if-is_some.false
-    c.in_ok-next.ensures c.in_ok-note.ensures.ok a
+    new ns c.args.name.now c.args.before _ c.is_some.result c.find.result c.len.result _ c.is_some.ensures c.find.ensures c.if-is_some.false
+    c.len.ensures c.in_ok-of.ensures c.in_ok-push.ensures.ok c.in_ok-note.ensures.ok a

@@ -7,4 +7,6 @@ use Rattle.test_rules.specs.Uses.{parameter_names}
 use Rattle.test_locals.proofs.numbered.of_parameters.Given as goal
 
 abbrev pub invariant-loop-place : goal.invariant-loop-place
-invariant-loop-place l = (n : List ℕ) → first_place l.names n ≡ position_from (bytes_eq n) 0 (parameter_names (take l.place l.parameters))
+invariant-loop-place l =
+    (l.names ≡ parameter_names (take l.place l.parameters))
+    × ((n : List ℕ) → first_place l.places n ≡ position_from (bytes_eq n) 0 (parameter_names (take l.place l.parameters)))

@@ -1,16 +1,31 @@
 -- A target, and an expression that spells none.
-use Rattle.std.proofs.Common.{sym}
+use Rattle.std.proofs.Common.{Option, subst}
 use Rattle.v_syntax.specs.ExpressionTrees.{view}
+use Rattle.v_scope.specs.declared.found.Found.{Found}
 use Rattle.v_scope.specs.Scope.{means}
+use Rattle.v_flat.specs.Targets.{as_target}
+use Rattle.v_target.specs.declared.checked.CheckedTarget.{CheckedTarget}
+use Rattle.v_output.specs.Outputs.{IsOutput}
 use Rattle.v_connect.proofs.One.{output_found, no_target_found}
 use Rattle.v_connect.proofs.joined.target.Goals as goal
 
-pub returns-in_ok-output-clause-ok : goal.returns-in_ok-output-clause-ok
-returns-in_ok-output-clause-ok c =
-    output_found c.args.place (means c.args.scope.now) (view c.args.expression.now) c.args.driven.now c.output.new.driven c.in_ok-output.field-0 c.of_target.result
-    (sym c.if-spells_target.ensures) c.in_ok-output.ensures.ok c.of_target.ensures
+pub returns-in-Some-clause-ok : goal.returns-in-Some-clause-ok
+returns-in-Some-clause-ok c =
+    let q = c.args.place in
+    let s = means c.args.scope.now in
+    let e = view c.args.expression.now in
+    let x = c.args.driven.now in
+    let y = c.output.new.driven in
+    output_found q s e x y c.in-Some.found c.of_target.result
+    (subst (λ (o : Option (Found CheckedTarget)). IsOutput q s (as_target e) x o y) c.in-Some.is c.in_ok-found.ensures.ok) c.of_target.ensures
 
-pub returns-in_ok-value-clause-ok : goal.returns-in_ok-value-clause-ok
-returns-in_ok-value-clause-ok c =
-    no_target_found c.args.place (means c.args.scope.now) (view c.args.expression.now) c.args.driven.now c.in_ok-value.field-0 c.lost.result
-    (sym c.if-spells_target.ensures) c.in_ok-value.ensures c.lost.ensures
+pub returns-in_ok-value-in-None-clause-ok : goal.returns-in_ok-value-in-None-clause-ok
+returns-in_ok-value-in-None-clause-ok c =
+    let q = c.args.place in
+    let s = means c.args.scope.now in
+    let e = view c.args.expression.now in
+    let x = c.args.driven.now in
+    let y = c.output.new.driven in
+    no_target_found q s e x y c.in_ok-value-in-None.field-0 c.lost.result
+    (subst (λ (o : Option (Found CheckedTarget)). IsOutput q s (as_target e) x o y) c.in-None.is c.in_ok-found.ensures.ok)
+    c.in_ok-value-in-None.ensures c.lost.ensures

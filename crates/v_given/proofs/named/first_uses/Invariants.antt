@@ -5,7 +5,7 @@ use Rattle.v_header.specs.Names.{texts}
 use Rattle.v_given.specs.Uses.{HasNames, first_uses}
 use Rattle.v_given.proofs.named.first_uses.Given as goal
 
-abbrev pub invariant-loop-at : goal.invariant-loop-at
-invariant-loop-at l =
-    (seen : List (List ℕ)) × (HasNames seen l.seen × (l.uses.items ++ first_uses (texts l.names) seen (map view_connection (drop l.at l.connections))
+abbrev pub invariant-loop-place : goal.invariant-loop-place
+invariant-loop-place l =
+    (seen : List (List ℕ)) × (HasNames seen l.seen × (l.uses.items ++ first_uses (texts l.names) seen (map view_connection (drop l.place l.connections))
     ≡ first_uses (texts l.names) [] (map view_connection l.connections)))

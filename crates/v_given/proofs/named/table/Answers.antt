@@ -7,16 +7,16 @@ use Rattle.v_header.specs.Names.{texts}
 use Rattle.v_given.proofs.Uses.{others_too, others_end}
 use Rattle.v_given.proofs.named.table.Goals as goal
 
-pub loop-at-init : goal.loop-at-init
-loop-at-init c = λ n. ap (λ (p : List ℕ → Option ℕ). is_some (p n) || list_any (bytes_eq n) (texts c.args.names.now)) c.new-table.ensures
+pub loop-place-init : goal.loop-place-init
+loop-place-init c = λ n. ap (λ (p : List ℕ → Option ℕ). is_some (p n) || list_any (bytes_eq n) (texts c.args.names.now)) c.new-table.ensures
 
-pub loop-at-preserved : goal.loop-at-preserved
-loop-at-preserved c =
+pub loop-place-preserved : goal.loop-place-preserved
+loop-place-preserved c =
     let ns = c.args.names.now in
-    let i = c.loop-at.at in
-    others_too (texts ns) (texts (drop i ns)) (texts (drop (i + 1) ns)) _ i c.loop-at.table c.note.new.self
-    (ap (λ (xs : List (Bor (List ℕ))). texts xs) (drop_more ns i _ c.loop-at-test.true)) c.loop-at.invariant c.in_ok-note.ensures.ok
+    let i = c.loop-place.place in
+    others_too (texts ns) (texts (drop i ns)) (texts (drop (i + 1) ns)) _ i c.loop-place.table c.note.new.self
+    (ap (λ (xs : List (Bor (List ℕ))). texts xs) (drop_more ns i _ c.loop-place-test.true)) c.loop-place.invariant c.in_ok-note.ensures.ok
 
 pub returns : goal.returns
-returns c = others_end (texts c.args.names.now) (texts (drop c.loop-at.at c.args.names.now)) c.loop-at.table
-    (ap (λ (xs : List (Bor (List ℕ))). texts xs) (drop_all c.loop-at.at c.args.names.now c.loop-at-test.false)) c.loop-at.invariant
+returns c = others_end (texts c.args.names.now) (texts (drop c.loop-place.place c.args.names.now)) c.loop-place.table
+    (ap (λ (xs : List (Bor (List ℕ))). texts xs) (drop_all c.loop-place.place c.args.names.now c.loop-place-test.false)) c.loop-place.invariant

@@ -4,5 +4,5 @@ use Rattle.v_header.specs.Names.{texts}
 use Rattle.v_given.proofs.Uses.{HasOthers}
 use Rattle.v_given.proofs.named.table.Given as goal
 
-abbrev pub invariant-loop-at : goal.invariant-loop-at
-invariant-loop-at l = HasOthers (texts l.names) (texts (drop l.at l.names)) l.table
+abbrev pub invariant-loop-place : goal.invariant-loop-place
+invariant-loop-place l = HasOthers (texts l.names) (texts (drop l.place l.names)) l.table

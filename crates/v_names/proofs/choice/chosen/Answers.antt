@@ -3,7 +3,7 @@ use Rattle.std.proofs.Common.{◌≡◌, ◌∙◌, sym, ap, subst, List, ℕ}
 use Rattle.four_value.specs.declared.Digit.{Digit}
 use Rattle.gpi.specs.declared.terms.Term.{Term}
 use Rattle.v_scope.specs.declared.found.Found.{Found}
-use Rattle.v_scope.specs.Found.{and_then, both, each}
+use Rattle.v_scope.specs.Found.{and_then, both, followed, each}
 use Rattle.v_flat.specs.Checks.{narrow}
 use Rattle.v_names.specs.declared.choice.Choice.{Choice}
 use Rattle.v_names.specs.declared.selects.CheckedSelect.{CheckedSelect}
@@ -33,8 +33,8 @@ pub returns-in-IndexedPart-clause-checks : goal.returns-in-IndexedPart-clause-ch
 returns-in-IndexedPart-clause-checks c = λ fixed s sel h.
     let p = c.args.place in
     let b = c.args.bounds in
-    let made : c.paired.result ≡ each pair_choice (both c.in-IndexedPart.base (and_then c.in-IndexedPart.width (narrow p))) =
+    let made : c.paired.result ≡ each pair_choice (followed c.in-IndexedPart.base (and_then c.in-IndexedPart.width (narrow p))) =
     c.paired.ensures ∙ ap (λ (y : Found (Term × ℕ)). each pair_choice y)
-    (c.both-in-IndexedPart.ensures ∙ ap (λ (w : Found ℕ). both c.in-IndexedPart.base w) c.narrowed.ensures) in
+    (c.followed_by.ensures ∙ ap (λ (w : Found ℕ). followed c.in-IndexedPart.base w) c.narrowed.ensures) in
     subst (λ (f : Found Choice). IsChosen fixed s p b sel f) (ap (λ (x : CheckedSelect). choice_from p b x) c.in-IndexedPart.is ∙ sym made)
     (chosen fixed s p b sel c.args.select h)

@@ -6,7 +6,7 @@ use Rattle.v_flat.specs.Paths.{signal_of}
 use Rattle.v_flat.specs.Design.{all_signals, children, entries}
 use Rattle.v_parameter.specs.Constants.{entries_of}
 use Rattle.v_declare.specs.Order.{lines_in}
-use Rattle.v_opening.proofs.Begun.{is_ready, opens}
+use Rattle.v_opening.proofs.Begun.{is_ready, more_there, node_there, opens}
 use Rattle.v_opening.proofs.beginning.opening.Goals as goal
 
 pub returns-clause-opens : goal.returns-clause-opens
@@ -33,3 +33,11 @@ returns-clause-ready c =
     c.in_ok-parts.ensures.made.signals
     (λ p first t. c.in_ok-add_signals.ensures.ok p first t
     ∙ ap (λ ds. c.in_ok-parts.parts.signals ++ map signal_of (all_signals p first ds)) (ap lines_in c.deref-4.ensures.value ∙ c.in_ok-lines.ensures))
+
+pub returns-clause-grows : goal.returns-clause-grows
+returns-clause-grows c =
+    more_there c.args.parts c.in_ok-parts.parts c.args.path.now c.add_signals.new.signals (lines_in c.deref-4.result.now) c.in_ok-parts.ensures.made
+    (λ p first t. c.in_ok-add_signals.ensures.ok p first t)
+
+pub returns-clause-node : goal.returns-clause-node
+returns-clause-node c = node_there c.args.parts c.in_ok-parts.parts c.args.path.now c.in_ok-parts.ensures.made

@@ -8,7 +8,7 @@ use Rattle.v_flat.specs.Targets.{as_target, as_targets}
 use Rattle.v_target.specs.declared.checked.CheckedTarget.{CheckedTarget}
 use Rattle.v_assign.proofs.Grown.{grown_on}
 use Rattle.v_constant.proofs.Rows.{row_views}
-use Rattle.v_output.specs.Outputs.{IsOutput}
+use Rattle.v_output.specs.Spelled.{IsSpelled}
 use Rattle.v_output.proofs.Walked.{OnwardFrom, onward_start, onward_next, onward_end, braces_output, same_grown, name_grown}
 use Rattle.v_output.proofs.walk.+driving.Goals as goal
 
@@ -27,10 +27,10 @@ each_part-loop-expression-preserved t c =
     let es = c.args.expressions.now in
     let x = c.args.driven.now in
     let y = c.loop-expression.driven in
-    let z = c.output.new.driven in (
+    let z = c.spelled_target.new.driven in (
       onward_next c.args.place (means c.args.scope.now) es c.loop-expression.expression-index c.expression-item.result (as_targets (views es)) x y z c.loop-expression.found.items
-          c.push.new.self.items c.in_ok-output.field-0 c.loop-expression-test.true c.expression-item.is c.in_ok-push.ensures.items c.loop-expression.invariant.0 c.in_ok-output.ensures.ok,
-      grown_on x y z c.loop-expression.invariant.1 c.in_ok-output.ensures.grows,
+          c.push.new.self.items c.in_ok-spelled_target.field-0 c.loop-expression-test.true c.expression-item.is c.in_ok-push.ensures.items c.loop-expression.invariant.0 c.in_ok-spelled_target.ensures.ok,
+      grown_on x y z c.loop-expression.invariant.1 c.in_ok-spelled_target.ensures.grows,
     )
 
 pub each_part-returns-clause-ok : goal.each_part-returns-clause-ok
@@ -38,12 +38,12 @@ each_part-returns-clause-ok t c =
     onward_end c.args.place (means c.args.scope.now) c.args.expressions.now c.loop-expression.expression-index (as_targets (views c.args.expressions.now)) c.args.driven.now
     c.loop-expression.driven c.loop-expression.found.items c.loop-expression-test.false c.loop-expression.invariant.0
 
-pub output-returns-in-Operand-clause-grows : goal.output-returns-in-Operand-clause-grows
-output-returns-in-Operand-clause-grows t c =
+pub spelled_target-returns-in-Operand-clause-grows : goal.spelled_target-returns-in-Operand-clause-grows
+spelled_target-returns-in-Operand-clause-grows t c =
     name_grown (Some c.args.place) (means c.args.scope.now) _ c.args.driven.now c.net_name.new.driven c.net_name.result c.net_name.ensures.ok c.net_name.ensures.err
 
-pub output-returns-in_ok-together-in-Concatenation-clause-ok : goal.output-returns-in_ok-together-in-Concatenation-clause-ok
-output-returns-in_ok-together-in-Concatenation-clause-ok t c =
+pub spelled_target-returns-in_ok-together-in-Concatenation-clause-ok : goal.spelled_target-returns-in_ok-together-in-Concatenation-clause-ok
+spelled_target-returns-in_ok-together-in-Concatenation-clause-ok t c =
     let q = c.args.place in
     let s = means c.args.scope.now in
     let p = c.in-Concatenation.at in
@@ -51,6 +51,6 @@ output-returns-in_ok-together-in-Concatenation-clause-ok t c =
     let x = c.args.driven.now in
     let y = c.each_part.new.driven in
     let e : view c.args.expression.now ≡ Concatenation p es = search (rules, the_lemmas, row_views) in
-    subst (λ (d : Tree). IfOk c.braced.result (λ (g : Found CheckedTarget). IsOutput q s (as_target d) x g y)) (sym e)
+    subst (λ (d : Tree). IfOk c.braced.result (λ (g : Found CheckedTarget). IsSpelled q s (as_target d) x g y)) (sym e)
     (braces_output q s p (as_targets es) x y c.in_ok-found-in-Concatenation.found.items c.in_ok-together-in-Concatenation.field-0 c.braced.result
     c.in_ok-found-in-Concatenation.ensures.ok c.in_ok-together-in-Concatenation.ensures c.braced.ensures)

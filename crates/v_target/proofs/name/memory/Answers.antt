@@ -20,7 +20,7 @@ returns-in-OfWord c =
       c.chosen.result,
       (
         c.chosen.ensures.checks,
-        (made_each _ (λ (z : Term × Choice). word_part_target words w b z) c.both.result f (λ z t k. search rules) c.each.ensures
-            ∙ ap (λ (y : Found (Term × Choice)). each (λ (z : Term × Choice). word_part_target words w b z) y) c.both.ensures),
+        (made_each _ (λ (z : Term × Choice). word_part_target words w b z) c.followed_by.result f (λ z t k. search rules) c.each.ensures
+            ∙ ap (λ (y : Found (Term × Choice)). each (λ (z : Term × Choice). word_part_target words w b z) y) c.followed_by.ensures),
       ),
     )

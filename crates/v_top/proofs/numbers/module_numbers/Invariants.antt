@@ -4,5 +4,5 @@ use Rattle.v_syntax.specs.SourceTrees.{view_module}
 use Rattle.v_top.proofs.Numbering.{Numbered}
 use Rattle.v_top.proofs.numbers.module_numbers.Given as goal
 
-abbrev pub invariant-loop-at : goal.invariant-loop-at
-invariant-loop-at l = Numbered (map view_module l.modules) l.at l.numbers
+abbrev pub invariant-loop-place : goal.invariant-loop-place
+invariant-loop-place l = Numbered (map view_module l.modules) l.place l.numbers

@@ -1,5 +1,5 @@
--- One item after the other: what is broken first in them all.
-use Rattle.std.proofs.Common.{◌≡◌, ℕ, ◌+◌, ◌*◌, ◌≤◌, ◌<◌, Bool, true, false, nat_lt, refl, sym, ap, ◌∙◌, if◌then◌else◌, arith}
+-- Of three broken rules the same one counts, whichever two are put together first; and chains of what is asked one after the other.
+use Rattle.std.proofs.Common.{◌≡◌, ℕ, ◌+◌, ◌*◌, ◌≤◌, Bool, true, false, nat_lt, refl, sym, ap, ◌∙◌, if◌then◌else◌, arith}
 use Rattle.std.proofs.lemmas.Bool.Decides.{nat_tests}
 use Rattle.v_scope.specs.declared.rule.Broken.{Broken}
 use Rattle.v_scope.specs.declared.rule.ElabRule.{ElabRule}
@@ -7,7 +7,7 @@ use Rattle.v_scope.specs.declared.rule.ElabRule.TheVariants as rule
 use Rattle.v_scope.specs.declared.found.Found.{Found}
 use Rattle.v_scope.specs.declared.found.Found.TheVariants.{Sound, Noted, Lost}
 use Rattle.v_scope.specs.Rules.{number_of, earlier}
-use Rattle.v_scope.specs.Found.{noted, lost, each, and_then, wants, needs}
+use Rattle.v_scope.specs.Found.{noted, lost, each, and_then}
 
 -- ---- the rule that counts has the least key
 
