@@ -11,7 +11,7 @@ have the rules. No expected answer comes from a program. Each text is also given
 - a text that is refused here and that Icarus takes has the reason in its row (`takes`), and one that Icarus refuses has none.
 
 The script ends with the status 1, and writes nothing, where that doesn't hold, where a rule has fewer than four texts, or none in
-which a second rule is broken that counts less. No program reads the table yet; it waits for the elaboration of whole designs.
+which a second rule is broken that counts less. `tools/elaboration_rows.py` makes of the rows what a program is to be run on.
 
 A line of the table that begins with `#` is no row. A row has these parts, with a tab between two of them:
 
@@ -68,6 +68,8 @@ def no_top():
     yield row(rule, "a_top_that_isnt_there", "§module a; endmodule", "no module has the name that was asked for", top="b")
     yield row(rule, "an_instance_is_no_top", "§module a; b u(); endmodule module b; endmodule",
               "`u` names an instance and no module", top="u")
+    yield row(rule, "two_candidates_behind_a_comment", "§// a and b\nmodule a; endmodule module b; endmodule",
+              "the place is that of the text's first byte, whether or not a token begins there", several)
     yield row(rule, "two_candidates_and_an_unknown_name", "§module a; wire w = zz; endmodule module b; endmodule",
               "the top is looked for before any instance is walked, so `zz` isn't met", second=["UnknownName"])
 
@@ -121,6 +123,10 @@ def duplicate_name():
     yield row(rule, "an_instance_and_a_wire", "module m; wire u; s §u(); endmodule module s; endmodule",
               "instances share the names of nets (4.11)")
     yield row(rule, "an_instance_twice", "module m; s u(); s §u(); endmodule module s; endmodule", "one name, two instances")
+    yield row(rule, "an_instance_and_a_parameter", "module m; parameter u = 1; s §u(); endmodule module s; endmodule",
+              "instances share the names of parameters (4.11)")
+    yield row(rule, "an_instance_before_a_register", "module m; s §u(); reg u; endmodule module s; endmodule",
+              "declarations are walked before the other items, so the instance is the second one")
     yield row(rule, "a_memory_twice_and_an_unknown_bound", "module m; reg a; reg §a [zz:0]; endmodule",
               "a memory's name stands before its bounds", second=["UnknownName"])
 
@@ -142,6 +148,10 @@ def unknown_name():
               "declarations are walked before the other items")
     yield row(rule, "a_label_of_a_case", "module m; reg [1:0] a; always @(a) case (a) 2'd1, §zz: ; endcase endmodule",
               "a label is an expression")
+    yield row(rule, "an_index_of_a_part_of_200_digits", "module m; wire [3:0] a; wire b = a[§zz +: 200]; endmodule",
+              "a broken index takes away the width of the select that holds it, so it isn't asked whether that is too wide")
+    yield row(rule, "an_index_of_a_word_of_which_200_digits_are_selected", "module m; reg [7:0] r [0:3]; wire b = r[§zz][0 +: 200]; endmodule",
+              "a word's broken index takes away the width of the select behind it too")
     yield row(rule, "an_index_before_a_bad_range", "module m; wire [3:0] a; wire b = a[§zz] + a[0:3]; endmodule",
               "of two rules in one item the one with the lesser place counts", second=["BadRange"])
     yield row(rule, "a_subtree_before_the_next_item", "module m; s u(); nope v(); endmodule module s; wire w = §zz; endmodule",
@@ -172,6 +182,12 @@ def bad_port():
               "the second value has no parameter: local ones aren't counted (4.10.2)", silent)
     yield row(rule, "a_parameter_given_twice", "module m; s #(.P(1), .§P(1)) u(); endmodule module s #(parameter P = 2); endmodule",
               "a parameter has one value (12.2.2)", silent)
+    yield row(rule, "an_unknown_port_without_an_expression", f"module m; s u(.§n());{child}",
+              "the module has no port of that name, whatever it is connected to (12.3.6)")
+    yield row(rule, "an_unknown_parameter_without_a_value", "module m; s #(.§Q()) u(); endmodule module s #(parameter P = 2); endmodule",
+              "the module has no parameter of that name, whatever it is given (12.2.2)", silent)
+    yield row(rule, "a_parameter_named_twice_with_one_value", "module m; s #(.P(), .§P(1)) u(); endmodule module s #(parameter P = 2); endmodule",
+              "a parameter is named once, with a value or without one (12.2.2)", silent)
     yield row(rule, "an_unknown_port_and_name", f"module m; s u(.§n(zz));{child}",
               "the port's name stands before the name that isn't declared", second=["UnknownName"])
 
@@ -204,6 +220,10 @@ def not_constant():
     yield row(rule, "an_index_of_a_net_that_is_driven", "module m(input a, output [1:0] y); assign y[§a] = 1; endmodule",
               "which digits are driven can't depend on a signal (6.1)")
     yield row(rule, "an_index_of_a_net_behind_an_output", "module m(input a); wire [1:0] y; s u(.o(y[§a])); endmodule module s(output o); endmodule",
+              "a connection of an output is driven as by an `assign` (12.3.9.2)")
+    yield row(rule, "a_base_of_a_part_that_is_driven", "module m(input [1:0] a, output [3:0] y); assign y[§a +: 2] = 1; endmodule",
+              "which digits are driven can't depend on a signal (6.1)")
+    yield row(rule, "a_base_of_a_part_behind_an_output", "module m(input [1:0] a); wire [3:0] y; s u(.o(y[§a +: 2])); endmodule module s(output [1:0] o); endmodule",
               "a connection of an output is driven as by an `assign` (12.3.9.2)")
     yield row(rule, "a_bound_before_an_unknown_name", "module m(input a); wire [§a:zz] y; endmodule",
               "the first bound stands before the second", second=["UnknownName"])
@@ -247,6 +267,10 @@ def too_wide():
     yield row(rule, "a_range_down_to_a_sign", "module m; wire §[-1:0] a; endmodule",
               "no number is below 0: -1 is 2^32 - 1, and there are 2^32 numbers down to 0", "a bound may be below 0 (4.3.1)")
     yield row(rule, "a_rising_range_of_129_digits", "module m; reg §[1:129] a; endmodule", "there are 129 numbers from 1 to 129", SHORT)
+    yield row(rule, "a_range_of_129_digits_from_2_to_the_32_on", "module m; wire §[33'd4294967424:33'd4294967296] a; endmodule",
+              "bounds are taken modulo 2^32, so the range is [128:0]", SHORT)
+    yield row(rule, "a_range_of_129_digits_whose_bound_is_past_2_to_the_32", "module m; wire §[33'd4294967424:0] a; endmodule",
+              "2^32 + 128 is 128 modulo 2^32", SHORT)
     yield row(rule, "a_parameter_of_200_digits", "module m; parameter §[199:0] P = 1; endmodule", "a parameter's range is a range", SHORT)
     yield row(rule, "braces_of_129_digits", "module m(input [127:0] a, input b, output y); assign y = 0 == §{a, b}; endmodule",
               "widths in braces are added (5.4.1); the braces are the least part that is too wide", SHORT)
@@ -279,6 +303,10 @@ def two_drivers():
               "an input is driven from outside, whatever is selected of it")
     yield row(rule, "a_net_behind_an_output", f"module m(output y); assign y = 1; s u(§y);{sub}",
               "an output drives what it is connected to (12.3.9.2)", RESOLVED)
+    yield row(rule, "an_assign_behind_an_output", f"module m(output y); s u(y); assign §y = 1;{sub}",
+              "the output drives the net first (12.3.9.2)", RESOLVED)
+    yield row(rule, "a_net_behind_two_outputs_in_order", f"module m(output y); s u(y); s v(§y);{sub}",
+              "the output of the first instance drives the net", RESOLVED)
     yield row(rule, "a_net_behind_two_outputs", f"module m(output y); s u(.o(y)); s v(§.o(y));{sub}",
               "the first token of a connection by name is its `.`", RESOLVED)
     yield row(rule, "an_input_behind_an_output", "module m; wire w; t u(w); endmodule module t(input i); s v(§i);" + sub,
@@ -375,6 +403,8 @@ def accepted():
     """Neighbours of the texts above that break no rule."""
     rule = "accepted"
     yield row(rule, "a_top_that_is_asked_for", "module a; endmodule module b; endmodule", "two candidates, and one is asked for", top="b")
+    yield row(rule, "a_top_that_another_module_instantiates", "module m; wire w = zz; s u(); endmodule module s; endmodule",
+              "a top that is asked for may be instantiated, and what isn't below it isn't looked at", top="s")
     yield row(rule, "a_module_that_isnt_reached", "module a; nope u(); wire w = zz; endmodule module m; endmodule",
               "what isn't below the top isn't looked at", top="m")
     yield row(rule, "one_module_in_two_places", "module m; a u(); b v(); endmodule module a; b u(); endmodule module b; endmodule",
@@ -404,6 +434,9 @@ def accepted():
     yield row(rule, "a_loop_of_4096_turns", "module m; integer i; reg a; initial for (i = 0; i < 4096; i = i + 1) a = 1; endmodule",
               "0 to 4,095 are 4,096 turns")
     yield row(rule, "a_memory_of_65536_words", "module m; reg a [65535:0]; endmodule", "65,536 signals")
+    yield row(rule, "a_bound_of_2_to_the_32", "module m; wire [33'd4294967296:0] a; endmodule",
+              "it is 0 modulo 2^32, so the range has one digit")
+    yield row(rule, "65536_processes", processes(""), "256 in each of 16 by 16 instances", repeat=("initial r = 1; ", 256))
     yield row(rule, "an_instance_64_below_the_top", chained(64).replace(MARK, ""), "the top is `a0`, and `a64` stands 64 below it")
 
 

@@ -6,7 +6,7 @@
 The designs are expressions of every operator (each as `assign y = ..`), bodies of processes, and small hierarchies. The values are
 those of Icarus Verilog (`iverilog -g2005`): for each design the script writes a bench whose registers, z at first, stand behind the
 top's inputs, and prints all signals after each step. Which signals there are, and in which order, stands in this script, worked out
-by hand from the rules. No program reads the table yet; it waits for the elaboration of whole designs.
+by hand from the rules. `tools/elaboration_rows.py` makes of the rows what a program is to be run on.
 
 Where the standard or `docs/VERILOG.md` has another value than Icarus on purpose, the row says why (`differs`), and what the signals
 have instead (`own`); the script looks that Icarus does differ there. It ends with the status 1, and writes nothing, where that isn't
@@ -136,6 +136,7 @@ a_part                                    6    {a[7:4], a[3:2]}
 a_part_of_equal_bounds                    8    a[5:5] + c[1:1]
 a_part_partly_outside                     8    a[9:6]
 a_part_wholly_outside                     4    a[12:9]
+a_part_from_2_to_the_32                   8    a[33'd4294967303:33'd4294967296]
 an_indexed_part                           4    a[3 +: 4]
 an_indexed_part_that_is_chosen            3    a[c +: 3]
 an_indexed_part_by_a_sum                  4    a[c[1:0] + 2'd3 +: 4]
@@ -175,6 +176,8 @@ DIFFERENT = [
      "10110100 11111111 01101001 00000000 xxxxxxxx 01101001"),
     ("a_conditional_of_z", 4, "d ? 4'b1z0z : 4'b1z1z", "under an unknown condition a digit that isn't 0 in both or 1 in both is x (5.1.13)",
      "1z0z 1z1z 1z0z 1z1z 1xxx 1xxx"),
+    ("an_indexed_part_from_2_to_the_32", 4, "a[33'd4294967296 +: 4]", "an index is an exact number here, so the part lies outside; Icarus takes a constant one modulo 2^32",
+     " ".join(["xxxx"] * 6)),
     ("a_quotient_of_a_negative_number", 32, "-6 / 2", UNSIGNED, " ".join(["01111111111111111111111111111101"] * 6)),
     ("a_negative_number_in_a_comparison", 2, "{-1 < 1, -1 < c}", UNSIGNED, "00 00 00 00 00 0x"),
 ]
@@ -278,6 +281,9 @@ DIFFERENT_BODIES = [
     ("parts_of_braces_are_written_from_the_left", CLOCK, "{y, y[3:0], z} = {a, c, b};",
      "the parts of a target are written from left to right here, and Icarus writes the last one first; the standard leaves it open",
      "xxxxxxxx 10110010 10110010 01011001 01011001 00000x10 00000x10 11110101"),
+    ("a_case_with_two_defaults", CLOCK, "case (c) default: y = 1; 4'd9: y = 9; default: y = 2; endcase",
+     "the first of several defaults counts here, and the last one in Icarus; the standard has one at most (9.5)",
+     "xxxxxxxx 00000001 00000001 00001001 00001001 00000001 00000001 00000001"),
 ]
 
 # ---- hierarchies: a text of several modules, its signals, the steps
@@ -328,6 +334,26 @@ HIERARCHIES = [
      "module top(input [3:0] a, output [7:0] y, output [1:0] z); s u(.i(a), .o(y)); s v(.i({a, a}), .o(z)); endmodule\n"
      "module s(input [5:0] i, output [4:0] o); assign o = i + 6'd1; endmodule",
      "a y z u.i u.o v.i v.o", ["a=0111", "a=1111"]),
+    ("outputs_wider_than_their_targets",
+     "module top(input [3:0] a, output [3:0] y, output z); s u(a, y); s v(a, {z}); endmodule\n"
+     "module s(input [3:0] i, output [5:0] o); assign o = i + 6'd60; endmodule",
+     "a y z u.i u.o v.i v.o", ["a=0111", "a=1010", "a=10x0"]),
+    ("outputs_narrower_than_their_targets",
+     "module top(input [3:0] a, output [7:0] y, output [3:0] z); wire k; s u(a, y); s v(a, {k, z}); endmodule\n"
+     "module s(input [3:0] i, output [2:0] o); assign o = i; endmodule",
+     "a y z k u.i u.o v.i v.o", ["a=0111", "a=10z0", "a=1x01"]),
+    ("inputs_narrower_than_their_expressions",
+     "module top(input [3:0] a, b, output [1:0] y, z); s u(a + b, y); s v(a + b >> 1, z); endmodule\n"
+     "module s(input [1:0] i, output [1:0] o); assign o = i; endmodule",
+     "a b y z u.i u.o v.i v.o", ["a=0111 b=0010", "a=1111 b=1111", "a=1011 b=0111"]),
+    ("parameters_named_without_a_value",
+     "module top(output [7:0] y, z); s #(.K(), .L(8'd3)) u(y); s #(.L()) v(z); endmodule\n"
+     "module s(output [7:0] o); parameter K = 8'd77, L = K; assign o = K + L; endmodule",
+     "y z u.o v.o", [""]),
+    ("ranges_with_bounds_past_2_to_the_32",
+     "module top(input [33'd4294967303:33'd4294967296] a, output [7:0] y, output [1:0] z); reg [33'd4294967296:0] r; initial r = 2;\n"
+     "  assign y = a, z = {r, a == 3}; endmodule",
+     "a y z r", ["a=00000011", "a=0x000001"]),
     ("ports_that_are_left_open",
      "module top(input [3:0] a, output [3:0] y); s u(.o(y), .i(a), .j()); s v(.i(a)); endmodule\n"
      "module s(input [3:0] i, input [1:0] j, output [3:0] o, p); assign o = {i[3:2], j}, p = i; endmodule",
@@ -399,6 +425,10 @@ DIFFERENT_HIERARCHIES = [
      "  assign y = m[c + 4'd14]; endmodule", "c y m[0] m[1] m[2] m[3]", ["c=0010", "c=0101", "c=0000"],
      "an index is self-determined (5.4.1), so the sum has four digits; Icarus has room for the carry in the index of a word, and not in that of a digit",
      {"y": ["0101", "1000", "xxxx"]}),
+    ("a_part_of_a_range_with_bounds_past_2_to_the_32",
+     "module top(input [33'd4294967303:33'd4294967296] a, output [3:0] y); assign y = a[4:1]; endmodule", "a y", ["a=10010110", "a=111x0111"],
+     "the bounds of a range are taken modulo 2^32 here, so this one is [7:0]; Icarus takes them as they stand, so the part lies outside",
+     {"y": ["1011", "x011"]}),
     ("an_integer_below_zero",
      "module top(output [39:0] y, output z); integer i; initial i = -2; assign y = i; assign z = i < 0; endmodule",
      "y z i", [""], UNSIGNED, {"y": ["00000000" + "1" * 31 + "0"], "z": ["0"]}),

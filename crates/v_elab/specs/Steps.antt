@@ -1,0 +1,16 @@
+-- A means of proof: the design before it is flat.
+use Rattle.std.specs.Prelude.{ℕ, List, Option, Result}
+use Rattle.v_syntax.specs.SourceTrees.{ModuleTree}
+use Rattle.v_scope.specs.declared.rule.Broken.{Broken}
+use Rattle.v_flat.specs.Design.{flat_design, from_top, top_of}
+use Rattle.v_build.specs.declared.parts.Parts.{Parts}
+use Rattle.v_build.specs.Parts.{IsSoFar}
+use Rattle.v_items.specs.States.{EndsAs}
+
+-- r is what is built of the design of modules of which no two have one name
+abbrev pub IsFromTop : List ModuleTree → Option (List ℕ) → Result Parts Broken → Type 0
+IsFromTop ms top r = EndsAs IsSoFar (from_top ms (top_of ms top)) r
+
+-- r is what is built of the design of any modules
+abbrev pub IsDesign : List ModuleTree → Option (List ℕ) → Result Parts Broken → Type 0
+IsDesign ms top r = EndsAs IsSoFar (flat_design ms top) r

@@ -1,0 +1,82 @@
+//! The parts of a whole design.
+
+ghost use Rattle.std.specs.Prelude.{◌≡◌, [], IfOk, map, option_copied};
+ghost use Rattle.v_syntax.specs.SourceTrees.{view_module};
+ghost use Rattle.v_top.specs.Found.{modules_of};
+ghost use Rattle.v_elab.specs.Steps.{IsDesign, IsFromTop};
+
+use port_io::NoMemory;
+use std::alloc::Global;
+use v_begin::Outside;
+use v_build::Parts;
+use v_connect::Joints;
+use v_inner::Level;
+use v_parameter::Given;
+use v_scope::{Broken, ElabRule};
+use v_syntax::{Module, TokenNumber};
+use v_top::{Modules, module_numbers};
+use v_walk::instance;
+
+/// The most levels of instances below the top.
+const MOST_LEVELS: usize = 64;
+
+/// What the top is given: nothing.
+fn nothing(alloc: Global) -> Outside
+    ensures given { result.given ≡ [] }
+    ensures joints { result.joints.list.items ≡ [] }
+{
+    Outside {
+        given: Given::none(alloc),
+        joints: Joints {
+            list: Vec::new(alloc),
+        },
+    }
+}
+
+/// The parts of the design under the top of this name, or under the only module that no module instantiates (IEEE 1364-2005, clause 12.1.1); or
+/// the rule that is broken first. Only want of memory is an error.
+fn from_top(
+    alloc: Global,
+    modules: &Modules<'_>,
+    top: Option<&[u8]>,
+) -> Result<Result<Parts, Broken>, NoMemory>
+    ensures { IfOk result (IsFromTop (modules_of modules.now) (option_copied top.entry)) }
+{
+    match modules.top(alloc, top)? {
+        Some(module) => {
+            let name = module.name.name.bytes();
+            let level = Level {
+                modules,
+                above: &[name],
+                room: MOST_LEVELS,
+                path: name,
+            };
+            instance(alloc, &level, module, nothing(alloc), Parts::none(alloc))
+        }
+        None => Ok(Err(Broken {
+            rule: ElabRule::NoTop,
+            place: TokenNumber::new(0),
+        })),
+    }
+}
+
+/// The parts of the design that modules stand for, or the rule that is broken first. Only want of memory is an error.
+pub(crate) fn design(
+    alloc: Global,
+    modules: &[Module],
+    top: Option<&[u8]>,
+) -> Result<Result<Parts, Broken>, NoMemory>
+    ensures { IfOk result (IsDesign (map view_module modules.now) (option_copied top.entry)) }
+{
+    match module_numbers(alloc, modules)? {
+        Ok(numbers) => from_top(
+            alloc,
+            &Modules {
+                list: modules,
+                numbers: &numbers,
+            },
+            top,
+        ),
+        Err(fault) => Ok(Err(fault)),
+    }
+}
