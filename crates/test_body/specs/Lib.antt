@@ -1,0 +1,4 @@
+pub mod BodyTrees
+pub mod Sound
+pub mod Views
+pub mod Rows

@@ -1,0 +1,11 @@
+-- A function that is called.
+use Rattle.std.specs.Prelude.{◌≡◌, Option, Some}
+use Rattle.test_expressions.specs.declared.meanings.CalledFunction.{CalledFunction}
+use Rattle.test_rules.specs.File.{Definition}
+
+-- the function of this definition, by its number and its parameters
+pub record IsCalled (o : Option Definition) (f : CalledFunction) : Type 0 where
+  pub definition : Definition
+  pub is : o ≡ Some definition
+  pub number : definition.number ≡ f.number
+  pub parameters : definition.parameters ≡ f.parameters.now

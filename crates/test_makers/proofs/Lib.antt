@@ -1,0 +1,5 @@
+pub mod Products
+pub mod Numbers
+pub mod Items
+pub mod Above
+pub mod Tells

@@ -1,0 +1,13 @@
+//! What an accepted tests file stands for, as definitions: its functions, and its tests.
+//!
+//! `specs/Bodies.antt` and `specs/Library.antt` say which functions a file has, `specs/Cases.antt` which tests, and `specs/Check.antt` what
+//! the check of a file answers. Each law here is worked rows of them. Making these is left to the crates above.
+#![tactic(auto)]
+
+mod laws;
+
+pub use laws::{
+    block_rows, call_rows, clock_row, constant_rows, function_rows, if_rows, name_rows,
+    option_rows, order_row, product_rows, refused_rows, sound_rows, statement_rows, stray_rows,
+    whole_row,
+};
