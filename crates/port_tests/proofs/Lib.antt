@@ -1,0 +1,4 @@
+mod CallLaws
+mod FolderLaws
+mod NumberLaws
+mod RowLaws
