@@ -1,8 +1,7 @@
 -- A text has one answer.
-use Rattle.std.proofs.Common.{◌≡◌, map, ℕ, ◌+◌, ◌≤◌, ◌<◌, List, [], ◌∷◌, length, Option, None, Some, Result, Ok, Err, ap, sym, subst, ◌∙◌, refl, arith, ◌⊎◌, inl, inr, unwrap_or, ◌++◌}
+use Rattle.std.proofs.Common.{◌≡◌, map, ℕ, ◌<◌, List, [], ◌∷◌, length, Option, None, Some, Result, Ok, Err, ap, sym, subst, ◌∙◌, refl, arith, ◌⊎◌, inl, inr, unwrap_or, ◌++◌}
 use Rattle.std.proofs.lemmas.Bool.{cases_order}
 use Rattle.std.specs.Prelude.{slice_index}
-use Rattle.port_io.specs.Limits.{most_bytes}
 use Rattle.port_io.specs.Pos.{pos_of}
 use Rattle.port_io.specs.declared.pos.Pos.{Pos}
 use Rattle.v_syntax.specs.declared.token.Token.{Token}

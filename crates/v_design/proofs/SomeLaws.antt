@@ -1,5 +1,5 @@
 -- A text has an answer.
-use Rattle.std.proofs.Common.{◌≡◌, ℕ, ◌+◌, ◌-◌, ◌≤◌, ◌<◌, Bool, true, false, if◌then◌else◌, List, [], ◌∷◌, ◌++◌, length, Option, None, Some, Result, Ok, Err, refl, ap, sym, ◌∙◌, arith, ◌⊎◌, inl, inr, unwrap_or}
+use Rattle.std.proofs.Common.{◌≡◌, ℕ, ◌-◌, ◌≤◌, ◌<◌, Bool, true, false, List, [], ◌∷◌, length, Option, None, Some, Result, Ok, Err, refl, ap, sym, ◌∙◌, ◌⊎◌, inl, inr}
 use Rattle.std.specs.Prelude.{slice_index, nat_le}
 use Rattle.std.proofs.lemmas.Bool.{cases_lt}
 use Rattle.port_io.specs.Limits.{most_bytes}
@@ -10,7 +10,7 @@ use Rattle.v_syntax.specs.Refusal.{IsSource, IsSyntaxAt, IsTooDeepAt, height_lim
 use Rattle.v_lex.specs.declared.directive.LexRule.{LexRule}
 use Rattle.v_lex.specs.declared.directive.LexRule.TheVariants as lexical
 use Rattle.v_lex.specs.declared.directive.BrokenRule.{BrokenRule}
-use Rattle.v_lex.specs.Lexing.{Lexed, earlier, earliest, start, nanosecond}
+use Rattle.v_lex.specs.Lexing.{Lexed, earlier, earliest}
 use Rattle.v_lex.specs.Row.{Part, Reads, BreaksFirst, IsRowOf, told}
 use Rattle.v_lex.proofs.RowLaws as rows
 use Rattle.v_scope.specs.declared.rule.Broken.{Broken}

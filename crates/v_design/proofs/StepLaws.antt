@@ -1,5 +1,5 @@
 -- The step of a text that breaks no lexical rule is at least 1.
-use Rattle.std.proofs.Common.{◌≡◌, ℕ, ◌+◌, ◌*◌, ◌≤◌, min, Bool, true, false, if◌then◌else◌, List, [], ◌∷◌, length, Option, None, Some, inl, inr, ap, sym, subst, arith, refl, unwrap_or}
+use Rattle.std.proofs.Common.{◌≡◌, ℕ, ◌+◌, ◌≤◌, Bool, true, false, if◌then◌else◌, List, [], ◌∷◌, length, Option, None, Some, inl, inr, ap, sym, subst, arith, refl, unwrap_or}
 use Rattle.std.specs.Str.{bytes_eq}
 use Rattle.std.proofs.Math.Nat.{one-le-mul}
 use lib.Chars.{codes}

@@ -1,5 +1,5 @@
 use Rattle.std.proofs.Common.{◌∙◌, sym}
-use Rattle.v_syntax.specs.Refusal.{IsSyntaxAt, IsTooDeepAt}
+use Rattle.v_syntax.specs.Refusal.{IsSyntaxAt}
 use Rattle.v_design.proofs.FaultLaws.{unspelled}
 use Rattle.v_design.proofs.reader.syntax_fault.Goals as goal
 
