@@ -152,6 +152,10 @@ a_quotient_of_128_digits                  128  {8'd90, 112'd0, a} / b
 a_comparison_of_128_digits                2    {{16{a}} < {16{b}}, {16{a}} === {16{a}}}
 a_shift_of_128_digits                     128  {120'd1, a} << {b, 3'd0}
 a_conditional_of_128_digits               128  d ? {16{a}} : {16{b}}
+the_standards_reductions                  12   {&4'b0000, |4'b0000, ^4'b0000, &4'b1111, |4'b1111, ^4'b1111, &4'b0110, |4'b0110, ^4'b0110, &4'b1000, |4'b1000, ^4'b1000}
+the_standards_remainders                  24   {8'd10 % 8'd3, 8'd11 % 8'd3, 8'd12 % 8'd3}
+the_standards_shift                       4    4'b0001 << 2'b10
+an_inequality_that_is_open                2    {4'b0x11 != 4'b0011, 4'b0x11 != 4'b0010}
 """
 
 # what stands before `assign`, the further signals, the width of `y`, and what it is
@@ -285,6 +289,12 @@ DIFFERENT_BODIES = [
      "the first of several defaults counts here, and the last one in Icarus; the standard has one at most (9.5)",
      "xxxxxxxx 00000001 00000001 00001001 00001001 00000001 00000001 00000001"),
 ]
+
+# ---- labels: `a` and `b` have eight digits; the process is run where `go` changes
+
+PAIRS = "10110101 10110101  10110101 1011010z  10110101 1011010x  110x0000 00000000  11010000 00000000  1z0x0000 00000000".split()
+LABEL_STEPS = [f"a={a} b={b} go={place % 2}" for place, (a, b) in enumerate(zip(PAIRS[::2], PAIRS[1::2]))]
+LABELS = [(f"labels_of_a_{kind}", f"{kind} (a) b: y = 1; 8'b1z0x0000: y = 2; default: y = 3; endcase") for kind in ("case", "casez", "casex")]
 
 # ---- hierarchies: a text of several modules, its signals, the steps
 
@@ -471,6 +481,9 @@ def bodies():
         yield Row("body", name, written_body(control, body, lines), paths(["a", "b", "c", "clk", "y", "z", *more]), BODY_STEPS, None, {})
     for name, control, body, differs, own in DIFFERENT_BODIES:
         yield Row("body", name, written_body(control, body), paths(["a", "b", "c", "clk", "y", "z"]), BODY_STEPS, differs, {"top.y": own.split()})
+    for name, body in LABELS:
+        text = f"module top(input [7:0] a, b, input go, output reg [7:0] y);\n  always @(go) {body}\nendmodule"
+        yield Row("body", name, text, paths(["a", "b", "go", "y"]), LABEL_STEPS, None, {})
 
 
 def hierarchies():

@@ -80,9 +80,7 @@ pub(crate) fn checked(
     )?;
     let named = found.wants(is_fresh, ElabRule::DuplicateName, inner.name.at);
     match named.wants(has_room, ElabRule::TooMany, inner.at).ended() {
-        Ok((given, joints)) => {
-            Ok(Ok((Outside { given, joints }, Walked { state, instances })))
-        }
+        Ok((given, joints)) => { Ok(Ok((Outside { given, joints }, Walked { state, instances }))) }
         Err(fault) => Ok(Err(fault)),
     }
 }

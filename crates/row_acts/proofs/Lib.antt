@@ -1,6 +1,0 @@
-mod DigitLaws
-mod Made
-mod Many
-mod Fronts
-mod SpellLaws
-mod Viewed

@@ -1,6 +1,0 @@
-mod DigitLaws
-mod EventLaws
-mod CallLaws
-mod FolderLaws
-mod NumberLaws
-mod RowLaws
