@@ -1,4 +1,3 @@
 mod CallLaws
 mod FolderLaws
 mod NumberLaws
-mod RowLaws
