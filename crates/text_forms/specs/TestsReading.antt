@@ -1,4 +1,4 @@
--- A tests file read from left to right.
+-- A means of proof: a tests file read from left to right.
 use Rattle.std.specs.Prelude.{ℕ, Bool, ◌||◌, ◌&&◌, List, [], ◌∷◌, ◌++◌, length, take, drop, Option, Some, None, codes, nat_le, ◌==◌, if◌then◌else◌}
 use Rattle.std.specs.List.{list_any, prefix_len}
 use Rattle.rig_model.specs.declared.file.Function.{Function}
