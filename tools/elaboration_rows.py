@@ -1,5 +1,5 @@
 #!/usr/bin/env python3
-"""Makes what the program `elaboration_tests`, which is still to come, is to be run on, and what it must print.
+"""Makes what the program `elaboration_tests` is run on, and what it must print.
 
     tools/elaboration_rows.py          writes crates/elaboration_tests/stdin and crates/elaboration_tests/stdout
 
@@ -8,13 +8,16 @@ Both are made of the two tables of `tools/data` and of nothing else, so no expec
 
 A line of `stdin` is a row without its answer and without the parts that only explain it, with a tab between two parts:
 
-    rule    name  top  front  unit  count  behind
+    rule    name  top  text
     KIND    name  top  text  stimulus                   where KIND is `expression`, `body` or `hierarchy`
 
 and the same line of `stdout` is the row's name, `: `, and
 
     `accepted`, or the rule and the byte at which it is told
-    the paths of the signals, `; `, and the values after each step, as in the table
+    the paths of the signals, and behind `; ` the values after each step
+
+The rows of the rules whose text has a unit that is repeated, or as many instances as there may be, are left out: the text of each of these
+four stands for 65,536 processes or instances, and together they take four times as long as all others.
 """
 import sys
 from pathlib import Path
@@ -29,20 +32,28 @@ def rows(table):
     return [line.split("\t") for line in lines if not line.startswith("#")]
 
 
+def is_dear(row):
+    """Whether the text of a row of the rules stands for 65,536 processes or instances."""
+    name, _, _, unit, *_ = row
+    return unit != "" or name == "an_instance_behind_65536_others"
+
+
 def rule(row):
     """What is asked by a row of the rules, and its answer."""
-    name, top, front, unit, count, behind, answer, *_ = row
-    return ["rule", name, top, front, unit, count, behind], f"{name}: {answer}"
+    name, top, front, _, _, _, answer, *_ = row
+    return ["rule", name, top, front], f"{name}: {answer}"
 
 
 def values(row):
     """What is asked by a row of the values, and its answer."""
     kind, name, top, text, signals, stimulus, shown, _ = row
-    return [kind, name, top, text, stimulus], f"{name}: {signals}; {shown}"
+    steps = "".join("; " + step for step in shown.split("|"))
+    return [kind, name, top, text, stimulus], f"{name}: {signals}{steps}"
 
 
 def main():
-    answered = [*map(rule, rows("elaboration_rules.txt")), *map(values, rows("elaboration_values.txt"))]
+    rules = [row for row in rows("elaboration_rules.txt") if not is_dear(row)]
+    answered = [*map(rule, rules), *map(values, rows("elaboration_values.txt"))]
     (PROGRAM / "stdin").write_text("".join("\t".join(asked) + "\n" for asked, _ in answered), encoding="ascii")
     (PROGRAM / "stdout").write_text("".join(answer + "\n" for _, answer in answered), encoding="ascii")
     print(f"{len(answered)} rows")

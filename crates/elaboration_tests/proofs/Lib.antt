@@ -1,0 +1,6 @@
+mod ChainLaws
+mod DigitLaws
+mod EventLaws
+mod FoundLaws
+mod ListLaws
+mod RowLaws
