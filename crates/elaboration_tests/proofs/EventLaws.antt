@@ -1,10 +1,10 @@
 -- Events one after the other.
-use Rattle.std.proofs.Common.{◌≡◌, ℕ, ◌+◌, ◌≤◌, Option, None, Some, add-one, refl, subst, sym}
+use Rattle.std.proofs.Common.{◌≡◌, ℕ, ◌+◌, Option, None, Some, add-one, refl}
 use Rattle.gpi.specs.Content.{Answers, Content}
 use Rattle.gpi.specs.Events.{Event}
 use Rattle.gpi.specs.declared.types.Advance.TheVariants as advance
 use Rattle.gpi.specs.declared.types.Moved.{Moved}
-use Rattle.elaboration_tests.specs.Runs.{Comes, Events, Settles, most_events, next}
+use Rattle.elaboration_tests.specs.Runs.{Comes, Events, next}
 
 comes : (content after : Content) (moved : Moved) (o : Option Event) → next content ≡ o → Answers content o (advance.Moved moved) after → Comes content after
 comes content after moved None e answer = absurd (let h = answer.0 in cc)
@@ -19,15 +19,3 @@ events_more n start content after moved events answer =
       events,
       comes content after moved (next content) refl answer,
     )
-
-idle : (content after : Content) (o : Option Event) → next content ≡ o → Answers content o advance.Idle after → (next content ≡ None) × (after ≡ content)
-idle content after None e answer = (e, answer.1)
-idle content after (Some last) e answer = absurd (let h = answer.0 in cc)
-
--- where a simulator says that nothing is left, it has settled
-pub settles : (n : ℕ) (start content after : Content) → n ≤ most_events
-    → Events n start content → Answers content (next content) advance.Idle after → Settles start after
-settles n start content after few events answer =
-    let h = idle content after (next content) refl answer in
-    subst (λ (c : Content). Settles start c) (sym h.1)
-    (record { count = n; few = few; events = events; stops = λ _. h.0 })

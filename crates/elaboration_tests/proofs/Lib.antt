@@ -1,4 +1,3 @@
-mod ChainLaws
 mod DigitLaws
 mod EventLaws
 mod FoundLaws

@@ -10,10 +10,9 @@ use Rattle.gpi.specs.Design.{start_map}
 use Rattle.gpi.specs.Terms.{widths_of}
 use Rattle.gpi.specs.declared.design.Signal.{Signal}
 use Rattle.elaboration_tests.specs.Runs.{Chain}
-use Rattle.elaboration_tests.proofs.ChainLaws.{chain_more}
 
 -- one element more
-pub take_more : {X : Type 0} (xs : List X) (n : ℕ) (x : X) → slice_get xs n ≡ Some x → take (n + 1) xs ≡ take n xs ++ x ∷ []
+take_more : {X : Type 0} (xs : List X) (n : ℕ) (x : X) → slice_get xs n ≡ Some x → take (n + 1) xs ≡ take n xs ++ x ∷ []
 take_more {X} xs n x h =
     rw add-one (take-suc xs n x (slice_get_within xs n x h) ∙ ap (λ (y : X). take n xs ++ y ∷ []) (get_or_from_slice_get xs n x x h))
 
@@ -32,6 +31,12 @@ pub behind_space : (text pushed bytes path all : List ℕ)
     → pushed ≡ text ++ 32 ∷ [] → all ≡ pushed ++ bytes → bytes ≡ path → all ≡ text ++ 32 ∷ path
 behind_space text pushed bytes path all e g h =
     g ∙ ap (λ (p : List ℕ). p ++ bytes) e ∙ append_assoc text (32 ∷ []) bytes ∙ ap (λ (b : List ℕ). text ++ 32 ∷ b) h
+
+-- one call more at the end
+chain_more : {C X : Type 0} (does : C → X → C → Type 0) (start between last : C) (xs : List X) (x : X)
+    → Chain does start xs between → does between x last → Chain does start (xs ++ x ∷ []) last
+chain_more does start between last [] x e h = (last, subst (λ c. does c x last) e h, refl)
+chain_more does start between last (y ∷ ys) x before h = (before.0, before.1, chain_more does before.0 between last ys x before.2 h)
 
 -- one call more, of an element that is borrowed
 pub call_more : {C X : Type 0} (does : C → X → C → Type 0) (start between last : C) (xs : List (Bor X)) (n : ℕ) (d : Bor X)
