@@ -15,9 +15,6 @@ and the same line of `stdout` is the row's name, `: `, and
 
     `accepted`, or the rule and the byte at which it is told
     the paths of the signals, and behind `; ` the values after each step
-
-The rows of the rules whose text has a unit that is repeated, or as many instances as there may be, are left out: the text of each of these
-four stands for 65,536 processes or instances, and together they take four times as long as all others.
 """
 import sys
 from pathlib import Path
@@ -32,16 +29,10 @@ def rows(table):
     return [line.split("\t") for line in lines if not line.startswith("#")]
 
 
-def is_dear(row):
-    """Whether the text of a row of the rules stands for 65,536 processes or instances."""
-    name, _, _, unit, *_ = row
-    return unit != "" or name == "an_instance_behind_65536_others"
-
-
 def rule(row):
-    """What is asked by a row of the rules, and its answer."""
-    name, top, front, _, _, _, answer, *_ = row
-    return ["rule", name, top, front], f"{name}: {answer}"
+    """What is asked by a row of the rules, and its answer; the text has its unit as often as the row says."""
+    name, top, front, unit, count, behind, answer, *_ = row
+    return ["rule", name, top, front + unit * int(count) + behind], f"{name}: {answer}"
 
 
 def values(row):
@@ -52,8 +43,7 @@ def values(row):
 
 
 def main():
-    rules = [row for row in rows("elaboration_rules.txt") if not is_dear(row)]
-    answered = [*map(rule, rules), *map(values, rows("elaboration_values.txt"))]
+    answered = [*map(rule, rows("elaboration_rules.txt")), *map(values, rows("elaboration_values.txt"))]
     (PROGRAM / "stdin").write_text("".join("\t".join(asked) + "\n" for asked, _ in answered), encoding="ascii")
     (PROGRAM / "stdout").write_text("".join(answer + "\n" for _, answer in answered), encoding="ascii")
     print(f"{len(answered)} rows")
