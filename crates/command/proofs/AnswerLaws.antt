@@ -70,12 +70,12 @@ module _ {O : Type 0} (sink : SinkMeans O)
   answer_tells : (r : Reading) (s : Status) (content : Content) (out out' : O) → Answers sink budget r s content out out'
       → (lines : List (List ℕ)) × (own : Status) × IsAnswer budget r lines own × TellsLines (sink.told out) (sink.told out') lines own s
   answer_tells (refused own line) s content out out' a = (line ∷ [], own, (refl, refl), refusal_tells own line s content out out' a)
-  answer_tells (runs ports file) s content out out' a =
-      let stop : (c : Run) × IsRun (setup_with ports file) a.case budget c = run_stops (setup_with ports file) a.case budget in (
-        written (setup_with ports file) budget stop.0,
+  answer_tells (runs flat file) s content out out' a =
+      let stop : (c : Run) × IsRun (setup_with flat file) a.case budget c = run_stops (setup_with flat file) a.case budget in (
+        written (setup_with flat file) budget stop.0,
         status_of stop.0,
         (a.case, a.is_case, stop.0, stop.1, refl, refl),
-        run_tells (setup_with ports file) a.case stop.0 stop.1 s a.last content out out' a.runs,
+        run_tells (setup_with flat file) a.case stop.0 stop.1 s a.last content out out' a.runs,
       )
 
   pub answered : {S : Type 0} (from : StoreMeans S) (words : List (List ℕ)) (r : Reading) (s : Status) (store store' : S) (content : Content) (out out' : O)
@@ -97,7 +97,7 @@ module _ {O : Type 0} (sink : SinkMeans O)
       by_fault None e p = λ is. absurd (i.0 (sym e ∙ is))
       by_fault (Some Failed) e p = λ is. puts_broken_count faults sink.takes sink.breaks takes_count breaks_count out (line ∷ []) out' p
       by_fault (Some OutOfMemory) e p = λ is. let no : status.NoMemory ≡ status.WriteFault = sym e ∙ is in cc
-  write_raised before after (runs ports file) s content out out' i a = run_raised (setup_with ports file) a.case s a.last content out out' a.runs
+  write_raised before after (runs flat file) s content out out' i a = run_raised (setup_with flat file) a.case s a.last content out out' a.runs
 
   -- no run is refused for a read
   run_reads : (setup : Setup) (case : TestCase) (s : Status) (e : Rig) (content : Content) (out out' : O) → RunsTo sink setup case budget s e content out out' → s ≡ status.ReadFault → ⊥
@@ -110,7 +110,7 @@ module _ {O : Type 0} (sink : SinkMeans O)
       by_fault None e = λ is. i.2 (sym e ∙ is)
       by_fault (Some Failed) e = λ is. let no : status.WriteFault ≡ status.ReadFault = sym e ∙ is in cc
       by_fault (Some OutOfMemory) e = λ is. let no : status.NoMemory ≡ status.ReadFault = sym e ∙ is in cc
-  read_raised before after (runs ports file) s content out out' i a = λ is. absurd (run_reads (setup_with ports file) a.case s a.last content out out' a.runs is)
+  read_raised before after (runs flat file) s content out out' i a = λ is. absurd (run_reads (setup_with flat file) a.case s a.last content out out' a.runs is)
 
 -- after want of memory nothing is said of other faults
 pub quit_raised : {O : Type 0} (at s : Status) (before after : ℕ) (out out' : O) → at ≢ status.NoMemory → Quit s out out' → RaisedAt at before after s

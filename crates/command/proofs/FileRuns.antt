@@ -4,6 +4,7 @@ use Rattle.port_io.specs.Means.{SinkMeans}
 use Rattle.port_io.specs.declared.ports.NoMemory.{NoMemory}
 use Rattle.port_io.proofs.PartLaws.{part_none}
 use Rattle.gpi.specs.Content.{Content, no_counts}
+use Rattle.gpi.specs.declared.design.Flat.{Flat}
 use Rattle.rig_model.specs.Rig.{Rig, Setup}
 use Rattle.rig_model.specs.Run.{emptied, opening_sim}
 use Rattle.rig_model.specs.declared.file.TestFile.{TestFile}
@@ -16,10 +17,10 @@ use Rattle.command.specs.Answer.{RunsFile, setup_with}
 
 module _ {O : Type 0} (sink : SinkMeans O) where
   -- nothing was put for want of memory
-  pub file_none : (budget : ℕ) (ports : List ℕ) (file : TestFile) (r : Result Status NoMemory) (content : Content) (out : O) → IsOneTest (length ports) file → IsErr r
-      → RunsFile sink budget ports file (status_in r) content out out
-  file_none budget ports file r content out one h =
-      let setup : Setup = setup_with ports file in
+  pub file_none : (budget : ℕ) (flat : Flat) (file : TestFile) (r : Result Status NoMemory) (content : Content) (out : O) → IsOneTest (length flat.signals) file → IsErr r
+      → RunsFile sink budget flat file (status_in r) content out out
+  file_none budget flat file r content out one h =
+      let setup : Setup = setup_with flat file in
       let last : Rig = emptied (opening_sim setup) no_counts in
       record {
         case = one.case;

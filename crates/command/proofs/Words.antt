@@ -3,15 +3,17 @@ use Rattle.std.proofs.Common.{◌≡◌, ◌≢◌, ℕ, ◌≤◌, List, [], �
 use Rattle.port_io.specs.Ports.{GivesFile, IsRaised}
 use Rattle.port_io.specs.Means.{StoreMeans}
 use Rattle.port_io.specs.CountLaws.{then_raised}
+use Rattle.gpi.specs.declared.design.Flat.{Flat}
 use Rattle.rig_model.specs.declared.file.TestFile.{TestFile}
-use Rattle.command.specs.Reading.{Reading, refused, runs, Reads, ReadsBoth, ReadsTests, IsTold, TextOfDesign, TextOfTests, told_means, usage_line, read_line, refused_line, most}
+use Rattle.v_design.specs.Words.{refusal_word}
+use Rattle.command.specs.Reading.{Reading, refused, runs, Reads, ReadsBoth, ReadsTests, IsTold, TextOfDesign, TextOfTests, told_means, usage_line, read_line, refused_line, not_built, most}
 use Rattle.regression.specs.declared.status.Status.{Status}
 use Rattle.regression.specs.declared.status.Status.TheVariants as status
 
 -- A refusal is neither for a put nor for memory, and one for a read comes with a count that rose.
 abbrev pub IsRefusal : ℕ → ℕ → Reading → Type 0
 IsRefusal before after (refused own line) = (own ≢ status.WriteFault) × (own ≢ status.NoMemory) × (own ≡ status.ReadFault → IsRaised before after)
-IsRefusal before after (runs ports file) = Unit {0}
+IsRefusal before after (runs flat file) = Unit {0}
 
 module _ {S : Type 0} (from : StoreMeans S) where
   pub reads_usage : {W : Type 0} (f : W → List ℕ) (words : List W) (s : S) (line : List ℕ) → length words ≢ 2 → line ≡ usage_line → Reads from (map f words) s (refused status.Usage line) s
@@ -37,16 +39,16 @@ module _ {S : Type 0} (from : StoreMeans S) where
   -- the reads of a store that tells its files give the first bytes of these, since no read changes what it tells
   module _ (gives_file : (before : S) (name : List ℕ) (n : ℕ) (bytes : List ℕ) (after : S) → from.gives before name n bytes after → GivesFile (from.files before) name n bytes)
       (gives_same : (before : S) (name : List ℕ) (n : ℕ) (bytes : List ℕ) (after : S) → from.gives before name n bytes after → from.files after ≡ from.files before) where
-    tests_told : (fs : Option (List ℕ → Option (List ℕ))) (tests ports : List ℕ) (s : S) (r : Reading) (s' : S) → from.files s ≡ fs → ReadsTests from tests ports s r s'
-        → ReadsTests (told_means fs) tests ports tt r tt
-    tests_told fs tests ports s r s' e (inl (is, m)) = inl (is, tt)
-    tests_told fs tests ports s r s' e (inr (text, given, t)) =
+    tests_told : (fs : Option (List ℕ → Option (List ℕ))) (tests : List ℕ) (flat : Flat) (s : S) (r : Reading) (s' : S) → from.files s ≡ fs → ReadsTests from tests flat s r s'
+        → ReadsTests (told_means fs) tests flat tt r tt
+    tests_told fs tests flat s r s' e (inl (is, m)) = inl (is, tt)
+    tests_told fs tests flat s r s' e (inr (text, given, t)) =
         inr (text, subst (λ (x : Option (List ℕ → Option (List ℕ))). GivesFile x tests most text) e (gives_file s tests most text s' given), t)
 
     design_told : (fs : Option (List ℕ → Option (List ℕ))) (design tests text : List ℕ) (s : S) (r : Reading) (s' : S) → from.files s ≡ fs → TextOfDesign from design tests text s r s'
         → TextOfDesign (told_means fs) design tests text tt r tt
-    design_told fs design tests text s r s' e (inl (is, same, none)) = inl (is, refl, none)
-    design_told fs design tests text s r s' e (inr (ports, is, t)) = inr (ports, is, tests_told fs tests ports s r s' e t)
+    design_told fs design tests text s r s' e (inl (why, is, same, why_is)) = inl (why, is, refl, why_is)
+    design_told fs design tests text s r s' e (inr (flat, is, t)) = inr (flat, is, tests_told fs tests flat s r s' e t)
 
     both_told : (design tests : List ℕ) (s : S) (r : Reading) (s' : S) → ReadsBoth from design tests s r s' → ReadsBoth (told_means (from.files s)) design tests tt r tt
     both_told design tests s r s' (inl (is, m)) = inl (is, tt)
@@ -65,24 +67,24 @@ module _ {S : Type 0} (from : StoreMeans S) where
     plain : (before after : ℕ) (own : Status) (line : List ℕ) (r : Reading) → r ≡ refused own line → own ≢ status.WriteFault → own ≢ status.NoMemory → (own ≡ status.ReadFault → IsRaised before after) → IsRefusal before after r
     plain before after own line r e a b c = subst (λ (x : Reading). IsRefusal before after x) (sym e) (a, b, c)
 
-    run_refuses : (before after : ℕ) (ports : List ℕ) (file : TestFile) (r : Reading) → r ≡ runs ports file → IsRefusal before after r
-    run_refuses before after ports file r e = subst (λ (x : Reading). IsRefusal before after x) (sym e) tt
+    run_refuses : (before after : ℕ) (flat : Flat) (file : TestFile) (r : Reading) → r ≡ runs flat file → IsRefusal before after r
+    run_refuses before after flat file r e = subst (λ (x : Reading). IsRefusal before after x) (sym e) tt
 
     raised_later : (before mid after : ℕ) (r : Reading) → before ≤ mid → IsRefusal mid after r → IsRefusal before after r
     raised_later before mid after (refused own line) h (a, b, c) = (a, b, λ e. then_raised before mid after h (c e))
-    raised_later before mid after (runs ports file) h i = tt
+    raised_later before mid after (runs flat file) h i = tt
 
-    text_of_tests : (tests ports text : List ℕ) (r : Reading) (before after : ℕ) → TextOfTests from tests ports text r → IsRefusal before after r
-    text_of_tests tests ports text r before after (inl (e, none)) = plain before after status.TestsRefused (refused_line tests) r e (λ x. cc) (λ x. cc) (λ x. cc)
-    text_of_tests tests ports text r before after (inr (file, e, is)) = run_refuses before after ports file r e
+    text_of_tests : (tests : List ℕ) (flat : Flat) (text : List ℕ) (r : Reading) (before after : ℕ) → TextOfTests from tests flat text r → IsRefusal before after r
+    text_of_tests tests flat text r before after (inl (e, none)) = plain before after status.TestsRefused (refused_line tests not_built) r e (λ x. cc) (λ x. cc) (λ x. cc)
+    text_of_tests tests flat text r before after (inr (file, e, is)) = run_refuses before after flat file r e
 
-    tests_refusal : (tests ports : List ℕ) (s : S) (r : Reading) (s' : S) → ReadsTests from tests ports s r s' → IsRefusal (faults s) (faults s') r
-    tests_refusal tests ports s r s' (inl (e, m)) = plain (faults s) (faults s') status.ReadFault (read_line tests) r e (λ x. cc) (λ x. cc) (λ x. misses_count s tests s' m)
-    tests_refusal tests ports s r s' (inr (text, given, t)) = text_of_tests tests ports text r (faults s) (faults s') t
+    tests_refusal : (tests : List ℕ) (flat : Flat) (s : S) (r : Reading) (s' : S) → ReadsTests from tests flat s r s' → IsRefusal (faults s) (faults s') r
+    tests_refusal tests flat s r s' (inl (e, m)) = plain (faults s) (faults s') status.ReadFault (read_line tests) r e (λ x. cc) (λ x. cc) (λ x. misses_count s tests s' m)
+    tests_refusal tests flat s r s' (inr (text, given, t)) = text_of_tests tests flat text r (faults s) (faults s') t
 
     design_refusal : (design tests text : List ℕ) (s : S) (r : Reading) (s' : S) → TextOfDesign from design tests text s r s' → IsRefusal (faults s) (faults s') r
-    design_refusal design tests text s r s' (inl (e, same, none)) = plain (faults s) (faults s') status.DesignRefused (refused_line design) r e (λ x. cc) (λ x. cc) (λ x. cc)
-    design_refusal design tests text s r s' (inr (ports, is, t)) = tests_refusal tests ports s r s' t
+    design_refusal design tests text s r s' (inl (why, e, same, is)) = plain (faults s) (faults s') status.DesignRefused (refused_line design (refusal_word why)) r e (λ x. cc) (λ x. cc) (λ x. cc)
+    design_refusal design tests text s r s' (inr (flat, is, t)) = tests_refusal tests flat s r s' t
 
     pub both_refusal : (design tests : List ℕ) (s : S) (r : Reading) (s' : S) → ReadsBoth from design tests s r s' → IsRefusal (faults s) (faults s') r
     both_refusal design tests s r s' (inl (e, m)) = plain (faults s) (faults s') status.ReadFault (read_line design) r e (λ x. cc) (λ x. cc) (λ x. misses_count s design s' m)

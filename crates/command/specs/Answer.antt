@@ -5,11 +5,11 @@ use Rattle.port_io.specs.Ports.{AppendsPart, IsRaised}
 use Rattle.port_io.specs.Means.{StoreMeans, SinkMeans}
 use Rattle.port_io.specs.ToldLaws.{joined}
 use Rattle.gpi.specs.Content.{Content}
+use Rattle.gpi.specs.declared.design.Flat.{Flat}
 use Rattle.rig_model.specs.Rig.{Rig, Setup}
 use Rattle.rig_model.specs.Run.{Run, IsRun, written}
 use Rattle.rig_model.specs.declared.file.TestCase.{TestCase}
 use Rattle.rig_model.specs.declared.file.TestFile.{TestFile}
-use Rattle.text_forms.specs.DesignForm.{flat_of}
 use Rattle.command.specs.Reading.{Reading, refused, runs, Reads, IsTold}
 use Rattle.regression.specs.Runs.{RunsTo, EndsTo, status_of}
 use Rattle.regression.specs.declared.status.Status.{Status}
@@ -19,17 +19,17 @@ use Rattle.regression.specs.declared.status.Status.TheVariants as status
 abbrev pub default_budget : ℕ
 default_budget = 10000000
 
--- the functions of the file, and the design of these ports; told changes aren't written
-abbrev pub setup_with : List ℕ → TestFile → Setup
-setup_with ports file = record { functions = file.functions; flat = flat_of ports; trace = false }
+-- the functions of the file, and the design; told changes aren't written
+abbrev pub setup_with : Flat → TestFile → Setup
+setup_with flat file = record { functions = file.functions; flat = flat; trace = false }
 
 -- The test of a file is run, which leaves the simulator with this content.
-pub record RunsFile {O : Type 0} (sink : SinkMeans O) (budget : ℕ) (ports : List ℕ) (file : TestFile)
+pub record RunsFile {O : Type 0} (sink : SinkMeans O) (budget : ℕ) (flat : Flat) (file : TestFile)
     (s : Status) (content : Content) (out out' : O) : Type 0 where
   pub case : TestCase
   pub is_case : file.cases ≡ case ∷ []
   pub last : Rig
-  pub runs : RunsTo sink (setup_with ports file) case budget s last content out out'
+  pub runs : RunsTo sink (setup_with flat file) case budget s last content out out'
 
 -- The simulator that was handed in, after a status: a run leaves it with a design, and a refusal as it was. After a failed put it is one
 -- or the other, and after want of memory nothing is said of it.
@@ -47,14 +47,14 @@ LeavesKernel is_loaded status.NoMemory before after = Unit {0}
 -- The line of a refusal is put, or else the test is run.
 abbrev pub Answers : {O : Type 0} → SinkMeans O → ℕ → Reading → Status → Content → O → O → Type 0
 Answers sink budget (refused own line) s content out out' = EndsTo sink (line ∷ []) own s out out'
-Answers sink budget (runs ports file) s content out out' = RunsFile sink budget ports file s content out out'
+Answers sink budget (runs flat file) s content out out' = RunsFile sink budget flat file s content out out'
 
 -- The lines and the status of a reading, where nothing fails: the one line of a refusal, or those of the run.
 abbrev pub IsAnswer : ℕ → Reading → List (List ℕ) → Status → Type 0
 IsAnswer budget (refused own line) lines s = (lines ≡ line ∷ []) × (s ≡ own)
-IsAnswer budget (runs ports file) lines s =
-    (case : TestCase) × (file.cases ≡ case ∷ []) × (run : Run) × IsRun (setup_with ports file) case budget run
-    × (lines ≡ written (setup_with ports file) budget run) × (s ≡ status_of run)
+IsAnswer budget (runs flat file) lines s =
+    (case : TestCase) × (file.cases ≡ case ∷ []) × (run : Run) × IsRun (setup_with flat file) case budget run
+    × (lines ≡ written (setup_with flat file) budget run) × (s ≡ status_of run)
 
 -- What a sink that tells its bytes has after a status: all the bytes of the lines with the own status, and a front of them where a put
 -- broke or memory was short.

@@ -1,4 +1,5 @@
 //! What the words and the files come to.
+use gpi::Flat;
 use regression::Status;
 use rig_model::TestFile;
 
@@ -7,6 +8,6 @@ use rig_model::TestFile;
 pub enum Decision {
     /// A refusal, by its status and its line.
     Refused(Status, Vec<u8>),
-    /// The tests of a file run on a design with these ports.
-    Runs(Vec<u8>, TestFile),
+    /// The tests of a file run on this design.
+    Runs(Flat, TestFile),
 }

@@ -1,14 +1,15 @@
 //! The top call.
-ghost use Rattle.std.specs.Prelude.{◌≡◌, ◌⊎◌, ◌∷◌, [], List, ℕ, length, IfOk, OnOk, map, string_bytes};
+ghost use Rattle.std.specs.Prelude.{◌≡◌, ◌⊎◌, ◌∷◌, [], List, ℕ, length, IfOk, OnOk, map, codes, string_bytes};
 ghost use Rattle.port_io.specs.Means.{sink_means, store_means};
 ghost use Rattle.command.specs.Answer.{Answers, Answered, Quit, RunsFile, RaisedAt, LeavesKernel, default_budget};
-ghost use Rattle.text_forms.specs.DesignForm.{ArePorts};
+ghost use Rattle.gpi.specs.Soundness.{IsSoundFlat};
 ghost use Rattle.text_forms.specs.TestsForm.{IsOneTest};
 ghost use Rattle.regression.specs.Runs.{EndsTo, status_in};
-ghost use Rattle.command.specs.Reading.{CanRun, ReadsBoth, ReadsTests, read_line, reading_of, refused_line, usage_line};
+ghost use Rattle.v_design.specs.Words.{refusal_word};
+ghost use Rattle.command.specs.Reading.{CanRun, ReadsBoth, ReadsTests, not_built, read_line, reading_of, refused, refused_line, usage_line};
 
 use crate::decision::Decision;
-use gpi::Gpi;
+use gpi::{Flat, Gpi};
 use plain_task::{TreeMaker, WaitList};
 use port_io::{NoMemory, Sink, Store, StoreFault};
 use regression::{Status, run_all};
@@ -16,7 +17,8 @@ use rig_model::{Steps, TestFile};
 use scheduler::Engine;
 use std::alloc::Global;
 use std::sync::ledger::Ledger;
-use text_forms::{flat_of_ports, read_design, read_tests};
+use text_forms::read_tests;
+use v_design::{DesignFault, DesignRefusal, read_design};
 
 /// How many bytes of a file are asked for: one more than a file may have.
 const MOST: usize = 1_048_577;
@@ -46,37 +48,61 @@ fn read_text(alloc: Global, name: &str) -> Result<Vec<u8>, NoMemory>
     Ok(line)
 }
 
-/// The line that says that a text is of a form that is not built.
-fn refused_text(alloc: Global, name: &str) -> Result<Vec<u8>, NoMemory>
-    ensures { IfOk result (λ line. line.items ≡ refused_line name.now) }
+/// The line that says why a text is refused.
+fn refused_text(alloc: Global, name: &str, reason: &[u8]) -> Result<Vec<u8>, NoMemory>
+    ensures { IfOk result (λ line. line.items ≡ refused_line name.now reason.now) }
 {
     let mut line = Vec::new(alloc);
     line.extend_from_slice(b"error: ")?;
     line.extend_from_slice(name.as_bytes())?;
-    line.extend_from_slice(b": NotBuilt\n")?;
+    line.extend_from_slice(b": ")?;
+    line.extend_from_slice(reason)?;
+    line.push(b'\n')?;
     Ok(line)
 }
 
-/// Reads the tests, for a design with these ports.
+/// The refusal of a design.
+fn design_refused(alloc: Global, design: &str, refusal: DesignRefusal) -> Result<Decision, NoMemory>
+    ensures { IfOk result (λ decision. reading_of decision ≡ refused Status.DesignRefused (refused_line design.now (refusal_word refusal))) }
+{
+    let reason = refusal.text(alloc)?;
+    Ok(Decision::Refused(Status::DesignRefused, refused_text(alloc, design, &reason)?))
+}
+
+/// The refusal of tests that are of no form that is built.
+fn tests_refused(alloc: Global, tests: &str) -> Result<Decision, NoMemory>
+    ensures { IfOk result (λ decision. reading_of decision ≡ refused Status.TestsRefused (refused_line tests.now not_built)) }
+{
+    Ok(Decision::Refused(
+        Status::TestsRefused,
+        refused_text(alloc, tests, b"NotBuilt")?,
+    ))
+}
+
+/// The refusal for a file that could not be read.
+fn unread(alloc: Global, name: &str) -> Result<Decision, NoMemory>
+    ensures { IfOk result (λ decision. reading_of decision ≡ refused Status.ReadFault (read_line name.now)) }
+{
+    Ok(Decision::Refused(Status::ReadFault, read_text(alloc, name)?))
+}
+
+/// Reads the tests, for this design.
 fn decide_tests<S: Store>(
     alloc: Global,
     tests: &str,
-    ports: Vec<u8>,
+    flat: Flat,
     store: &mut S,
 ) -> Result<Decision, NoMemory>
-    requires { ArePorts ports.items }
-    ensures reads { IfOk result (λ decision. ReadsTests (store_means S.Store) tests.now ports.items store.old (reading_of decision) store.new) }
+    requires { IsSoundFlat flat }
+    ensures reads { IfOk result (λ decision. ReadsTests (store_means S.Store) tests.now flat store.old (reading_of decision) store.new) }
     ensures can_run { IfOk result (λ decision. CanRun decision) }
 {
     match store.read_file(alloc, tests, MOST) {
-        Ok(text) => match read_tests(alloc, ports.as_slice(), text.as_slice())? {
-            Some(file) => Ok(Decision::Runs(ports, file)),
-            None => Ok(Decision::Refused(Status::TestsRefused, refused_text(alloc, tests)?)),
+        Ok(text) => match read_tests(alloc, &flat, text.as_slice())? {
+            Some(file) => Ok(Decision::Runs(flat, file)),
+            None => tests_refused(alloc, tests),
         },
-        Err(StoreFault::Failed) => Ok(Decision::Refused(
-            Status::ReadFault,
-            read_text(alloc, tests)?,
-        )),
+        Err(StoreFault::Failed) => unread(alloc, tests),
         Err(StoreFault::OutOfMemory) => Err(NoMemory),
     }
 }
@@ -92,14 +118,12 @@ pub fn decide<S: Store>(
     ensures can_run { IfOk result (λ decision. CanRun decision) }
 {
     match store.read_file(alloc, design, MOST) {
-        Ok(text) => match read_design(alloc, text.as_slice())? {
-            Some(ports) => decide_tests(alloc, tests, ports, store),
-            None => Ok(Decision::Refused(Status::DesignRefused, refused_text(alloc, design)?)),
+        Ok(text) => match read_design(alloc, text.as_slice()) {
+            Ok(flat) => decide_tests(alloc, tests, flat, store),
+            Err(DesignFault::Refused(refusal)) => design_refused(alloc, design, refusal),
+            Err(DesignFault::OutOfMemory) => Err(NoMemory),
         },
-        Err(StoreFault::Failed) => Ok(Decision::Refused(
-            Status::ReadFault,
-            read_text(alloc, design)?,
-        )),
+        Err(StoreFault::Failed) => unread(alloc, design),
         Err(StoreFault::OutOfMemory) => Err(NoMemory),
     }
 }
@@ -112,25 +136,24 @@ fn refuse<O: Sink>(alloc: Global, own: Status, line: &[u8], out: &mut O) -> Stat
     own.after(put)
 }
 
-/// Runs the test of the file on a design with these ports.
+/// Runs the test of the file on a design.
 fn run_file<O: Sink, K: Gpi, L: Ledger>(
     alloc: Global,
-    ports: &[u8],
+    flat: &Flat,
     file: &TestFile,
     budget: u64,
     kernel: &mut K,
     out: &mut O,
     steps: &mut Steps<L>,
 ) -> Result<Status, NoMemory>
-    requires ports { ArePorts ports.now }
-    requires file { IsOneTest (length ports.now) file.now }
-    ensures runs { RunsFile (sink_means O.Sink) budget ports.now file.now (status_in result) (K.content kernel.new) out.old out.new }
+    requires flat { IsSoundFlat flat.now }
+    requires file { IsOneTest (length flat.now.signals) file.now }
+    ensures runs { RunsFile (sink_means O.Sink) budget flat.now file.now (status_in result) (K.content kernel.new) out.old out.new }
     ensures loaded { OnOk result (K.is_loaded kernel.new) }
 {
-    let flat = flat_of_ports(alloc, ports)?;
-    kernel.load(alloc, &flat)?;
+    kernel.load(alloc, flat)?;
     let maker = TreeMaker::new(alloc, file)?;
-    let mut engine = Engine::new(alloc, maker, WaitList::new(alloc), &flat, false)?;
+    let mut engine = Engine::new(alloc, maker, WaitList::new(alloc), flat, false)?;
     let case = file.cases.get(0);
     Ok(run_all(alloc, case, &mut engine, kernel, out, budget, steps))
 }
@@ -150,8 +173,8 @@ pub fn answer<O: Sink, K: Gpi, L: Ledger>(
 {
     match decision {
         Decision::Refused(own, line) => refuse(alloc, *own, line.as_slice(), out),
-        Decision::Runs(ports, file) => {
-            match run_file(alloc, ports.as_slice(), file, budget, kernel, out, steps) {
+        Decision::Runs(flat, file) => {
+            match run_file(alloc, flat, file, budget, kernel, out, steps) {
                 Ok(status) => status,
                 Err(NoMemory) => Status::NoMemory,
             }
@@ -166,7 +189,9 @@ pub fn answer<O: Sink, K: Gpi, L: Ledger>(
 ///
 /// - other words: the usage line, `Usage`, and nothing is read;
 /// - a file that cannot be read: `error: cannot read <file>`, `ReadFault`;
-/// - a text that is of no form that is built: `error: <file>: NotBuilt`, `DesignRefused` or `TestsRefused`;
+/// - a design that has more than 1,048,576 bytes: `error: <file>: TooLong`, `DesignRefused`; one that breaks a rule:
+///   `error: <file>: <rule> at <line>:<column>`, `DesignRefused`, by the rule that it breaks first;
+/// - tests of a form that is not built: `error: <file>: NotBuilt`, `TestsRefused`;
 /// - else the lines of the run, with `Passed`, `Failed`, or, where the budget is reached, `Budget`.
 ///
 /// Where the store tells its files, the texts are the first bytes of the files that it told when it was handed in.

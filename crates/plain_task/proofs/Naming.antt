@@ -12,7 +12,7 @@ use Rattle.rig_model.specs.declared.tree.Waiting.{Waiting}
 use Rattle.rig_model.proofs.KeyLaws.{same_is, same_self, among-append, fired_gone}
 use Rattle.rig_model.proofs.KernelLaws.{among_kept}
 use Rattle.rig_model.proofs.CountLaws.{count_none, among-more, counts_more, counts_less}
-use Rattle.plain_task.specs.Left.{IsLeft, counts_left, has_left}
+use Rattle.plain_task.specs.Left.{IsLeft}
 
 pub named_waited : (k : Key) (waiting : List Waiting) (held : List Key) → among k (keys_of waiting) ≡ true → true ≡ among k (named waiting held)
 named_waited k waiting held h = sym (among-append k (keys_of waiting) held ∙ rw h refl)

@@ -1,7 +1,7 @@
 //! A task as its function's statements and a place among them.
 ghost use Rattle.std.specs.Prelude.{◌≡◌, ◌≤◌, ◌<◌, ◌∷◌, [], ◌+◌, ◌-◌, ◌^◌, length, IfOk, IfSome, MatchOption, drop};
 ghost use Rattle.rig_model.specs.Sound.{Knows};
-ghost use Rattle.rig_model.specs.Task.{do_statement};
+ghost use Rattle.rig_model.specs.Task.{do_statement, fits};
 
 use gpi::SigId;
 use port_io::{Name, NoMemory, Sequence};
@@ -24,6 +24,14 @@ pub struct TreeFlow<'a> {
     at: usize,
     ended: bool,
     ghost few: { triggers ≤ at },
+}
+
+/// Whether so many digits can hold the number.
+#[tactic(auto, using(crate::proofs::Rooms::rooms))]
+fn has_room(width: u8, number: u8) -> bool
+    ensures { result ≡ fits width number }
+{
+    width >= 8 || number >> width == 0
 }
 
 fn plain_fault(kind: FaultKind) -> Fault
@@ -49,6 +57,20 @@ impl<'a> TreeFlow<'a> {
         } else {
             None
         }
+    }
+
+    /// The number is staged for the signal, or raises OverflowError where the signal hasn't digits for it.
+    fn write<V: Look>(&mut self, sig: SigId, number: u8, view: &V) -> Option<Turned>
+        requires ready { V.is_ready view.now }
+        requires known { KnowsStatement (V.view view.now) (Statement.Write sig number) }
+        ensures { do_statement (Statement.Write sig number) (flow_meaning self.old) (V.view view.now)
+            ≡ record { task = flow_meaning self.new; turned = result } }
+    {
+        if has_room(view.read(sig).width(), number) {
+            return Some(Turned::Stage { sig, number });
+        }
+        self.ended = true;
+        Some(Turned::Raised(plain_fault(FaultKind::OverflowError)))
     }
 
     /// The value of the signal is compared with the number.
@@ -86,10 +108,7 @@ impl<'a> TreeFlow<'a> {
             ≡ record { task = flow_meaning self.new; turned = turned }) }
     {
         Ok(match statement {
-            Statement::Write { sig, number } => Some(Turned::Stage {
-                sig: *sig,
-                number: *number,
-            }),
+            Statement::Write { sig, number } => self.write(*sig, *number, view),
             Statement::Timer { steps } => {
                 let id = TrigId {
                     task: self.number,

@@ -312,3 +312,28 @@ read_only_counts = refl
 read_only_cost : (steps (write_and_read true) 100 40 read_only_start).cost ≡ 1
 unfolding steps
 read_only_cost = refl
+
+-- ---- 20: a number that has more digits than its signal
+
+-- a net of one bit
+abbrev one_bit : Flat
+one_bit = record { signals = record { path = codes "top.a"; width = 1; start = Z } ∷ []; nodes = []; processes = []; step_fs = 1 }
+
+abbrev too_large : Setup
+too_large = file one_bit true ((Write a 1 ∷ Timer 1 ∷ Assert a 1 ∷ Write a 2 ∷ Timer 1 ∷ []) ∷ [])
+
+overflows : lines_at too_large 0 100
+    ≡ line (codes "0 TEST t") ∷ line (codes "0 SIG top.a 1") ∷ line (codes "1 FAIL t (OverflowError)")
+    ∷ closing (codes "** TESTS=1 PASS=0 FAIL=1 SKIP=0 TIME=1 **")
+unfolding steps digits
+overflows = refl
+
+-- the read-write phase as the first write is staged, and time 1; the second write is never staged
+overflows_counts : counts_at too_large 0 100 ≡ counts 2 0 2
+unfolding steps digits
+overflows_counts = refl
+
+-- four statements, the read-write phase and the time
+overflows_cost : (at too_large 0 100).cost ≡ 6
+unfolding steps digits
+overflows_cost = refl

@@ -1,7 +1,8 @@
 -- Steps keep statements sound.
-use Rattle.std.proofs.Common.{◌≡◌, ℕ, zero, suc, ◌-◌, ◌==◌, Bool, true, false, List, [], ◌∷◌, ◌++◌, length, Option, None, Some, refl, sym, subst, inl, inr}
+use Rattle.std.proofs.Common.{◌≡◌, ℕ, zero, suc, ◌-◌, ◌<◌, ◌==◌, Bool, true, false, List, [], ◌∷◌, ◌++◌, length, Option, None, Some, refl, sym, subst, inl, inr}
 use Rattle.four_value.specs.Vector.{number}
-use Rattle.rig_model.specs.Task.{Task, Frame, Todo, run, View, seen, Next, next, next_cost, do_first, do_todo, do_statement, checked, compared, all_to_do, fresh}
+use Rattle.gpi.specs.declared.types.SigId.{SigId}
+use Rattle.rig_model.specs.Task.{Task, Frame, Todo, run, View, seen, Next, next, next_cost, do_first, do_todo, do_statement, checked, compared, fits, stage_if, all_to_do, fresh}
 use Rattle.rig_model.specs.Poll.{Polls, Polled}
 use Rattle.rig_model.specs.Effect.{function_at, is_numbered, dropped}
 use Rattle.rig_model.specs.Step.{task_at, stored}
@@ -27,8 +28,12 @@ module _ (bounds : Bounds) where
   checked_sound None expected task h = (tt, tt)
   checked_sound (Some value) expected task h = compared_sound (value == expected) task h
 
+  stage_sound : (b : Bool) (sig : SigId) (number : ℕ) (task : Task) → sig.0 < bounds.signals → IsSoundTask bounds task → IsSoundNext (stage_if b sig number task)
+  stage_sound true sig number task s h = (h, s)
+  stage_sound false sig number task s h = (tt, tt)
+
   statement_sound : (s : Statement) (task : Task) (view : View) → IsSoundStatement bounds s → IsSoundTask bounds task → IsSoundNext (do_statement s task view)
-  statement_sound (statement.Write sig value) task view s h = (h, s)
+  statement_sound (statement.Write sig value) task view s h = stage_sound (fits (length (seen view sig)) value) sig value task s h
   statement_sound (statement.Timer steps) task view s h = (h, s)
   statement_sound (statement.Assert sig expected) task view s h = checked_sound (number (seen view sig)) expected task h
   statement_sound (statement.StartSoon func) task view s h = (h, s)

@@ -5,7 +5,8 @@ use port_io::{Name, Sequence};
 /// A statement of a function.
 #[derive(Drop)]
 pub enum Statement {
-    /// `dut.n.value = k`: the write is staged, and goes out at the next read-write phase.
+    /// `dut.n.value = k`: the write is staged, and goes out at the next read-write phase. A number that the signal hasn't digits for
+    /// raises OverflowError in its place (cocotb 1.8, "Writing values").
     Write { sig: SigId, number: u8 },
     /// `await Timer(m, "step")`: the task waits for so many steps of simulated time (cocotb 1.8, "Triggers").
     Timer { steps: u64 },

@@ -1,5 +1,5 @@
 -- What a row's command comes to, and how it is shown.
-use Rattle.std.specs.Prelude.{◌≡◌, ◌⊎◌, ℕ, List, [], ◌∷◌, ◌++◌}
+use Rattle.std.specs.Prelude.{◌≡◌, ◌⊎◌, ℕ, ◌-◌, List, [], ◌∷◌, ◌++◌, length, take, replicate, codes}
 use Rattle.std.specs.List.{flat_map, slice_split}
 use Rattle.port_io.specs.Memory.{Files, Lines}
 use Rattle.gpi.specs.Content.{Content}
@@ -7,10 +7,10 @@ use Rattle.regression.specs.declared.status.Status.{Status}
 use Rattle.command.specs.Answer.{Answered, LeavesKernel, Quit, default_budget}
 use Rattle.list_kernel.specs.Kernel.{IsLoaded, content_of}
 use Rattle.list_kernel.specs.declared.kernel.ListKernel.{ListKernel}
-use Rattle.table_rows.specs.Rows.{is_byte, part_at}
+use Rattle.table_rows.specs.Rows.{is_byte, part_at, written}
 use Rattle.table_rows.specs.Shown.{latin}
 use Rattle.runner_tests.specs.Engines.{line_means, no_lines}
-use Rattle.runner_tests.specs.Files.{file_means, store_with}
+use Rattle.runner_tests.specs.Files.{file_means, no_files, store_with, with_file}
 use Rattle.runner_tests.specs.Lines.{decimal_at}
 use Rattle.runner_tests.specs.Words.{counted_word, ended_word}
 
@@ -61,3 +61,24 @@ pub record ShowsKept (row : List ℕ) (before after : ListKernel) (text : List �
   pub comes : RowEnds row (content_of after) own out
   pub leaves : LeavesKernel IsLoaded own before after
   pub shows : text ≡ counted_word own (content_of after).counts out.bytes
+
+-- ---- long designs
+
+-- so many bytes of a text, which is cut, or filled up with spaces
+abbrev pub of_length : ℕ → List ℕ → List ℕ
+of_length n text = take n text ++ replicate (n - length text) 32
+
+-- the files of a row, whose design is cut or filled up
+abbrev pub long_store : List ℕ → Files
+long_store row =
+    with_file (codes "t.py") (part_at 4 row)
+    (record no_files { files = record { name = codes "d.v"; bytes = of_length (decimal_at 2 row) (written (part_at 3 row)) } ∷ [] })
+
+-- The status of the command on these files, and what was put.
+pub record ShowsLong (row text : List ℕ) : Type 0 where
+  pub after : Files
+  pub content : Content
+  pub own : Status
+  pub out : Lines
+  pub comes : CommandEnds (words_of (codes "d.v t.py")) (long_store row) no_lines own after content out
+  pub shows : text ≡ ended_word own out.bytes

@@ -14,7 +14,6 @@ use Rattle.rig_model.specs.declared.file.TestFile.{TestFile}
 use Rattle.scheduler.specs.Turns.{BeginsTo, Turning}
 use Rattle.scheduler.specs.declared.turn.Turn.{Turn}
 use Rattle.scheduler.specs.declared.turn.Turn.TheVariants.{Went, Over, Spent, WriteFault}
-use Rattle.text_forms.specs.DesignForm.{flat_of}
 use Rattle.command.specs.Answer.{setup_with}
 use Rattle.command.specs.Reading.{Reading, refused, runs}
 use Rattle.table_rows.specs.Shown.{in_quotes, latin}
@@ -29,9 +28,9 @@ no_lines = record { bytes = []; calls = 0; failing = []; faults = 0 }
 abbrev pub line_means : SinkMeans Lines
 line_means = record { takes = SinkTakes; breaks = SinkBreaks; told = λ sink. Some sink.bytes }
 
--- no test has begun, and the simulator has just loaded the design of these ports
-abbrev pub unbegun : List ℕ → Rig
-unbegun ports = emptied (opening (flat_of ports)).state (opening (flat_of ports)).counts
+-- no test has begun, and the simulator has just loaded the design
+abbrev pub unbegun : Flat → Rig
+unbegun flat = emptied (opening flat).state (opening flat).counts
 
 -- how many statements and events a turn may cost
 abbrev pub turn_fuel : ℕ
@@ -51,15 +50,15 @@ Follows setup (Over outcome) begun out turn = turn ≡ Over outcome
 Follows setup Spent begun out turn = turn ≡ Spent
 Follows setup WriteFault begun out turn = turn ≡ WriteFault
 
--- The test of a file begins on a design of these ports, and its first turn comes to this.
-pub record FirstTurn (ports : List ℕ) (file : TestFile) (turn : Turn) : Type 0 where
+-- The test of a file begins on a design, and its first turn comes to this.
+pub record FirstTurn (flat : Flat) (file : TestFile) (turn : Turn) : Type 0 where
   pub case : TestCase
   pub is_case : file.cases ≡ case ∷ []
   pub first : Turn
   pub begun : Rig
   pub out : Lines
-  pub begins : BeginsTo line_means (setup_with ports file) case (unbegun ports) (Ok first) begun no_lines out
-  pub follows : Follows (setup_with ports file) first begun out turn
+  pub begins : BeginsTo line_means (setup_with flat file) case (unbegun flat) (Ok first) begun no_lines out
+  pub follows : Follows (setup_with flat file) first begun out turn
 
 -- what a turn on a design came to: a test that has ended shows the line of its verdict, at time 0 and under the name `t`
 abbrev pub turn_word : Flat → Turn → List ℕ
@@ -69,19 +68,19 @@ turn_word flat Spent = codes "spent"
 turn_word flat WriteFault = codes "no put"
 
 -- the path of the first signal of a design, where it has one
-abbrev pub first_path : List ℕ → List ℕ
-first_path ports = path_in (slice_get (flat_of ports).signals 0)
+abbrev pub first_path : Flat → List ℕ
+first_path flat = path_in (slice_get flat.signals 0)
 
 -- The path of the first signal, and what the first turn comes to.
-pub record ShowsEngine (ports : List ℕ) (file : TestFile) (text : List ℕ) : Type 0 where
+pub record ShowsEngine (flat : Flat) (file : TestFile) (text : List ℕ) : Type 0 where
   pub turn : Turn
-  pub is_first : FirstTurn ports file turn
-  pub shows : text ≡ codes "path " ++ latin (first_path ports) ++ codes ", " ++ turn_word (flat_of ports) turn
+  pub is_first : FirstTurn flat file turn
+  pub shows : text ≡ codes "path " ++ latin (first_path flat) ++ codes ", " ++ turn_word flat turn
 
 -- A refusal shows its status.
 abbrev pub ShowsReading : Reading → List ℕ → Type 0
 ShowsReading (refused own line) text = text ≡ status_word own
-ShowsReading (runs ports file) text = ShowsEngine ports file text
+ShowsReading (runs flat file) text = ShowsEngine flat file text
 
 -- The text is what the design and the tests come to.
 pub record ShowsFiles (design tests text : List ℕ) : Type 0 where

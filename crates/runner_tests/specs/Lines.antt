@@ -1,14 +1,14 @@
 -- The line that a row asks for.
-use Rattle.std.specs.Prelude.{List, ℕ, Option, None, Some, slice_set, codes, if◌then◌else◌}
+use Rattle.std.specs.Prelude.{List, [], ◌∷◌, ℕ, Option, None, Some, slice_set, codes, if◌then◌else◌}
 use Rattle.std.specs.Str.{bytes_eq}
 use Rattle.four_value.specs.Vector.{vector}
 use Rattle.four_value.specs.declared.Digit.{Digit}
-use Rattle.four_value.specs.declared.Digit.TheVariants.{X}
+use Rattle.four_value.specs.declared.Digit.TheVariants.{X, Z}
+use Rattle.gpi.specs.declared.design.Flat.{Flat}
 use Rattle.py_syntax.specs.declared.fault_kind.FaultKind.TheVariants.{ValueError}
 use Rattle.rig_model.specs.Line.{sig_line, verdict_line, report_line}
 use Rattle.rig_model.specs.declared.task.Outcome.{Outcome}
 use Rattle.rig_model.specs.declared.task.Outcome.TheVariants.{Raised, ReadOnlyWrite, Stalled}
-use Rattle.text_forms.specs.DesignForm.{flat_of}
 use Rattle.table_rows.specs.Rows.{decimal, part_at}
 use Rattle.runner_tests.specs.declared.lines.AskedLine.{AskedLine}
 use Rattle.runner_tests.specs.declared.lines.AskedLine.TheVariants as asked
@@ -21,9 +21,13 @@ some_digits = slice_set (vector 4 8) 1 X
 abbrev pub decimal_at : ℕ → List ℕ → ℕ
 decimal_at i row = decimal (part_at i row)
 
--- the line of a verdict on a test of a design with the one net `a`
+-- one net, `top.a`
+abbrev pub one_net : Flat
+one_net = record { signals = record { path = codes "top.a"; width = 8; start = Z } ∷ []; nodes = []; processes = []; step_fs = 1 }
+
+-- the line of a verdict on a test of a design with that net
 abbrev pub told_outcome : List ℕ → Outcome → List ℕ
-told_outcome row outcome = verdict_line (flat_of (codes "a")) (decimal_at 2 row) (part_at 3 row) outcome
+told_outcome row outcome = verdict_line one_net (decimal_at 2 row) (part_at 3 row) outcome
 
 -- the line that a word asks for, if any
 abbrev pub line_asked_by : List ℕ → Option AskedLine

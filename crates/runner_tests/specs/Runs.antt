@@ -2,12 +2,12 @@
 use Rattle.std.specs.Prelude.{◌≡◌, ℕ, true, List, [], ◌∷◌}
 use Rattle.port_io.specs.Memory.{Lines}
 use Rattle.gpi.specs.Content.{Content, no_design}
+use Rattle.gpi.specs.declared.design.Flat.{Flat}
 use Rattle.rig_model.specs.Rig.{Rig, Setup}
 use Rattle.rig_model.specs.declared.file.TestCase.{TestCase}
 use Rattle.rig_model.specs.declared.file.TestFile.{TestFile}
 use Rattle.regression.specs.Runs.{RunsTo}
 use Rattle.regression.specs.declared.status.Status.{Status}
-use Rattle.text_forms.specs.DesignForm.{flat_of}
 use Rattle.command.specs.Answer.{Answers, LeavesKernel}
 use Rattle.command.specs.Reading.{Reading, refused, runs}
 use Rattle.runner_tests.specs.Files.{ComesTo}
@@ -15,25 +15,25 @@ use Rattle.runner_tests.specs.Words.{counted_word, ended_word}
 use Rattle.runner_tests.specs.Engines.{line_means, no_lines}
 
 -- told changes are written
-abbrev pub traced_with : List ℕ → TestFile → Setup
-traced_with ports file = record { functions = file.functions; flat = flat_of ports; trace = true }
+abbrev pub traced_with : Flat → TestFile → Setup
+traced_with flat file = record { functions = file.functions; flat = flat; trace = true }
 
 -- how many statements and events such a run may cost
 abbrev pub trace_budget : ℕ
 trace_budget = 100
 
 -- A run within that budget whose told changes are written.
-pub record Traces (ports : List ℕ) (file : TestFile) (own : Status) (out out' : Lines) : Type 0 where
+pub record Traces (flat : Flat) (file : TestFile) (own : Status) (out out' : Lines) : Type 0 where
   pub case : TestCase
   pub is_case : file.cases ≡ case ∷ []
   pub last : Rig
   pub content : Content
-  pub runs : RunsTo line_means (traced_with ports file) case trace_budget own last content out out'
+  pub runs : RunsTo line_means (traced_with flat file) case trace_budget own last content out out'
 
 -- A refusal puts nothing.
 abbrev pub TracesReading : Reading → Status → Lines → Lines → Type 0
 TracesReading (refused own line) status out out' = (status ≡ own) × (out' ≡ out)
-TracesReading (runs ports file) status out out' = Traces ports file status out out'
+TracesReading (runs flat file) status out out' = Traces flat file status out out'
 
 pub record TracesFiles (design tests : List ℕ) (own : Status) (out out' : Lines) : Type 0 where
   pub reading : Reading

@@ -1,13 +1,15 @@
 -- What tests are read as beside a design, as it is shown.
-use Rattle.std.specs.Prelude.{◌≡◌, ℕ, List, ◌++◌, Option, None, Some, codes, length}
+use Rattle.std.specs.Prelude.{◌≡◌, ℕ, List, ◌++◌, Option, None, Some, Result, Ok, Err, codes, length}
 use Rattle.std.specs.Fmt.{decimal}
 use Rattle.std.specs.List.{flat_map}
+use Rattle.gpi.specs.declared.design.Flat.{Flat}
 use Rattle.rig_model.specs.declared.file.Function.{Function}
 use Rattle.rig_model.specs.declared.file.Statement.{Statement}
 use Rattle.rig_model.specs.declared.file.Statement.TheVariants.{Write, Timer, Assert, StartSoon, Start, Info}
 use Rattle.rig_model.specs.declared.file.TestCase.{TestCase}
 use Rattle.rig_model.specs.declared.file.TestFile.{TestFile}
 use Rattle.text_forms.specs.TestsForm.{IsTests}
+use Rattle.v_design.specs.declared.fault.DesignRefusal.{DesignRefusal}
 use Rattle.runner_tests.specs.Designs.{IsRead}
 
 -- `0=5` for a write, `+2` for a Timer, `0?5` for an assertion, `>0` and `^0` for starts, and a log line by its length in quotes
@@ -31,28 +33,28 @@ case_word case = decimal (length case.name) ++ (codes " by " ++ decimal case.fun
 abbrev pub file_word : TestFile → List ℕ
 file_word file = flat_map function_word file.functions ++ flat_map case_word file.cases
 
--- The text is this tests file for a design with these ports, or none.
-abbrev pub AreRead : List ℕ → List ℕ → Option TestFile → Type 0
-AreRead ports source None = (file : TestFile) → IsTests ports source file → ⊥
-AreRead ports source (Some file) = IsTests ports source file
+-- The text is this tests file for a design, or none.
+abbrev pub AreRead : Flat → List ℕ → Option TestFile → Type 0
+AreRead flat source None = (file : TestFile) → IsTests flat source file → ⊥
+AreRead flat source (Some file) = IsTests flat source file
 
 abbrev pub tests_word : Option TestFile → List ℕ
 tests_word None = codes "no tests"
 tests_word (Some file) = file_word file
 
--- What the text is read as, for a design with these ports.
-pub record ShowsTests (ports source text : List ℕ) : Type 0 where
+-- What the text is read as, for a design.
+pub record ShowsTests (flat : Flat) (source text : List ℕ) : Type 0 where
   pub found : Option TestFile
-  pub are_read : AreRead ports source found
+  pub are_read : AreRead flat source found
   pub shows : text ≡ tests_word found
 
 -- Without a design no tests are read.
-abbrev pub BesideShows : Option (List ℕ) → List ℕ → List ℕ → Type 0
-BesideShows None tests text = text ≡ codes "no design"
-BesideShows (Some ports) tests text = ShowsTests ports tests text
+abbrev pub BesideShows : Result Flat DesignRefusal → List ℕ → List ℕ → Type 0
+BesideShows (Err why) tests text = text ≡ codes "no design"
+BesideShows (Ok flat) tests text = ShowsTests flat tests text
 
 -- What the tests are read as beside the design that the first text is.
 pub record ShowsFile (design tests text : List ℕ) : Type 0 where
-  pub found : Option (List ℕ)
+  pub found : Result Flat DesignRefusal
   pub is_read : IsRead design found
   pub shows : BesideShows found tests text

@@ -3,9 +3,9 @@ ghost use Rattle.std.specs.Prelude.{◌≡◌, IfOk, Some, string_bytes};
 ghost use Rattle.table_rows.specs.Rows.{part_at};
 ghost use Rattle.runner_tests.specs.Answers.{LeavesKept, ShowsAsked, ShowsRow, ShowsWord, asked_by};
 
-use crate::commands::{command_text, kept_text};
+use crate::commands::{command_text, kept_text, long_text};
 use crate::engines::engine_text;
-use crate::forms::{design_text, file_text, flat_text};
+use crate::forms::{design_text, file_text};
 use crate::lines::{AskedLine, line_asked_by, line_text};
 use crate::releases::release_text;
 use crate::runs::run_text;
@@ -20,10 +20,10 @@ use table_rows::{Row, push_bytes};
 enum Asked {
     Command,
     Kept,
+    Long,
     Run,
     Trace,
     Design,
-    Flat,
     Tests,
     Engine,
     Release,
@@ -38,14 +38,14 @@ fn asked_by(word: &[u8]) -> Option<Asked>
         Some(Asked::Command)
     } else if word == b"kept".as_slice() {
         Some(Asked::Kept)
+    } else if word == b"long".as_slice() {
+        Some(Asked::Long)
     } else if word == b"run".as_slice() {
         Some(Asked::Run)
     } else if word == b"trace".as_slice() {
         Some(Asked::Trace)
     } else if word == b"design".as_slice() {
         Some(Asked::Design)
-    } else if word == b"flat".as_slice() {
-        Some(Asked::Flat)
     } else if word == b"tests".as_slice() {
         Some(Asked::Tests)
     } else if word == b"engine".as_slice() {
@@ -71,10 +71,10 @@ fn asked_text(
     match asked {
         Asked::Command => command_text(alloc, row),
         Asked::Kept => kept_text(alloc, row, kernel),
+        Asked::Long => long_text(alloc, row),
         Asked::Run => run_text(alloc, row),
         Asked::Trace => trace_text(alloc, row),
         Asked::Design => design_text(alloc, row),
-        Asked::Flat => flat_text(alloc, row),
         Asked::Tests => file_text(alloc, row),
         Asked::Engine => engine_text(alloc, row),
         Asked::Release => release_text(alloc, row),

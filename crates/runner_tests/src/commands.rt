@@ -4,8 +4,10 @@ ghost use Rattle.std.specs.List.{slice_split};
 ghost use Rattle.command.specs.Answer.{LeavesKernel};
 ghost use Rattle.list_kernel.specs.Kernel.{IsLoaded, content_of};
 ghost use Rattle.table_rows.specs.Rows.{is_byte};
-ghost use Rattle.runner_tests.specs.Commands.{RowEnds, CommandEnds, ShowsCommand, ShowsKept, word_in, words_of};
+ghost use Rattle.table_rows.specs.Rows.{part_at, written};
+ghost use Rattle.runner_tests.specs.Commands.{RowEnds, CommandEnds, ShowsCommand, ShowsKept, ShowsLong, long_store, of_length, word_in, words_of};
 ghost use Rattle.runner_tests.specs.Files.{store_with, with_file};
+ghost use Rattle.runner_tests.specs.Lines.{decimal_at};
 
 use crate::words::{counted_text, ended_text, latin_text};
 use command::cocorun;
@@ -122,4 +124,42 @@ pub fn kept_text(alloc: Global, row: &Row<'_>, kernel: &mut ListKernel) -> Resul
 {
     let (status, sink) = outcome(alloc, row, kernel)?;
     counted_text(alloc, status, kernel, sink.bytes())
+}
+
+/// So many bytes of a row's design, which is cut, or filled up with spaces.
+fn long_design(alloc: Global, row: &Row<'_>) -> Result<Vec<u8>, AllocError>
+    ensures { IfOk result (λ text. text.items ≡ of_length (decimal_at 2 row.now) (written (part_at 3 row.now))) }
+{
+    let mut text = row.text(alloc, 3)?;
+    text.resize(row.number(2) as usize, b' ')?;
+    Ok(text)
+}
+
+/// The files of a row whose design is cut or filled up.
+fn long_store(alloc: Global, row: &Row<'_>) -> Result<MemStore, NoMemory>
+    ensures { IfOk result (λ store. store ≡ long_store row.now) }
+{
+    let mut store = MemStore::new(alloc);
+    store.add("d.v", &long_design(alloc, row)?)?;
+    add_file(alloc, &mut store, "t.py", row.part(4))?;
+    Ok(store)
+}
+
+/// The status of the command on these files, and what it put.
+pub fn long_text(alloc: Global, row: &Row<'_>) -> Result<String, NoMemory>
+    ensures { IfOk result (λ text. ShowsLong row.now (string_bytes text)) }
+{
+    let words = words_of(alloc, b"d.v t.py")?;
+    let mut store = long_store(alloc, row)?;
+    let mut sink = MemSink::new(alloc);
+    let mut kernel = ListKernel::new(alloc);
+    let status = run::<Brand>(
+        alloc,
+        &words,
+        &mut store,
+        &mut sink,
+        &mut kernel,
+        Blank::new(1),
+    );
+    ended_text(alloc, status, sink.bytes())
 }

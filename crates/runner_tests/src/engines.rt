@@ -1,6 +1,6 @@
 //! An engine, and the first turn of a test.
 ghost use Rattle.std.specs.Prelude.{◌≡◌, ◌<◌, IfOk, length, string_bytes};
-ghost use Rattle.text_forms.specs.DesignForm.{ArePorts};
+ghost use Rattle.gpi.specs.Soundness.{IsSoundFlat};
 ghost use Rattle.text_forms.specs.TestsForm.{IsOneTest};
 ghost use Rattle.table_rows.specs.Rows.{part_at};
 ghost use Rattle.table_rows.specs.Shown.{latin};
@@ -19,7 +19,6 @@ use std::alloc::Global;
 use std::marker::Brand;
 use std::sync::ledger::{Blank, Ledger};
 use table_rows::{Row, quoted};
-use text_forms::flat_of_ports;
 
 /// How many statements and events a turn may cost.
 const TURN_FUEL: u64 = 3;
@@ -27,16 +26,15 @@ const TURN_FUEL: u64 = 3;
 /// The path of the first signal, as an engine tells it; an empty one where there is none. Only want of memory is an error, here and
 /// below.
 #[tactic(auto, using(crate::proofs::FirstPath::path_none))]
-fn path_text(alloc: Global, ports: &[u8], file: &TestFile) -> Result<String, NoMemory>
-    requires { ArePorts ports.now }
-    ensures { IfOk result (λ text. string_bytes text ≡ latin (first_path ports.now)) }
+fn path_text(alloc: Global, flat: &Flat, file: &TestFile) -> Result<String, NoMemory>
+    requires { IsSoundFlat flat.now }
+    ensures { IfOk result (λ text. string_bytes text ≡ latin (first_path flat.now)) }
 {
-    let flat = flat_of_ports(alloc, ports)?;
     let maker = TreeMaker::new(alloc, file)?;
     if flat.signals.len() == 0 {
         return Ok(String::new(alloc));
     }
-    let engine = Engine::new(alloc, maker, WaitList::new(alloc), &flat, false)?;
+    let engine = Engine::new(alloc, maker, WaitList::new(alloc), flat, false)?;
     Ok(latin_text(alloc, engine.path(SigId(0)).bytes())?)
 }
 
@@ -58,22 +56,21 @@ fn turn_text(alloc: Global, turn: &Turn, flat: &Flat) -> Result<String, NoMemory
 /// The first turn of a test that was begun, within that fuel. The blank is for the counter of steps of work.
 fn turn<K: Gpi, L: Ledger>(
     alloc: Global,
-    ports: &[u8],
+    flat: &Flat,
     file: &TestFile,
     kernel: &mut K,
     blank: Blank,
 ) -> Result<Turn, NoMemory>
-    requires ports { ArePorts ports.now }
-    requires file { IsOneTest (length ports.now) file.now }
+    requires flat { IsSoundFlat flat.now }
+    requires file { IsOneTest (length flat.now.signals) file.now }
     requires name { blank.name ≡ L.name }
     requires parts { blank.parts ≡ L.parts }
     requires some { 0 < blank.parts }
-    ensures { IfOk result (λ turn. FirstTurn ports.now file.now turn) }
+    ensures { IfOk result (λ turn. FirstTurn flat.now file.now turn) }
 {
-    let flat = flat_of_ports(alloc, ports)?;
-    kernel.load(alloc, &flat)?;
+    kernel.load(alloc, flat)?;
     let maker = TreeMaker::new(alloc, file)?;
-    let mut engine = Engine::new(alloc, maker, WaitList::new(alloc), &flat, false)?;
+    let mut engine = Engine::new(alloc, maker, WaitList::new(alloc), flat, false)?;
     let mut steps = Steps::<L>::new(blank);
     let mut sink = MemSink::new(alloc);
     let case = file.cases.get(0);
@@ -89,16 +86,15 @@ fn turn<K: Gpi, L: Ledger>(
 }
 
 /// The path and the turn of a design and tests.
-fn engine_of(alloc: Global, ports: &[u8], file: &TestFile) -> Result<String, NoMemory>
-    requires ports { ArePorts ports.now }
-    requires file { IsOneTest (length ports.now) file.now }
-    ensures { IfOk result (λ text. ShowsEngine ports.now file.now (string_bytes text)) }
+fn engine_of(alloc: Global, flat: &Flat, file: &TestFile) -> Result<String, NoMemory>
+    requires flat { IsSoundFlat flat.now }
+    requires file { IsOneTest (length flat.now.signals) file.now }
+    ensures { IfOk result (λ text. ShowsEngine flat.now file.now (string_bytes text)) }
 {
-    let path = path_text(alloc, ports, file)?;
+    let path = path_text(alloc, flat, file)?;
     let mut kernel = ListKernel::new(alloc);
-    let turn = turn::<ListKernel, Brand>(alloc, ports, file, &mut kernel, Blank::new(1))?;
-    let flat = flat_of_ports(alloc, ports)?;
-    let turn = turn_text(alloc, &turn, &flat)?;
+    let turn = turn::<ListKernel, Brand>(alloc, flat, file, &mut kernel, Blank::new(1))?;
+    let turn = turn_text(alloc, &turn, flat)?;
     Ok(format!(in alloc; "path {path}, {turn}")?)
 }
 
@@ -108,6 +104,6 @@ pub fn engine_text(alloc: Global, row: &Row<'_>) -> Result<String, NoMemory>
 {
     match decision(alloc, row.part(2), row.part(3))? {
         Decision::Refused(own, _) => Ok(String::from_str(alloc, status_name(own))?),
-        Decision::Runs(ports, file) => engine_of(alloc, &ports, &file),
+        Decision::Runs(flat, file) => engine_of(alloc, &flat, &file),
     }
 }

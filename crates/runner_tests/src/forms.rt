@@ -1,9 +1,10 @@
 //! What texts are read as.
 ghost use Rattle.std.specs.Prelude.{◌≡◌, IfOk, string_bytes};
 ghost use Rattle.std.specs.List.{flat_map};
-ghost use Rattle.text_forms.specs.DesignForm.{ArePorts, flat_of};
 ghost use Rattle.table_rows.specs.Rows.{part_at, written};
-ghost use Rattle.runner_tests.specs.Designs.{ShowsDesign, ShowsFlat, flat_word, signal_word};
+ghost use Rattle.table_rows.specs.Shown.{latin};
+ghost use Rattle.v_design.specs.Words.{refusal_word};
+ghost use Rattle.runner_tests.specs.Designs.{IsRead, ShowsDesign, flat_word, signal_word};
 ghost use Rattle.runner_tests.specs.Tests.{ShowsFile, ShowsTests, case_word, file_word, function_word, statement_word};
 
 use crate::words::{digit_name, latin_text};
@@ -11,21 +12,18 @@ use gpi::{Flat, Signal};
 use port_io::{NoMemory, Sequence};
 use rig_model::{Function, Statement, TestCase, TestFile};
 use std::alloc::{AllocError, Global};
-use table_rows::{Row, push_bytes};
-use text_forms::{flat_of_ports, read_design, read_tests};
+use table_rows::Row;
+use text_forms::read_tests;
+use v_design::{DesignFault, DesignRefusal, read_design};
 
-/// The letters of a design's ports. Only want of memory is an error, here and below.
-pub fn design_text(alloc: Global, row: &Row<'_>) -> Result<String, NoMemory>
-    ensures { IfOk result (λ text. ShowsDesign (written (part_at 2 row.now)) (string_bytes text)) }
+/// The design that a text is, or why it is none. Only want of memory is an error, here and below.
+fn design_of(alloc: Global, text: &[u8]) -> Result<Result<Flat, DesignRefusal>, NoMemory>
+    ensures { IfOk result (λ found. IsRead text.now found) }
 {
-    let text = row.text(alloc, 2)?;
-    match read_design(alloc, &text)? {
-        Some(ports) => {
-            let mut shown = String::from_str(alloc, "ports ")?;
-            push_bytes(&mut shown, &ports)?;
-            Ok(shown)
-        }
-        None => Ok(String::from_str(alloc, "no design")?),
+    match read_design(alloc, text) {
+        Ok(flat) => Ok(Ok(flat)),
+        Err(DesignFault::Refused(why)) => Ok(Err(why)),
+        Err(DesignFault::OutOfMemory) => Err(NoMemory),
     }
 }
 
@@ -57,23 +55,22 @@ fn flat_shown(alloc: Global, flat: &Flat) -> Result<String, AllocError>
     format!(in alloc; "{signals}step_fs={}", flat.step_fs)
 }
 
-/// What is simulated for the design with these ports.
-fn ports_text(alloc: Global, ports: &[u8]) -> Result<String, NoMemory>
-    requires { ArePorts ports.now }
-    ensures { IfOk result (λ text. string_bytes text ≡ flat_word (flat_of ports.now)) }
+/// Why a text is no design.
+fn refusal_shown(alloc: Global, why: DesignRefusal) -> Result<String, NoMemory>
+    ensures { IfOk result (λ text. string_bytes text ≡ latin (refusal_word why)) }
 {
-    let flat = flat_of_ports(alloc, ports)?;
-    Ok(flat_shown(alloc, &flat)?)
+    let reason = why.text(alloc)?;
+    Ok(latin_text(alloc, &reason)?)
 }
 
-/// What is simulated for a design.
-pub fn flat_text(alloc: Global, row: &Row<'_>) -> Result<String, NoMemory>
-    ensures { IfOk result (λ text. ShowsFlat (written (part_at 2 row.now)) (string_bytes text)) }
+/// What a design is read as: its signals and the length of its step, or why it is refused.
+pub fn design_text(alloc: Global, row: &Row<'_>) -> Result<String, NoMemory>
+    ensures { IfOk result (λ text. ShowsDesign (written (part_at 2 row.now)) (string_bytes text)) }
 {
     let text = row.text(alloc, 2)?;
-    match read_design(alloc, &text)? {
-        Some(ports) => ports_text(alloc, &ports),
-        None => Ok(String::from_str(alloc, "no design")?),
+    match design_of(alloc, &text)? {
+        Ok(flat) => Ok(flat_shown(alloc, &flat)?),
+        Err(why) => refusal_shown(alloc, why),
     }
 }
 
@@ -142,12 +139,11 @@ fn file_shown(alloc: Global, file: &TestFile) -> Result<String, AllocError>
     Ok(text)
 }
 
-/// What a text is read as, for a design with these ports.
-fn tests_text(alloc: Global, ports: &[u8], text: &[u8]) -> Result<String, NoMemory>
-    requires { ArePorts ports.now }
-    ensures { IfOk result (λ shown. ShowsTests ports.now text.now (string_bytes shown)) }
+/// What a text is read as, for a design.
+fn tests_text(alloc: Global, flat: &Flat, text: &[u8]) -> Result<String, NoMemory>
+    ensures { IfOk result (λ shown. ShowsTests flat.now text.now (string_bytes shown)) }
 {
-    match read_tests(alloc, ports, text)? {
+    match read_tests(alloc, flat, text)? {
         Some(file) => Ok(file_shown(alloc, &file)?),
         None => Ok(String::from_str(alloc, "no tests")?),
     }
@@ -158,8 +154,8 @@ pub fn file_text(alloc: Global, row: &Row<'_>) -> Result<String, NoMemory>
     ensures { IfOk result (λ text. ShowsFile (written (part_at 2 row.now)) (written (part_at 3 row.now)) (string_bytes text)) }
 {
     let design = row.text(alloc, 2)?;
-    match read_design(alloc, &design)? {
-        Some(ports) => tests_text(alloc, &ports, &row.text(alloc, 3)?),
-        None => Ok(String::from_str(alloc, "no design")?),
+    match design_of(alloc, &design)? {
+        Ok(flat) => tests_text(alloc, &flat, &row.text(alloc, 3)?),
+        Err(_) => Ok(String::from_str(alloc, "no design")?),
     }
 }

@@ -5,17 +5,16 @@ ghost use Rattle.rig_model.specs.declared.task.Outcome.TheVariants.{Raised};
 ghost use Rattle.py_syntax.specs.declared.fault_kind.FaultKind.TheVariants.{ValueError};
 ghost use Rattle.table_rows.specs.Rows.{part_at};
 ghost use Rattle.table_rows.specs.Shown.{in_quotes};
-ghost use Rattle.runner_tests.specs.Lines.{decimal_at, line_asked_by, line_of, some_digits, told_outcome};
+ghost use Rattle.runner_tests.specs.Lines.{decimal_at, line_asked_by, line_of, one_net, some_digits, told_outcome};
 
 use four_value::{Bits, Digit};
-use gpi::SigId;
-use port_io::{Name, NoMemory};
+use gpi::{Flat, SigId, Signal};
+use port_io::{Name, NoMemory, Sequence};
 use py_syntax::FaultKind;
 use rig_model::{Fault, Outcome};
 use scheduler::{Tally, report_text, sig_text, verdict_text};
 use std::alloc::Global;
 use table_rows::{Row, quoted};
-use text_forms::flat_of_ports;
 
 /// A line that is asked for.
 #[derive(Clone, Copy, Debug, PartialEq, Eq)]
@@ -59,11 +58,29 @@ fn change_line(alloc: Global, row: &Row<'_>) -> Result<Vec<u8>, NoMemory>
     sig_text(alloc, row.number(2), row.part(3), value)
 }
 
-/// The line of a verdict on a test of a design with the one net `a`.
+/// A design with the one net `top.a`.
+fn one_net(alloc: Global) -> Result<Flat, NoMemory>
+    ensures { IfOk result (λ flat. flat ≡ one_net) }
+{
+    let mut signals = Sequence::new(alloc);
+    signals.push(Signal {
+        path: Name::of(alloc, b"top.a")?,
+        width: 8,
+        start: Digit::Z,
+    })?;
+    Ok(Flat {
+        signals,
+        nodes: Sequence::new(alloc),
+        processes: Sequence::new(alloc),
+        step_fs: 1,
+    })
+}
+
+/// The line of a verdict on a test of that design.
 fn outcome_line(alloc: Global, row: &Row<'_>, outcome: &Outcome) -> Result<Vec<u8>, NoMemory>
     ensures { IfOk result (λ line. line.items ≡ told_outcome row.now outcome.now) }
 {
-    let flat = flat_of_ports(alloc, b"a")?;
+    let flat = one_net(alloc)?;
     verdict_text(alloc, row.number(2), row.part(3), outcome, &flat)
 }
 

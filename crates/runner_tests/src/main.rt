@@ -7,8 +7,9 @@
 //! - `command`: the command with its words, the design `d.v` and the tests `t.py` (`-` where there is no such file), the number of
 //!   the read and of the put that fails, 0 for none;
 //! - `kept`: the same, where all these rows have one simulator;
+//! - `long`: the same, of a design that is cut or filled up with spaces, by its number of bytes, and tests;
 //! - `run`: a run within a budget, of a design and tests; `trace`: a run whose told changes are written;
-//! - `design`, `flat`: what a design is read as, and what is simulated; `tests`: what tests are read as beside a design;
+//! - `design`: what a design is read as; `tests`: what tests are read as beside a design;
 //! - `release`: a key that the runner holds and lets go, at a simulator of the design, with the counts of keys;
 //! - `engine`: the path of the design's first signal, and what the first turn of the test comes to;
 //! - `sig`, `stalled`, `read_only`, `fault`, `closing`: lines.

@@ -1,13 +1,13 @@
 //! A key that the runner holds and lets go.
 ghost use Rattle.std.specs.Prelude.{◌≡◌, ◌<◌, IfOk, string_bytes};
-ghost use Rattle.text_forms.specs.DesignForm.{ArePorts};
+ghost use Rattle.gpi.specs.Soundness.{IsSoundFlat};
 ghost use Rattle.table_rows.specs.Rows.{part_at};
 ghost use Rattle.runner_tests.specs.Releases.{LetsGo, ShowsLetGo, ShowsRelease, resting_word};
 
 use crate::runs::decision;
 use crate::words::{counts_text, status_name};
 use command::Decision;
-use gpi::{Gpi, Key};
+use gpi::{Flat, Gpi, Key};
 use list_kernel::ListKernel;
 use plain_task::WaitList;
 use port_io::NoMemory;
@@ -16,23 +16,21 @@ use std::alloc::{AllocError, Global};
 use std::marker::Brand;
 use std::sync::ledger::{Blank, Ledger};
 use table_rows::Row;
-use text_forms::flat_of_ports;
 
 /// The read-write phase is held at a simulator of the design, and let go before it fires. Whether the simulator has nothing to do then.
 fn release<K: Gpi, L: Ledger>(
     alloc: Global,
-    ports: &[u8],
+    flat: &Flat,
     kernel: &mut K,
     blank: Blank,
 ) -> Result<bool, NoMemory>
-    requires ports { ArePorts ports.now }
+    requires flat { IsSoundFlat flat.now }
     requires name { blank.name ≡ L.name }
     requires parts { blank.parts ≡ L.parts }
     requires some { 0 < blank.parts }
-    ensures { IfOk result (λ resting. LetsGo ports.now resting (K.content kernel.new)) }
+    ensures { IfOk result (λ resting. LetsGo flat.now resting (K.content kernel.new)) }
 {
-    let flat = flat_of_ports(alloc, ports)?;
-    kernel.load(alloc, &flat)?;
+    kernel.load(alloc, flat)?;
     let mut awaits = WaitList::new(alloc);
     let mut steps = Steps::<L>::new(blank);
     awaits.hold(kernel, Key::ReadWrite, &mut steps)?;
@@ -48,12 +46,12 @@ fn resting_text(alloc: Global, counts: &str, resting: bool) -> Result<String, Al
 }
 
 /// The same of a design, with the counts of keys.
-fn let_go_text(alloc: Global, ports: &[u8]) -> Result<String, NoMemory>
-    requires { ArePorts ports.now }
-    ensures { IfOk result (λ text. ShowsLetGo ports.now (string_bytes text)) }
+fn let_go_text(alloc: Global, flat: &Flat) -> Result<String, NoMemory>
+    requires { IsSoundFlat flat.now }
+    ensures { IfOk result (λ text. ShowsLetGo flat.now (string_bytes text)) }
 {
     let mut kernel = ListKernel::new(alloc);
-    let resting = release::<ListKernel, Brand>(alloc, ports, &mut kernel, Blank::new(1))?;
+    let resting = release::<ListKernel, Brand>(alloc, flat, &mut kernel, Blank::new(1))?;
     let counts = counts_text(alloc, &kernel)?;
     Ok(resting_text(alloc, &counts, resting)?)
 }
@@ -64,6 +62,6 @@ pub fn release_text(alloc: Global, row: &Row<'_>) -> Result<String, NoMemory>
 {
     match decision(alloc, row.part(2), row.part(3))? {
         Decision::Refused(own, _) => Ok(String::from_str(alloc, status_name(own))?),
-        Decision::Runs(ports, _) => let_go_text(alloc, &ports),
+        Decision::Runs(flat, _) => let_go_text(alloc, &flat),
     }
 }

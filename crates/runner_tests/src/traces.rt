@@ -1,6 +1,6 @@
 //! Runs whose told changes are written.
 ghost use Rattle.std.specs.Prelude.{◌≡◌, ◌<◌, IfOk, length, string_bytes};
-ghost use Rattle.text_forms.specs.DesignForm.{ArePorts};
+ghost use Rattle.gpi.specs.Soundness.{IsSoundFlat};
 ghost use Rattle.text_forms.specs.TestsForm.{IsOneTest};
 ghost use Rattle.table_rows.specs.Rows.{part_at};
 ghost use Rattle.runner_tests.specs.Runs.{ShowsTrace, Traces, TracesFiles};
@@ -8,7 +8,7 @@ ghost use Rattle.runner_tests.specs.Runs.{ShowsTrace, Traces, TracesFiles};
 use crate::runs::decision;
 use crate::words::ended_text;
 use command::Decision;
-use gpi::Gpi;
+use gpi::{Flat, Gpi};
 use list_kernel::ListKernel;
 use plain_task::{TreeMaker, WaitList};
 use port_io::{MemSink, NoMemory};
@@ -19,7 +19,6 @@ use std::alloc::Global;
 use std::marker::Brand;
 use std::sync::ledger::{Blank, Ledger};
 use table_rows::Row;
-use text_forms::flat_of_ports;
 
 /// How many statements and events such a run may cost.
 const TRACE_BUDGET: u64 = 100;
@@ -27,23 +26,22 @@ const TRACE_BUDGET: u64 = 100;
 /// The status of a run within that budget whose told changes are written. The blank is for the counter of steps of work.
 fn trace<K: Gpi, L: Ledger>(
     alloc: Global,
-    ports: &[u8],
+    flat: &Flat,
     file: &TestFile,
     kernel: &mut K,
     sink: &mut MemSink,
     blank: Blank,
 ) -> Result<Status, NoMemory>
-    requires ports { ArePorts ports.now }
-    requires file { IsOneTest (length ports.now) file.now }
+    requires flat { IsSoundFlat flat.now }
+    requires file { IsOneTest (length flat.now.signals) file.now }
     requires name { blank.name ≡ L.name }
     requires parts { blank.parts ≡ L.parts }
     requires some { 0 < blank.parts }
-    ensures { IfOk result (λ status. Traces ports.now file.now status sink.old sink.new) }
+    ensures { IfOk result (λ status. Traces flat.now file.now status sink.old sink.new) }
 {
-    let flat = flat_of_ports(alloc, ports)?;
-    kernel.load(alloc, &flat)?;
+    kernel.load(alloc, flat)?;
     let maker = TreeMaker::new(alloc, file)?;
-    let mut engine = Engine::new(alloc, maker, WaitList::new(alloc), &flat, true)?;
+    let mut engine = Engine::new(alloc, maker, WaitList::new(alloc), flat, true)?;
     let mut steps = Steps::<L>::new(blank);
     let case = file.cases.get(0);
     Ok(run_all(
@@ -63,9 +61,9 @@ fn traced(alloc: Global, row: &Row<'_>, sink: &mut MemSink) -> Result<Status, No
 {
     match decision(alloc, row.part(2), row.part(3))? {
         Decision::Refused(own, _) => Ok(own),
-        Decision::Runs(ports, file) => {
+        Decision::Runs(flat, file) => {
             let mut kernel = ListKernel::new(alloc);
-            trace::<ListKernel, Brand>(alloc, &ports, &file, &mut kernel, sink, Blank::new(1))
+            trace::<ListKernel, Brand>(alloc, &flat, &file, &mut kernel, sink, Blank::new(1))
         }
     }
 }

@@ -23,7 +23,7 @@ pub(crate) fn if_item(condition: Expression, block: Vec<Item>, other: Vec<Item>)
 }
 
 /// A `while` with its block.
-pub(crate) fn while_item(condition: Expression, block: Vec<Item>) -> Item
+pub fn while_item(condition: Expression, block: Vec<Item>) -> Item
     ensures { view_item result ≡ body.While (view condition) (block_of block.items) }
 {
     Item::While { condition, block }

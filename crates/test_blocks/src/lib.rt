@@ -1,6 +1,7 @@
 //! The bodies of the functions of an accepted tests file, made from the back of each block.
 //!
-//! [`body`] makes the body that a block stands for, in which compound statements stand in place of their clauses.
+//! [`body`] makes the body that a block stands for, in which compound statements stand in place of their clauses; [`while_item`] makes one
+//! of its parts.
 #![tactic(auto)]
 
 mod block;
@@ -9,3 +10,4 @@ mod items;
 mod tail;
 
 pub use block::body;
+pub use items::while_item;

@@ -19,7 +19,7 @@ pub fn constant(alloc: Global, value: &Const) -> Result<Expression, NoMemory>
 }
 
 /// A name. Only want of memory is an error.
-pub(crate) fn name(alloc: Global, name: &[u8]) -> Result<Expression, NoMemory>
+pub fn name(alloc: Global, name: &[u8]) -> Result<Expression, NoMemory>
     ensures { IfOk result (λ made. view made ≡ tree.Name name.now) }
 {
     Ok(Expression::Name(Name::of(alloc, name)?))
@@ -75,7 +75,7 @@ pub(crate) fn unary(alloc: Global, op: UnOp, operand: Expression) -> Result<Expr
 }
 
 /// An operator between operands that are both evaluated. Only want of memory is an error.
-pub(crate) fn binary(
+pub fn binary(
     alloc: Global,
     op: BinOp,
     left: Expression,
@@ -88,7 +88,7 @@ pub(crate) fn binary(
 }
 
 /// `or` or `and` between operands. Only want of memory is an error.
-pub(crate) fn choice(
+pub fn choice(
     alloc: Global,
     op: BoolOp,
     left: Expression,
@@ -101,7 +101,7 @@ pub(crate) fn choice(
 }
 
 /// A call of a function with these arguments.
-pub(crate) fn function_call(function: Function, arguments: Vec<Expression>) -> Expression
+pub fn function_call(function: Function, arguments: Vec<Expression>) -> Expression
     ensures { view result ≡ tree.Call function (trees_of arguments.items) }
 {
     Expression::Call(function, arguments)

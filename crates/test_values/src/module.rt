@@ -19,6 +19,20 @@ pub struct ModuleValues<'a> {
     ghost are_places: { AreLiteralPlaces (map view_module_item items.now) places.now },
 }
 
+impl ModuleValues<'_> {
+    ghost use Rattle.std.specs.Prelude.{◌≡◌, map, option_copied, option_map};
+    ghost use Rattle.py_syntax.specs.BlockTrees.{view_module_item};
+    ghost use Rattle.test_rules.specs.File.{file_of, fixed_of};
+
+    /// The value of the constant of this name; none where the module has no such constant.
+    pub fn fixed(&self, name: &[u8]) -> Option<&Const>
+        ensures { option_copied result ≡ option_map (λ k. k.value) (fixed_of (file_of (map view_module_item self.now.items.now)).constants name.now) }
+    {
+        let place = self.places.find(name)?;
+        literal_at(self.items, place)
+    }
+}
+
 impl Values for ModuleValues<'_> {
     ghost use Rattle.std.specs.Prelude.{map};
     ghost use Rattle.py_syntax.specs.BlockTrees.{view_module_item};
@@ -28,10 +42,7 @@ impl Values for ModuleValues<'_> {
 
     fn value_of<'b>(&'b self, constant: &'b Const) -> &'b Const {
         match constant {
-            Const::Named(name) => match self.places.find(name.bytes()) {
-                Some(place) => literal_at(self.items, place).unwrap_or(constant),
-                None => constant,
-            },
+            Const::Named(name) => self.fixed(name.bytes()).unwrap_or(constant),
             _ => constant,
         }
     }

@@ -4,19 +4,20 @@ use Rattle.std.specs.Prelude.{codes}
 use Rattle.std.specs.Fmt.{decimal}
 use Rattle.std.proofs.Math.Dec.{leb}
 use Rattle.std.proofs.lemmas.Bool.{eqb-false, eq-eqb, ne_eqb, leb-true, le-leb}
-use Rattle.std.proofs.lemmas.List.{append-nil, length-append, length-take, take-append-drop, take_at, drop_at}
+use Rattle.std.proofs.lemmas.List.{append-nil, length-append, length-map, map-append, length-take, take-append-drop, take_at, drop_at}
 use Rattle.std.proofs.lemmas.List.Concat.{flat_map-append}
-use Rattle.std.proofs.lemmas.List.Elements.{All-nil, All-head, All-tail, All-push, All-get_or}
+use Rattle.std.proofs.lemmas.List.Elements.{All-nil, All-head, All-tail, All-push}
 use Rattle.std.proofs.lemmas.Option.{none-some}
 use Rattle.rig_model.specs.declared.file.Statement.{Statement}
 use Rattle.rig_model.specs.declared.file.Statement.TheVariants.{Write, Timer, Assert, StartSoon, Start, Info}
 use Rattle.text_forms.specs.declared.front.FormError.{FormError}
 use Rattle.text_forms.specs.Front.{◌>>=◌, Fails, after, by_front, is_digit, place_at, number_at, looped}
-use Rattle.text_forms.specs.DesignForm.{IsLetter}
-use Rattle.text_forms.specs.TestsForm.{IsTextByte, IsStatement, statement_text, statement_line, IsBody, body_text, most_steps, most_text}
-use Rattle.text_forms.specs.TestsReading.{byte_at, assigned_at, write_at, assert_at, timer_at, call_at, start_soon_at, start_at, text_len, info_at, statement_at, line_step, body_at}
+use Rattle.text_forms.specs.TestsForm.{IsLetter, IsTextByte, StandsFor, Line, statements, IsStatement, statement_text, IsLine, line_text, IsBody, body_text, most_steps, most_text}
+use Rattle.text_forms.specs.declared.top_names.TopName.{TopName}
+use Rattle.gpi.specs.declared.types.SigId.{SigId}
+use Rattle.text_forms.specs.TestsReading.{byte_at, signal_at, assigned_at, write_at, assert_at, timer_at, call_at, start_soon_at, start_at, text_len, info_at, statement_at, line_step, body_at}
 use Rattle.text_forms.proofs.Parts.{bind_some, if_some, unless_some, stepped_some, at_pair, fails_then, fails_as, after-append, after_takes}
-use Rattle.text_forms.proofs.Letters.{Differ, place_again, place_takes}
+use Rattle.text_forms.proofs.Letters.{Differ, place_again, place_takes, signal_again, signal_takes}
 use Rattle.text_forms.proofs.Logs.{take_text, text_len-append}
 use Rattle.text_forms.proofs.Numbers.{number_again, number_takes}
 use Rattle.text_forms.proofs.Loops.{Shortens, goes_on, ends, fails, kept}
@@ -40,51 +41,53 @@ byte_again : (n b : ℕ) (rest : List ℕ) → is_digit b ≡ false → n ≤ 25
 unfolding byte_at
 byte_again n b rest d le = rw (number_again n b rest d (omega arith), le-leb n 255 le) refl
 
--- a port by its place, a byte, and the text between them
-record Assigned (ports between text : List ℕ) (x : ℕ × ℕ) (rest : List ℕ) : Type 0 where
-  pub is_port : x.0 < length ports
+-- a signal by its letter, a byte, and the text between them
+record Assigned (tops : List TopName) (between text : List ℕ) (x : SigId × ℕ) (rest : List ℕ) : Type 0 where
+  pub letter : ℕ
+  pub stands : StandsFor tops letter x.0
   pub fits : x.1 ≤ 255
-  pub spelling : text ≡ get_or ports x.0 0 ∷ between ++ (decimal x.1 ++ 10 ∷ rest)
+  pub spelling : text ≡ letter ∷ between ++ (decimal x.1 ++ 10 ∷ rest)
 
-assigned_takes : (ports between text : List ℕ) (x : ℕ × ℕ) (rest : List ℕ) → assigned_at ports between text ≡ Some (x, rest) → Assigned ports between text x rest
+assigned_takes : (tops : List TopName) (between text : List ℕ) (x : SigId × ℕ) (rest : List ℕ) → assigned_at tops between text ≡ Some (x, rest) → Assigned tops between text x rest
 unfolding assigned_at
-assigned_takes ports between text x rest e =
-    let a = bind_some (place_at ports text) (λ port. after between port.1 >>= λ r. byte_at r >>= λ n. after (10 ∷ []) n.1 >>= λ t. Some ((port.0, n.0), t)) (x, rest) e in
+assigned_takes tops between text x rest e =
+    let a = bind_some (signal_at tops text) (λ sig. after between sig.1 >>= λ r. byte_at r >>= λ n. after (10 ∷ []) n.1 >>= λ t. Some ((sig.0, n.0), t)) (x, rest) e in
     let b = bind_some (after between a.0.1) (λ r. byte_at r >>= λ n. after (10 ∷ []) n.1 >>= λ t. Some ((a.0.0, n.0), t)) (x, rest) a.2 in
     let c = bind_some (byte_at b.0) (λ n. after (10 ∷ []) n.1 >>= λ t. Some ((a.0.0, n.0), t)) (x, rest) b.2 in
     let d = bind_some (after (10 ∷ []) c.0.1) (λ t. Some ((a.0.0, c.0.0), t)) (x, rest) c.2 in
-    let p = place_takes ports text a.0.0 a.0.1 a.1 in
+    let p = signal_takes tops text a.0.0 a.0.1 a.1 in
     let n = byte_takes b.0 c.0.0 c.0.1 c.1 in
-    at_pair (Assigned ports between text) (a.0.0, c.0.0) x d.0 rest d.2 (record {
-      is_port = p.0;
+    at_pair (Assigned tops between text) (a.0.0, c.0.0) x d.0 rest d.2 (record {
+      letter = p.0;
+      stands = p.1;
       fits = n.1;
-      spelling = p.1 ∙ ap (λ (t : List ℕ). get_or ports a.0.0 0 ∷ t) (after_takes between a.0.1 b.0 b.1 ∙ ap (λ (t : List ℕ). between ++ t) (n.0 ∙ ap (λ (t : List ℕ). decimal c.0.0 ++ t) (after_takes (10 ∷ []) c.0.1 d.0 d.1)));
+      spelling = p.2 ∙ ap (λ (t : List ℕ). p.0 ∷ t) (after_takes between a.0.1 b.0 b.1 ∙ ap (λ (t : List ℕ). between ++ t) (n.0 ∙ ap (λ (t : List ℕ). decimal c.0.0 ++ t) (after_takes (10 ∷ []) c.0.1 d.0 d.1)));
     })
 
-assigned_again : (ports between : List ℕ) (i n : ℕ) (rest : List ℕ) → Differ ports → i < length ports → n ≤ 255
-    → assigned_at ports between (get_or ports i 0 ∷ between ++ (decimal n ++ 10 ∷ rest)) ≡ Some ((i, n), rest)
+assigned_again : (tops : List TopName) (between : List ℕ) (letter : ℕ) (sig : SigId) (n : ℕ) (rest : List ℕ) → StandsFor tops letter sig → n ≤ 255
+    → assigned_at tops between (letter ∷ between ++ (decimal n ++ 10 ∷ rest)) ≡ Some ((sig, n), rest)
 unfolding assigned_at
-assigned_again ports between i n rest h lt le =
-    rw (place_again ports i (between ++ (decimal n ++ 10 ∷ rest)) h lt, after-append between (decimal n ++ 10 ∷ rest), byte_again n 10 rest refl le, after-append (10 ∷ []) rest) refl
+assigned_again tops between letter sig n rest h le =
+    rw (signal_again tops letter sig (between ++ (decimal n ++ 10 ∷ rest)) h, after-append between (decimal n ++ 10 ∷ rest), byte_again n 10 rest refl le, after-append (10 ∷ []) rest) refl
 
 -- ---- statements
 
-abbrev StatementTaken : List ℕ → List ℕ → List ℕ → Statement → List ℕ → Type 0
-StatementTaken ports names text statement rest = IsStatement ports names statement × (text ≡ statement_text ports names statement ++ 10 ∷ rest)
+abbrev StatementTaken : List TopName → List ℕ → List ℕ → Statement → List ℕ → Type 0
+StatementTaken tops names text statement rest = (letter : ℕ) × IsStatement tops names letter statement × (text ≡ statement_text names letter statement ++ 10 ∷ rest)
 
-write_takes : (ports names text : List ℕ) (statement : Statement) (rest : List ℕ) → write_at ports text ≡ Some (statement, rest) → StatementTaken ports names (codes "dut." ++ text) statement rest
+write_takes : (tops : List TopName) (names text : List ℕ) (statement : Statement) (rest : List ℕ) → write_at tops text ≡ Some (statement, rest) → StatementTaken tops names (codes "dut." ++ text) statement rest
 unfolding write_at
-write_takes ports names text statement rest e =
-    let a = bind_some (assigned_at ports (codes ".value = ") text) (λ x. Some (Write (record { 0 = x.0.0 }) x.0.1, x.1)) (statement, rest) e in
-    let t = assigned_takes ports (codes ".value = ") text a.0.0 a.0.1 a.1 in
-    at_pair (StatementTaken ports names (codes "dut." ++ text)) (Write (record { 0 = a.0.0.0 }) a.0.0.1) statement a.0.1 rest a.2 ((t.is_port, t.fits), ap (λ (x : List ℕ). codes "dut." ++ x) t.spelling)
+write_takes tops names text statement rest e =
+    let a = bind_some (assigned_at tops (codes ".value = ") text) (λ x. Some (Write x.0.0 x.0.1, x.1)) (statement, rest) e in
+    let t = assigned_takes tops (codes ".value = ") text a.0.0 a.0.1 a.1 in
+    at_pair (StatementTaken tops names (codes "dut." ++ text)) (Write a.0.0.0 a.0.0.1) statement a.0.1 rest a.2 (t.letter, (t.stands, t.fits), ap (λ (x : List ℕ). codes "dut." ++ x) t.spelling)
 
-assert_takes : (ports names text : List ℕ) (statement : Statement) (rest : List ℕ) → assert_at ports text ≡ Some (statement, rest) → StatementTaken ports names (codes "assert dut." ++ text) statement rest
+assert_takes : (tops : List TopName) (names text : List ℕ) (statement : Statement) (rest : List ℕ) → assert_at tops text ≡ Some (statement, rest) → StatementTaken tops names (codes "assert dut." ++ text) statement rest
 unfolding assert_at
-assert_takes ports names text statement rest e =
-    let a = bind_some (assigned_at ports (codes ".value == ") text) (λ x. Some (Assert (record { 0 = x.0.0 }) x.0.1, x.1)) (statement, rest) e in
-    let t = assigned_takes ports (codes ".value == ") text a.0.0 a.0.1 a.1 in
-    at_pair (StatementTaken ports names (codes "assert dut." ++ text)) (Assert (record { 0 = a.0.0.0 }) a.0.0.1) statement a.0.1 rest a.2 ((t.is_port, t.fits), ap (λ (x : List ℕ). codes "assert dut." ++ x) t.spelling)
+assert_takes tops names text statement rest e =
+    let a = bind_some (assigned_at tops (codes ".value == ") text) (λ x. Some (Assert x.0.0 x.0.1, x.1)) (statement, rest) e in
+    let t = assigned_takes tops (codes ".value == ") text a.0.0 a.0.1 a.1 in
+    at_pair (StatementTaken tops names (codes "assert dut." ++ text)) (Assert a.0.0.0 a.0.0.1) statement a.0.1 rest a.2 (t.letter, (t.stands, t.fits), ap (λ (x : List ℕ). codes "assert dut." ++ x) t.spelling)
 
 abbrev timer_end : List ℕ
 timer_end = codes ", \"step\")" ++ 10 ∷ []
@@ -92,16 +95,16 @@ timer_end = codes ", \"step\")" ++ 10 ∷ []
 timer_text_is : (n : ℕ) (rest : List ℕ) → codes "await Timer(" ++ (decimal n ++ (timer_end ++ rest)) ≡ (codes "await Timer(" ++ decimal n ++ codes ", \"step\")") ++ 10 ∷ rest
 timer_text_is n rest = ap (λ (x : List ℕ). codes "await Timer(" ++ x) (sym (append_assoc (decimal n) (codes ", \"step\")") (10 ∷ rest)))
 
-timer_takes : (ports names text : List ℕ) (statement : Statement) (rest : List ℕ) → timer_at text ≡ Some (statement, rest) → StatementTaken ports names (codes "await Timer(" ++ text) statement rest
+timer_takes : (tops : List TopName) (names text : List ℕ) (statement : Statement) (rest : List ℕ) → timer_at text ≡ Some (statement, rest) → StatementTaken tops names (codes "await Timer(" ++ text) statement rest
 unfolding timer_at
-timer_takes ports names text statement rest e =
+timer_takes tops names text statement rest e =
     let a = bind_some (number_at text) (λ x. after timer_end x.1 >>= λ r. cond (eqb x.0 0) None (Some (Timer x.0, r))) (statement, rest) e in
     let b = bind_some (after timer_end a.0.1) (λ r. cond (eqb a.0.0 0) None (Some (Timer a.0.0, r))) (statement, rest) a.2 in
     let c = unless_some (eqb a.0.0 0) (Some (Timer a.0.0, b.0)) (statement, rest) b.2 in
     let n = number_takes text a.0.0 a.0.1 a.1 in
     let some : 1 ≤ a.0.0 = at_least_one a.0.0 (eqb-false a.0.0 0 c.0) in
     let whole = ap (λ (x : List ℕ). codes "await Timer(" ++ x) (n.0 ∙ ap (λ (x : List ℕ). decimal a.0.0 ++ x) (after_takes timer_end a.0.1 b.0 b.1)) in
-    at_pair (StatementTaken ports names (codes "await Timer(" ++ text)) (Timer a.0.0) statement b.0 rest c.1 ((some, n.1), whole ∙ timer_text_is a.0.0 b.0)
+    at_pair (StatementTaken tops names (codes "await Timer(" ++ text)) (Timer a.0.0) statement b.0 rest c.1 (0, (some, n.1), whole ∙ timer_text_is a.0.0 b.0)
   where
     at_least_one : (n : ℕ) → (n ≡ 0 → ⊥) → 1 ≤ n
     at_least_one n h = omega arith
@@ -128,19 +131,19 @@ call_again : (names : List ℕ) (func : ℕ) (rest : List ℕ) → Differ names 
 unfolding call_at
 call_again names func rest h lt = rw (place_again names func (call_end ++ rest) h lt, after-append call_end rest) refl
 
-start_soon_takes : (ports names text : List ℕ) (statement : Statement) (rest : List ℕ) → start_soon_at names text ≡ Some (statement, rest) → StatementTaken ports names (codes "cocotb.start_soon(" ++ text) statement rest
+start_soon_takes : (tops : List TopName) (names text : List ℕ) (statement : Statement) (rest : List ℕ) → start_soon_at names text ≡ Some (statement, rest) → StatementTaken tops names (codes "cocotb.start_soon(" ++ text) statement rest
 unfolding start_soon_at
-start_soon_takes ports names text statement rest e =
+start_soon_takes tops names text statement rest e =
     let a = bind_some (call_at names text) (λ x. Some (StartSoon x.0, x.1)) (statement, rest) e in
     let t = call_takes names text a.0.0 a.0.1 a.1 in
-    at_pair (StatementTaken ports names (codes "cocotb.start_soon(" ++ text)) (StartSoon a.0.0) statement a.0.1 rest a.2 (t.0, ap (λ (x : List ℕ). codes "cocotb.start_soon(" ++ x) t.1)
+    at_pair (StatementTaken tops names (codes "cocotb.start_soon(" ++ text)) (StartSoon a.0.0) statement a.0.1 rest a.2 (0, t.0, ap (λ (x : List ℕ). codes "cocotb.start_soon(" ++ x) t.1)
 
-start_takes : (ports names text : List ℕ) (statement : Statement) (rest : List ℕ) → start_at names text ≡ Some (statement, rest) → StatementTaken ports names (codes "await cocotb.start(" ++ text) statement rest
+start_takes : (tops : List TopName) (names text : List ℕ) (statement : Statement) (rest : List ℕ) → start_at names text ≡ Some (statement, rest) → StatementTaken tops names (codes "await cocotb.start(" ++ text) statement rest
 unfolding start_at
-start_takes ports names text statement rest e =
+start_takes tops names text statement rest e =
     let a = bind_some (call_at names text) (λ x. Some (Start x.0, x.1)) (statement, rest) e in
     let t = call_takes names text a.0.0 a.0.1 a.1 in
-    at_pair (StatementTaken ports names (codes "await cocotb.start(" ++ text)) (Start a.0.0) statement a.0.1 rest a.2 (t.0, ap (λ (x : List ℕ). codes "await cocotb.start(" ++ x) t.1)
+    at_pair (StatementTaken tops names (codes "await cocotb.start(" ++ text)) (Start a.0.0) statement a.0.1 rest a.2 (0, t.0, ap (λ (x : List ℕ). codes "await cocotb.start(" ++ x) t.1)
 
 -- ---- log lines
 
@@ -150,17 +153,17 @@ info_end = codes "\")" ++ 10 ∷ []
 info_text_is : (text rest : List ℕ) → codes "dut._log.info(\"" ++ (text ++ (info_end ++ rest)) ≡ (codes "dut._log.info(\"" ++ text ++ codes "\")") ++ 10 ∷ rest
 info_text_is text rest = ap (λ (x : List ℕ). codes "dut._log.info(\"" ++ x) (sym (append_assoc text (codes "\")") (10 ∷ rest)))
 
-info_takes : (ports names text : List ℕ) (statement : Statement) (rest : List ℕ) → info_at text ≡ Some (statement, rest) → StatementTaken ports names (codes "dut._log.info(\"" ++ text) statement rest
+info_takes : (tops : List TopName) (names text : List ℕ) (statement : Statement) (rest : List ℕ) → info_at text ≡ Some (statement, rest) → StatementTaken tops names (codes "dut._log.info(\"" ++ text) statement rest
 unfolding info_at
-info_takes ports names text statement rest e =
+info_takes tops names text statement rest e =
     let p = if_some (leb (text_len text) most_text) (after info_end (drop (text_len text) text) >>= λ r. Some (Info (take (text_len text) text), r)) (statement, rest) e in
     let a = bind_some (after info_end (drop (text_len text) text)) (λ r. Some (Info (take (text_len text) text), r)) (statement, rest) p.1 in
     let parts : text ≡ take (text_len text) text ++ (info_end ++ a.0) =
     sym (take-append-drop (text_len text) text) ∙ ap (λ (x : List ℕ). take (text_len text) text ++ x) (after_takes info_end (drop (text_len text) text) a.0 a.1) in
     let short : text_len text ≤ most_text = leb-true (text_len text) most_text p.0 in
     let len : length (take (text_len text) text) ≤ most_text = omega (arith, length-take (text_len text) text) in
-    at_pair (StatementTaken ports names (codes "dut._log.info(\"" ++ text)) (Info (take (text_len text) text)) statement a.0 rest a.2
-    ((len, take_text text), ap (λ (x : List ℕ). codes "dut._log.info(\"" ++ x) parts ∙ info_text_is (take (text_len text) text) a.0)
+    at_pair (StatementTaken tops names (codes "dut._log.info(\"" ++ text)) (Info (take (text_len text) text)) statement a.0 rest a.2
+    (0, (len, take_text text), ap (λ (x : List ℕ). codes "dut._log.info(\"" ++ x) parts ∙ info_text_is (take (text_len text) text) a.0)
 
 info_again : (text rest : List ℕ) → length text ≤ most_text → All IsTextByte text → info_at (text ++ (info_end ++ rest)) ≡ Some (Info text, rest)
 unfolding info_at
@@ -178,159 +181,170 @@ front_takes P front text read other y here there e =
       | inr f ↦ there f
     ]
 
-statement_takes : (ports names text : List ℕ) (statement : Statement) (rest : List ℕ) → statement_at ports names text ≡ Some (statement, rest) → StatementTaken ports names text statement rest
+statement_takes : (tops : List TopName) (names text : List ℕ) (statement : Statement) (rest : List ℕ) → statement_at tops names text ≡ Some (statement, rest) → StatementTaken tops names text statement rest
 unfolding statement_at
-statement_takes ports names text statement rest e =
-    front_takes (λ t. StatementTaken ports names t statement rest) (codes "dut._log.info(\"") text info_at _ (statement, rest) (λ r. info_takes ports names r statement rest)
-    (front_takes (λ t. StatementTaken ports names t statement rest) (codes "dut.") text (write_at ports) _ (statement, rest) (λ r. write_takes ports names r statement rest)
-    (front_takes (λ t. StatementTaken ports names t statement rest) (codes "await Timer(") text timer_at _ (statement, rest) (λ r. timer_takes ports names r statement rest)
-    (front_takes (λ t. StatementTaken ports names t statement rest) (codes "assert dut.") text (assert_at ports) _ (statement, rest) (λ r. assert_takes ports names r statement rest)
-    (front_takes (λ t. StatementTaken ports names t statement rest) (codes "cocotb.start_soon(") text (start_soon_at names) _ (statement, rest) (λ r. start_soon_takes ports names r statement rest)
-    (front_takes (λ t. StatementTaken ports names t statement rest) (codes "await cocotb.start(") text (start_at names) None (statement, rest) (λ r. start_takes ports names r statement rest)
+statement_takes tops names text statement rest e =
+    front_takes (λ t. StatementTaken tops names t statement rest) (codes "dut._log.info(\"") text info_at _ (statement, rest) (λ r. info_takes tops names r statement rest)
+    (front_takes (λ t. StatementTaken tops names t statement rest) (codes "dut.") text (write_at tops) _ (statement, rest) (λ r. write_takes tops names r statement rest)
+    (front_takes (λ t. StatementTaken tops names t statement rest) (codes "await Timer(") text timer_at _ (statement, rest) (λ r. timer_takes tops names r statement rest)
+    (front_takes (λ t. StatementTaken tops names t statement rest) (codes "assert dut.") text (assert_at tops) _ (statement, rest) (λ r. assert_takes tops names r statement rest)
+    (front_takes (λ t. StatementTaken tops names t statement rest) (codes "cocotb.start_soon(") text (start_soon_at names) _ (statement, rest) (λ r. start_soon_takes tops names r statement rest)
+    (front_takes (λ t. StatementTaken tops names t statement rest) (codes "await cocotb.start(") text (start_at names) None (statement, rest) (λ r. start_takes tops names r statement rest)
     (λ n. absurd (none-some (statement, rest) n)))))))
     e
 
--- what is known of the letters of ports and functions
-pub record AreKnown (ports names : List ℕ) : Type 0 where
-  pub letters : All IsLetter ports
-  pub ports_differ : Differ ports
-  pub names_differ : Differ names
+no_underscore : (letter : ℕ) → IsLetter letter → eqb letter 95 ≡ false
+no_underscore letter h = ne_eqb letter 95 (λ e. omega (arith, h.0))
 
-no_underscore : (ports : List ℕ) (i : ℕ) → All IsLetter ports → i < length ports → eqb (get_or ports i 0) 95 ≡ false
-no_underscore ports i letters lt = let p = All-get_or IsLetter ports i 0 lt letters in ne_eqb (get_or ports i 0) 95 (λ e. omega arith)
-
-statement_again : (ports names : List ℕ) (statement : Statement) (rest : List ℕ) → AreKnown ports names → IsStatement ports names statement → statement_at ports names (statement_text ports names statement ++ 10 ∷ rest) ≡ Some (statement, rest)
+statement_again : (tops : List TopName) (names : List ℕ) (letter : ℕ) (statement : Statement) (rest : List ℕ) → Differ names → IsStatement tops names letter statement
+    → statement_at tops names (statement_text names letter statement ++ 10 ∷ rest) ≡ Some (statement, rest)
 unfolding statement_at write_at assert_at start_soon_at start_at after
-statement_again ports names (Write sig number) rest h s =
-    rw (no_underscore ports sig.0 h.letters s.0, assigned_again ports (codes ".value = ") sig.0 number rest h.ports_differ s.0 s.1) refl
-statement_again ports names (Timer steps) rest h s = ap (statement_at ports names) (sym (timer_text_is steps rest)) ∙ timer_again steps rest s.0 s.1
-statement_again ports names (Assert sig number) rest h s = rw (assigned_again ports (codes ".value == ") sig.0 number rest h.ports_differ s.0 s.1) refl
-statement_again ports names (StartSoon func) rest h s = rw (call_again names func rest h.names_differ s) refl
-statement_again ports names (Start func) rest h s = rw (call_again names func rest h.names_differ s) refl
-statement_again ports names (Info text) rest h s = ap (statement_at ports names) (sym (info_text_is text rest)) ∙ info_again text rest s.0 s.1
+statement_again tops names letter (Write sig number) rest h s = rw (no_underscore letter s.0.0, assigned_again tops (codes ".value = ") letter sig number rest s.0 s.1) refl
+statement_again tops names letter (Timer steps) rest h s = ap (statement_at tops names) (sym (timer_text_is steps rest)) ∙ timer_again steps rest s.0 s.1
+statement_again tops names letter (Assert sig number) rest h s = rw (assigned_again tops (codes ".value == ") letter sig number rest s.0 s.1) refl
+statement_again tops names letter (StartSoon func) rest h s = rw (call_again names func rest h s) refl
+statement_again tops names letter (Start func) rest h s = rw (call_again names func rest h s) refl
+statement_again tops names letter (Info text) rest h s = ap (statement_at tops names) (sym (info_text_is text rest)) ∙ info_again text rest s.0 s.1
 
 -- ---- lines
 
-line_text_is : (ports names : List ℕ) (statement : Statement) (rest : List ℕ) → codes "    " ++ (statement_text ports names statement ++ 10 ∷ rest) ≡ statement_line ports names statement ++ rest
-line_text_is ports names statement rest = ap (λ (x : List ℕ). codes "    " ++ x) (sym (append_assoc (statement_text ports names statement) (10 ∷ []) rest))
+line_text_is : (names : List ℕ) (l : Line) (rest : List ℕ) → codes "    " ++ (statement_text names l.letter l.statement ++ 10 ∷ rest) ≡ line_text names l ++ rest
+line_text_is names l rest = ap (λ (x : List ℕ). codes "    " ++ x) (sym (append_assoc (statement_text names l.letter l.statement) (10 ∷ []) rest))
 
-record LineTaken (ports names : List ℕ) (body : List Statement) (text : List ℕ) (more : List Statement) (rest : List ℕ) : Type 0 where
-  pub statement : Statement
-  pub is : more ≡ body ++ statement ∷ []
-  pub is_statement : IsStatement ports names statement
-  pub spelling : text ≡ statement_line ports names statement ++ rest
+record LineTaken (tops : List TopName) (names : List ℕ) (body : List Statement) (text : List ℕ) (more : List Statement) (rest : List ℕ) : Type 0 where
+  pub line : Line
+  pub is : more ≡ body ++ line.statement ∷ []
+  pub is_line : IsLine tops names line
+  pub spelling : text ≡ line_text names line ++ rest
 
-line_takes : (ports names : List ℕ) (body : List Statement) (text : List ℕ) (more : List Statement) (rest : List ℕ) → line_step ports names body text ≡ Some (Some (more, rest)) → LineTaken ports names body text more rest
+line_takes : (tops : List TopName) (names : List ℕ) (body : List Statement) (text : List ℕ) (more : List Statement) (rest : List ℕ) → line_step tops names body text ≡ Some (Some (more, rest)) → LineTaken tops names body text more rest
 unfolding line_step
-line_takes ports names body text more rest e =
-    let a = stepped_some (after (codes "    ") text) (λ line. statement_at ports names line >>= λ x. Some (body ++ x.0 ∷ [], x.1)) (more, rest) e in
-    let b = bind_some (statement_at ports names a.0) (λ x. Some (body ++ x.0 ∷ [], x.1)) (more, rest) a.2 in
-    let s = statement_takes ports names a.0 b.0.0 b.0.1 b.1 in
-    at_pair (LineTaken ports names body text) (body ++ b.0.0 ∷ []) more b.0.1 rest b.2 (record {
-      statement = b.0.0;
+line_takes tops names body text more rest e =
+    let a = stepped_some (after (codes "    ") text) (λ line. statement_at tops names line >>= λ x. Some (body ++ x.0 ∷ [], x.1)) (more, rest) e in
+    let b = bind_some (statement_at tops names a.0) (λ x. Some (body ++ x.0 ∷ [], x.1)) (more, rest) a.2 in
+    let s = statement_takes tops names a.0 b.0.0 b.0.1 b.1 in
+    let l : Line = record { statement = b.0.0; letter = s.0 } in
+    at_pair (LineTaken tops names body text) (body ++ b.0.0 ∷ []) more b.0.1 rest b.2 (record {
+      line = l;
       is = refl;
-      is_statement = s.0;
-      spelling = after_takes (codes "    ") text a.0 a.1 ∙ ap (λ (x : List ℕ). codes "    " ++ x) s.1 ∙ line_text_is ports names b.0.0 b.0.1;
+      is_line = s.1;
+      spelling = after_takes (codes "    ") text a.0 a.1 ∙ ap (λ (x : List ℕ). codes "    " ++ x) s.2 ∙ line_text_is names l b.0.1;
     })
 
-line_again : (ports names : List ℕ) (body : List Statement) (statement : Statement) (rest : List ℕ) → AreKnown ports names → IsStatement ports names statement
-    → line_step ports names body (statement_line ports names statement ++ rest) ≡ Some (Some (body ++ statement ∷ [], rest))
+line_again : (tops : List TopName) (names : List ℕ) (body : List Statement) (l : Line) (rest : List ℕ) → Differ names → IsLine tops names l
+    → line_step tops names body (line_text names l ++ rest) ≡ Some (Some (body ++ l.statement ∷ [], rest))
 unfolding line_step
-line_again ports names body statement rest h s =
-    let front : after (codes "    ") (statement_line ports names statement ++ rest) ≡ Some (statement_text ports names statement ++ 10 ∷ rest) =
-    ap (after (codes "    ")) (sym (line_text_is ports names statement rest)) ∙ after-append (codes "    ") (statement_text ports names statement ++ 10 ∷ rest) in
-    rw (front, statement_again ports names statement rest h s) refl
+line_again tops names body l rest h s =
+    let front : after (codes "    ") (line_text names l ++ rest) ≡ Some (statement_text names l.letter l.statement ++ 10 ∷ rest) =
+    ap (after (codes "    ")) (sym (line_text_is names l rest)) ∙ after-append (codes "    ") (statement_text names l.letter l.statement ++ 10 ∷ rest) in
+    rw (front, statement_again tops names l.letter l.statement rest h s) refl
 
-pub lines_shorten : (ports names : List ℕ) → Shortens (line_step ports names)
-lines_shorten ports names body text more rest e =
-    let t = line_takes ports names body text more rest e in
-    let long : length text ≡ length (statement_line ports names t.statement) + length rest = ap length t.spelling ∙ length-append (statement_line ports names t.statement) rest in
+pub lines_shorten : (tops : List TopName) (names : List ℕ) → Shortens (line_step tops names)
+lines_shorten tops names body text more rest e =
+    let t = line_takes tops names body text more rest e in
+    let long : length text ≡ length (line_text names t.line) + length rest = ap length t.spelling ∙ length-append (line_text names t.line) rest in
     omega arith
 
 -- ---- what the loop of the code keeps
 
-module _ (ports names : List ℕ) (body : List Statement) (text line : List ℕ) (indented : after (codes "    ") text ≡ Some line) where
-  line_on : (statement : Statement) (rest : List ℕ) → statement_at ports names line ≡ Some (statement, rest) → line_step ports names body text ≡ Some (Some (body ++ statement ∷ [], rest))
+module _ (tops : List TopName) (names : List ℕ) (body : List Statement) (text line : List ℕ) (indented : after (codes "    ") text ≡ Some line) where
+  line_on : (statement : Statement) (rest : List ℕ) → statement_at tops names line ≡ Some (statement, rest) → line_step tops names body text ≡ Some (Some (body ++ statement ∷ [], rest))
   unfolding line_step
   line_on statement rest e = rw (indented, e) refl
 
-  line_off : statement_at ports names line ≡ None → line_step ports names body text ≡ None
+  line_off : statement_at tops names line ≡ None → line_step tops names body text ≡ None
   unfolding line_step
   line_off e = rw (indented, e) refl
 
-  pub lines_shorter : (statement : Statement) (rest : List ℕ) → statement_at ports names line ≡ Some (statement, rest) → length rest < length text
-  lines_shorter statement rest e = lines_shorten ports names body text (body ++ statement ∷ []) rest (line_on statement rest e)
+  pub lines_shorter : (statement : Statement) (rest : List ℕ) → statement_at tops names line ≡ Some (statement, rest) → length rest < length text
+  lines_shorter statement rest e = lines_shorten tops names body text (body ++ statement ∷ []) rest (line_on statement rest e)
 
-  module _ (total : Option (List Statement × List ℕ)) (so_far : looped (line_step ports names) body text ≡ total) where
-    pub lines_go_on : (statement : Statement) (rest : List ℕ) → statement_at ports names line ≡ Some (statement, rest) → looped (line_step ports names) (body ++ statement ∷ []) rest ≡ total
-    lines_go_on statement rest e = goes_on (line_step ports names) body text total (lines_shorten ports names) (body ++ statement ∷ []) rest (line_on statement rest e) so_far
+  module _ (total : Option (List Statement × List ℕ)) (so_far : looped (line_step tops names) body text ≡ total) where
+    pub lines_go_on : (statement : Statement) (rest : List ℕ) → statement_at tops names line ≡ Some (statement, rest) → looped (line_step tops names) (body ++ statement ∷ []) rest ≡ total
+    lines_go_on statement rest e = goes_on (line_step tops names) body text total (lines_shorten tops names) (body ++ statement ∷ []) rest (line_on statement rest e) so_far
 
-    lines_stop : statement_at ports names line ≡ None → total ≡ None
-    lines_stop e = fails (line_step ports names) body text total (line_off e) so_far
+    lines_stop : statement_at tops names line ≡ None → total ≡ None
+    lines_stop e = fails (line_step tops names) body text total (line_off e) so_far
 
-  pub body_fails : (e : FormError) (whole : List ℕ) → looped (line_step ports names) body text ≡ looped (line_step ports names) [] whole → Fails e (statement_at ports names line) → Fails e (body_at ports names whole)
+  pub body_fails : (e : FormError) (whole : List ℕ) → looped (line_step tops names) body text ≡ looped (line_step tops names) [] whole → Fails e (statement_at tops names line) → Fails e (body_at tops names whole)
   unfolding body_at
   body_fails e whole so_far f =
-      fails_then e (looped (line_step ports names) [] whole) (λ x. cond (eqb (length x.0) 0) None (Some x)) (fails_as e (statement_at ports names line) (looped (line_step ports names) [] whole) (lines_stop (looped (line_step ports names) [] whole) so_far) f)
+      fails_then e (looped (line_step tops names) [] whole) (λ x. cond (eqb (length x.0) 0) None (Some x)) (fails_as e (statement_at tops names line) (looped (line_step tops names) [] whole) (lines_stop (looped (line_step tops names) [] whole) so_far) f)
 
-line_end : (ports names : List ℕ) (body : List Statement) (text : List ℕ) → after (codes "    ") text ≡ None → line_step ports names body text ≡ Some None
+line_end : (tops : List TopName) (names : List ℕ) (body : List Statement) (text : List ℕ) → after (codes "    ") text ≡ None → line_step tops names body text ≡ Some None
 unfolding line_step
-line_end ports names body text e = rw e refl
+line_end tops names body text e = rw e refl
 
-pub lines_end : (ports names : List ℕ) (body : List Statement) (text : List ℕ) (total : Option (List Statement × List ℕ)) → after (codes "    ") text ≡ None → looped (line_step ports names) body text ≡ total → total ≡ Some (body, text)
-lines_end ports names body text total e so_far = ends (line_step ports names) body text total (line_end ports names body text e) so_far
+pub lines_end : (tops : List TopName) (names : List ℕ) (body : List Statement) (text : List ℕ) (total : Option (List Statement × List ℕ)) → after (codes "    ") text ≡ None → looped (line_step tops names) body text ≡ total → total ≡ Some (body, text)
+lines_end tops names body text total e so_far = ends (line_step tops names) body text total (line_end tops names body text e) so_far
 
-module _ (ports names : List ℕ) (body : List Statement) (whole rest : List ℕ) (all : looped (line_step ports names) [] whole ≡ Some (body, rest)) where
-  pub body_empty : length body ≡ 0 → body_at ports names whole ≡ None
+module _ (tops : List TopName) (names : List ℕ) (body : List Statement) (whole rest : List ℕ) (all : looped (line_step tops names) [] whole ≡ Some (body, rest)) where
+  pub body_empty : length body ≡ 0 → body_at tops names whole ≡ None
   unfolding body_at
   body_empty e = rw (all, eq-eqb (length body) 0 e) refl
 
-  pub body_done : (length body ≡ 0 → ⊥) → body_at ports names whole ≡ Some (body, rest)
+  pub body_done : (length body ≡ 0 → ⊥) → body_at tops names whole ≡ Some (body, rest)
   unfolding body_at
   body_done h = rw (all, ne_eqb (length body) 0 h) refl
 
 -- ---- all lines
 
-record BodyTaken (ports names whole : List ℕ) (body : List Statement) (rest : List ℕ) : Type 0 where
-  pub statements : All (IsStatement ports names) body
-  pub spelling : whole ≡ body_text ports names body ++ rest
+record BodyTaken (tops : List TopName) (names whole : List ℕ) (body : List Statement) (rest : List ℕ) : Type 0 where
+  pub lines : List Line
+  pub is : body ≡ statements lines
+  pub are_lines : All (IsLine tops names) lines
+  pub spelling : whole ≡ body_text names lines ++ rest
 
-body_text-push : (ports names : List ℕ) (body : List Statement) (statement : Statement) → body_text ports names (body ++ statement ∷ []) ≡ body_text ports names body ++ statement_line ports names statement
-body_text-push ports names body statement =
-    flat_map-append (statement_line ports names) body (statement ∷ []) ∙ ap (λ (x : List ℕ). body_text ports names body ++ x) (append-nil (statement_line ports names statement))
+body_text-push : (names : List ℕ) (lines : List Line) (l : Line) → body_text names (lines ++ l ∷ []) ≡ body_text names lines ++ line_text names l
+body_text-push names lines l =
+    flat_map-append (line_text names) lines (l ∷ []) ∙ ap (λ (x : List ℕ). body_text names lines ++ x) (append-nil (line_text names l))
 
-body_keeps : (ports names whole : List ℕ) (body : List Statement) (text : List ℕ) (more : List Statement) (rest : List ℕ) → line_step ports names body text ≡ Some (Some (more, rest)) → BodyTaken ports names whole body text → BodyTaken ports names whole more rest
-body_keeps ports names whole body text more rest e t =
-    let l = line_takes ports names body text more rest e in
-    subst (λ (m : List Statement). BodyTaken ports names whole m rest) (sym l.is) (record {
-      statements = All-push (IsStatement ports names) body l.statement t.statements l.is_statement;
+body_keeps : (tops : List TopName) (names whole : List ℕ) (body : List Statement) (text : List ℕ) (more : List Statement) (rest : List ℕ) → line_step tops names body text ≡ Some (Some (more, rest)) → BodyTaken tops names whole body text → BodyTaken tops names whole more rest
+body_keeps tops names whole body text more rest e t =
+    let l = line_takes tops names body text more rest e in
+    record {
+      lines = t.lines ++ l.line ∷ [];
+      is = l.is ∙ ap (λ (b : List Statement). b ++ l.line.statement ∷ []) t.is ∙ sym (map-append (λ (x : Line). x.statement) t.lines (l.line ∷ []));
+      are_lines = All-push (IsLine tops names) t.lines l.line t.are_lines l.is_line;
       spelling =
-          t.spelling ∙ ap (λ (x : List ℕ). body_text ports names body ++ x) l.spelling ∙ sym (append_assoc (body_text ports names body) (statement_line ports names l.statement) rest)
-          ∙ ap (λ (x : List ℕ). x ++ rest) (sym (body_text-push ports names body l.statement));
-    })
+          t.spelling ∙ ap (λ (x : List ℕ). body_text names t.lines ++ x) l.spelling ∙ sym (append_assoc (body_text names t.lines) (line_text names l.line) rest)
+          ∙ ap (λ (x : List ℕ). x ++ rest) (sym (body_text-push names t.lines l.line));
+    }
 
-pub body_takes : (ports names text : List ℕ) (body : List Statement) (rest : List ℕ) → body_at ports names text ≡ Some (body, rest) → IsBody ports names body × (text ≡ body_text ports names body ++ rest)
+pub record IsTaken (tops : List TopName) (names text : List ℕ) (body : List Statement) (rest : List ℕ) : Type 0 where
+  pub lines : List Line
+  pub is : body ≡ statements lines
+  pub is_body : IsBody tops names lines
+  pub spelling : text ≡ body_text names lines ++ rest
+
+pub body_takes : (tops : List TopName) (names text : List ℕ) (body : List Statement) (rest : List ℕ) → body_at tops names text ≡ Some (body, rest) → IsTaken tops names text body rest
 unfolding body_at
-body_takes ports names text body rest e =
-    let a = bind_some (looped (line_step ports names) [] text) (λ x. cond (eqb (length x.0) 0) None (Some x)) (body, rest) e in
+body_takes tops names text body rest e =
+    let a = bind_some (looped (line_step tops names) [] text) (λ x. cond (eqb (length x.0) 0) None (Some x)) (body, rest) e in
     let b = unless_some (eqb (length a.0.0) 0) (Some a.0) (body, rest) a.2 in
-    let t = kept (line_step ports names) (BodyTaken ports names text) (body_keeps ports names text) [] text a.0.0 a.0.1 a.1 (record { statements = All-nil (IsStatement ports names); spelling = refl }) in
-    at_pair (λ m r. IsBody ports names m × (text ≡ body_text ports names m ++ r)) a.0.0 body a.0.1 rest b.1 ((t.statements, some (length a.0.0) (eqb-false (length a.0.0) 0 b.0)), t.spelling)
+    let t = kept (line_step tops names) (BodyTaken tops names text) (body_keeps tops names text) [] text a.0.0 a.0.1 a.1 (record { lines = []; is = refl; are_lines = All-nil (IsLine tops names); spelling = refl }) in
+    at_pair (IsTaken tops names text) a.0.0 body a.0.1 rest b.1 (record {
+      lines = t.lines;
+      is = t.is;
+      is_body = (t.are_lines, some (length a.0.0) (length t.lines) (eqb-false (length a.0.0) 0 b.0) (ap length t.is ∙ length-map t.lines (λ (x : Line). x.statement)));
+      spelling = t.spelling;
+    })
   where
-    some : (n : ℕ) → (n ≡ 0 → ⊥) → 1 ≤ n
-    some n h = omega arith
+    some : (n m : ℕ) → (n ≡ 0 → ⊥) → n ≡ m → 1 ≤ m
+    some n m h e = omega arith
 
-module _ (ports names : List ℕ) (h : AreKnown ports names) where
-  lines_follow : (before body : List Statement) (rest : List ℕ) → All (IsStatement ports names) body → after (codes "    ") rest ≡ None
-      → looped (line_step ports names) before (body_text ports names body ++ rest) ≡ Some (before ++ body, rest)
-  lines_follow before [] rest s e = lines_end ports names before rest (looped (line_step ports names) before rest) e refl ∙ ap (λ (b : List Statement). Some (b, rest)) (sym (append-nil before))
-  lines_follow before (statement ∷ body) rest s e =
-      let text = body_text ports names body ++ rest in
-      let regrouped : body_text ports names (statement ∷ body) ++ rest ≡ statement_line ports names statement ++ text = append_assoc (statement_line ports names statement) (body_text ports names body) rest in
-      let one = line_again ports names before statement text h (All-head (IsStatement ports names) statement body s) in
-      let on = goes_on (line_step ports names) before (statement_line ports names statement ++ text) (looped (line_step ports names) before (statement_line ports names statement ++ text)) (lines_shorten ports names) (before ++ statement ∷ []) text one refl in
-      let ih = lines_follow (before ++ statement ∷ []) body rest (All-tail (IsStatement ports names) statement body s) e in
-      ap (looped (line_step ports names) before) regrouped ∙ sym on ∙ ih ∙ ap (λ (b : List Statement). Some (b, rest)) (append_assoc before (statement ∷ []) body)
+module _ (tops : List TopName) (names : List ℕ) (h : Differ names) where
+  lines_follow : (before : List Statement) (lines : List Line) (rest : List ℕ) → All (IsLine tops names) lines → after (codes "    ") rest ≡ None
+      → looped (line_step tops names) before (body_text names lines ++ rest) ≡ Some (before ++ statements lines, rest)
+  lines_follow before [] rest s e = lines_end tops names before rest (looped (line_step tops names) before rest) e refl ∙ ap (λ (b : List Statement). Some (b, rest)) (sym (append-nil before))
+  lines_follow before (l ∷ lines) rest s e =
+      let text = body_text names lines ++ rest in
+      let regrouped : body_text names (l ∷ lines) ++ rest ≡ line_text names l ++ text = append_assoc (line_text names l) (body_text names lines) rest in
+      let one = line_again tops names before l text h (All-head (IsLine tops names) l lines s) in
+      let on = goes_on (line_step tops names) before (line_text names l ++ text) (looped (line_step tops names) before (line_text names l ++ text)) (lines_shorten tops names) (before ++ l.statement ∷ []) text one refl in
+      let ih = lines_follow (before ++ l.statement ∷ []) lines rest (All-tail (IsLine tops names) l lines s) e in
+      ap (looped (line_step tops names) before) regrouped ∙ sym on ∙ ih ∙ ap (λ (b : List Statement). Some (b, rest)) (append_assoc before (l.statement ∷ []) (statements lines))
 
-  pub body_again : (body : List Statement) (rest : List ℕ) → IsBody ports names body → after (codes "    ") rest ≡ None → body_at ports names (body_text ports names body ++ rest) ≡ Some (body, rest)
-  body_again body rest b e = body_done ports names body (body_text ports names body ++ rest) rest (lines_follow [] body rest b.0 e) (λ n. omega (arith, b.1))
+  pub body_again : (lines : List Line) (rest : List ℕ) → IsBody tops names lines → after (codes "    ") rest ≡ None → body_at tops names (body_text names lines ++ rest) ≡ Some (statements lines, rest)
+  body_again lines rest b e =
+      body_done tops names (statements lines) (body_text names lines ++ rest) rest (lines_follow [] lines rest b.0 e) (λ n. omega (arith, b.1, length-map lines (λ (x : Line). x.statement)))

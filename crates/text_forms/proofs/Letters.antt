@@ -8,8 +8,12 @@ use Rattle.std.proofs.lemmas.List.{get_or_at, get_or_append_left, length-append}
 use Rattle.std.proofs.lemmas.List.Elements.{All-from_get_or}
 use Rattle.std.proofs.lemmas.List.Folds.{list_any_none}
 use Rattle.std.proofs.lemmas.List.Quantifiers.{all_pairs_push, position-Some}
-use Rattle.text_forms.specs.Front.{is_letter, letter_at, place_at}
-use Rattle.text_forms.specs.DesignForm.{IsLetter}
+use Rattle.text_forms.specs.Front.{◌>>=◌, is_letter, letter_at, place_at}
+use Rattle.text_forms.specs.TestsForm.{IsLetter, StandsFor}
+use Rattle.text_forms.specs.TestsReading.{signal_at}
+use Rattle.text_forms.specs.TopNames.{signal_of}
+use Rattle.text_forms.specs.declared.top_names.TopName.{TopName}
+use Rattle.gpi.specs.declared.types.SigId.{SigId}
 use Rattle.text_forms.proofs.Parts.{bind_some, if_some, at_pair}
 
 abbrev pub Differ : List ℕ → Type 0
@@ -68,3 +72,17 @@ letter_takes (x ∷ xs) b rest e =
     let p = if_some (is_letter x) (Some (x, xs)) (b, rest) e in
     let t = and_parts (leb 97 x) (leb x 122) p.0 in
     at_pair (λ c r. (x ∷ xs ≡ c ∷ r) × IsLetter c) x b xs rest p.1 (refl, (leb-true 97 x t.0, leb-true x 122 t.1))
+
+-- ---- the letter of a signal
+
+pub signal_takes : (tops : List TopName) (text : List ℕ) (sig : SigId) (rest : List ℕ) → signal_at tops text ≡ Some (sig, rest) → (letter : ℕ) × StandsFor tops letter sig × (text ≡ letter ∷ rest)
+unfolding signal_at
+signal_takes tops text sig rest e =
+    let a = bind_some (letter_at text) (λ l. signal_of l.0 tops >>= λ s. Some (s, l.1)) (sig, rest) e in
+    let b = bind_some (signal_of a.0.0 tops) (λ s. Some (s, a.0.1)) (sig, rest) a.2 in
+    let l = letter_takes text a.0.0 a.0.1 a.1 in
+    at_pair (λ s r. (letter : ℕ) × StandsFor tops letter s × (text ≡ letter ∷ r)) b.0 sig a.0.1 rest b.2 (a.0.0, (l.1, b.1), l.0)
+
+pub signal_again : (tops : List TopName) (letter : ℕ) (sig : SigId) (rest : List ℕ) → StandsFor tops letter sig → signal_at tops (letter ∷ rest) ≡ Some (sig, rest)
+unfolding signal_at
+signal_again tops letter sig rest h = rw (letter_again letter rest h.0, h.1) refl

@@ -2,7 +2,6 @@ pub mod Parts
 pub mod Loops
 pub mod Letters
 pub mod Numbers
-pub mod Designs
 pub mod Logs
 pub mod Bodies
 pub mod Functions
@@ -10,4 +9,4 @@ pub mod Renamed
 pub mod Files
 pub mod Within
 pub mod Runnable
-pub mod Flats
+mod Tops

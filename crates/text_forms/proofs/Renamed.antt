@@ -8,11 +8,10 @@ use Rattle.rig_model.specs.declared.file.Function.{Function}
 use Rattle.rig_model.specs.declared.file.Statement.{Statement}
 use Rattle.rig_model.specs.declared.file.Statement.TheVariants.{Write, Timer, Assert, StartSoon, Start, Info}
 use Rattle.text_forms.specs.Front.{after}
-use Rattle.text_forms.specs.DesignForm.{IsLetter, ArePorts}
-use Rattle.text_forms.specs.TestsForm.{IsStatement, statement_text, statement_line, IsBody, body_text, NamedFunction, names_of, bodies_of, AreNames, function_text, functions_text}
+use Rattle.text_forms.specs.declared.top_names.TopName.{TopName}
+use Rattle.text_forms.specs.TestsForm.{IsLetter, Line, IsStatement, statement_text, IsLine, line_text, IsBody, body_text, NamedFunction, names_of, bodies_of, AreNames, function_text, functions_text}
 use Rattle.text_forms.specs.TestsReading.{functions_at, all_letters}
 use Rattle.text_forms.proofs.Letters.{Differ}
-use Rattle.text_forms.proofs.Bodies.{AreKnown}
 use Rattle.text_forms.proofs.Functions.{IsOver, functions_follow}
 
 letter_of : (i : ℕ) → i < 26 → get_or all_letters i 0 ≡ 97 + i
@@ -44,58 +43,63 @@ renamed names (StartSoon func) = StartSoon (number_of names func)
 renamed names (Start func) = Start (number_of names func)
 renamed names (Info text) = Info text
 
+abbrev renamed_line : List ℕ → Line → Line
+renamed_line names l = record { statement = renamed names l.statement; letter = l.letter }
+
 abbrev renamed_function : List ℕ → NamedFunction → NamedFunction
-renamed_function names f = record { name = f.name; body = map (renamed names) f.body; spaced = f.spaced }
+renamed_function names f = record { name = f.name; lines = map (renamed_line names) f.lines; spaced = f.spaced }
 
-module _ (ports names : List ℕ) (letters : All IsLetter names) where
-  renamed_is : (statement : Statement) → IsStatement ports names statement → IsStatement ports all_letters (renamed names statement)
-  renamed_is (Write sig number) s = s
-  renamed_is (Timer steps) s = s
-  renamed_is (Assert sig number) s = s
-  renamed_is (StartSoon func) s = (same_letter names func letters s).0
-  renamed_is (Start func) s = (same_letter names func letters s).0
-  renamed_is (Info text) s = s
+module _ (tops : List TopName) (names : List ℕ) (letters : All IsLetter names) where
+  renamed_is : (letter : ℕ) (statement : Statement) → IsStatement tops names letter statement → IsStatement tops all_letters letter (renamed names statement)
+  renamed_is letter (Write sig number) s = s
+  renamed_is letter (Timer steps) s = s
+  renamed_is letter (Assert sig number) s = s
+  renamed_is letter (StartSoon func) s = (same_letter names func letters s).0
+  renamed_is letter (Start func) s = (same_letter names func letters s).0
+  renamed_is letter (Info text) s = s
 
-  renamed_text : (statement : Statement) → IsStatement ports names statement → statement_text ports names statement ≡ statement_text ports all_letters (renamed names statement)
-  renamed_text (Write sig number) s = refl
-  renamed_text (Timer steps) s = refl
-  renamed_text (Assert sig number) s = refl
-  renamed_text (StartSoon func) s = ap (λ (b : ℕ). codes "cocotb.start_soon(" ++ b ∷ codes "(dut))") (sym (same_letter names func letters s).1)
-  renamed_text (Start func) s = ap (λ (b : ℕ). codes "await cocotb.start(" ++ b ∷ codes "(dut))") (sym (same_letter names func letters s).1)
-  renamed_text (Info text) s = refl
+  line_is : (l : Line) → IsLine tops names l → IsLine tops all_letters (renamed_line names l)
+  line_is l s = renamed_is l.letter l.statement s
 
-  body_same : (body : List Statement) → All (IsStatement ports names) body → body_text ports names body ≡ body_text ports all_letters (map (renamed names) body)
+  renamed_text : (letter : ℕ) (statement : Statement) → IsStatement tops names letter statement → statement_text names letter statement ≡ statement_text all_letters letter (renamed names statement)
+  renamed_text letter (Write sig number) s = refl
+  renamed_text letter (Timer steps) s = refl
+  renamed_text letter (Assert sig number) s = refl
+  renamed_text letter (StartSoon func) s = ap (λ (b : ℕ). codes "cocotb.start_soon(" ++ b ∷ codes "(dut))") (sym (same_letter names func letters s).1)
+  renamed_text letter (Start func) s = ap (λ (b : ℕ). codes "await cocotb.start(" ++ b ∷ codes "(dut))") (sym (same_letter names func letters s).1)
+  renamed_text letter (Info text) s = refl
+
+  body_same : (lines : List Line) → All (IsLine tops names) lines → body_text names lines ≡ body_text all_letters (map (renamed_line names) lines)
   body_same [] s = refl
-  body_same (statement ∷ body) s =
-      ap (λ (x : List ℕ). (codes "    " ++ x ++ 10 ∷ []) ++ body_text ports names body) (renamed_text statement (All-head (IsStatement ports names) statement body s))
-      ∙ ap (λ (x : List ℕ). statement_line ports all_letters (renamed names statement) ++ x) (body_same body (All-tail (IsStatement ports names) statement body s))
+  body_same (l ∷ lines) s =
+      ap (λ (x : List ℕ). (codes "    " ++ x ++ 10 ∷ []) ++ body_text names lines) (renamed_text l.letter l.statement (All-head (IsLine tops names) l lines s))
+      ∙ ap (λ (x : List ℕ). line_text all_letters (renamed_line names l) ++ x) (body_same lines (All-tail (IsLine tops names) l lines s))
 
-  body_is : (body : List Statement) → IsBody ports names body → IsBody ports all_letters (map (renamed names) body)
-  body_is body b =
-      (All-map (IsStatement ports all_letters) (renamed names) body (All-weaker (IsStatement ports names) (λ s. IsStatement ports all_letters (renamed names s)) renamed_is body b.0), omega (arith, b.1, length-map body (renamed names)))
+  body_is : (lines : List Line) → IsBody tops names lines → IsBody tops all_letters (map (renamed_line names) lines)
+  body_is lines b =
+      (All-map (IsLine tops all_letters) (renamed_line names) lines (All-weaker (IsLine tops names) (λ l. IsLine tops all_letters (renamed_line names l)) line_is lines b.0), omega (arith, b.1, length-map lines (renamed_line names)))
 
-  functions_same : (functions : List NamedFunction) → All (λ f. IsBody ports names f.body) functions → functions_text ports names functions ≡ functions_text ports all_letters (map (renamed_function names) functions)
+  functions_same : (functions : List NamedFunction) → All (λ f. IsBody tops names f.lines) functions → functions_text names functions ≡ functions_text all_letters (map (renamed_function names) functions)
   functions_same [] b = refl
   functions_same (f ∷ functions) b =
-      ap (λ (x : List ℕ). (codes "async def " ++ f.name ∷ codes "(dut):" ++ 10 ∷ x ++ cond f.spaced (10 ∷ []) []) ++ functions_text ports names functions) (body_same f.body (All-head (λ g. IsBody ports names g.body) f functions b).0)
-      ∙ ap (λ (x : List ℕ). function_text ports all_letters (renamed_function names f) ++ x) (functions_same functions (All-tail (λ g. IsBody ports names g.body) f functions b))
+      ap (λ (x : List ℕ). (codes "async def " ++ f.name ∷ codes "(dut):" ++ 10 ∷ x ++ cond f.spaced (10 ∷ []) []) ++ functions_text names functions) (body_same f.lines (All-head (λ g. IsBody tops names g.lines) f functions b).0)
+      ∙ ap (λ (x : List ℕ). function_text all_letters (renamed_function names f) ++ x) (functions_same functions (All-tail (λ g. IsBody tops names g.lines) f functions b))
 
-  functions_are : (functions : List NamedFunction) → All (λ f. IsBody ports names f.body) functions → All (λ f. IsBody ports all_letters f.body) (map (renamed_function names) functions)
+  functions_are : (functions : List NamedFunction) → All (λ f. IsBody tops names f.lines) functions → All (λ f. IsBody tops all_letters f.lines) (map (renamed_function names) functions)
   functions_are functions b =
-      All-map (λ f. IsBody ports all_letters f.body) (renamed_function names) functions
-      (All-weaker (λ f. IsBody ports names f.body) (λ f. IsBody ports all_letters (map (renamed names) f.body)) (λ f. body_is f.body) functions b)
+      All-map (λ f. IsBody tops all_letters f.lines) (renamed_function names) functions
+      (All-weaker (λ f. IsBody tops names f.lines) (λ f. IsBody tops all_letters (map (renamed_line names) f.lines)) (λ f. body_is f.lines) functions b)
 
   names_same : (functions : List NamedFunction) → names_of (map (renamed_function names) functions) ≡ names_of functions
   names_same [] = refl
   names_same (f ∷ functions) = ap (λ (x : List ℕ). f.name ∷ x) (names_same functions)
 
 -- the first reading finds the names, whatever numbers its calls have
-pub names_found : (ports names : List ℕ) (functions : List NamedFunction) (rest : List ℕ) → ArePorts ports → All IsLetter names → AreNames (names_of functions) → All (λ f. IsBody ports names f.body) functions
+pub names_found : (tops : List TopName) (names : List ℕ) (functions : List NamedFunction) (rest : List ℕ) → All IsLetter names → AreNames (names_of functions) → All (λ f. IsBody tops names f.lines) functions
     → IsOver rest → after (codes "async def ") rest ≡ None
-    → (bodies : List Function) × (functions_at ports all_letters (functions_text ports names functions ++ rest) ≡ Some ((bodies, names_of functions), rest))
-names_found ports names functions rest p letters n b o e =
+    → (bodies : List Function) × (functions_at tops all_letters (functions_text names functions ++ rest) ≡ Some ((bodies, names_of functions), rest))
+names_found tops names functions rest letters n b o e =
     let made = map (renamed_function names) functions in
-    let same : names_of made ≡ names_of functions = names_same ports names letters functions in
-    let known : AreKnown ports all_letters = record { letters = p.letters; ports_differ = p.differ; names_differ = letters_differ } in
-    let read = functions_follow ports all_letters known ([], []) made rest (subst (λ (x : List ℕ). All (λ y. IsLetter y × (y ≡ 116 → ⊥)) x) (sym same) n.letters) (subst Differ (sym same) n.differ) (functions_are ports names letters functions b) o e in
-    (bodies_of made, ap (λ (x : List ℕ). functions_at ports all_letters (x ++ rest)) (functions_same ports names letters functions b) ∙ read ∙ ap (λ (x : List ℕ). Some ((bodies_of made, x), rest)) same)
+    let same : names_of made ≡ names_of functions = names_same tops names letters functions in
+    let read = functions_follow tops all_letters letters_differ ([], []) made rest (subst (λ (x : List ℕ). All (λ y. IsLetter y × (y ≡ 116 → ⊥)) x) (sym same) n.letters) (subst Differ (sym same) n.differ) (functions_are tops names letters functions b) o e in
+    (bodies_of made, ap (λ (x : List ℕ). functions_at tops all_letters (x ++ rest)) (functions_same tops names letters functions b) ∙ read ∙ ap (λ (x : List ℕ). Some ((bodies_of made, x), rest)) same)

@@ -2,6 +2,8 @@
 use Rattle.std.proofs.Common.{◌≡◌, ℕ, ◌<◌, List, [], ◌∷◌, length, All, ap, subst}
 use Rattle.std.specs.Prelude.{codes}
 use Rattle.std.proofs.lemmas.List.Elements.{All-head, All-tail}
+use Rattle.gpi.specs.Soundness.{IsSoundFlat}
+use Rattle.gpi.specs.declared.design.Flat.{Flat}
 use Rattle.rig_model.specs.Sound.{Bounds, IsSoundStatement, AreSoundStatements, AreSoundFunctions, AreSoundCases, IsSoundFile}
 use Rattle.rig_model.specs.declared.file.Function.{Function}
 use Rattle.rig_model.specs.declared.file.Statement.{Statement}
@@ -38,22 +40,22 @@ sound_cases : (count : ℕ) (cs : List TestCase) → All (λ (c : TestCase). c.f
 sound_cases count [] w = tt
 sound_cases count (c ∷ cs) w = (All-head (λ (x : TestCase). x.func < count) c cs w, sound_cases count cs (All-tail (λ (x : TestCase). x.func < count) c cs w))
 
-pub sound_file : (ports text : List ℕ) (file : TestFile) → IsTests ports text file → IsSoundFile (length ports) file
-sound_file ports text file t =
-    let w : FileIsWithin (length ports) file = within ports text file t in
+pub sound_file : (flat : Flat) (text : List ℕ) (file : TestFile) → IsSoundFlat flat → IsTests flat text file → IsSoundFile (length flat.signals) file
+sound_file flat text file sound t =
+    let w : FileIsWithin (length flat.signals) file = within flat text file sound t in
     record {
-      functions = sound_functions (length ports) (length file.functions) file.functions w.statements;
+      functions = sound_functions (length flat.signals) (length file.functions) file.functions w.statements;
       cases = sound_cases (length file.functions) file.cases w.cases;
     }
 
-pub one_test : (ports text : List ℕ) (file : TestFile) → IsTests ports text file → IsOneTest (length ports) file
-one_test ports text file t =
-    let w : FileIsWithin (length ports) file = within ports text file t in
+pub one_test : (flat : Flat) (text : List ℕ) (file : TestFile) → IsSoundFlat flat → IsTests flat text file → IsOneTest (length flat.signals) file
+one_test flat text file sound t =
+    let w : FileIsWithin (length flat.signals) file = within flat text file sound t in
     let case : TestCase = record { name = codes "t"; func = length (bodies_of t.functions) } in
     let cases : file.cases ≡ case ∷ [] = ap (λ (f : TestFile). f.cases) t.is_file in
     record {
       case = case;
       is_case = cases;
       func = All-head (λ (c : TestCase). c.func < length file.functions) case [] (subst (λ (cs : List TestCase). All (λ (c : TestCase). c.func < length file.functions) cs) cases w.cases);
-      sound = (sound_file ports text file t).functions;
+      sound = (sound_file flat text file sound t).functions;
     }

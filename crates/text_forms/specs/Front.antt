@@ -1,6 +1,6 @@
--- Reading at the front of a text: a part is read as a value and the text behind it, or is of another form.
--- The readers here and in DesignReading and TestsReading are what the code's private functions are proved against. What a text is, say
--- DesignForm and TestsForm alone: public contracts cite nothing of the readers.
+-- A means of proof: reading at the front of a text. A part is read as a value and the text behind it, or is of another form.
+-- The readers here and in TestsReading are what the code's private functions are proved against. What a text is, says TestsForm alone:
+-- public contracts cite nothing of the readers.
 use Rattle.std.specs.Prelude.{◌≡◌, ℕ, ◌+◌, ◌-◌, ◌*◌, Bool, false, ◌&&◌, List, [], ◌∷◌, zero, suc, length, Option, None, Some, Result, Ok, Err, nat_le, ◌==◌, if◌then◌else◌}
 use Rattle.std.specs.List.{position}
 use Rattle.text_forms.specs.declared.front.FormError.{FormError}

@@ -1,5 +1,4 @@
-pub mod Front
-pub mod DesignForm
-pub mod DesignReading
+pub mod TopNames
 pub mod TestsForm
+pub mod Front
 pub mod TestsReading

@@ -1,15 +1,18 @@
 -- What text a tests file is, and what it spells.
-use Rattle.std.specs.Prelude.{◌≡◌, ◌≢◌, ◌⊎◌, ℕ, ◌≤◌, ◌<◌, Bool, List, [], ◌∷◌, ◌++◌, length, map, All, codes, slice_index, if◌then◌else◌}
+use Rattle.std.specs.Prelude.{◌≡◌, ◌≢◌, ◌⊎◌, ℕ, ◌≤◌, ◌<◌, Bool, List, [], ◌∷◌, ◌++◌, length, map, All, Some, codes, slice_index, if◌then◌else◌}
 use Rattle.std.specs.List.{AllPairs, flat_map}
 use Rattle.std.specs.Fmt.{decimal}
 use Rattle.port_io.specs.Limits.{most_bytes}
+use Rattle.gpi.specs.declared.design.Flat.{Flat}
+use Rattle.gpi.specs.declared.types.SigId.{SigId}
 use Rattle.rig_model.specs.Sound.{AreSoundFunctions}
 use Rattle.rig_model.specs.declared.file.Function.{Function}
 use Rattle.rig_model.specs.declared.file.Statement.{Statement}
 use Rattle.rig_model.specs.declared.file.Statement.TheVariants.{Write, Timer, Assert, StartSoon, Start, Info}
 use Rattle.rig_model.specs.declared.file.TestCase.{TestCase}
 use Rattle.rig_model.specs.declared.file.TestFile.{TestFile}
-use Rattle.text_forms.specs.DesignForm.{IsLetter}
+use Rattle.text_forms.specs.TopNames.{signal_of, top_names}
+use Rattle.text_forms.specs.declared.top_names.TopName.{TopName}
 
 -- the largest number of steps that a Timer takes
 abbrev pub most_steps : ℕ
@@ -19,6 +22,10 @@ most_steps = 1000000
 abbrev pub most_text : ℕ
 most_text = 80
 
+-- a letter from a to z
+abbrev pub IsLetter : ℕ → Type 0
+IsLetter b = (97 ≤ b) × (b ≤ 122)
+
 -- a letter, small or large, or a space
 abbrev pub IsTextByte : ℕ → Type 0
 IsTextByte b = IsLetter b ⊎ (((65 ≤ b) × (b ≤ 90)) ⊎ (b ≡ 32))
@@ -27,75 +34,96 @@ IsTextByte b = IsLetter b ⊎ (((65 ≤ b) × (b ≤ 90)) ⊎ (b ≡ 32))
 abbrev pub head_text : List ℕ
 head_text = codes "import cocotb" ++ 10 ∷ codes "from cocotb.triggers import Timer" ++ 10 ∷ 10 ∷ []
 
--- ports are the letters of the design's ports, and names those of the functions that stand before the test, each in order
-module _ (ports names : List ℕ) where
+-- the letter stands for this signal, by the names of the top module
+abbrev pub StandsFor : List TopName → ℕ → SigId → Type 0
+StandsFor tops letter sig = IsLetter letter × (signal_of letter tops ≡ Some sig)
+
+-- a line of a body: what it says, and the letter by which it names a signal; of a line that names none the letter says nothing
+pub record Line : Type 0 where
+  pub statement : Statement
+  pub letter : ℕ
+
+abbrev pub statements : List Line → List Statement
+statements lines = map (λ (l : Line). l.statement) lines
+
+-- tops are the names of one letter of the top module, and names those of the functions that stand before the test, each in order
+module _ (tops : List TopName) (names : List ℕ) where
   -- what a line of a body can say
-  abbrev pub IsStatement : Statement → Type 0
-  IsStatement (Write sig number) = (sig.0 < length ports) × (number ≤ 255)
-  IsStatement (Timer steps) = (1 ≤ steps) × (steps ≤ most_steps)
-  IsStatement (Assert sig number) = (sig.0 < length ports) × (number ≤ 255)
-  IsStatement (StartSoon func) = func < length names
-  IsStatement (Start func) = func < length names
-  IsStatement (Info text) = (length text ≤ most_text) × All IsTextByte text
+  abbrev pub IsStatement : ℕ → Statement → Type 0
+  IsStatement letter (Write sig number) = StandsFor tops letter sig × (number ≤ 255)
+  IsStatement letter (Timer steps) = (1 ≤ steps) × (steps ≤ most_steps)
+  IsStatement letter (Assert sig number) = StandsFor tops letter sig × (number ≤ 255)
+  IsStatement letter (StartSoon func) = func < length names
+  IsStatement letter (Start func) = func < length names
+  IsStatement letter (Info text) = (length text ≤ most_text) × All IsTextByte text
 
-  -- without its spaces and its line feed
-  abbrev pub statement_text : Statement → List ℕ
-  statement_text (Write sig number) = codes "dut." ++ slice_index ports sig.0 ∷ codes ".value = " ++ decimal number
-  statement_text (Timer steps) = codes "await Timer(" ++ decimal steps ++ codes ", \"step\")"
-  statement_text (Assert sig number) = codes "assert dut." ++ slice_index ports sig.0 ∷ codes ".value == " ++ decimal number
-  statement_text (StartSoon func) = codes "cocotb.start_soon(" ++ slice_index names func ∷ codes "(dut))"
-  statement_text (Start func) = codes "await cocotb.start(" ++ slice_index names func ∷ codes "(dut))"
-  statement_text (Info text) = codes "dut._log.info(\"" ++ text ++ codes "\")"
-
-  abbrev pub statement_line : Statement → List ℕ
-  statement_line statement = codes "    " ++ statement_text statement ++ 10 ∷ []
+  abbrev pub IsLine : Line → Type 0
+  IsLine line = IsStatement line.letter line.statement
 
   -- one line or more
-  abbrev pub IsBody : List Statement → Type 0
-  IsBody body = All IsStatement body × (1 ≤ length body)
+  abbrev pub IsBody : List Line → Type 0
+  IsBody lines = All IsLine lines × (1 ≤ length lines)
 
-  abbrev pub body_text : List Statement → List ℕ
-  body_text body = flat_map statement_line body
+module _ (names : List ℕ) where
+  -- without its spaces and its line feed
+  abbrev pub statement_text : ℕ → Statement → List ℕ
+  statement_text letter (Write sig number) = codes "dut." ++ letter ∷ codes ".value = " ++ decimal number
+  statement_text letter (Timer steps) = codes "await Timer(" ++ decimal steps ++ codes ", \"step\")"
+  statement_text letter (Assert sig number) = codes "assert dut." ++ letter ∷ codes ".value == " ++ decimal number
+  statement_text letter (StartSoon func) = codes "cocotb.start_soon(" ++ slice_index names func ∷ codes "(dut))"
+  statement_text letter (Start func) = codes "await cocotb.start(" ++ slice_index names func ∷ codes "(dut))"
+  statement_text letter (Info text) = codes "dut._log.info(\"" ++ text ++ codes "\")"
 
-  abbrev pub test_text : List Statement → List ℕ
-  test_text body = codes "@cocotb.test()" ++ 10 ∷ codes "async def t(dut):" ++ 10 ∷ body_text body
+  abbrev pub line_text : Line → List ℕ
+  line_text line = codes "    " ++ statement_text line.letter line.statement ++ 10 ∷ []
 
--- a function that stands before the test: its letter, its body, and whether an empty line follows
+  abbrev pub body_text : List Line → List ℕ
+  body_text lines = flat_map line_text lines
+
+  abbrev pub test_text : List Line → List ℕ
+  test_text lines = codes "@cocotb.test()" ++ 10 ∷ codes "async def t(dut):" ++ 10 ∷ body_text lines
+
+-- a function that stands before the test: its letter, its lines, and whether an empty line follows
 pub record NamedFunction : Type 0 where
   pub name : ℕ
-  pub body : List Statement
+  pub lines : List Line
   pub spaced : Bool
 
 abbrev pub names_of : List NamedFunction → List ℕ
-names_of functions = map (λ f. f.name) functions
+names_of functions = map (λ (f : NamedFunction). f.name) functions
 
 -- letters from a to z other than t, none of them twice
 pub record AreNames (names : List ℕ) : Type 0 where
   pub letters : All (λ name. IsLetter name × (name ≢ 116)) names
   pub differ : AllPairs (λ a b. a ≢ b) names
 
-abbrev pub function_text : List ℕ → List ℕ → NamedFunction → List ℕ
-function_text ports names f = codes "async def " ++ f.name ∷ codes "(dut):" ++ 10 ∷ body_text ports names f.body ++ (if f.spaced then 10 ∷ [] else [])
+abbrev pub function_text : List ℕ → NamedFunction → List ℕ
+function_text names f = codes "async def " ++ f.name ∷ codes "(dut):" ++ 10 ∷ body_text names f.lines ++ (if f.spaced then 10 ∷ [] else [])
 
-abbrev pub functions_text : List ℕ → List ℕ → List NamedFunction → List ℕ
-functions_text ports names functions = flat_map (function_text ports names) functions
+abbrev pub functions_text : List ℕ → List NamedFunction → List ℕ
+functions_text names functions = flat_map (function_text names) functions
 
 -- the test function is the last one, and there is one test
 abbrev pub file_with : List Function → List Statement → TestFile
 file_with functions body = record { functions = functions ++ record { body = body } ∷ []; cases = record { name = codes "t"; func = length functions } ∷ [] }
 
 abbrev pub bodies_of : List NamedFunction → List Function
-bodies_of functions = map (λ f. record { body = f.body }) functions
+bodies_of functions = map (λ (f : NamedFunction). record { body = statements f.lines }) functions
 
-pub record IsTests (ports text : List ℕ) (file : TestFile) : Type 0 where
+-- The text spells the file, by these names of the top module.
+pub record Spells (tops : List TopName) (text : List ℕ) (file : TestFile) : Type 0 where
   pub functions : List NamedFunction
-  pub body : List Statement
+  pub lines : List Line
   pub are_names : AreNames (names_of functions)
-  pub are_bodies : All (λ f. IsBody ports (names_of functions) f.body) functions
-  pub is_body : IsBody ports (names_of functions) body
-  pub spelling : text ≡ head_text ++ functions_text ports (names_of functions) functions ++ test_text ports (names_of functions) body
+  pub are_bodies : All (λ (f : NamedFunction). IsBody tops (names_of functions) f.lines) functions
+  pub is_body : IsBody tops (names_of functions) lines
+  pub spelling : text ≡ head_text ++ functions_text (names_of functions) functions ++ test_text (names_of functions) lines
   pub size : length text ≤ most_bytes
-  pub is_file : file ≡ file_with (bodies_of functions) body
+  pub is_file : file ≡ file_with (bodies_of functions) (statements lines)
+
+-- The text spells the file, for tests of this design.
+abbrev pub IsTests : Flat → List ℕ → TestFile → Type 0
+IsTests flat text file = Spells (top_names flat) text file
 
 -- the numbers of a statement are those of signals and functions that there are
 abbrev pub IsWithin : ℕ → ℕ → Statement → Type 0

@@ -1,4 +1,4 @@
--- A tests file read from left to right.
+-- A means of proof: a tests file read from left to right.
 use Rattle.std.specs.Prelude.{ℕ, Bool, ◌||◌, ◌&&◌, List, [], ◌∷◌, ◌++◌, length, take, drop, Option, Some, None, codes, nat_le, ◌==◌, if◌then◌else◌}
 use Rattle.std.specs.List.{list_any, prefix_len}
 use Rattle.rig_model.specs.declared.file.Function.{Function}
@@ -6,6 +6,9 @@ use Rattle.rig_model.specs.declared.file.Statement.{Statement}
 use Rattle.rig_model.specs.declared.file.Statement.TheVariants.{Write, Timer, Assert, StartSoon, Start, Info}
 use Rattle.rig_model.specs.declared.file.TestFile.{TestFile}
 use Rattle.text_forms.specs.Front.{◌>>=◌, after, by_front, is_letter, letter_at, place_at, number_at, stepped, looped}
+use Rattle.gpi.specs.declared.types.SigId.{SigId}
+use Rattle.text_forms.specs.TopNames.{signal_of}
+use Rattle.text_forms.specs.declared.top_names.TopName.{TopName}
 use Rattle.port_io.specs.Limits.{most_bytes}
 use Rattle.text_forms.specs.TestsForm.{head_text, most_text, file_with}
 
@@ -15,24 +18,31 @@ byte_at text = do
   number ← number_at text
   if nat_le number.0 255 then Some number else None
 
--- a port's number, the text between, a byte and the line's end
-unfoldable pub assigned_at : List ℕ → List ℕ → List ℕ → Option ((ℕ × ℕ) × List ℕ)
-assigned_at ports between text = do
-  port ← place_at ports text
-  rest ← after between port.1
+-- the signal that the letter at the front stands for
+unfoldable pub signal_at : List TopName → List ℕ → Option (SigId × List ℕ)
+signal_at tops text = do
+  letter ← letter_at text
+  sig ← signal_of letter.0 tops
+  Some (sig, letter.1)
+
+-- a signal, the text between, a byte and the line's end
+unfoldable pub assigned_at : List TopName → List ℕ → List ℕ → Option ((SigId × ℕ) × List ℕ)
+assigned_at tops between text = do
+  sig ← signal_at tops text
+  rest ← after between sig.1
   number ← byte_at rest
   rest ← after (10 ∷ []) number.1
-  Some ((port.0, number.0), rest)
+  Some ((sig.0, number.0), rest)
 
-unfoldable pub write_at : List ℕ → List ℕ → Option (Statement × List ℕ)
-write_at ports text = do
-  x ← assigned_at ports (codes ".value = ") text
-  Some (Write (record { 0 = x.0.0 }) x.0.1, x.1)
+unfoldable pub write_at : List TopName → List ℕ → Option (Statement × List ℕ)
+write_at tops text = do
+  x ← assigned_at tops (codes ".value = ") text
+  Some (Write x.0.0 x.0.1, x.1)
 
-unfoldable pub assert_at : List ℕ → List ℕ → Option (Statement × List ℕ)
-assert_at ports text = do
-  x ← assigned_at ports (codes ".value == ") text
-  Some (Assert (record { 0 = x.0.0 }) x.0.1, x.1)
+unfoldable pub assert_at : List TopName → List ℕ → Option (Statement × List ℕ)
+assert_at tops text = do
+  x ← assigned_at tops (codes ".value == ") text
+  Some (Assert x.0.0 x.0.1, x.1)
 
 unfoldable pub timer_at : List ℕ → Option (Statement × List ℕ)
 timer_at text = do
@@ -72,21 +82,21 @@ info_at text =
     else None
 
 -- a line behind its four spaces
-unfoldable pub statement_at : List ℕ → List ℕ → List ℕ → Option (Statement × List ℕ)
-statement_at ports names text =
+unfoldable pub statement_at : List TopName → List ℕ → List ℕ → Option (Statement × List ℕ)
+statement_at tops names text =
     by_front (after (codes "dut._log.info(\"") text) info_at (
-    by_front (after (codes "dut.") text) (write_at ports) (
+    by_front (after (codes "dut.") text) (write_at tops) (
     by_front (after (codes "await Timer(") text) timer_at (
-    by_front (after (codes "assert dut.") text) (assert_at ports) (
+    by_front (after (codes "assert dut.") text) (assert_at tops) (
     by_front (after (codes "cocotb.start_soon(") text) (start_soon_at names) (
     by_front (after (codes "await cocotb.start(") text) (start_at names) None)))))
 
-unfoldable pub line_step : List ℕ → List ℕ → List Statement → List ℕ → Option (Option (List Statement × List ℕ))
-line_step ports names body text = stepped (after (codes "    ") text) (λ line. statement_at ports names line >>= λ x. Some (body ++ x.0 ∷ [], x.1))
+unfoldable pub line_step : List TopName → List ℕ → List Statement → List ℕ → Option (Option (List Statement × List ℕ))
+line_step tops names body text = stepped (after (codes "    ") text) (λ line. statement_at tops names line >>= λ x. Some (body ++ x.0 ∷ [], x.1))
 
-unfoldable pub body_at : List ℕ → List ℕ → List ℕ → Option (List Statement × List ℕ)
-body_at ports names text = do
-  body ← looped (line_step ports names) [] text
+unfoldable pub body_at : List TopName → List ℕ → List ℕ → Option (List Statement × List ℕ)
+body_at tops names text = do
+  body ← looped (line_step tops names) [] text
   if length body.0 == 0 then None else Some body
 
 -- these names and that of one more function, which is none of them and not t
@@ -105,35 +115,35 @@ abbrev pub past_empty_line : List ℕ → List ℕ
 past_empty_line text = past_line text (after (10 ∷ []) text)
 
 -- the functions so far and their names, and one more
-unfoldable pub function_at : List ℕ → List ℕ → List Function × List ℕ → List ℕ → Option ((List Function × List ℕ) × List ℕ)
-function_at ports names before text = do
+unfoldable pub function_at : List TopName → List ℕ → List Function × List ℕ → List ℕ → Option ((List Function × List ℕ) × List ℕ)
+function_at tops names before text = do
   name ← name_at before.1 text
-  body ← body_at ports names name.1
+  body ← body_at tops names name.1
   Some ((before.0 ++ record { body = body.0 } ∷ [], name.0), past_empty_line body.1)
 
-unfoldable pub function_step : List ℕ → List ℕ → List Function × List ℕ → List ℕ → Option (Option ((List Function × List ℕ) × List ℕ))
-function_step ports names before text = stepped (after (codes "async def ") text) (function_at ports names before)
+unfoldable pub function_step : List TopName → List ℕ → List Function × List ℕ → List ℕ → Option (Option ((List Function × List ℕ) × List ℕ))
+function_step tops names before text = stepped (after (codes "async def ") text) (function_at tops names before)
 
 -- the functions before the test, where the lines call those of these names
-abbrev pub functions_at : List ℕ → List ℕ → List ℕ → Option ((List Function × List ℕ) × List ℕ)
-functions_at ports names text = looped (function_step ports names) ([], []) text
+abbrev pub functions_at : List TopName → List ℕ → List ℕ → Option ((List Function × List ℕ) × List ℕ)
+functions_at tops names text = looped (function_step tops names) ([], []) text
 
 abbrev pub all_letters : List ℕ
 all_letters = codes "abcdefghijklmnopqrstuvwxyz"
 
 -- the functions and the test, where these are the functions' names
-unfoldable pub file_at : List ℕ → List ℕ → List ℕ → Option TestFile
-file_at ports names text = do
-  found ← functions_at ports names text
+unfoldable pub file_at : List TopName → List ℕ → List ℕ → Option TestFile
+file_at tops names text = do
+  found ← functions_at tops names text
   rest ← after (codes "@cocotb.test()" ++ 10 ∷ codes "async def t(dut):" ++ 10 ∷ []) found.1
-  body ← body_at ports names rest
+  body ← body_at tops names rest
   if length body.1 == 0 then Some (file_with found.0.0 body.0) else None
 
 -- a function can be called above its own lines: the names are read first, where any letter can be called
-unfoldable pub tests_of : List ℕ → List ℕ → Option TestFile
-tests_of ports text =
+unfoldable pub tests_of : List TopName → List ℕ → Option TestFile
+tests_of tops text =
     if nat_le (length text) most_bytes then (do
       rest ← after head_text text
-      first ← functions_at ports all_letters rest
-      file_at ports first.0.1 rest)
+      first ← functions_at tops all_letters rest
+      file_at tops first.0.1 rest)
     else None

@@ -1,10 +1,9 @@
-//! The forms of texts that run today: `read_design` reads a module of ports alone, and `read_tests` a tests file with one test.
-//! `flat_of_ports` makes the design that is simulated.
+//! The form of tests files that runs today: `read_tests` reads one with one test, for a design.
 #![tactic(auto)]
 
-mod design_form;
 mod front;
 mod tests_form;
+mod top_names;
 
-pub use design_form::{design_is_sound, flat_of_ports, one_design, read_design};
 pub use tests_form::{file_is_sound, file_is_within, one_tests_file, read_tests};
+pub use top_names::TopName;

@@ -1,5 +1,5 @@
 use Rattle.std.proofs.Common.{◌≡◌, ◌&&◌, ◌||◌, Bool, true, false, not, if◌then◌else◌, List, [], ◌∷◌, refl, ap, ◌∙◌, subst}
-use Rattle.gpi.specs.Content.{Content, opening}
+use Rattle.gpi.specs.Content.{Content}
 use Rattle.gpi.specs.Keys.{among, has, same_key}
 use Rattle.gpi.specs.declared.types.Counts.{Counts}
 use Rattle.gpi.specs.declared.types.Key.{Key}
@@ -44,7 +44,7 @@ pub returns : goal.returns
 returns g c = record {
   held = g.K.Gpi.content c.hold.new.kernel;
   registers = subst (λ (k : Content). Registers k (g.K.Gpi.content c.hold.new.kernel) ReadWrite)
-      (c.in_ok-load.ensures.opening ∙ ap opening c.in_ok-flat.ensures.is) c.in_ok-hold.ensures.registers;
+      c.in_ok-load.ensures.opening c.in_ok-hold.ensures.registers;
   unregisters = unregisters_alone (g.K.Gpi.content c.hold.new.kernel) (g.K.Gpi.content c.release.new.kernel) ReadWrite _
       (let_go c.release.new.self.waiting.items c.hold.new.self.held.items c.release.new.self.held.items
       (c.release.ensures.waiting ∙ c.in_ok-hold.ensures.waiting ∙ c.new-awaits.ensures.waiting) c.release.ensures.held)

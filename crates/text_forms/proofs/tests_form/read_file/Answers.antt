@@ -13,7 +13,7 @@ returns-then-not-is_empty c =
 
 pub file_of_test-requires : goal.file_of_test-requires
 file_of_test-requires c =
-    let few = found_few c.args.ports.now c.args.names.now c.args.text.now (c.in_ok-functions.functions, c.in_ok-functions.field-0-1.items) c.in_ok-functions.rest.now c.in_ok-functions.ensures in
+    let few = found_few c.args.tops.now c.args.names.now c.args.text.now (c.in_ok-functions.functions, c.in_ok-functions.field-0-1.items) c.in_ok-functions.rest.now c.in_ok-functions.ensures in
     omega (arith, few.0)
 
 pub returns : goal.returns

@@ -1,4 +1,4 @@
-use Rattle.std.proofs.Common.{◌≡◌, ◌+◌, ◌∷◌, List, sym, subst, drop, arith}
+use Rattle.std.proofs.Common.{◌≡◌, ◌+◌, ◌∷◌, List, subst, drop, arith}
 use Rattle.gpi.specs.declared.types.Key.{Key}
 use Rattle.plain_task.specs.Left.{IsLeft}
 use Rattle.plain_task.proofs.Naming.{held_next, left_less}

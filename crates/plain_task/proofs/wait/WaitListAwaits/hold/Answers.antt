@@ -1,8 +1,6 @@
-use Rattle.std.proofs.Common.{◌≡◌, ◌∙◌, ap, sym, Bool, if◌then◌else◌}
-use Rattle.gpi.specs.Keys.{has}
+use Rattle.std.proofs.Common.{◌∙◌, ap, sym, Bool, if◌then◌else◌}
 use Rattle.gpi.specs.declared.types.Counts.{Counts}
 use Rattle.rig_model.specs.Counts.{raised_times}
-use Rattle.rig_model.specs.Keys.{AreAlike}
 use Rattle.rig_model.proofs.KeyLaws.{alike_push, named_unheld}
 use Rattle.plain_task.proofs.wait.WaitListAwaits.hold.Goals as goal
 

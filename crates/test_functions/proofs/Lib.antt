@@ -1,0 +1,4 @@
+pub mod Ordered
+pub mod Found
+pub mod Named
+pub mod Copied

@@ -1,0 +1,58 @@
+//! All functions of a file.
+
+ghost use Rattle.std.specs.Prelude.{◌≡◌, map, IfOk};
+ghost use Rattle.py_syntax.specs.BlockTrees.{view_module};
+ghost use Rattle.test_body.specs.Views.{view_function};
+ghost use Rattle.test_functions.specs.Inside.{file_of_whole};
+ghost use Rattle.test_meaning.specs.Library.{functions};
+ghost use Rattle.test_rules.specs.File.{file_of};
+
+use crate::clock::clock_start;
+use crate::function::function;
+use crate::{Whole, function_numbers};
+use port_io::{NoMemory, Sequence};
+use py_syntax::{Module, ModuleItem};
+use std::alloc::Global;
+use test_body::Function;
+use test_definitions::{Kind, table};
+use test_values::{ModuleValues, literal_places};
+
+/// The functions of a module by number, and `Clock.start` behind them. Only want of memory is an error.
+fn functions_of(alloc: Global, whole: &Whole<'_, '_>) -> Result<Sequence<Function>, NoMemory>
+    ensures { IfOk result (λ made. map view_function made ≡ functions (file_of_whole whole.now)) }
+{
+    let mut made = Sequence::new(alloc);
+    for item in whole.values.items {
+        if let ModuleItem::Function {
+            parameters,
+            body,
+            ..
+        } = item
+        {
+            made.push(function(alloc, whole, parameters, body)?)?;
+        }
+    }
+    made.push(clock_start(alloc)?)?;
+    Ok(made)
+}
+
+/// The functions of a module by number, and `Clock.start` behind them. A module that breaks rules may be given too. Only want of memory is an
+/// error.
+pub fn functions(alloc: Global, file: &Module) -> Result<Sequence<Function>, NoMemory>
+    ensures { IfOk result (λ made. map view_function made ≡ functions (file_of (view_module file.now))) }
+{
+    let items = &file.items;
+    let literals = literal_places(alloc, items)?;
+    let places = table(alloc, Kind::Function, items)?;
+    let numbers = function_numbers(alloc, items)?;
+    let values = ModuleValues {
+        items,
+        places: &literals,
+    };
+    let whole = Whole {
+        values: &values,
+        places: &places,
+        numbers: &numbers,
+    };
+    functions_of(alloc, &whole)
+}

@@ -1,0 +1,4 @@
+pub mod StepLaws
+pub mod AnswerLaws
+pub mod FaultLaws
+pub mod SomeLaws

@@ -1,0 +1,4 @@
+pub mod Designs
+pub mod Words
+pub mod Faults
+pub mod Answers
