@@ -1,5 +1,5 @@
 #!/usr/bin/env python3
-"""Makes what the program `elaboration_tests`, which is still to come, is to be run on, and what it must print.
+"""Makes what the program `elaboration_tests` is run on, and what it must print.
 
     tools/elaboration_rows.py          writes crates/elaboration_tests/stdin and crates/elaboration_tests/stdout
 
@@ -8,13 +8,13 @@ Both are made of the two tables of `tools/data` and of nothing else, so no expec
 
 A line of `stdin` is a row without its answer and without the parts that only explain it, with a tab between two parts:
 
-    rule    name  top  front  unit  count  behind
+    rule    name  top  text
     KIND    name  top  text  stimulus                   where KIND is `expression`, `body` or `hierarchy`
 
 and the same line of `stdout` is the row's name, `: `, and
 
     `accepted`, or the rule and the byte at which it is told
-    the paths of the signals, `; `, and the values after each step, as in the table
+    the paths of the signals, and behind `; ` the values after each step
 """
 import sys
 from pathlib import Path
@@ -30,15 +30,16 @@ def rows(table):
 
 
 def rule(row):
-    """What is asked by a row of the rules, and its answer."""
+    """What is asked by a row of the rules, and its answer; the text has its unit as often as the row says."""
     name, top, front, unit, count, behind, answer, *_ = row
-    return ["rule", name, top, front, unit, count, behind], f"{name}: {answer}"
+    return ["rule", name, top, front + unit * int(count) + behind], f"{name}: {answer}"
 
 
 def values(row):
     """What is asked by a row of the values, and its answer."""
     kind, name, top, text, signals, stimulus, shown, _ = row
-    return [kind, name, top, text, stimulus], f"{name}: {signals}; {shown}"
+    steps = "".join("; " + step for step in shown.split("|"))
+    return [kind, name, top, text, stimulus], f"{name}: {signals}{steps}"
 
 
 def main():

@@ -1,0 +1,5 @@
+mod DigitLaws
+mod EventLaws
+mod FoundLaws
+mod ListLaws
+mod RowLaws

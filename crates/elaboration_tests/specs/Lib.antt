@@ -1,0 +1,4 @@
+pub mod Designs
+pub mod Digits
+pub mod Runs
+pub mod Rows
