@@ -1,0 +1,4 @@
+mod Numbers
+mod Behind
+mod Steps
+mod Walked
