@@ -1,0 +1,17 @@
+-- From what a file breaks to what its check answers.
+use Rattle.std.proofs.Common.{◌≡◌, List, Option, Some, None, Ok, Err, sym, ap, ◌∙◌}
+use Rattle.py_syntax.specs.BlockTrees.{ModuleItem}
+use Rattle.test_body.specs.BodyTrees.{TestFile}
+use Rattle.test_meaning.specs.Check.{check, checked, meaning}
+use Rattle.test_rules.specs.File.{File, file_of}
+use Rattle.test_rules.specs.Rules.{refusal}
+use Rattle.test_rules.specs.declared.rule.Refusal.{Refusal}
+
+pub unbroken : (o : Option Refusal) (f : File) → o ≡ refusal f → o ≡ None → refusal f ≡ None
+unbroken o f e none = sym e ∙ none
+
+pub accepted : (xs : List ModuleItem) (m : TestFile) → refusal (file_of xs) ≡ None → m ≡ meaning (file_of xs) → check xs ≡ Ok m
+accepted xs m none e = ap (λ (o : Option Refusal). checked (file_of xs) o) none ∙ ap (λ (t : TestFile). Ok t) (sym e)
+
+pub refused : (xs : List ModuleItem) (o : Option Refusal) (r : Refusal) → o ≡ refusal (file_of xs) → o ≡ Some r → check xs ≡ Err r
+refused xs o r e w = ap (λ (p : Option Refusal). checked (file_of xs) p) (sym e ∙ w)
