@@ -1,11 +1,13 @@
 //! What a module stands for.
 
-ghost use Rattle.std.specs.Prelude.{◌≡◌, None, IfOk};
+ghost use Rattle.std.specs.Prelude.{◌≡◌, true, None, IfOk};
 ghost use Rattle.py_syntax.specs.BlockTrees.{view_module};
+ghost use Rattle.test_body.specs.Sound.{is_sound};
 ghost use Rattle.test_body.specs.Views.{view_file};
 ghost use Rattle.test_meaning.specs.Check.{meaning};
 ghost use Rattle.test_rules.specs.File.{file_of};
 ghost use Rattle.test_rules.specs.Rules.{refusal};
+ghost use Rattle.test_sound.specs.Starts.{are_right_starts};
 ghost use Rattle.test_file.specs.Checks.{Checks};
 
 use crate::FileFault;
@@ -31,7 +33,9 @@ fn meaning(alloc: Global, file: &Module) -> Result<TestFile, NoMemory>
 /// A file without a test is refused at its last line that is no docstring, or at line 1. A module that no text has may be given too. `OutOfMemory`
 /// says nothing of the file. The module is given up.
 pub fn check(alloc: Global, file: Module) -> Result<TestFile, FileFault>
-    ensures { Checks (view_module file) result }
+    ensures checks { Checks (view_module file) result }
+    // Only a clock that is started with other arguments than a text may give it makes it unsound.
+    ensures sound { are_right_starts (view_module file) ≡ true → IfOk result (λ made. is_sound (view_file made) ≡ true) }
 {
     match first_fault(alloc, &file) {
         Ok(None) => match meaning(alloc, &file) {

@@ -1,4 +1,4 @@
 mod Numbers
-mod Behind
+pub mod Behind
 mod Steps
 mod Walked

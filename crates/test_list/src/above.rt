@@ -49,7 +49,14 @@ impl<'a> Above<'a> {
     /// A function with this name and these parameters, which is the next.
     fn next(&self, name: &'a [u8], parameters: &'a [Parameter]) -> TestedFunction<'a>
         ensures { (l : ℕ) (b : tree.Block)
-            → IsTested (record { number = self.now.count; line = l; name = name.now; parameters = parameters.now; body = b; options = option_copied self.now.settings }) result }
+            → IsTested (record {
+              number = self.now.count;
+              line = l;
+              name = name.now;
+              parameters = parameters.now;
+              body = b;
+              options = option_copied self.now.settings;
+            }) result }
     {
         TestedFunction {
             number: self.count,
@@ -75,7 +82,8 @@ impl<'a> Above<'a> {
 
     /// The function of the first factory of this name; none where there is no such factory, or no such function.
     pub(crate) fn made_by(&self, factory: &[u8]) -> Option<&TestedFunction<'a>>
-        ensures { (f : File) (xs : List tree.ModuleItem) → IsAbove f xs self.now → AreOne (made_by (file_of xs) factory.now) (option_copied result) }
+        ensures { (f : File) (xs : List tree.ModuleItem) → IsAbove f xs self.now
+            → AreOne (made_by (file_of xs) factory.now) (option_copied result) }
     {
         let function = self.factories.find(factory)?;
         self.functions.find(function)
@@ -86,7 +94,8 @@ impl<'a> Above<'a> {
         alloc: Global,
         item: &'a ModuleItem,
     ) -> Result<Above<'a>, NoMemory>
-        ensures { IfOk result (λ after. (f : File) (xs : List tree.ModuleItem) → IsAbove f xs self.entry → IsAbove f (xs ++ view_module_item item.now ∷ []) after) }
+        ensures { IfOk result (λ after. (f : File) (xs : List tree.ModuleItem) → IsAbove f xs self.entry
+            → IsAbove f (xs ++ view_module_item item.now ∷ []) after) }
     {
         let function = self.function_at(item);
         let Above {

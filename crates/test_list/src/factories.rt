@@ -28,7 +28,8 @@ pub(crate) struct Generation<'a> {
 
 /// The factory that an item makes; none of another item.
 fn maker_at(item: &ModuleItem) -> Option<Maker<'_>>
-    ensures { MatchOption result (factory_of (view_module_item item.now) ≡ None) (λ m. factory_of (view_module_item item.now) ≡ Some (record { name = m.name.now; function = m.function.now })) }
+    ensures { MatchOption result (factory_of (view_module_item item.now) ≡ None)
+        (λ m. factory_of (view_module_item item.now) ≡ Some (record { name = m.name.now; function = m.function.now })) }
 {
     match item {
         ModuleItem::Line { line, .. } => match line {
@@ -44,7 +45,9 @@ fn maker_at(item: &ModuleItem) -> Option<Maker<'_>>
 
 /// The factory whose tests an item generates; none of another item.
 pub(crate) fn generation_at(item: &ModuleItem) -> Option<Generation<'_>>
-    ensures { MatchOption result (generation_of (view_module_item item.now) ≡ None) (λ g. generation_of (view_module_item item.now) ≡ Some (record { factory = g.factory.now; prefix = g.prefix.now; postfix = g.postfix.now })) }
+    ensures { MatchOption result (generation_of (view_module_item item.now) ≡ None)
+        (λ g. generation_of (view_module_item item.now)
+        ≡ Some (record { factory = g.factory.now; prefix = g.prefix.now; postfix = g.postfix.now })) }
 {
     match item {
         ModuleItem::Line { line, .. } => match line {
@@ -65,7 +68,8 @@ pub(crate) fn with_maker<'a>(
     factories: Table<&'a [u8]>,
     item: &'a ModuleItem,
 ) -> Result<Table<&'a [u8]>, NoMemory>
-    ensures { IfOk result (λ after. (xs : List tree.ModuleItem) → AreFactories xs factories.entry → AreFactories (xs ++ view_module_item item.now ∷ []) after) }
+    ensures { IfOk result (λ after. (xs : List tree.ModuleItem) → AreFactories xs factories.entry
+        → AreFactories (xs ++ view_module_item item.now ∷ []) after) }
 {
     match maker_at(item) {
         Some(maker) => factories.with(alloc, maker.name, maker.function),

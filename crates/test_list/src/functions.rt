@@ -45,7 +45,8 @@ pub(crate) fn with_function<'a>(
     functions: Table<TestedFunction<'a>>,
     function: Option<TestedFunction<'a>>,
 ) -> Result<Table<TestedFunction<'a>>, NoMemory>
-    ensures { IfOk result (λ after. (ds : List Definition) (d : Option Definition) → AreFunctions ds functions.entry → AreOne d function.entry → AreFunctions (ds ++ cons_option d []) after) }
+    ensures { IfOk result (λ after. (ds : List Definition) (d : Option Definition) → AreFunctions ds functions.entry
+        → AreOne d function.entry → AreFunctions (ds ++ cons_option d []) after) }
 {
     match function {
         Some(function) => functions.with(alloc, function.name, function),

@@ -32,7 +32,9 @@ struct Extension<'a> {
 
 /// The option that an item adds to a factory; none of another item.
 fn extension_at(item: &ModuleItem) -> Option<Extension<'_>>
-    ensures { MatchOption result (extension_of (view_module_item item.now) ≡ None) (λ e. extension_of (view_module_item item.now) ≡ Some (record { factory = e.factory.now; option = e.option.name.now; values = e.option.values.now })) }
+    ensures { MatchOption result (extension_of (view_module_item item.now) ≡ None)
+        (λ e. extension_of (view_module_item item.now)
+        ≡ Some (record { factory = e.factory.now; option = e.option.name.now; values = e.option.values.now })) }
 {
     match item {
         ModuleItem::Line { line, .. } => match line {
@@ -55,7 +57,8 @@ pub(crate) fn with_option<'a>(
     options: Table<Vec<AddedOption<'a>>>,
     item: &'a ModuleItem,
 ) -> Result<Table<Vec<AddedOption<'a>>>, NoMemory>
-    ensures { IfOk result (λ after. (f : File) (xs : List tree.ModuleItem) → AreOptions f xs options.entry → AreOptions f (xs ++ view_module_item item.now ∷ []) after) }
+    ensures { IfOk result (λ after. (f : File) (xs : List tree.ModuleItem) → AreOptions f xs options.entry
+        → AreOptions f (xs ++ view_module_item item.now ∷ []) after) }
 {
     match extension_at(item) {
         Some(extension) => options.with_more(alloc, extension.factory, extension.option),

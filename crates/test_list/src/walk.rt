@@ -25,7 +25,8 @@ use test_values::{ModuleValues, literal_places};
 
 /// Whether a function is a test by itself: it is decorated, and no factory is for it.
 fn is_test(whole: &Whole<'_, '_>, above: &Above<'_>, function: &TestedFunction<'_>) -> bool
-    ensures { (d : Definition) → IsTested d function.now → d.options ≡ option_copied above.now.settings → result ≡ is_test (file_of_whole whole.now) d }
+    ensures { (d : Definition) → IsTested d function.now → d.options ≡ option_copied above.now.settings
+        → result ≡ is_test (file_of_whole whole.now) d }
 {
     above.settings.is_some() && whole.made.find(function.name).is_none()
 }
@@ -39,7 +40,8 @@ fn with_test(
     is_test: bool,
 ) -> Result<Sequence<TestCase>, NoMemory>
     ensures { IfOk result (λ more. (d : Definition) → IsTested d function.now
-        → map view_case more ≡ map view_case tests ++ only_if is_test (test_of (file_of_whole whole.now) d d.name (arguments (file_of_whole whole.now) d []))) }
+        → map view_case more
+        ≡ map view_case tests ++ only_if is_test (test_of (file_of_whole whole.now) d d.name (arguments (file_of_whole whole.now) d []))) }
 {
     if is_test {
         let case = own_case(alloc, whole.values, function)?;
@@ -59,7 +61,8 @@ fn with_own_test(
     item: &ModuleItem,
 ) -> Result<Sequence<TestCase>, NoMemory>
     ensures { IfOk result (λ more. map view_case more
-        ≡ map view_case tests ++ own_test (file_of_whole whole.now) (function_at above.now.count (option_copied above.now.settings) (view_module_item item.now))) }
+        ≡ map view_case tests
+        ++ own_test (file_of_whole whole.now) (function_at above.now.count (option_copied above.now.settings) (view_module_item item.now))) }
 {
     match above.function_at(item) {
         Some(function) => {
