@@ -1,0 +1,4 @@
+mod Numbers
+pub mod Behind
+mod Steps
+mod Walked

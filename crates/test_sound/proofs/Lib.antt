@@ -1,0 +1,5 @@
+mod Calls
+mod Fits
+mod Clocks
+mod Uses
+pub mod Files

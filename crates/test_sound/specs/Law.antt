@@ -1,0 +1,12 @@
+-- The law that accepted files are sound.
+use Rattle.std.specs.Prelude.{◌≡◌, true, List, None}
+use Rattle.py_syntax.specs.BlockTrees.{ModuleItem}
+use Rattle.test_body.specs.Sound.{is_sound}
+use Rattle.test_meaning.specs.Check.{meaning}
+use Rattle.test_rules.specs.File.{file_of}
+use Rattle.test_rules.specs.Rules.{refusal}
+use Rattle.test_sound.specs.Starts.{are_right_starts}
+
+abbrev pub Accepted_is_sound : Type 0
+Accepted_is_sound =
+    (xs : List ModuleItem) → are_right_starts xs ≡ true → refusal (file_of xs) ≡ None → is_sound (meaning (file_of xs)) ≡ true
