@@ -1,5 +1,5 @@
 -- The run of a file, for which memory was short.
-use Rattle.std.proofs.Common.{ℕ, List, [], length, Result, IsErr}
+use Rattle.std.proofs.Common.{ℕ, [], length, Result, IsErr}
 use Rattle.port_io.specs.Means.{SinkMeans}
 use Rattle.port_io.specs.declared.ports.NoMemory.{NoMemory}
 use Rattle.port_io.proofs.PartLaws.{part_none}

@@ -1,5 +1,5 @@
 -- The path of the first signal.
-use Rattle.std.proofs.Common.{◌≡◌, ℕ, List, [], ◌∷◌, length, slice_get, refl}
+use Rattle.std.proofs.Common.{◌≡◌, List, [], ◌∷◌, length, slice_get, refl}
 use Rattle.gpi.specs.declared.design.Signal.{Signal}
 use Rattle.rig_model.specs.Line.{path_in}
 
