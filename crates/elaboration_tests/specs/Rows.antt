@@ -5,8 +5,7 @@ use Rattle.std.specs.Str.{bytes_eq}
 use Rattle.gpi.specs.declared.design.Flat.{Flat}
 use Rattle.table_rows.specs.Rows.{part_at, written}
 use Rattle.table_rows.specs.Shown.{latin}
-use Rattle.v_scope.specs.declared.rule.ElabRule.{ElabRule}
-use Rattle.v_scope.specs.declared.rule.ElabRule.TheVariants as rule
+use Rattle.v_design.specs.Words.{elaboration_word}
 use Rattle.elaboration_tests.specs.Designs.{IsDesignOf}
 use Rattle.elaboration_tests.specs.Runs.{ShowsDesign}
 use Rattle.elaboration_tests.specs.declared.designs.Refusal.{Refusal}
@@ -24,27 +23,12 @@ top_of row = named (latin (part_at 2 row))
 
 -- ---- what is shown
 
-abbrev pub name_of : ElabRule → List ℕ
-name_of rule.NoTop = codes "NoTop"
-name_of rule.UnknownModule = codes "UnknownModule"
-name_of rule.RecursiveInstance = codes "RecursiveInstance"
-name_of rule.DuplicateName = codes "DuplicateName"
-name_of rule.UnknownName = codes "UnknownName"
-name_of rule.BadPort = codes "BadPort"
-name_of rule.NotConstant = codes "NotConstant"
-name_of rule.BadRange = codes "BadRange"
-name_of rule.TooWide = codes "TooWide"
-name_of rule.TwoDrivers = codes "TwoDrivers"
-name_of rule.BadTarget = codes "BadTarget"
-name_of rule.LoopTooLong = codes "LoopTooLong"
-name_of rule.TooMany = codes "TooMany"
-
 -- why a text has no design
 abbrev pub refusal_text : Refusal → List ℕ
 refusal_text TooLong = codes " too long"
 refusal_text NoTokens = codes " no tokens"
 refusal_text NoModules = codes " no modules"
-refusal_text (Breaks rule byte) = codes " " ++ (name_of rule ++ (codes " " ++ decimal byte))
+refusal_text (Breaks rule byte) = codes " " ++ (elaboration_word rule ++ (codes " " ++ decimal byte))
 
 -- whether a row asks for the rules alone
 abbrev pub is_rule : List ℕ → Bool

@@ -3,7 +3,8 @@ ghost use Rattle.std.specs.Prelude.{◌≡◌, ◌++◌, codes, IfOk, option_cop
 ghost use Rattle.std.specs.Fmt.{decimal};
 ghost use Rattle.table_rows.specs.Rows.{part_at};
 ghost use Rattle.table_rows.specs.Shown.{latin};
-ghost use Rattle.elaboration_tests.specs.Rows.{Answers, ShowsFlat, ShowsRow, is_rule, name_of, named, refusal_text};
+ghost use Rattle.elaboration_tests.specs.Rows.{Answers, ShowsFlat, ShowsRow, is_rule, named, refusal_text};
+ghost use Rattle.v_design.specs.Words.{elaboration_word};
 
 use crate::designs::{Refusal, design_of};
 use crate::values::design_text;
@@ -11,35 +12,15 @@ use gpi::Flat;
 use port_io::NoMemory;
 use std::alloc::Global;
 use table_rows::{Row, push_bytes};
+use v_design::DesignRule;
 use v_scope::ElabRule;
-
-/// The name of a rule.
-fn name_of(rule: ElabRule) -> &'static [u8]
-    ensures { result.now ≡ name_of rule }
-{
-    match rule {
-        ElabRule::NoTop => b"NoTop",
-        ElabRule::UnknownModule => b"UnknownModule",
-        ElabRule::RecursiveInstance => b"RecursiveInstance",
-        ElabRule::DuplicateName => b"DuplicateName",
-        ElabRule::UnknownName => b"UnknownName",
-        ElabRule::BadPort => b"BadPort",
-        ElabRule::NotConstant => b"NotConstant",
-        ElabRule::BadRange => b"BadRange",
-        ElabRule::TooWide => b"TooWide",
-        ElabRule::TwoDrivers => b"TwoDrivers",
-        ElabRule::BadTarget => b"BadTarget",
-        ElabRule::LoopTooLong => b"LoopTooLong",
-        ElabRule::TooMany => b"TooMany",
-    }
-}
 
 /// A rule, and the byte at which it is broken. Only want of memory is an error, here and below.
 fn broken_text(alloc: Global, rule: ElabRule, byte: u32) -> Result<Vec<u8>, NoMemory>
-    ensures { IfOk result (λ text. text.items ≡ codes " " ++ (name_of rule ++ (codes " " ++ decimal byte))) }
+    ensures { IfOk result (λ text. text.items ≡ codes " " ++ (elaboration_word rule ++ (codes " " ++ decimal byte))) }
 {
     let mut text = b" ".to_vec(alloc)?;
-    text.extend_from_slice(name_of(rule))?;
+    text.extend_from_slice(DesignRule::Elaboration(rule).name())?;
     text.push(b' ')?;
     let digits = byte.to_string(alloc)?;
     text.extend_from_slice(digits.as_bytes())?;

@@ -1,4 +1,4 @@
--- Where the body of a function stands.
+-- A means of proof: where the body of a function stands.
 use Rattle.std.specs.Prelude.{map}
 use Rattle.py_syntax.specs.BlockTrees.{view_module_item}
 use Rattle.test_meaning.specs.Bodies.{Inside}

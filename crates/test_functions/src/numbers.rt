@@ -19,8 +19,8 @@ pub struct FunctionNumbers {
     pub count: usize,
 }
 
-#[tactic(auto, using(crate::proofs::Ordered::here, crate::proofs::Ordered::one_more))]
 /// The numbers of the functions of a module: each has its place among them. Only want of memory is an error.
+#[tactic(auto, using(crate::proofs::Ordered::here, crate::proofs::Ordered::one_more))]
 pub fn function_numbers(alloc: Global, items: &[ModuleItem]) -> Result<FunctionNumbers, NoMemory>
     ensures { IfOk result (AreFunctionNumbers (map view_module_item items.now)) }
 {

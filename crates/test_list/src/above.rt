@@ -88,6 +88,7 @@ impl<'a> Above<'a> {
         let function = self.factories.find(factory)?;
         self.functions.find(function)
     }
+
     /// With the item below. Only want of memory is an error.
     pub(crate) fn with_item(
         self,
