@@ -293,6 +293,8 @@ def two_drivers():
               "the digit is driven by the first `assign`", RESOLVED)
     yield row(rule, "a_second_driver_of_a_digit", "module m(input a, output [3:0] y); assign y[2:0] = a; assign §y[3:2] = a; endmodule",
               "the two parts have digit 2 in common", RESOLVED)
+    yield row(rule, "a_digit_of_a_rising_net_twice", "module m(output [1:4] y); assign y[4] = 1; assign §y[4] = 0; endmodule",
+              "the last digit of a range that rises is its lowest", RESOLVED)
     yield row(rule, "a_net_twice_in_braces", "module m(output y); assign {y, §y} = 1; endmodule",
               "the parts of a target are driven from left to right", RESOLVED)
     yield row(rule, "a_wire_with_a_value_and_an_assign", "module m; wire y = 1; assign §y = 0; endmodule",
@@ -421,6 +423,8 @@ def accepted():
               "its condition is false at once")
     yield row(rule, "a_count_of_a_parameter", "module m; parameter N = 2; wire [3:0] y = {N{2'b10}}; endmodule",
               "parameters are constants (4.10)")
+    yield row(rule, "a_default_that_is_given_a_value", "module m; s #(.P(3)) u(); endmodule module s; parameter P = zz; endmodule",
+              "a value that is given takes the place of the default, which isn't looked at (12.2.2)")
     yield row(rule, "a_part_of_one_digit", "module m(input [0:3] a, input [3:0] b, output [1:0] y); assign y = {a[2:2], b[2:2]}; endmodule",
               "equal bounds go with both directions")
     yield row(rule, "ranges_of_128_digits", "module m(input [127:0] a, input [1:128] b, output y); assign y = {a[63:0], b[1:64]} == {32{4'd9}}; endmodule",

@@ -415,6 +415,27 @@ HIERARCHIES = [
      "module top(input [3:0] a, b, output [3:0] x, y, z); alu #(0) u(a, b, x); alu #(1) v(a, b, y); alu #(.OP(2)) w(a, b, z); endmodule\n"
      "module alu #(parameter OP = 0)(input [3:0] a, b, output reg [3:0] y); always @* case (OP) 0: y = a + b; 1: y = a & b; default: y = OP; endcase endmodule",
      "a b x y z " + " ".join(f"{inner}.{port}" for inner in "uvw" for port in "aby"), ["a=0110 b=0011", "a=1111 b=0x01"]),
+    ("a_digit_of_a_word_by_a_signal",
+     "module top(input [1:0] i, output y); reg [3:0] m [0:1]; initial m[0] = 4'b0110; assign y = m[0][i]; endmodule",
+     "i y m[0] m[1]", ["i=01", "i=11", "i=10"]),
+    ("a_loop_whose_first_turn_reads_nothing",
+     "module top(input [3:0] a, output reg [3:0] y); reg [3:0] i, j; always @* begin y = 0; for (i = 0; i < 4; i = i + 1) "
+     "for (j = 0; j < i; j = j + 1) y[i] = a[j]; end endmodule", "a y i j", ["a=0110", "a=1001"]),
+    ("a_loop_whose_register_has_a_rising_range",
+     "module top(input [3:0] a, output reg [3:0] y); reg [0:3] i; always @(a) for (i = 0; i < 4; i = i + 1) y[i] = i[3] ^ a[i]; endmodule",
+     "a y i", ["a=0110", "a=1001"]),
+    ("a_loop_from_a_sum_in_its_registers_width",
+     "module top(input go, output reg [7:0] y); reg [7:0] i; always @(go) for (i = 4'd15 + 4'd1; i < 18; i = i + 1) y = i; endmodule",
+     "go y i", ["go=0", "go=1"]),
+    ("a_wide_label_behind_the_default",
+     "module top(input [3:0] c, output reg [1:0] y); always @(c) case (~c) default: y = 1; 8'b11111101: y = 2; endcase endmodule",
+     "c y", ["c=0010", "c=1101"]),
+    ("words_with_a_rising_range",
+     "module top(input [1:0] i, input go, output [3:0] y, output reg [0:3] z); reg [0:3] m [0:1]; initial m[0] = 4'b0010;\n"
+     "  assign y = {m[0][i], m[0][1:2], m[0][0]}; always @(posedge go) begin m[1] = 0; m[1][1:2] = 2'b01; m[1][i] = 1; z = m[1]; end endmodule",
+     "i go y z m[0] m[1]", ["i=00 go=0", "i=10 go=1"]),
+    ("a_bound_that_is_a_sum_in_its_own_width",
+     "module top(input go, output [4'd15 + 4'd1:0] y); assign y = ~go; endmodule", "go y", ["go=0", "go=1"]),
 ]
 
 CONTEXT = "a connection is an assignment (12.3.9.2), so the port's width is the context of the sum; Icarus has the sum in its own width"
