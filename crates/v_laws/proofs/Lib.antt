@@ -1,0 +1,14 @@
+pub mod Driven
+pub mod Fixed
+pub mod Recorded
+pub mod Members
+pub mod Directions
+pub mod Applied
+pub mod Along
+pub mod Places
+pub mod Taken
+pub mod Joined
+pub mod Opening
+pub mod Once
+pub mod Names
+pub mod Least

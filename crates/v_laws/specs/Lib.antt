@@ -1,0 +1,5 @@
+pub mod Digits
+pub mod Drivers
+pub mod Instances
+pub mod Least
+pub mod Steps

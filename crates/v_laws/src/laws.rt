@@ -1,0 +1,33 @@
+//! Laws of the definition of elaboration, for all texts.
+
+ghost use Rattle.v_laws.specs.Drivers.{One_driver, Updates_are_recorded};
+ghost use Rattle.v_laws.specs.Instances.{Names_differ, Names_have_their_paths};
+ghost use Rattle.v_laws.specs.Least.{First_faults_count};
+
+/// Each digit that a continuous assignment updates lies in a drive that is recorded for its target, and in none that was recorded before
+/// (IEEE 1364-2005, clause 6.1).
+pub fn updates_are_recorded()
+    ensures { Updates_are_recorded }
+{}
+
+/// Each digit of a net has at most one driver: no two continuous assignments of a design, those of connected ports among them, change one
+/// digit of a signal, on any maps. Clauses 4.6 and 6.1 of the standard let several drivers meet; here that is refused.
+pub fn one_driver()
+    ensures { One_driver }
+{}
+
+/// What a name of an instance stands for has that name behind the instance's path (IEEE 1364-2005, clause 12.4): an instance, a signal, or all
+/// words of a memory, by rising index.
+pub fn names_have_their_paths()
+    ensures { Names_have_their_paths }
+{}
+
+/// The names of an instance differ (IEEE 1364-2005, clause 4.11).
+pub fn names_differ()
+    ensures { Names_differ }
+{}
+
+/// A rule that is broken in an operand is hidden by none that is broken later in the expression: what counts in the whole is that rule, or an earlier.
+pub fn first_faults_count()
+    ensures { First_faults_count }
+{}
