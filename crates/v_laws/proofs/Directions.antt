@@ -116,7 +116,7 @@ found_member n (d ∷ ds) x h = go (bytes_eq d.name n) refl h (found_member n ds
     go true e f later = let k : x ≡ d = cc in (inl k, ap (λ (y : Declared). y.name) k ∙ same_name d.name n e)
     go false e f later = let r = later f in (inr r.0, r.1)
 
-put_member : (y : Declared) (ds : List Declared) (x : Declared) → Member x (with_declared y ds) → (x ≡ y) ⊎ Member x ds
+pub put_member : (y : Declared) (ds : List Declared) (x : Declared) → Member x (with_declared y ds) → (x ≡ y) ⊎ Member x ds
 put_member y [] x h = absurd h
 put_member y (d ∷ ds) x h = go (bytes_eq d.name y.name) h (put_member y ds x)
   where

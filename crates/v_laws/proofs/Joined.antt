@@ -24,6 +24,7 @@ use Rattle.v_laws.specs.Digits.{IsDriven, IsWritten}
 use Rattle.v_laws.specs.Drivers.{NetsHaveNoWords}
 use Rattle.v_laws.proofs.Members.{Member}
 use Rattle.v_laws.proofs.Driven.{GoesOn, driving_goes, goes_on, stays}
+use Rattle.v_laws.proofs.Places.{member_named}
 use Rattle.v_laws.proofs.Recorded.{TargetRecorded, target_recorded}
 
 -- ---- ports by their names
@@ -62,11 +63,6 @@ distinct_differ seen (p ∷ ps) = go (list_any (bytes_eq p.name) seen) (distinct
     go true j k = j
     go false j k = (first, k)
 
-member_named : (p : Port) (ps : List Port) → Member p ps → Among p.name (map port_name ps)
-member_named p [] m = absurd m
-member_named p (q ∷ ps) (inl e) = ap (λ (r : Port). list_any (bytes_eq r.name) (map port_name (q ∷ ps))) e ∙ among_first q.name (map port_name ps)
-member_named p (q ∷ ps) (inr m) = among_later p.name q.name (map port_name ps) (member_named p ps m)
-
 -- a port is known by its name
 pub one_port : (ps : List Port) → Differ (map port_name ps) → (p q : Port) → Member p ps → Member q ps → p.name ≡ q.name → p ≡ q
 one_port [] d p q h k e = absurd h
@@ -77,7 +73,7 @@ one_port (r ∷ ps) d p q (inr h) (inl k) e =
     absurd (d.0 (ap (λ m. list_any (bytes_eq m) (map port_name ps)) (sym (ap (λ (x : Port). x.name) k) ∙ sym e) ∙ member_named p ps h))
 one_port (r ∷ ps) d p q (inr h) (inr k) e = one_port ps d.1 p q h k e
 
-found_port : (n : List ℕ) (ps : List Port) (p : Port) → find_port n ps ≡ Some p → Member p ps × (p.name ≡ n)
+pub found_port : (n : List ℕ) (ps : List Port) (p : Port) → find_port n ps ≡ Some p → Member p ps × (p.name ≡ n)
 found_port n [] p h = cc
 found_port n (q ∷ ps) p h = go (bytes_eq q.name n) refl h (found_port n ps p)
   where

@@ -1,4 +1,5 @@
 pub mod Driven
+pub mod Found
 pub mod Fixed
 pub mod Recorded
 pub mod Members
@@ -12,3 +13,4 @@ pub mod Opening
 pub mod Once
 pub mod Names
 pub mod Least
+pub mod Counted

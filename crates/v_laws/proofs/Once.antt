@@ -1,5 +1,5 @@
 -- No digit of a signal is changed by two continuous assignments of a design.
-use Rattle.std.proofs.Common.{◌≡◌, ◌+◌, ◌<◌, ◌≤◌, ◌⊎◌, inl, inr, ◌∙◌, ℕ, List, [], ◌∷◌, length, nat_le, slice_get, Option, Some, None, Ok, Result, refl, sym, ap, subst, arith, length-append}
+use Rattle.std.proofs.Common.{◌≡◌, ◌+◌, ◌<◌, ◌≤◌, ◌⊎◌, inl, inr, ◌∙◌, ℕ, List, [], ◌∷◌, length, nat_le, slice_get, Option, Some, None, Ok, refl, sym, ap, subst, arith, length-append}
 use Rattle.four_value.proofs.Lengths.{length_resize}
 use Rattle.gpi.specs.declared.design.Kind.TheVariants as process_kind
 use Rattle.gpi.specs.declared.design.Wake.{Wake}
@@ -9,13 +9,12 @@ use Rattle.v_syntax.specs.declared.statement.Identifier.{Identifier}
 use Rattle.v_syntax.specs.declared.item.Direction.TheVariants as direction
 use Rattle.v_syntax.specs.StatementTrees.{StatementTree}
 use Rattle.v_syntax.specs.SourceTrees.{NetTree, Net as NetOf, Words, Initially, RegisterTree, Register as RegisterOf, DriverTree, Driver, ControlTree, Implicit, Events, ConnectionsTree, KindTree, Ports, Nets, Registers, Integers, Parameters, Drivers, Always, Initial, Instance, ModuleTree}
-use Rattle.v_scope.specs.declared.rule.Broken.{Broken}
 use Rattle.v_scope.specs.declared.rule.ElabRule.TheVariants as rule
 use Rattle.v_scope.specs.declared.found.Found.{Found}
 use Rattle.v_scope.specs.declared.found.Found.TheVariants.{Sound}
 use Rattle.v_scope.specs.declared.meaning.DataKind.TheVariants.{Input, Net}
 use Rattle.v_scope.specs.declared.meaning.DataObject.{DataObject}
-use Rattle.v_scope.specs.Found.{Holds, HoldsOk, both, wants}
+use Rattle.v_scope.specs.Found.{Holds, both, wants}
 use Rattle.v_scope.specs.Limits.{most_parts}
 use Rattle.v_flat.specs.Checks.{checked}
 use Rattle.v_flat.specs.Targets.{Drive, driving, target_width, updates}
@@ -35,6 +34,7 @@ use Rattle.v_laws.proofs.Along.{Steps, design_holds, outside_of}
 use Rattle.v_laws.proofs.Applied.{changed_written}
 use Rattle.v_laws.proofs.Directions.{ArePlain, HasDirection, directed, plain_declared}
 use Rattle.v_laws.proofs.Driven.{GoesOn, IsNet, driving_goes}
+use Rattle.v_laws.proofs.Found.{of_ok}
 use Rattle.v_laws.proofs.Joined.{AreJoined, IsJoined, distinct_differ, joints_hold}
 use Rattle.v_laws.proofs.Members.{Member}
 use Rattle.v_laws.proofs.Opening.{AreApart, AreOpened, IsInput, opened_apart}
@@ -266,9 +266,6 @@ module _ (m : ModuleTree) (out : Outside) (d : Design) (ds : List Declared) wher
       within n k (inr (inr (inr a))) = inr (inr (omega (arith, a)))
 
 -- ---- the beginning of an instance
-
-of_ok : {A : Type 0} (P : A → Type 0) (r : Result A Broken) (a : A) → HoldsOk P r → r ≡ Ok a → P a
-of_ok P r a h e = subst (HoldsOk P) e h
 
 module _ (m : ModuleTree) (path : Path) (out : Outside) (d : Design) (constants : Entries) (ds : List Declared) (starts : Starts m out d)
     (first : parameters (parameters_of m) out.given (later (all_names m)) [] ≡ Ok constants) (second : declarations (place_of m constants d) m ≡ Ok ds) where

@@ -172,14 +172,14 @@ order_member x ps ds h = go (member_both x (port_lines ps ds) (other_lines (map 
 pub order_plain : (ps : List Port) (ds : List Declared) → ArePlain ds → ArePlain (in_order ps ds)
 order_plain ps ds h x m = h x (order_member x ps ds m)
 
-among_ports : (p : Port) (ps : List Port) → Member p ps → Among p.name (map port_name ps)
-among_ports p (q ∷ ps) (inl e) = ap (λ (r : Port). list_any (bytes_eq r.name) (map port_name (q ∷ ps))) e ∙ among_first q.name (map port_name ps)
-among_ports p (q ∷ ps) (inr m) = go (bytes_eq p.name q.name) (among_ports p ps m)
+pub member_named : (p : Port) (ps : List Port) → Member p ps → Among p.name (map port_name ps)
+member_named p (q ∷ ps) (inl e) = ap (λ (r : Port). list_any (bytes_eq r.name) (map port_name (q ∷ ps))) e ∙ among_first q.name (map port_name ps)
+member_named p (q ∷ ps) (inr m) = go (bytes_eq p.name q.name) (member_named p ps m)
   where
     go : (b : Bool) → Among p.name (map port_name ps) → (b || list_any (bytes_eq p.name) (map port_name ps)) ≡ true
     go true k = refl
     go false k = k
-among_ports p [] m = absurd m
+member_named p [] m = absurd m
 
 -- what is declared with a port's name is the first that was
 order_found : (p : Port) (ps : List Port) (ds : List Declared) (x : Declared) → Member p ps → Member x (in_order ps ds) → x.name ≡ p.name → find_declared p.name ds ≡ Some x
@@ -191,7 +191,7 @@ order_found p ps ds x k h e = go (member_both x (port_lines ps ds) (other_lines 
         let f : r.0.name ≡ p.name = sym (found_member r.0.name ds x r.2).1 ∙ e in ap (λ n. find_declared n ds) (sym f) ∙ r.2
     go (inr b) =
         let r = (other_line x (map port_name ps) ds b).1 in
-        let f : list_any (bytes_eq x.name) (map port_name ps) ≡ true = ap (λ n. list_any (bytes_eq n) (map port_name ps)) e ∙ among_ports p ps k in cc
+        let f : list_any (bytes_eq x.name) (map port_name ps) ≡ true = ap (λ n. list_any (bytes_eq n) (map port_name ps)) e ∙ member_named p ps k in cc
 
 -- ---- what is known of objects
 

@@ -3,3 +3,4 @@ pub mod Drivers
 pub mod Instances
 pub mod Least
 pub mod Steps
+pub mod Joints
