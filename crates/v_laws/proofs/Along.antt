@@ -1,5 +1,5 @@
 -- What holds along the walk over the instances of a design, where what an instance is given is known behind it too.
-use Rattle.std.proofs.Common.{◌≡◌, ℕ, zero, suc, Bool, true, false, ◌&&◌, not, List, [], ◌∷◌, length, nat_lt, Option, Some, None, Result, Ok, Err, refl}
+use Rattle.std.proofs.Common.{inl, inr, ◌≡◌, ℕ, zero, suc, Bool, true, false, ◌&&◌, not, List, [], ◌∷◌, length, nat_lt, Option, Some, None, Result, Ok, Err, refl}
 use Rattle.std.specs.List.{list_any}
 use Rattle.std.specs.Prelude.{bytes_eq}
 use Rattle.v_syntax.specs.declared.statement.Identifier.{Identifier}
@@ -16,6 +16,7 @@ use Rattle.v_flat.specs.Paths.{Path, below}
 use Rattle.v_flat.specs.Design.{Design, Joints, Outside, State, Sub, closed, find_module, flat_design, from_top, instance, instance_checked, instance_item, item, items, module_there, modules_checked, no_design, place_of, plain_item, top_of, walk, walk_items, with_child}
 use Rattle.v_flat.proofs.Holds.{holds_ended, holds_next}
 use Rattle.v_shape.proofs.Ends.{ended_sound, holds_next_so, needs_sound}
+use Rattle.v_laws.proofs.Members.{Member}
 use Rattle.v_shape.proofs.Walk.{opening, scope_of}
 
 -- what is given to an instance among the items, where no rule is broken in it
@@ -29,7 +30,8 @@ pub record Steps (P : ModuleTree → Outside → Design → Type 0) (I : ModuleT
   pub opens : (m : ModuleTree) (path : Path) (out : Outside) (d : Design) (constants : Entries) (ds : List Declared) → P m out d
       → parameters (parameters_of m) out.given (later (all_names m)) [] ≡ Ok constants → declarations (place_of m constants d) m ≡ Ok ds
       → J m out d (in_order (ports_of m) ds) (opening m path out d (scope_of constants d (in_order (ports_of m) ds)) (in_order (ports_of m) ds))
-  pub plain : (m : ModuleTree) (out : Outside) (d : Design) (ds : List Declared) (p : ℕ) (k : KindTree) (s : State) → J m out d ds s → Holds (J m out d ds) (plain_item p k s)
+  pub plain : (m : ModuleTree) (out : Outside) (d : Design) (ds : List Declared) (p : ℕ) (k : KindTree) (s : State) → Member (ItemAt p k) (items_in m) → J m out d ds s
+      → Holds (J m out d ds) (plain_item p k s)
   pub given : (m : ModuleTree) (out : Outside) (d : Design) (ds : List Declared) (p : ℕ) (v : Option ConnectionsTree) (i : Identifier) (c : Option ConnectionsTree) (s : State)
       (n : ModuleTree) (x : List Given × Joints) → J m out d ds s → instance_checked p v i c s n ≡ Sound x → P n (outside_of s x) s.design
   pub inner : (m : ModuleTree) (out : Outside) (d : Design) (ds : List Declared) (p : ℕ) (v : Option ConnectionsTree) (i : Identifier) (c : Option ConnectionsTree) (s : State)
@@ -73,24 +75,24 @@ module _ (P : ModuleTree → Outside → Design → Type 0) (I : ModuleTree → 
         (steps.given own out d ds p v i c s inner x h (ended_sound (instance_checked p v i c s inner) x checks)))
         (λ e k. steps.inner own out d ds p v i c s inner x e h (ended_sound (instance_checked p v i c s inner) x checks) k)))
 
-    plain_holds : (p : ℕ) (k : KindTree) (s : State) → J own out d ds s → HoldsOk (J own out d ds) (ended (plain_item p k s))
-    plain_holds p k s h = holds_ended (J own out d ds) (plain_item p k s) (steps.plain own out d ds p k s h)
+    plain_holds : (p : ℕ) (k : KindTree) (s : State) → Member (ItemAt p k) (items_in own) → J own out d ds s → HoldsOk (J own out d ds) (ended (plain_item p k s))
+    plain_holds p k s here h = holds_ended (J own out d ds) (plain_item p k s) (steps.plain own out d ds p k s here h)
 
-    item_holds : (i : ItemTree) (s : State) → J own out d ds s → HoldsOk (J own out d ds) (item sub room ms above path i s)
-    item_holds (ItemAt p (Instance m v i c)) s h = instance_holds p m v i c s h
-    item_holds (ItemAt p (Nets r ns)) s h = plain_holds p (Nets r ns) s h
-    item_holds (ItemAt p (Registers r rs)) s h = plain_holds p (Registers r rs) s h
-    item_holds (ItemAt p (Drivers xs)) s h = plain_holds p (Drivers xs) s h
-    item_holds (ItemAt p (Always c b)) s h = plain_holds p (Always c b) s h
-    item_holds (ItemAt p (Initial b)) s h = plain_holds p (Initial b) s h
-    item_holds (ItemAt p (Ports q is)) s h = plain_holds p (Ports q is) s h
-    item_holds (ItemAt p (Integers is)) s h = plain_holds p (Integers is) s h
-    item_holds (ItemAt p (Parameters k r ps)) s h = plain_holds p (Parameters k r ps) s h
+    item_holds : (i : ItemTree) (s : State) → Member i (items_in own) → J own out d ds s → HoldsOk (J own out d ds) (item sub room ms above path i s)
+    item_holds (ItemAt p (Instance m v i c)) s here h = instance_holds p m v i c s h
+    item_holds (ItemAt p (Nets r ns)) s here h = plain_holds p (Nets r ns) s here h
+    item_holds (ItemAt p (Registers r rs)) s here h = plain_holds p (Registers r rs) s here h
+    item_holds (ItemAt p (Drivers xs)) s here h = plain_holds p (Drivers xs) s here h
+    item_holds (ItemAt p (Always c b)) s here h = plain_holds p (Always c b) s here h
+    item_holds (ItemAt p (Initial b)) s here h = plain_holds p (Initial b) s here h
+    item_holds (ItemAt p (Ports q is)) s here h = plain_holds p (Ports q is) s here h
+    item_holds (ItemAt p (Integers is)) s here h = plain_holds p (Integers is) s here h
+    item_holds (ItemAt p (Parameters k r ps)) s here h = plain_holds p (Parameters k r ps) s here h
 
-    items_hold : (is : List ItemTree) (s : State) → J own out d ds s → HoldsOk (J own out d ds) (items sub room ms above path is s)
-    items_hold [] s h = h
-    items_hold (i ∷ is) s h =
-        holds_next (J own out d ds) (J own out d ds) (item sub room ms above path i s) (items sub room ms above path is) (item_holds i s h) (λ t k. items_hold is t k)
+    items_hold : (is : List ItemTree) (s : State) → ((i : ItemTree) → Member i is → Member i (items_in own)) → J own out d ds s → HoldsOk (J own out d ds) (items sub room ms above path is s)
+    items_hold [] s among h = h
+    items_hold (i ∷ is) s among h =
+        holds_next (J own out d ds) (J own out d ds) (item sub room ms above path i s) (items sub room ms above path is) (item_holds i s (among i (inl refl)) h) (λ t k. items_hold is t (λ j m. among j (inr m)) k)
 
   instance_walk : (sub : Sub) (room : ℕ) → Good sub room → (ms : List ModuleTree) (above : List (List ℕ)) (m : ModuleTree) (path : Path) (out : Outside) (d : Design) → P m out d
       → HoldsOk (I m out d) (instance sub room ms above m path out d)
@@ -104,7 +106,7 @@ module _ (P : ModuleTree → Outside → Design → Type 0) (I : ModuleTree → 
       (items sub room ms above path (items_in m) (opening m path out d (scope_of constants d (in_order (ports_of m) ds)) (in_order (ports_of m) ds)))
       (λ t. Ok (closed path (length d.nodes) t))
       (items_hold sub room good ms above path m out d (in_order (ports_of m) ds) (items_in m) (opening m path out d (scope_of constants d (in_order (ports_of m) ds)) (in_order (ports_of m) ds))
-      (steps.opens m path out d constants ds h e is))
+      (λ i here. here) (steps.opens m path out d constants ds h e is))
       (λ t k. steps.closes m path out d (in_order (ports_of m) ds) t k)))
 
   walk_holds : (ms : List ModuleTree) (room : ℕ) (above : List (List ℕ)) (m : ModuleTree) (path : Path) (out : Outside) (d : Design) → P m out d

@@ -64,7 +64,7 @@ one_keeps u m n k a e h = go (nat_eq u.sig.0 n) refl
             ap (λ ds. slice_get ds k) r ∙ part_keeps (read m u.sig.0) u.low k u.bits a v (λ l t. h (g, l, t))
     go false f = ap (λ ds. slice_get ds k) (read_other m u.sig.0 n after (λ g. (grind (arith, nat_tests)))) ∙ e
 
-all_keep : (us : List Update) (m : Map) (n k : ℕ) (a : Digit) → slice_get (read m n) k ≡ Some a → (IsWritten us n k → ⊥) → slice_get (read (all_applied us m) n) k ≡ Some a
+pub all_keep : (us : List Update) (m : Map) (n k : ℕ) (a : Digit) → slice_get (read m n) k ≡ Some a → (IsWritten us n k → ⊥) → slice_get (read (all_applied us m) n) k ≡ Some a
 all_keep [] m n k a e h = e
 all_keep (u ∷ us) m n k a e h = all_keep us (applied u m) n k a (one_keeps u m n k a e (λ w. h (inl w))) (λ w. h (inr w))
 

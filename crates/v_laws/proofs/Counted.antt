@@ -243,10 +243,10 @@ all_add outer js s (p ∷ ps) d known targets =
 
 -- ---- each port is an object
 
-abbrev AreFree : Entries → List Declared → Type 0
+abbrev pub AreFree : Entries → List Declared → Type 0
 AreFree es ds = (x : Declared) → Member x ds → is_free x.name es ≡ true
 
-free_goes : (w : Place) → Goes w (AreFree w.constants)
+pub free_goes : (w : Place) → Goes w (AreFree w.constants)
 free_goes w = record {
   none = λ x m. absurd m;
   more = λ ds x h n y m. added ds x h n.free y (member_both y ds (x ∷ []) m);
@@ -262,7 +262,7 @@ free_goes w = record {
     put ds x old h f y (inl e) = ap (λ (z : Declared). is_free z.name w.constants) e ∙ h old (found_member x.name ds old f).0
     put ds x old h f y (inr m) = h y m
 
-line_there : (x : Declared) (p : Port) (ps : List Port) (ds : List Declared) → Member p ps → find_declared p.name ds ≡ Some x → Member x (port_lines ps ds)
+pub line_there : (x : Declared) (p : Port) (ps : List Port) (ds : List Declared) → Member p ps → find_declared p.name ds ≡ Some x → Member x (port_lines ps ds)
 line_there x p [] ds m e = absurd m
 line_there x p (q ∷ ps) ds (inl f) e = subst (λ o. Member x (listed o ++ port_lines ps ds)) (sym (ap (λ (r : Port). find_declared r.name ds) (sym f) ∙ e)) (inl refl)
 line_there x p (q ∷ ps) ds (inr m) e = go (find_declared q.name ds) (line_there x p ps ds m e)
@@ -271,12 +271,12 @@ line_there x p (q ∷ ps) ds (inr m) e = go (find_declared q.name ds) (line_ther
     go None k = k
     go (Some d) k = inr k
 
-member_before : (x : Declared) (xs ys : List Declared) → Member x xs → Member x (xs ++ ys)
+pub member_before : (x : Declared) (xs ys : List Declared) → Member x xs → Member x (xs ++ ys)
 member_before x [] ys m = absurd m
 member_before x (y ∷ xs) ys (inl e) = inl e
 member_before x (y ∷ xs) ys (inr m) = inr (member_before x xs ys m)
 
-entry_there : (x : Declared) (first : ℕ) (ds : List Declared) → Member x ds → (o : DataObject) × (means (entries first ds) x.name ≡ Some (Object o))
+pub entry_there : (x : Declared) (first : ℕ) (ds : List Declared) → Member x ds → (o : DataObject) × (means (entries first ds) x.name ≡ Some (Object o))
 entry_there x first [] m = absurd m
 entry_there x first (d ∷ ds) (inl e) =
     (object_of first d, ap (λ (y : Declared). means (entries first (d ∷ ds)) y.name) e ∙ ap (λ b. if b then Some (Object (object_of first d)) else means (entries (first + count_of d.words) ds) d.name) (is_itself d.name))
@@ -288,7 +288,7 @@ entry_there x first (d ∷ ds) (inr m) = go (bytes_eq x.name d.name) (entry_ther
     go false k = k
 
 -- a name that is no constant
-free_passed : (n : List ℕ) (es fs : Entries) → is_free n es ≡ true → means (es ++ fs) n ≡ means fs n
+pub free_passed : (n : List ℕ) (es fs : Entries) → is_free n es ≡ true → means (es ++ fs) n ≡ means fs n
 free_passed n [] fs h = refl
 free_passed n (e ∷ es) fs h = go (bytes_eq n e.0) h (free_passed n es fs)
   where

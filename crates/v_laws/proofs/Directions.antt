@@ -25,11 +25,12 @@ abbrev pub IsPlain : Declared → Type 0
 IsPlain x = (w : Bounds) → x.words ≡ Some w → (x.direction ≡ None) × (x.sort ≡ Some Reg)
 
 -- P holds from one declaration to the next
-record Goes (P : List Declared → Type 0) : Type 0 where
-  more : (ds : List Declared) (x : Declared) → P ds → IsPlain x → find_declared x.name ds ≡ None → P (ds ++ (x ∷ []))
-  again : (ds : List Declared) (x old : Declared) → P ds → find_declared x.name ds ≡ Some old → are_halves old x ≡ true → P (with_declared (whole_of old x) ds)
+pub record Goes (P : List Declared → Type 0) : Type 0 where
+  pub more : (ds : List Declared) (x : Declared) → P ds → IsPlain x → find_declared x.name ds ≡ None → P (ds ++ (x ∷ []))
+  pub again : (ds : List Declared) (x old : Declared) → P ds → find_declared x.name ds ≡ Some old → are_halves old x ≡ true
+      → not (is_input_reg (whole_of old x).direction (whole_of old x).sort) ≡ true → P (with_declared (whole_of old x) ds)
 
-both_true : (a b : Bool) → (a && b) ≡ true → (a ≡ true) × (b ≡ true)
+pub both_true : (a b : Bool) → (a && b) ≡ true → (a ≡ true) × (b ≡ true)
 both_true true b h = (refl, h)
 both_true false b h = cc
 
@@ -49,13 +50,16 @@ module _ (w : Place) (P : List Declared → Type 0) (goes : Goes P) where
   again_holds p d ds None e h plain = checked_holds p d (declared_too w p d ds) (too_holds p d ds h plain (sym e))
   again_holds p d ds (Some old) e h plain =
       holds_needs P (are_halves old d && same_bounds old.bounds d.bounds) rule.DuplicateName p (port_checked w p (whole_of old d) (Sound (with_declared (whole_of old d) ds)))
-      (λ t. checked_holds p (whole_of old d) (Sound (with_declared (whole_of old d) ds)) (goes.again ds d old h (sym e) (both_true (are_halves old d) (same_bounds old.bounds d.bounds) t).0))
+      (λ t. holds_wants P (is_port (whole_of old d).direction (whole_of old d).name w.ports && not (is_input_reg (whole_of old d).direction (whole_of old d).sort)) rule.BadPort p
+      (Sound (with_declared (whole_of old d) ds))
+      (λ u. goes.again ds d old h (sym e) (both_true (are_halves old d) (same_bounds old.bounds d.bounds) t).0
+      (both_true (is_port (whole_of old d).direction (whole_of old d).name w.ports) (not (is_input_reg (whole_of old d).direction (whole_of old d).sort)) u).1))
 
   declare_holds : (p : ℕ) (d : Declared) (ds : List Declared) → P ds → IsPlain d → Holds P (declare w p d ds)
   declare_holds p d ds h plain =
       holds_needs P (is_free d.name w.constants) rule.DuplicateName p (declare_again w p d ds (find_declared d.name ds)) (λ free. again_holds p d ds (find_declared d.name ds) refl h plain)
 
-  all_hold : (d : Option Direction) (k : Option Sort) (b : Bounds) (is : List Identifier) (ds : List Declared) → P ds → Holds P (declare_all w d k b is ds)
+  pub all_hold : (d : Option Direction) (k : Option Sort) (b : Bounds) (is : List Identifier) (ds : List Declared) → P ds → Holds P (declare_all w d k b is ds)
   all_hold d k b [] ds h = h
   all_hold d k b (i ∷ is) ds h =
       holds_then P P (declare w i.at (declared_as d k b None i.name) ds) (declare_all w d k b is) (declare_holds i.at (declared_as d k b None i.name) ds h (λ v e. cc)) (λ es g. all_hold d k b is es g)
@@ -66,12 +70,12 @@ module _ (w : Place) (P : List Declared → Type 0) (goes : Goes P) where
       (λ t. holds_then (λ (x : Bounds). Unit {0}) P (bounds_in r (known_names w)) (λ x. declared_too w i.at (declared_as None (Some Reg) b (Some x) i.name) ds) (holds_any (bounds_in r (known_names w)))
       (λ x u. too_holds i.at (declared_as None (Some Reg) b (Some x) i.name) ds h (λ v e. (refl, refl)) (none_there (find_declared i.name ds) (both_true (is_free i.name w.constants) (is_none (find_declared i.name ds)) t).1)))
 
-  register_holds : (b : Bounds) (i : Identifier) (t : Option TailTree) (ds : List Declared) → P ds → Holds P (declare_register w b i t ds)
+  pub register_holds : (b : Bounds) (i : Identifier) (t : Option TailTree) (ds : List Declared) → P ds → Holds P (declare_register w b i t ds)
   register_holds b i None ds h = declare_holds i.at (declared_as None (Some Reg) b None i.name) ds h (λ v e. cc)
   register_holds b i (Some (Words r)) ds h = memory_holds b i r ds h
   register_holds b i (Some (Initially e)) ds h = declare_holds i.at (declared_as None (Some Reg) b None i.name) ds h (λ v e. cc)
 
-  registers_hold : (b : Bounds) (rs : List RegisterTree) (ds : List Declared) → P ds → Holds P (declare_registers w b rs ds)
+  pub registers_hold : (b : Bounds) (rs : List RegisterTree) (ds : List Declared) → P ds → Holds P (declare_registers w b rs ds)
   registers_hold b [] ds h = h
   registers_hold b (RegisterOf i t ∷ rs) ds h = holds_then P P (declare_register w b i t ds) (declare_registers w b rs) (register_holds b i t ds h) (λ es k. registers_hold b rs es k)
 
@@ -93,12 +97,12 @@ module _ (w : Place) (P : List Declared → Type 0) (goes : Goes P) where
   line_holds (Initial b) ds h = h
   line_holds (Instance m v i c) ds h = h
 
-  lines_hold : (is : List ItemTree) (ds : List Declared) → P ds → HoldsOk P (declare_lines w is ds)
+  pub lines_hold : (is : List ItemTree) (ds : List Declared) → P ds → HoldsOk P (declare_lines w is ds)
   lines_hold [] ds h = h
   lines_hold (ItemAt p k ∷ is) ds h =
       holds_next P P (ended (declare_line w k ds)) (declare_lines w is) (holds_ended P (declare_line w k ds) (line_holds k ds h)) (λ es g. lines_hold is es g)
 
-  header_holds : (ps : List HeadedPort) (ds : List Declared) → P ds → HoldsOk P (declare_header w ps ds)
+  pub header_holds : (ps : List HeadedPort) (ds : List Declared) → P ds → HoldsOk P (declare_header w ps ds)
   header_holds [] ds h = h
   header_holds (p ∷ ps) ds h =
       holds_next P P (ended (declare_ports w p.head (p.name ∷ []) ds)) (declare_header w ps) (holds_ended P (declare_ports w p.head (p.name ∷ []) ds) (ports_hold p.head (p.name ∷ []) ds h)) (λ es g. header_holds ps es g)
@@ -152,7 +156,7 @@ whole_plain old x plain h w e =
 plain_goes : Goes ArePlain
 plain_goes = record {
   more = λ ds x h plain new y m. added ds x h plain y (member_both y ds (x ∷ []) m);
-  again = λ ds x old h f halves y m. put ds x old h f halves y (put_member (whole_of old x) ds y m);
+  again = λ ds x old h f halves free y m. put ds x old h f halves y (put_member (whole_of old x) ds y m);
 }
   where
     added : (ds : List Declared) (x : Declared) → ArePlain ds → IsPlain x → (y : Declared) → Member y ds ⊎ Member y (x ∷ []) → IsPlain y
@@ -179,7 +183,7 @@ pub record IsDirected (n : List ℕ) (dir : Direction) (ds : List Declared) : Ty
   pub found : find_declared n ds ≡ Some one
   pub is : one.direction ≡ Some dir
 
-find_more : (n : List ℕ) (ds es : List Declared) (x : Declared) → find_declared n ds ≡ Some x → find_declared n (ds ++ es) ≡ Some x
+pub find_more : (n : List ℕ) (ds es : List Declared) (x : Declared) → find_declared n ds ≡ Some x → find_declared n (ds ++ es) ≡ Some x
 find_more n [] es x h = cc
 find_more n (d ∷ ds) es x h = go (bytes_eq d.name n) h (find_more n ds es x)
   where
@@ -188,7 +192,7 @@ find_more n (d ∷ ds) es x h = go (bytes_eq d.name n) h (find_more n ds es x)
     go true f later = f
     go false f later = later f
 
-find_last : (x : Declared) (ds : List Declared) → find_declared x.name ds ≡ None → find_declared x.name (ds ++ (x ∷ [])) ≡ Some x
+pub find_last : (x : Declared) (ds : List Declared) → find_declared x.name ds ≡ None → find_declared x.name (ds ++ (x ∷ [])) ≡ Some x
 find_last x [] h = ap (λ b. if b then Some x else None) (is_itself x.name)
 find_last x (d ∷ ds) h = go (bytes_eq d.name x.name) h (find_last x ds)
   where
@@ -197,7 +201,7 @@ find_last x (d ∷ ds) h = go (bytes_eq d.name x.name) h (find_last x ds)
     go true f later = cc
     go false f later = later f
 
-put_same : (y : Declared) (ds : List Declared) (old : Declared) → find_declared y.name ds ≡ Some old → find_declared y.name (with_declared y ds) ≡ Some y
+pub put_same : (y : Declared) (ds : List Declared) (old : Declared) → find_declared y.name ds ≡ Some old → find_declared y.name (with_declared y ds) ≡ Some y
 put_same y [] old h = cc
 put_same y (d ∷ ds) old h = go (bytes_eq d.name y.name) refl h (put_same y ds old)
   where
@@ -206,7 +210,7 @@ put_same y (d ∷ ds) old h = go (bytes_eq d.name y.name) refl h (put_same y ds 
     go true e f later = ap (λ b. if b then Some y else find_declared y.name ds) (is_itself y.name)
     go false e f later = ap (λ b. if b then Some d else find_declared y.name (with_declared y ds)) e ∙ later f
 
-put_other : (n : List ℕ) (y : Declared) (ds : List Declared) → bytes_eq y.name n ≡ false → find_declared n (with_declared y ds) ≡ find_declared n ds
+pub put_other : (n : List ℕ) (y : Declared) (ds : List Declared) → bytes_eq y.name n ≡ false → find_declared n (with_declared y ds) ≡ find_declared n ds
 put_other n y [] h = refl
 put_other n y (d ∷ ds) h = go (bytes_eq d.name y.name) refl (put_other n y ds h)
   where
@@ -223,7 +227,7 @@ or_some None p d h = cc
 directed_goes : (n : List ℕ) (dir : Direction) → Goes (IsDirected n dir)
 directed_goes n dir = record {
   more = λ ds x h plain new. record { one = h.one; found = find_more n ds (x ∷ []) h.one h.found; is = h.is };
-  again = λ ds x old h f halves. put ds x old h f (bytes_eq old.name n) refl;
+  again = λ ds x old h f halves free. put ds x old h f (bytes_eq old.name n) refl;
 }
   where
     put : (ds : List Declared) (x old : Declared) → IsDirected n dir ds → find_declared x.name ds ≡ Some old → (b : Bool) → bytes_eq old.name n ≡ b → IsDirected n dir (with_declared (whole_of old x) ds)
@@ -244,14 +248,14 @@ directed_goes n dir = record {
     put ds x old h f false e = record { one = h.one; found = put_other n (whole_of old x) ds e ∙ h.found; is = h.is }
 
 -- the second half has no direction where the first has one, and the other way round
-other_half : (a b c u v n t : Bool) → u ≡ false → (((a && b) && (u && v)) || ((c && n) && t)) ≡ true → c ≡ true
+pub other_half : (a b c u v n t : Bool) → u ≡ false → (((a && b) && (u && v)) || ((c && n) && t)) ≡ true → c ≡ true
 other_half a b true u v n t h e = refl
 other_half a b c true v n t h e = cc
 other_half true true false false v n t h e = cc
 other_half true false false false v n t h e = cc
 other_half false b false false v n t h e = cc
 
-no_direction : (o : Option Direction) → is_none o ≡ true → o ≡ None
+pub no_direction : (o : Option Direction) → is_none o ≡ true → o ≡ None
 no_direction None h = refl
 no_direction (Some d) h = cc
 
@@ -303,7 +307,7 @@ module _ (w : Place) where
       holds_then (λ (b : Bounds). Unit {0}) (IsDirected n d) (vector_bounds r (known_names w)) (λ b. declare_all w (Some d) (sort_of k) b is ds) (holds_any (vector_bounds r (known_names w)))
       (λ b u. all_direct n d (sort_of k) b is ds a)
 
-  later_lines : (n : List ℕ) (dir : Direction) (k : KindTree) (is : List ItemTree) (ds : List Declared) → ((es : List Declared) → HoldsOk (IsDirected n dir) (declare_lines w is es))
+  pub later_lines : (n : List ℕ) (dir : Direction) (k : KindTree) (is : List ItemTree) (ds : List Declared) → ((es : List Declared) → HoldsOk (IsDirected n dir) (declare_lines w is es))
       → HoldsOk (IsDirected n dir) (next (ended (declare_line w k ds)) (declare_lines w is))
   later_lines n dir k is ds h =
       holds_next (λ (es : List Declared). Unit {0}) (IsDirected n dir) (ended (declare_line w k ds)) (declare_lines w is) (holds_ok_any (ended (declare_line w k ds))) (λ es u. h es)

@@ -1,5 +1,5 @@
 -- What the outputs of an instance drive in the instance above it.
-use Rattle.std.proofs.Common.{◌≡◌, ◌≤◌, ◌⊎◌, inl, inr, ◌∙◌, ℕ, Bool, true, false, List, [], ◌∷◌, length, map, Option, Some, None, refl, sym, ap, subst, if◌then◌else◌}
+use Rattle.std.proofs.Common.{◌≡◌, ◌≤◌, ◌⊎◌, inl, inr, ◌∙◌, ℕ, Bool, true, false, List, [], ◌∷◌, length, map, Option, Some, None, refl, sym, ap, subst, if◌then◌else◌, nat_le, ◌+◌}
 use Rattle.std.specs.Prelude.{bytes_eq}
 use Rattle.std.specs.List.{list_any}
 use Rattle.four_value.specs.declared.Digit.{Digit}
@@ -7,17 +7,21 @@ use Rattle.v_syntax.specs.declared.statement.Identifier.{Identifier}
 use Rattle.v_syntax.specs.declared.item.Direction.{Direction}
 use Rattle.v_syntax.specs.declared.item.Direction.TheVariants as direction
 use Rattle.v_syntax.specs.ExpressionTrees.{Tree, TargetTree, first_at}
-use Rattle.v_syntax.specs.SourceTrees.{ConnectionTree, Connection, ConnectionsTree, Ordered, Named as NamedConnections}
+use Rattle.v_syntax.specs.SourceTrees.{ConnectionTree, Connection, ConnectionsTree, Ordered, Named as NamedConnections, ModuleTree}
 use Rattle.v_scope.specs.declared.rule.ElabRule.TheVariants as rule
 use Rattle.v_scope.specs.declared.found.Found.{Found}
+use Rattle.v_scope.specs.declared.found.Found.TheVariants.{Sound}
 use Rattle.v_scope.specs.Rules.{at}
-use Rattle.v_scope.specs.Found.{Holds, each}
+use Rattle.v_scope.specs.Found.{Holds, each, both, wants}
 use Rattle.v_scope.specs.Scope.{Scope}
 use Rattle.v_flat.specs.Expressions.{Values}
 use Rattle.v_flat.specs.Checks.{checked}
 use Rattle.v_flat.specs.Targets.{Drive, as_target, driving, target_width, updates}
-use Rattle.v_flat.specs.Headers.{Port, distinct, find_port, port_name}
-use Rattle.v_flat.specs.Design.{Joint, Joints, find_joint, joint, joined, joints_of, named_joint, named_joints, ordered_joints, output_joined, port_once, value_checked}
+use Rattle.v_flat.specs.Headers.{Port, distinct, find_port, port_name, all_ports, items_in, open_parameters, parameters_of, ports_in, ports_of}
+use Rattle.v_scope.specs.Limits.{most_parts}
+use Rattle.v_flat.specs.Declarations.{Given}
+use Rattle.v_shape.proofs.Ends.{sound_both, wants_sound}
+use Rattle.v_flat.specs.Design.{Joint, Joints, find_joint, joint, joined, joints_of, named_joint, named_joints, ordered_joints, output_joined, port_once, value_checked, State, given_of, instance_checked, is_fresh, joint_count}
 use Rattle.v_flat.proofs.Holds.{holds_any, holds_each, holds_lost, holds_then}
 use Rattle.v_shape.proofs.Names.{Among, Differ, among_first, among_later, one_of_more, same_name}
 use Rattle.v_laws.specs.Digits.{IsDriven, IsWritten}
@@ -42,7 +46,7 @@ distinct_new p seen (q ∷ ps) m a = go (list_any (bytes_eq q.name) seen) refl m
     go true e g j k = j g a
     go false e g j k = here e g k
 
-named_member : (n : List ℕ) (ps : List Port) → Among n (map port_name ps) → (q : Port) × Member q ps × (q.name ≡ n)
+pub named_member : (n : List ℕ) (ps : List Port) → Among n (map port_name ps) → (q : Port) × Member q ps × (q.name ≡ n)
 named_member n [] a = cc
 named_member n (p ∷ ps) a = go (one_of_more n p.name (map port_name ps) a) (named_member n ps)
   where
@@ -195,3 +199,17 @@ module _ (s : Scope) (none : NetsHaveNoWords s) where
     joints_hold None ds = none_joined ds
     joints_hold (Some (Ordered es)) ds = ordered_hold es all ds (λ p m. m)
     joints_hold (Some (NamedConnections cs)) ds = all_named [] cs ds
+
+-- where no rule is broken in an instance
+pub checked_joined : (s : State) → NetsHaveNoWords s.scope → (p : ℕ) (v : Option ConnectionsTree) (i : Identifier) (c : Option ConnectionsTree) (n : ModuleTree) (x : List Given × Joints)
+    → instance_checked p v i c s n ≡ Sound x → AreJoined (ports_of n) s.scope s.driven x.1
+checked_joined s none p v i c n x e = subst (Holds (AreJoined (ports_of n) s.scope s.driven)) found (joints_hold s.scope none (ports_of n) (distinct_differ [] (all_ports (ports_in n) (items_in n))) c s.driven)
+  where
+    asked : Found (List Given × Joints)
+    asked = both (given_of s.scope v (open_parameters (parameters_of n))) (joints_of s.scope c (ports_of n) s.driven)
+
+    found : joints_of s.scope c (ports_of n) s.driven ≡ Sound x.1
+    found =
+        sound_both (given_of s.scope v (open_parameters (parameters_of n))) (joints_of s.scope c (ports_of n) s.driven) x
+        (wants_sound (is_fresh i.name s) rule.DuplicateName i.at asked x
+        (wants_sound (nat_le (length s.design.processes + joint_count c (ports_of n)) most_parts) rule.TooMany p (wants (is_fresh i.name s) rule.DuplicateName i.at asked) x e).1).1

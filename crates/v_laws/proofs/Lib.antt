@@ -14,3 +14,6 @@ pub mod Once
 pub mod Names
 pub mod Least
 pub mod Counted
+pub mod Procedures
+pub mod Registers
+pub mod Sorts

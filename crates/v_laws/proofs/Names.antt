@@ -29,12 +29,12 @@ use Rattle.v_laws.specs.Instances.{IsAt, IsSignalAt, Names_differ, Names_have_th
 
 -- ---- lists
 
-get_before : {A : Type 0} (xs ys : List A) (i : ℕ) (a : A) → slice_get xs i ≡ Some a → slice_get (xs ++ ys) i ≡ Some a
+pub get_before : {A : Type 0} (xs ys : List A) (i : ℕ) (a : A) → slice_get xs i ≡ Some a → slice_get (xs ++ ys) i ≡ Some a
 get_before [] ys i a h = cc
 get_before (x ∷ xs) ys zero a h = h
 get_before (x ∷ xs) ys (suc i) a h = get_before xs ys i a h
 
-get_behind : {A : Type 0} (xs ys : List A) (i : ℕ) → slice_get (xs ++ ys) (length xs + i) ≡ slice_get ys i
+pub get_behind : {A : Type 0} (xs ys : List A) (i : ℕ) → slice_get (xs ++ ys) (length xs + i) ≡ slice_get ys i
 get_behind [] ys i = let e : 0 + i ≡ i = omega arith in ap (slice_get ys) e
 get_behind (x ∷ xs) ys i = let e : suc (length xs) + i ≡ suc (length xs + i) = omega arith in ap (slice_get (x ∷ (xs ++ ys))) e ∙ get_behind xs ys i
 
@@ -120,7 +120,7 @@ word_many : (path : Path) (w : ℕ) (start : Digit) (low n : ℕ) → length (wo
 word_many path w start low zero = refl
 word_many path w start low (suc n) = ap suc (word_many path w start (low + 1) n)
 
-one_many : (path : Path) (o : DataObject) (w : Option Bounds) → length (signals_of path o w) ≡ count_of w
+pub one_many : (path : Path) (o : DataObject) (w : Option Bounds) → length (signals_of path o w) ≡ count_of w
 one_many path o None = refl
 one_many path o (Some w) = word_many path (width_of o.bounds) (start_of o.kind) (low_of w) (width_of w)
 

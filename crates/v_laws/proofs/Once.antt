@@ -1,5 +1,5 @@
 -- No digit of a signal is changed by two continuous assignments of a design.
-use Rattle.std.proofs.Common.{◌≡◌, ◌+◌, ◌<◌, ◌≤◌, ◌⊎◌, inl, inr, ◌∙◌, ℕ, List, [], ◌∷◌, length, nat_le, slice_get, Option, Some, None, Ok, refl, sym, ap, subst, arith, length-append}
+use Rattle.std.proofs.Common.{◌≡◌, ◌+◌, ◌<◌, ◌≤◌, ◌⊎◌, inl, inr, ◌∙◌, ℕ, List, [], ◌∷◌, length, nat_le, slice_get, Option, Some, None, Ok, refl, sym, ap, arith, length-append}
 use Rattle.four_value.proofs.Lengths.{length_resize}
 use Rattle.gpi.specs.declared.design.Kind.TheVariants as process_kind
 use Rattle.gpi.specs.declared.design.Wake.{Wake}
@@ -14,28 +14,27 @@ use Rattle.v_scope.specs.declared.found.Found.{Found}
 use Rattle.v_scope.specs.declared.found.Found.TheVariants.{Sound}
 use Rattle.v_scope.specs.declared.meaning.DataKind.TheVariants.{Input, Net}
 use Rattle.v_scope.specs.declared.meaning.DataObject.{DataObject}
-use Rattle.v_scope.specs.Found.{Holds, both, wants}
+use Rattle.v_scope.specs.Found.{Holds, both, wants, HoldsOk}
 use Rattle.v_scope.specs.Limits.{most_parts}
 use Rattle.v_flat.specs.Checks.{checked}
 use Rattle.v_flat.specs.Targets.{Drive, driving, target_width, updates}
 use Rattle.v_flat.specs.Statements.{assigned_value, reads, statement_checked, statement_reads}
-use Rattle.v_flat.specs.Headers.{Port, all_names, all_ports, items_in, later, open_parameters, parameters_of, ports_in, ports_of}
+use Rattle.v_flat.specs.Headers.{Port, all_names, all_ports, items_in, later, parameters_of, ports_in, ports_of}
 use Rattle.v_flat.specs.Declarations.{Declared, Entries, Given, declarations, in_order, parameters, signals_in}
 use Rattle.v_flat.specs.Paths.{Path}
-use Rattle.v_flat.specs.Design.{Design, Joints, Outside, State, adding, all_signals, always, always_item, assigning, beginning, closed, driver, events_of, given_of, in_turn, initial_item, instance_checked, is_fresh, joint_count, joints_of, net, net_count, opened, place_of, plain_item, port_joints, register, register_count, running, wakes_of, whole_of, with_child}
+use Rattle.v_flat.specs.Design.{Design, Joints, Outside, State, adding, all_signals, always, always_item, assigning, beginning, closed, driver, events_of, in_turn, initial_item, instance_checked, net, net_count, opened, place_of, plain_item, port_joints, register, register_count, running, wakes_of, whole_of, with_child, flat_design}
 use Rattle.v_flat.proofs.Holds.{holds_any, holds_both, holds_each, holds_then, holds_wants}
-use Rattle.v_shape.proofs.Ends.{sound_both, wants_sound}
 use Rattle.v_shape.proofs.Kept.{joints_keep}
 use Rattle.v_shape.proofs.Signals.{all_many}
 use Rattle.v_shape.proofs.Walk.{opening, scope_of}
 use Rattle.v_laws.specs.Digits.{Changes, IsDriven}
-use Rattle.v_laws.specs.Drivers.{NetsHaveNoWords, One_driver}
+use Rattle.v_laws.specs.Drivers.{NetsHaveNoWords}
 use Rattle.v_laws.proofs.Along.{Steps, design_holds, outside_of}
 use Rattle.v_laws.proofs.Applied.{changed_written}
 use Rattle.v_laws.proofs.Directions.{ArePlain, HasDirection, directed, plain_declared}
 use Rattle.v_laws.proofs.Driven.{GoesOn, IsNet, driving_goes}
 use Rattle.v_laws.proofs.Found.{of_ok}
-use Rattle.v_laws.proofs.Joined.{AreJoined, IsJoined, distinct_differ, joints_hold}
+use Rattle.v_laws.proofs.Joined.{AreJoined, IsJoined, checked_joined, distinct_differ}
 use Rattle.v_laws.proofs.Members.{Member}
 use Rattle.v_laws.proofs.Opening.{AreApart, AreOpened, IsInput, opened_apart}
 use Rattle.v_laws.proofs.Places.{HasScope, IsPlaced, constants_are, has_scope, input_or_output, net_words, order_plain, placed_in, placed_once}
@@ -209,16 +208,7 @@ module _ (m : ModuleTree) (out : Outside) (d : Design) (ds : List Declared) wher
 
   joined_in : (p : ℕ) (v : Option ConnectionsTree) (i : Identifier) (c : Option ConnectionsTree) (s : State) (n : ModuleTree) (x : List Given × Joints) → Amid m out d ds s → instance_checked p v i c s n ≡ Sound x
       → AreJoined (ports_of n) s.scope s.driven x.1
-  joined_in p v i c s n x h e = subst (Holds (AreJoined (ports_of n) s.scope s.driven)) found (joints_hold s.scope (no_words s h) (ports_of n) (distinct_differ [] (all_ports (ports_in n) (items_in n))) c s.driven)
-    where
-      asked : Found (List Given × Joints)
-      asked = both (given_of s.scope v (open_parameters (parameters_of n))) (joints_of s.scope c (ports_of n) s.driven)
-
-      found : joints_of s.scope c (ports_of n) s.driven ≡ Sound x.1
-      found =
-          sound_both (given_of s.scope v (open_parameters (parameters_of n))) (joints_of s.scope c (ports_of n) s.driven) x
-          (wants_sound (is_fresh i.name s) rule.DuplicateName i.at asked x
-          (wants_sound (nat_le (length s.design.processes + joint_count c (ports_of n)) most_parts) rule.TooMany p (wants (is_fresh i.name s) rule.DuplicateName i.at asked) x e).1).1
+  joined_in p v i c s n x h e = checked_joined s (no_words s h) p v i c n x e
 
   given_starts : (s : State) (n : ModuleTree) (x : List Given × Joints) → Amid m out d ds s → AreJoined (ports_of n) s.scope s.driven x.1 → Starts n (outside_of s x) s.design
   given_starts s n x h j = record {
@@ -316,17 +306,20 @@ module _ (m : ModuleTree) (path : Path) (out : Outside) (d : Design) (constants 
 once_steps : Steps Starts Behind Amid
 once_steps = record {
   opens = λ m path out d constants ds h first second. opens_amid m path out d constants ds h first second;
-  plain = λ m out d ds p k s h. plain_amid m out d ds p k s h;
+  plain = λ m out d ds p k s here h. plain_amid m out d ds p k s h;
   given = λ m out d ds p v i c s n x h e. given_starts m out d ds s n x h (joined_in m out d ds p v i c s n x h e);
   inner = λ m out d ds p v i c s n x e h f b. inner_amid m out d ds i s n x e h (joined_in m out d ds p v i c s n x h f) b;
   closes = λ m path out d ds t h. closes_behind m out d ds path t h;
 }
 
-pub one_driver : One_driver
-one_driver ms top =
-    design_holds Starts Behind Amid once_steps (λ (d : Design). (i j : ℕ) (p q : Proc) (n k : ℕ)
-    → slice_get d.processes i ≡ Some p → slice_get d.processes j ≡ Some q → p.kind ≡ process_kind.Assign → q.kind ≡ process_kind.Assign
-    → Changes p n k → Changes q n k → i ≡ j)
+-- no digit of a signal is changed by two continuous assignments
+abbrev pub OneAssignment : Design → Type 0
+OneAssignment d = (i j : ℕ) (p q : Proc) (n k : ℕ) → slice_get d.processes i ≡ Some p → slice_get d.processes j ≡ Some q → p.kind ≡ process_kind.Assign → q.kind ≡ process_kind.Assign
+    → Changes p n k → Changes q n k → i ≡ j
+
+pub one_assignment : (ms : List ModuleTree) (top : Option (List ℕ)) → HoldsOk OneAssignment (flat_design ms top)
+one_assignment ms top =
+    design_holds Starts Behind Amid once_steps OneAssignment
     (λ m. record {
       once = tt;
       old = λ n k t. absurd t;

@@ -72,7 +72,7 @@ abbrev pub IsPlaced : List ℕ → DataObject → ℕ → List Declared → Type
 IsPlaced n o first [] = ⊥
 IsPlaced n o first (d ∷ ds) = ((n ≡ d.name) × (o ≡ object_of first d)) ⊎ IsPlaced n o (first + count_of d.words) ds
 
-some_signals : (w : Option Bounds) → 1 ≤ count_of w
+pub some_signals : (w : Option Bounds) → 1 ≤ count_of w
 some_signals None = omega arith
 some_signals (Some w) = span_some w.left w.right
 
@@ -95,7 +95,7 @@ placed_once n m o p first (d ∷ ds) (inr h) (inl k) e =
     let r = (placed_in n o (first + count_of d.words) ds h).0 in let s = some_signals d.words in absurd (omega (arith, e, f, r, s))
 placed_once n m o p first (d ∷ ds) (inr h) (inr k) e = placed_once n m o p (first + count_of d.words) ds h k e
 
-placed_member : (n : List ℕ) (o : DataObject) (first : ℕ) (ds : List Declared) → IsPlaced n o first ds
+pub placed_member : (n : List ℕ) (o : DataObject) (first : ℕ) (ds : List Declared) → IsPlaced n o first ds
     → (x : Declared) × Member x ds × (x.name ≡ n) × (o.kind ≡ kind_of x.direction x.sort) × (o.words ≡ x.words)
 placed_member n o first [] h = absurd h
 placed_member n o first (d ∷ ds) (inl h) = (d, inl refl, sym h.0, ap (λ (x : DataObject). x.kind) h.1, ap (λ (x : DataObject). x.words) h.1)
@@ -130,7 +130,7 @@ has_scope constants d ds h n o e = entry_placed n o (length d.signals) ds (const
 
 -- ---- in order
 
-port_line : (x : Declared) (ps : List Port) (ds : List Declared) → Member x (port_lines ps ds) → (q : Port) × Member q ps × (find_declared q.name ds ≡ Some x)
+pub port_line : (x : Declared) (ps : List Port) (ds : List Declared) → Member x (port_lines ps ds) → (q : Port) × Member q ps × (find_declared q.name ds ≡ Some x)
 port_line x [] ds h = absurd h
 port_line x (p ∷ ps) ds h = go (find_declared p.name ds) refl h (port_line x ps ds)
   where
@@ -148,7 +148,7 @@ port_line x (p ∷ ps) ds h = go (find_declared p.name ds) refl h (port_line x p
     go None e g k = later k g
     go (Some d) e g k = one d e g k
 
-other_line : (x : Declared) (ns : List (List ℕ)) (ds : List Declared) → Member x (other_lines ns ds) → Member x ds × (list_any (bytes_eq x.name) ns ≡ false)
+pub other_line : (x : Declared) (ns : List (List ℕ)) (ds : List Declared) → Member x (other_lines ns ds) → Member x ds × (list_any (bytes_eq x.name) ns ≡ false)
 other_line x ns [] h = absurd h
 other_line x ns (d ∷ ds) h = go (list_any (bytes_eq d.name) ns) refl h (other_line x ns ds)
   where
@@ -162,7 +162,7 @@ other_line x ns (d ∷ ds) h = go (list_any (bytes_eq d.name) ns) refl h (other_
     go true e g k = let r = k g in (inr r.0, r.1)
     go false e g k = one e g k
 
-order_member : (x : Declared) (ps : List Port) (ds : List Declared) → Member x (in_order ps ds) → Member x ds
+pub order_member : (x : Declared) (ps : List Port) (ds : List Declared) → Member x (in_order ps ds) → Member x ds
 order_member x ps ds h = go (member_both x (port_lines ps ds) (other_lines (map port_name ps) ds) h)
   where
     go : Member x (port_lines ps ds) ⊎ Member x (other_lines (map port_name ps) ds) → Member x ds
@@ -182,7 +182,7 @@ member_named p (q ∷ ps) (inr m) = go (bytes_eq p.name q.name) (member_named p 
 member_named p [] m = absurd m
 
 -- what is declared with a port's name is the first that was
-order_found : (p : Port) (ps : List Port) (ds : List Declared) (x : Declared) → Member p ps → Member x (in_order ps ds) → x.name ≡ p.name → find_declared p.name ds ≡ Some x
+pub order_found : (p : Port) (ps : List Port) (ds : List Declared) (x : Declared) → Member p ps → Member x (in_order ps ds) → x.name ≡ p.name → find_declared p.name ds ≡ Some x
 order_found p ps ds x k h e = go (member_both x (port_lines ps ds) (other_lines (map port_name ps) ds) h)
   where
     go : Member x (port_lines ps ds) ⊎ Member x (other_lines (map port_name ps) ds) → find_declared p.name ds ≡ Some x

@@ -106,7 +106,7 @@ name_recorded s sel p r ds (Some (Object o)) none = object_recorded s o sel p r 
 
 -- ---- braces
 
-written_both : (xs ys : List Update) (n k : ℕ) → IsWritten (xs ++ ys) n k → IsWritten xs n k ⊎ IsWritten ys n k
+pub written_both : (xs ys : List Update) (n k : ℕ) → IsWritten (xs ++ ys) n k → IsWritten xs n k ⊎ IsWritten ys n k
 written_both [] ys n k h = inr h
 written_both (x ∷ xs) ys n k (inl h) = inl (inl h)
 written_both (x ∷ xs) ys n k (inr h) = go (written_both xs ys n k h)
@@ -115,7 +115,7 @@ written_both (x ∷ xs) ys n k (inr h) = go (written_both xs ys n k h)
     go (inl a) = inl (inr a)
     go (inr b) = inr b
 
-holds_braces : (P : Type 0) (p : ℕ) (x : Found ℕ) → Holds (λ (w : ℕ). P) x → Holds (λ (w : ℕ). P) (sized p (filled p x))
+pub holds_braces : (P : Type 0) (p : ℕ) (x : Found ℕ) → Holds (λ (w : ℕ). P) x → Holds (λ (w : ℕ). P) (sized p (filled p x))
 holds_braces P p x h =
     holds_then (λ (w : ℕ). P) (λ (w : ℕ). P) (filled p x) (λ w. wants (nat_le w most_digits) rule.TooWide p (Sound w))
     (holds_then (λ (w : ℕ). P) (λ (w : ℕ). P) x (λ w. needs (nat_lt 0 w) rule.BadRange p (Sound w)) h (λ w k. holds_needs (λ (v : ℕ). P) (nat_lt 0 w) rule.BadRange p (Sound w) (λ ok. k)))

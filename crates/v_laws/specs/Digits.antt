@@ -31,3 +31,12 @@ pub record Changes (p : Proc) (n k : ℕ) : Type 0 where
   pub digit : Digit
   pub before : slice_get (read map n) k ≡ Some digit
   pub after : slice_get (read (p.run map).signals n) k ≡ Some digit → ⊥
+
+-- there is a map of the signals on which an activation of the process leaves an update of digit k of signal n, for later
+pub record Leaves (p : Proc) (n k : ℕ) : Type 0 where
+  pub map : Map
+  pub written : IsWritten (p.run map).updates n k
+
+-- on some map the process gives digit k of signal n a value, at once or later
+abbrev pub Gives : Proc → ℕ → ℕ → Type 0
+Gives p n k = Changes p n k ⊎ Leaves p n k

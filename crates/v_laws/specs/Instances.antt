@@ -1,4 +1,4 @@
--- Laws of the names of instances (IEEE 1364-2005, clauses 12.4 and 12.5).
+-- Laws of the names of instances (IEEE 1364-2005, clause 12.5).
 use Rattle.std.specs.Prelude.{◌≡◌, ◌+◌, ◌<◌, ℕ, List, Option, Some, None, slice_get}
 use Rattle.gpi.specs.declared.design.Spot.{Spot}
 use Rattle.gpi.specs.declared.design.Spot.TheVariants.{Inner, Sig, Words}
