@@ -81,19 +81,19 @@ counts_all bs n (Some b) e h = (h.0, λ i c f. h.1 i c (let k = get_within bs i 
 -- ---- in an expression
 
 -- what is broken in x is hidden by none that is broken later
-abbrev Reaches : {A B : Type 0} → Found A → Found B → Type 0
+abbrev pub Reaches : {A B : Type 0} → Found A → Found B → Type 0
 Reaches x y = (b : Broken) → fault x ≡ Some b → (c : Broken) × (fault y ≡ Some c) × IsFirst c b
 
-reaches_itself : {A : Type 0} (x : Found A) → Reaches x x
+pub reaches_itself : {A : Type 0} (x : Found A) → Reaches x x
 reaches_itself x b e = (b, e, first_itself b)
 
-reaches_on : {A B C : Type 0} (x : Found A) (y : Found B) (z : Found C) → Reaches x y → Reaches y z → Reaches x z
+pub reaches_on : {A B C : Type 0} (x : Found A) (y : Found B) (z : Found C) → Reaches x y → Reaches y z → Reaches x z
 reaches_on x y z h k b e = let r = h b e in let t = k r.0 r.1 in (t.0, t.1, first_on t.0 r.0 b t.2 r.2)
 
 of_some : (a b : Broken) → Some a ≡ Some b → a ≡ b
 of_some a b e = cc
 
-each_reaches : {A B : Type 0} (f : A → B) (x : Found A) → Reaches x (each f x)
+pub each_reaches : {A B : Type 0} (f : A → B) (x : Found A) → Reaches x (each f x)
 each_reaches f (Sound a) b e = cc
 each_reaches f (Noted c a) b e = (c, refl, subst (IsFirst c) (of_some c b e) (first_itself c))
 each_reaches f (Lost c) b e = (c, refl, subst (IsFirst c) (of_some c b e) (first_itself c))
@@ -103,7 +103,7 @@ settled_reaches (Sound a) b e = cc
 settled_reaches (Noted c a) b e = (c, refl, subst (IsFirst c) (of_some c b e) (first_itself c))
 settled_reaches (Lost c) b e = (c, refl, subst (IsFirst c) (of_some c b e) (first_itself c))
 
-noted_reaches : {A : Type 0} (d : Broken) (x : Found A) → Reaches x (noted d x)
+pub noted_reaches : {A : Type 0} (d : Broken) (x : Found A) → Reaches x (noted d x)
 noted_reaches d (Sound a) b e = cc
 noted_reaches d (Noted c a) b e = (earlier d c, refl, subst (IsFirst (earlier d c)) (of_some c b e) (earlier_least d c).right)
 noted_reaches d (Lost c) b e = (earlier d c, refl, subst (IsFirst (earlier d c)) (of_some c b e) (earlier_least d c).right)
@@ -124,12 +124,12 @@ lost_first B d (Sound a) = (d, refl, first_itself d)
 lost_first B d (Noted c a) = (earlier d c, refl, (earlier_least d c).left)
 lost_first B d (Lost c) = (earlier d c, refl, (earlier_least d c).left)
 
-left_reaches : {A B : Type 0} (x : Found A) (y : Found B) → Reaches x (both x y)
+pub left_reaches : {A B : Type 0} (x : Found A) (y : Found B) → Reaches x (both x y)
 left_reaches (Sound a) y b e = cc
 left_reaches {A} {B} (Noted c a) y b e = let r = noted_first c (each (λ (z : B). (a, z)) y) in (r.0, r.1, subst (IsFirst r.0) (of_some c b e) r.2)
 left_reaches {A} {B} (Lost c) y b e = let r = lost_first (A × B) c y in (r.0, r.1, subst (IsFirst r.0) (of_some c b e) r.2)
 
-right_reaches : {A B : Type 0} (x : Found A) (y : Found B) → Reaches y (both x y)
+pub right_reaches : {A B : Type 0} (x : Found A) (y : Found B) → Reaches y (both x y)
 right_reaches {A} {B} (Sound a) y = each_reaches (λ (z : B). (a, z)) y
 right_reaches {A} {B} (Noted c a) y = reaches_on y (each (λ (z : B). (a, z)) y) (noted c (each (λ (z : B). (a, z)) y)) (each_reaches (λ (z : B). (a, z)) y) (noted_reaches c (each (λ (z : B). (a, z)) y))
 right_reaches {A} {B} (Lost c) y = lost_reaches (A × B) c y
@@ -202,7 +202,7 @@ module _ (s : Scope) where
   same_tree x e h = subst (λ y. Reaches (checked s x) (checked s y)) h (reaches_itself (checked s x))
 
   mutual
-    in_reaches : (x e : Tree) → IsIn x e → Reaches (checked s x) (checked s e)
+    pub in_reaches : (x e : Tree) → IsIn x e → Reaches (checked s x) (checked s e)
     in_reaches x (Number p ds) h = same_tree x (Number p ds) h
     in_reaches x (Named p n sel) h = same_tree x (Named p n sel) h
     in_reaches x (Bracketed p e) (inl h) = same_tree x (Bracketed p e) h

@@ -17,3 +17,4 @@ pub mod Counted
 pub mod Procedures
 pub mod Registers
 pub mod Sorts
+pub mod FirstFaults

@@ -3,7 +3,7 @@
 ghost use Rattle.v_laws.specs.Drivers.{One_driver, Processes_keep_to_their_kind, Updates_are_recorded};
 ghost use Rattle.v_laws.specs.Instances.{Names_differ, Names_have_their_paths};
 ghost use Rattle.v_laws.specs.Joints.{Joints_are_counted};
-ghost use Rattle.v_laws.specs.Least.{First_faults_count};
+ghost use Rattle.v_laws.specs.Least.{First_faults_count, First_faults_end_procedures};
 
 /// Each digit that a continuous assignment updates lies in a drive that is recorded for its target, and in none that was recorded before
 /// (IEEE 1364-2005, clause 6.1).
@@ -31,6 +31,11 @@ pub fn names_differ()
 /// A rule that is broken in an operand is hidden by none that is broken later in the expression: what counts in the whole is that rule, or an earlier.
 pub fn first_faults_count()
     ensures { First_faults_count }
+{}
+
+/// A rule that is broken in an expression of a procedure ends the walk at that item, with that rule or an earlier one.
+pub fn first_faults_end_procedures()
+    ensures { First_faults_end_procedures }
 {}
 
 /// The connected ports of an instance give exactly as many assignments as there was asked to be room for (IEEE 1364-2005, clause 12.3).

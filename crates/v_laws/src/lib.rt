@@ -2,7 +2,7 @@
 //!
 //! Each digit of a net has at most one driver ([`one_driver`], [`processes_keep_to_their_kind`], [`updates_are_recorded`]); the names of an instance differ, and each stands
 //! for what has its path ([`names_differ`], [`names_have_their_paths`]); connected ports give the processes that are counted for them
-//! ([`joints_are_counted`]); of several broken rules the first counts ([`first_faults_count`],
+//! ([`joints_are_counted`]); of several broken rules the first counts ([`first_faults_count`], [`first_faults_end_procedures`],
 //! [`first_broken`]). Nothing stands on this crate.
 #![tactic(auto)]
 
