@@ -1,0 +1,5 @@
+use Rattle.v_laws.proofs.Names.{names_differ}
+use Rattle.v_laws.proofs.laws.names_differ.Goals as goal
+
+pub returns : goal.returns
+returns c = names_differ

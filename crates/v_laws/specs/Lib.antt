@@ -1,0 +1,6 @@
+pub mod Digits
+pub mod Drivers
+pub mod Instances
+pub mod Least
+pub mod Steps
+pub mod Joints

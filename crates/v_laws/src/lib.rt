@@ -1,0 +1,15 @@
+//! Laws of the flattened design, over the definition of elaboration (`flat_design` of `v_flat`), for all texts.
+//!
+//! Each digit of a net has at most one driver ([`one_driver`], [`processes_keep_to_their_kind`], [`updates_are_recorded`]); the names of an instance differ, and each stands
+//! for what has its path ([`names_differ`], [`names_have_their_paths`]); connected ports give the processes that are counted for them
+//! ([`joints_are_counted`]); of several broken rules the first counts ([`first_faults_count`], [`first_faults_end_procedures`],
+//! [`first_broken`]). Nothing stands on this crate.
+#![tactic(auto)]
+
+mod first;
+mod laws;
+
+pub use first::first_broken;
+pub use laws::{
+    first_faults_count, names_differ, names_have_their_paths, one_driver, updates_are_recorded,
+};
