@@ -4,5 +4,6 @@ pub mod KeptLaws
 pub mod Polls
 pub mod Worked
 pub mod EvalKnown
+pub mod PartsKnown
 pub mod StepKnown
 pub mod PollKnown

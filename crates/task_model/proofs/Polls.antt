@@ -18,16 +18,16 @@ module _ (functions : List Function) (view : View) where
   abbrev End : ℕ → Task → Option Given → Type 0
   End fuel task g = (t : Turned) × (fuel' : ℕ) × (task' : Task) × Polled functions view fuel task g t fuel' task'
 
-  last : (fuel : ℕ) (task : Task) (g : Option Given) (t : Turned) (fuel' : ℕ) (task' : Task)
+  pub polled_last : (fuel : ℕ) (task : Task) (g : Option Given) (t : Turned) (fuel' : ℕ) (task' : Task)
       → Wants functions view fuel task g t fuel' task' ⊎ RunsOut fuel task g t fuel' task' → Polled functions view fuel task g t fuel' task'
   unfolding Polls
-  last fuel task g t fuel' task' h = record { count = zero; polls = h }
+  polled_last fuel task g t fuel' task' h = record { count = zero; polls = h }
 
-  more : (fuel : ℕ) (task : Task) (g : Option Given) (t : Turned) (fuel' : ℕ) (task' : Task)
+  pub polled_more : (fuel : ℕ) (task : Task) (g : Option Given) (t : Turned) (fuel' : ℕ) (task' : Task)
       → GoesBy functions view fuel task g → Polled functions view (fuel - next_cost task g) (next functions task g view).task None t fuel' task'
       → Polled functions view fuel task g t fuel' task'
   unfolding Polls
-  more fuel task g t fuel' task' step p = record { count = suc p.count; polls = (step, p.polls) }
+  polled_more fuel task g t fuel' task' step p = record { count = suc p.count; polls = (step, p.polls) }
 
   -- what is known of a step by what it wants
   abbrev Splits : Task → Option Given → Option Turned → Type 0
@@ -38,7 +38,7 @@ module _ (functions : List Function) (view : View) where
     t,
     fuel - next_cost task g,
     (next functions task g view).task,
-    last fuel task g t (fuel - next_cost task g) (next functions task g view).task (inl (record {
+    polled_last fuel task g t (fuel - next_cost task g) (next functions task g view).task (inl (record {
       fits = fits;
       fuel_is = refl;
       next_is = ap (λ (o : Option Turned). record { task = (next functions task g view).task; turned = o }) e;
@@ -47,7 +47,7 @@ module _ (functions : List Function) (view : View) where
 
   goes_on : (fuel : ℕ) (task : Task) (g : Option Given) → GoesBy functions view fuel task g
       → End (fuel - next_cost task g) (next functions task g view).task None → End fuel task g
-  goes_on fuel task g step e = (e.0, e.1, e.2, more fuel task g e.0 e.1 e.2 step e.3)
+  goes_on fuel task g step e = (e.0, e.1, e.2, polled_more fuel task g e.0 e.1 e.2 step e.3)
 
   free : (fuel : ℕ) (task : Task) (g : Option Given) (o : Option Turned) → Splits task g o → next_cost task g ≡ 0
       → ((task' : Task) → frames_weight task'.frames < frames_weight (frames_given g task.frames) → End fuel task' None) → End fuel task g
@@ -61,7 +61,7 @@ module _ (functions : List Function) (view : View) where
   costly : (fuel : ℕ) (task : Task) (g : Option Given) (o : Option Turned) → Splits task g o → next_cost task g ≡ 1
       → ((k : ℕ) (task' : Task) → k < fuel → End k task' None) → End fuel task g
   costly zero task g o e c less =
-      (Spent, zero, task, last zero task g Spent zero task (inr (record { short = omega (arith, c); spent = refl; fuel_is = refl; task_is = refl })))
+      (Spent, zero, task, polled_last zero task g Spent zero task (inr (record { short = omega (arith, c); spent = refl; fuel_is = refl; task_is = refl })))
   costly (suc fuel) task g (Some t) e c less = wants_it (suc fuel) task g t (omega (arith, c)) e
   costly (suc fuel) task g None e c less =
       goes_on (suc fuel) task g (record { fits = omega (arith, c); nothing = e })

@@ -3,6 +3,7 @@ use Rattle.std.proofs.Common.{refl}
 use Rattle.std.specs.Fmt.{digits}
 use Rattle.py_integer.specs.Integer.{held}
 use Rattle.task_model.specs.ControlRows.{Acts, Calls_and_names, Handler_names, Left_loops, Nested_handlers, Refused_release, Results, Spans, Writes}
+use Rattle.task_model.specs.FaultRows.{Clock_starts, Far_numbers, Which_faults}
 use Rattle.task_model.specs.Rows.{Bad_fails, Deep_calls, Joined_and_killed, Loops_and_handlers, Whole_numbers}
 use Rattle.task_model.specs.WaitRows.{Late_times, Locks_and_leaving, One_cycle, Timeouts}
 
@@ -77,3 +78,15 @@ acts = refl
 pub results : Results
 unfolding digits held
 results = refl
+
+pub which_faults : Which_faults
+unfolding digits held
+which_faults = refl
+
+pub clock_starts : Clock_starts
+unfolding digits held
+clock_starts = refl
+
+pub far_numbers : Far_numbers
+unfolding digits held
+far_numbers = (refl, refl)

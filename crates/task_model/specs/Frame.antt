@@ -28,9 +28,9 @@ pub data Use : Type 0 where
   Returns : Use
   -- it is the task that a `with_timeout` has started, and waits for, for so many steps
   Times : ℕ → Use
-  -- it is what that task gave, which a `with_timeout` has started
+  -- it is what this task gave, which a `with_timeout` has started
   Limited : TaskNo → Use
-  -- the lock of an `async with` was acquired, and its block is done
+  -- the lock of an `async with` was acquired, and its block comes
   Enters : LockNo → Block → Use
 
 -- a statement, or a mark
@@ -41,11 +41,11 @@ pub data Todo : Type 0 where
   -- a `for`, which asks for its next element
   Each : List ℕ → Left → Block → Todo
   Uses : Use → Todo
-  -- the handlers of a `try` whose block is done
+  -- the handlers of a `try` whose block runs
   Handles : Handlers → Todo
-  -- the name behind `as` of an `except` whose block is done
+  -- the name behind `as` of an `except` whose block runs
   Bound : List ℕ → Todo
-  -- the lock of an `async with` whose block is done
+  -- the lock of an `async with` whose block runs
   Holds : LockNo → Todo
 
 -- what leaves blocks

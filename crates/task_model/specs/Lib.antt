@@ -17,3 +17,4 @@ pub mod Texts
 pub mod Rows
 pub mod WaitRows
 pub mod ControlRows
+pub mod FaultRows

@@ -4,6 +4,7 @@ ghost use Rattle.py_attribute.specs.Look.{View};
 ghost use Rattle.test_body.specs.BodyTrees.{Function};
 ghost use Rattle.task_model.specs.ControlRows.{Acts, Calls_and_names, Handler_names, Left_loops, Nested_handlers, Refused_release, Results, Spans, Writes};
 ghost use Rattle.task_model.specs.Cost.{next_cost};
+ghost use Rattle.task_model.specs.FaultRows.{Clock_starts, Far_numbers, Which_faults};
 ghost use Rattle.task_model.specs.Frame.{Course, Task, Todo};
 ghost use Rattle.task_model.specs.Kept.{names_of};
 ghost use Rattle.task_model.specs.Known.{KnowsDesign, KnowsGiven, KnowsTurned, KnowsWhole};
@@ -172,4 +173,19 @@ pub fn acts()
 /// What a call under a limit gives, and a start that gives way.
 pub fn results()
     ensures { Results }
+{}
+
+/// Which faults statements raise, and which of two comes first.
+pub fn which_faults()
+    ensures { Which_faults }
+{}
+
+/// What a clock's task is given, a clock that runs in the task that awaits it, and a limit without a unit.
+pub fn clock_starts()
+    ensures { Clock_starts }
+{}
+
+/// A `for` that comes to a number that no value can hold.
+pub fn far_numbers()
+    ensures { Far_numbers }
 {}

@@ -12,10 +12,10 @@ mod task;
 
 pub use flow::{Flow, FlowMaker};
 pub use laws::{
-    acts, bad_fails, calls_and_names, cost_at_most_one, deep_calls, few_frames, free_step_falls,
-    free_wish_falls, handler_names, joined_and_killed, late_times, left_loops, locks_and_leaving,
-    loops_and_handlers, names_stay, nested_handlers, never_spent, number_stays, one_cycle,
-    poll_exists, poll_is_known, poll_is_one, poll_keeps_number, refused_release, results, spans,
-    timeouts, whole_numbers, writes,
+    acts, bad_fails, calls_and_names, clock_starts, cost_at_most_one, deep_calls, far_numbers,
+    few_frames, free_step_falls, free_wish_falls, handler_names, joined_and_killed, late_times,
+    left_loops, locks_and_leaving, loops_and_handlers, names_stay, nested_handlers, never_spent,
+    number_stays, one_cycle, poll_exists, poll_is_known, poll_is_one, poll_keeps_number,
+    refused_release, results, spans, timeouts, which_faults, whole_numbers, writes,
 };
 pub use task::{Given, Turned};
