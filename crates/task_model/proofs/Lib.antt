@@ -1,0 +1,9 @@
+pub mod Weights
+pub mod Bounds
+pub mod KeptLaws
+pub mod Polls
+pub mod Worked
+pub mod EvalKnown
+pub mod PartsKnown
+pub mod StepKnown
+pub mod PollKnown
