@@ -1,0 +1,7 @@
+pub mod BeginLaws
+pub mod AmongLaws
+pub mod Few
+pub mod Building
+pub mod Settled
+pub mod Within
+pub mod Rows

@@ -1,0 +1,10 @@
+pub mod Tree
+pub mod Begin
+pub mod Fire
+pub mod Check
+pub mod Steps
+pub mod Shape
+pub mod Whole
+pub mod Settled
+pub mod Laws
+pub mod Rows
