@@ -9,7 +9,7 @@ use Rattle.task_model.specs.Frame.{Todo, Do, Course, On, Has, Leaves, Frame, Tas
 use Rattle.task_model.specs.Moves.{Wish, Nothing, Asks, Calls, Ends, Move}
 use Rattle.task_model.specs.Step.{call, settled, frame_move, next_of, next, given_to}
 use Rattle.task_model.specs.Cost.{item_cost, todo_cost, first_cost, course_cost, frames_cost, next_cost}
-use Rattle.task_model.specs.declared.task.Given.{Given}
+use Rattle.await_tree.specs.declared.cause.Given.{Given}
 
 settled_number : (functions : List Function) (w : Wish) (f : Frame) (fs : List Frame) (task : Task) → (settled functions w f fs task).task.number ≡ task.number
 settled_number functions Nothing f fs task = refl

@@ -36,7 +36,7 @@ use Rattle.task_model.specs.Blocks.{choose, ask, eval_span, is_before, each, ask
 use Rattle.task_model.specs.Leaving.{catches, handle, find_handler, at_handlers, at_limit, at_loop, drop_mark}
 use Rattle.task_model.specs.Step.{settled, next_of, next, frame_move, given_to, at, step_on, step_with, step}
 use Rattle.task_model.specs.Kept.{name_of, names_of}
-use Rattle.task_model.specs.declared.task.Given.{Given}
+use Rattle.await_tree.specs.declared.cause.Given.{Given}
 use Rattle.task_model.specs.declared.task.Turned.{Turned}
 use Rattle.task_model.specs.declared.task.Turned.TheVariants as turned
 

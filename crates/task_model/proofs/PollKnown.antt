@@ -8,7 +8,7 @@ use Rattle.task_model.specs.Step.{Next, next}
 use Rattle.task_model.specs.Cost.{next_cost}
 use Rattle.task_model.specs.Known.{KnowsDesign, KnowsWhole, KnowsGiven, KnowsTurned}
 use Rattle.task_model.specs.Poll.{Wants, RunsOut, Polls, Polled}
-use Rattle.task_model.specs.declared.task.Given.{Given}
+use Rattle.await_tree.specs.declared.cause.Given.{Given}
 use Rattle.task_model.specs.declared.task.Turned.{Turned}
 use Rattle.task_model.proofs.StepKnown.{next_is_known}
 

@@ -7,7 +7,7 @@ use Rattle.task_model.specs.Step.{Next, next}
 use Rattle.task_model.specs.Cost.{next_cost}
 use Rattle.task_model.specs.Weight.{frames_weight, frames_given}
 use Rattle.task_model.specs.Poll.{Wants, RunsOut, GoesBy, Polls, Polled}
-use Rattle.task_model.specs.declared.task.Given.{Given}
+use Rattle.await_tree.specs.declared.cause.Given.{Given}
 use Rattle.task_model.specs.declared.task.Turned.{Turned}
 use Rattle.task_model.specs.declared.task.Turned.TheVariants.{Spent}
 use Rattle.task_model.proofs.Weights.{free_step_falls}

@@ -41,8 +41,8 @@ use Rattle.task_model.specs.Blocks.{choose, ask, eval_span, is_before, each, ask
 use Rattle.task_model.specs.Leaving.{catches, handle, find_handler, at_handlers, at_limit, at_loop, drop_mark}
 use Rattle.task_model.specs.Known.{KnowsTask, KnowsLock, KnowsDesign, AreSoundCalls, KnowsUse, KnowsTodo, KnowsTodos, KnowsJump, KnowsCourse, KnowsFrame, KnowsFrames, AreSoundFunctions, KnowsWhole, KnowsGiven, KnowsTurned}
 use Rattle.task_model.specs.Step.{Next, frame_limit, settled, next_of, next, frame_move, given_to, result_course, ending, returned, call, at, step_on, step_with, step}
-use Rattle.task_model.specs.declared.task.Given.{Given}
-use Rattle.task_model.specs.declared.task.Given.TheVariants as given
+use Rattle.await_tree.specs.declared.cause.Given.{Given}
+use Rattle.await_tree.specs.declared.cause.Given.TheVariants as given
 use Rattle.task_model.specs.declared.task.Turned.{Turned}
 use Rattle.task_model.specs.declared.task.Turned.TheVariants as turned
 use Rattle.task_model.proofs.EvalKnown.{bind_known, anything, constant_known, eval_known}

@@ -22,8 +22,8 @@ use Rattle.task_model.specs.Leaving.{find_handler, handle, catches, at_handlers,
 use Rattle.task_model.specs.Step.{next_of, step_on, step_with, step, result_course, given_to, next, settled, frame_move, at}
 use Rattle.task_model.specs.Cost.{frames_cost, course_cost, first_cost, todo_cost, next_cost}
 use Rattle.task_model.specs.Weight.{block_weight, handlers_weight, use_weight, todo_weight, todos_weight, course_weight, frame_weight, frames_weight, frames_given}
-use Rattle.task_model.specs.declared.task.Given.{Given}
-use Rattle.task_model.specs.declared.task.Given.TheVariants as given
+use Rattle.await_tree.specs.declared.cause.Given.{Given}
+use Rattle.await_tree.specs.declared.cause.Given.TheVariants as given
 use Rattle.task_model.specs.declared.task.Turned.{Turned}
 use Rattle.task_model.specs.declared.task.Turned.TheVariants as turned
 

@@ -16,7 +16,7 @@ use Rattle.test_body.specs.BodyTrees.{Function, FunctionCall, RightValue, RightA
 use Rattle.task_model.specs.Frame.{fresh}
 use Rattle.task_model.specs.Texts.{num, minus, text, two, dut, shown, calls, set, info, awaits_call, returns, block, function_of, view, top, task, test, trig, nothing, is_task, fails, ends}
 use Rattle.task_model.specs.Drive.{drive}
-use Rattle.task_model.specs.declared.task.Given.TheVariants as given
+use Rattle.await_tree.specs.declared.cause.Given.TheVariants as given
 use Rattle.task_model.specs.declared.task.Turned.TheVariants as turned
 
 -- ---- the name of an `except` is unassigned behind its block, whatever it held before

@@ -4,7 +4,7 @@ use Rattle.std.specs.Prelude.{ℕ, List, [], ◌∷◌, Option}
 use Rattle.test_body.specs.BodyTrees.{Item, Try}
 use Rattle.task_model.specs.Frame.{Todo, Do, Again, Each, Course, Leaves, Frame, Task}
 use Rattle.task_model.specs.Step.{given_to}
-use Rattle.task_model.specs.declared.task.Given.{Given}
+use Rattle.await_tree.specs.declared.cause.Given.{Given}
 
 abbrev pub item_cost : Item → ℕ
 item_cost (Try block handlers) = 0

@@ -18,7 +18,7 @@ use Rattle.test_meaning.specs.Library.{clock_start}
 use Rattle.task_model.specs.Frame.{fresh}
 use Rattle.task_model.specs.Texts.{num, minus, text, two, dut, read, calls, set, info, awaits, awaits_call, returns, block, function_of, view, top, task, test, trig, nothing, is_task, ends}
 use Rattle.task_model.specs.Drive.{Driven, drive}
-use Rattle.task_model.specs.declared.task.Given.TheVariants as given
+use Rattle.await_tree.specs.declared.cause.Given.TheVariants as given
 use Rattle.task_model.specs.declared.task.Turned.{Turned}
 use Rattle.task_model.specs.declared.task.Turned.TheVariants as turned
 

@@ -12,8 +12,8 @@ use Rattle.py_attribute.specs.Look.{View, width, child, spot_value}
 use Rattle.test_body.specs.BodyTrees.{Call, Function}
 use Rattle.test_body.specs.Sound.{item_calls, block_calls, handler_calls, is_sound_call, is_sound_function}
 use Rattle.task_model.specs.Frame.{Use, Times, Limited, Enters, Todo, Do, Again, Each, Uses, Handles, Bound, Holds, Jump, Return, Course, On, Has, Leaves, Frame, Task}
-use Rattle.task_model.specs.declared.task.Given.{Given}
-use Rattle.task_model.specs.declared.task.Given.TheVariants as given
+use Rattle.await_tree.specs.declared.cause.Given.{Given}
+use Rattle.await_tree.specs.declared.cause.Given.TheVariants as given
 use Rattle.task_model.specs.declared.task.Turned.{Turned}
 use Rattle.task_model.specs.declared.task.Turned.TheVariants as turned
 

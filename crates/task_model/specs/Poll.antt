@@ -5,7 +5,7 @@ use Rattle.test_body.specs.BodyTrees.{Function}
 use Rattle.task_model.specs.Frame.{Task}
 use Rattle.task_model.specs.Step.{next}
 use Rattle.task_model.specs.Cost.{next_cost}
-use Rattle.task_model.specs.declared.task.Given.{Given}
+use Rattle.await_tree.specs.declared.cause.Given.{Given}
 use Rattle.task_model.specs.declared.task.Turned.{Turned}
 use Rattle.task_model.specs.declared.task.Turned.TheVariants.{Spent}
 

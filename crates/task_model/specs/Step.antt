@@ -12,8 +12,8 @@ use Rattle.task_model.specs.Moves.{At, Move, Wish, Nothing, Asks, Calls, Ends, m
 use Rattle.task_model.specs.Values.{use_value}
 use Rattle.task_model.specs.Blocks.{do_first}
 use Rattle.task_model.specs.Leaving.{drop_mark}
-use Rattle.task_model.specs.declared.task.Given.{Given}
-use Rattle.task_model.specs.declared.task.Given.TheVariants as given
+use Rattle.await_tree.specs.declared.cause.Given.{Given}
+use Rattle.await_tree.specs.declared.cause.Given.TheVariants as given
 use Rattle.task_model.specs.declared.task.Turned.{Turned}
 use Rattle.task_model.specs.declared.task.Turned.TheVariants as turned
 

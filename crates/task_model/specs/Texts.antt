@@ -22,8 +22,8 @@ use Rattle.py_attribute.specs.Look.{View}
 use Rattle.test_body.specs.BodyTrees as body
 use Rattle.test_body.specs.BodyTrees.{Operand, FunctionCall, AwaitedValue, AwaitedCall, RightSide, RightValue, HierarchyLog, Item, Simple, Block, NoItem, Function}
 use Rattle.task_model.specs.Frame.{Task, fresh}
-use Rattle.task_model.specs.declared.task.Given.{Given}
-use Rattle.task_model.specs.declared.task.Given.TheVariants as given
+use Rattle.await_tree.specs.declared.cause.Given.{Given}
+use Rattle.await_tree.specs.declared.cause.Given.TheVariants as given
 use Rattle.task_model.specs.declared.task.Turned.{Turned}
 use Rattle.task_model.specs.declared.task.Turned.TheVariants as turned
 

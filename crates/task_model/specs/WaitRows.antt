@@ -14,7 +14,7 @@ use Rattle.test_meaning.specs.Library.{clock_start}
 use Rattle.task_model.specs.Frame.{fresh}
 use Rattle.task_model.specs.Texts.{num, text, two, dut, timer, shown, calls, set, info, awaits, returns, block, function_of, view, top, task, test, trig, nothing, fires, is_task, fails, ends}
 use Rattle.task_model.specs.Drive.{drive}
-use Rattle.task_model.specs.declared.task.Given.TheVariants as given
+use Rattle.await_tree.specs.declared.cause.Given.TheVariants as given
 use Rattle.task_model.specs.declared.task.Turned.{Turned}
 use Rattle.task_model.specs.declared.task.Turned.TheVariants as turned
 

@@ -3,7 +3,7 @@ use Rattle.std.specs.Prelude.{ℕ, ◌+◌, List, [], ◌∷◌, Option}
 use Rattle.test_body.specs.BodyTrees.{Item, Simple, If, While, For, Try, With, Block, NoItem, Then, Handlers, NoHandler, Catch}
 use Rattle.task_model.specs.Frame.{Todo, Do, Again, Each, Uses, Handles, Bound, Holds, Use, Assigns, Writes, Returns, Times, Limited, Enters, Course, On, Has, Leaves, Frame}
 use Rattle.task_model.specs.Step.{given_to}
-use Rattle.task_model.specs.declared.task.Given.{Given}
+use Rattle.await_tree.specs.declared.cause.Given.{Given}
 
 -- of statements only a `try` is begun without a cost
 abbrev mutual

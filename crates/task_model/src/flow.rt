@@ -5,7 +5,8 @@ ghost use Rattle.task_model.specs.Frame.{Task, fresh, function_at};
 ghost use Rattle.task_model.specs.Known.{AreSoundFunctions, KnowsGiven, KnowsTurned, KnowsWhole};
 ghost use Rattle.task_model.specs.Poll.{Polled};
 
-use crate::{Given, Turned};
+use crate::Turned;
+use await_tree::Given;
 use port_io::{NoMemory, Sequence};
 use py_attribute::Look;
 use py_value::{TaskNo, Value};

@@ -14,7 +14,7 @@ ghost use Rattle.task_model.specs.Rows.{Bad_fails, Deep_calls, Joined_and_killed
 ghost use Rattle.task_model.specs.Step.{frame_limit, next, step};
 ghost use Rattle.task_model.specs.WaitRows.{Late_times, Locks_and_leaving, One_cycle, Timeouts};
 ghost use Rattle.task_model.specs.Weight.{frames_given, frames_weight};
-ghost use Rattle.task_model.specs.declared.task.Given.{Given};
+ghost use Rattle.await_tree.specs.declared.cause.Given.{Given};
 ghost use Rattle.task_model.specs.declared.task.Turned.{Turned};
 ghost use Rattle.task_model.specs.declared.task.Turned.TheVariants.{Spent};
 

@@ -18,4 +18,4 @@ pub use laws::{
     number_stays, one_cycle, poll_exists, poll_is_known, poll_is_one, poll_keeps_number,
     refused_release, results, spans, timeouts, which_faults, whole_numbers, writes,
 };
-pub use task::{Given, Turned};
+pub use task::Turned;

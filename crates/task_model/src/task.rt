@@ -6,20 +6,6 @@ use port_io::{Name, Sequence};
 use py_syntax::LogLevel;
 use py_value::{EventNo, Fault, LockNo, TaskNo, Trig, Value};
 
-/// What a task is given when it goes on: the answer to what it last wanted.
-#[derive(Drop)]
-pub enum Given {
-    /// Nothing was wanted yet: it is the task's first step.
-    Begin,
-    /// The value of what was wanted.
-    Value(Value),
-    /// What was wanted is refused or has failed, and this fault is raised in its place.
-    Fault(Fault),
-    /// What that task has ended with. The runner puts a copy of its value or its fault in the place of this before the task goes on, so that no
-    /// task is handed it.
-    Joined(TaskNo),
-}
-
 /// What a task wants next.
 #[derive(Drop)]
 pub enum Turned {
