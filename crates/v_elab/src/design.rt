@@ -11,6 +11,7 @@ use v_begin::Outside;
 use v_build::Parts;
 use v_connect::Joints;
 use v_inner::Level;
+use v_loop::Unrolled;
 use v_parameter::Given;
 use v_scope::{Broken, ElabRule};
 use v_syntax::{Module, TokenNumber};
@@ -51,7 +52,15 @@ fn from_top(
                 room: MOST_LEVELS,
                 path: name,
             };
-            instance(alloc, &level, module, nothing(alloc), Parts::none(alloc))
+            let mut unrolled = Unrolled::none();
+            instance(
+                alloc,
+                &level,
+                &mut unrolled,
+                module,
+                nothing(alloc),
+                Parts::none(alloc),
+            )
         }
         None => Ok(Err(Broken {
             rule: ElabRule::NoTop,

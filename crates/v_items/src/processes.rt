@@ -13,6 +13,7 @@ use crate::state::{signal_count, with_found};
 use crate::waits::{control_wakes, expression_wakes};
 use port_io::NoMemory;
 use std::alloc::Global;
+use v_loop::Unrolled;
 use v_process as process;
 use v_scope::Found;
 use v_syntax::{EventControl, Expression, Identifier, Statement, Target};
@@ -70,6 +71,7 @@ pub(crate) fn register(
 /// error.
 pub(crate) fn always(
     alloc: Global,
+    unrolled: &mut Unrolled,
     control: &EventControl,
     statement: &Statement,
     mut state: State,
@@ -79,7 +81,7 @@ pub(crate) fn always(
 {
     let signals = signal_count(&state.parts);
     let wakes = control_wakes(alloc, &mut state.scope, signals, control, statement)?;
-    let found = process::always(alloc, &mut state.scope, wakes, statement)?;
+    let found = process::always(alloc, &mut state.scope, unrolled, wakes, statement)?;
     with_found(found, state)
 }
 
@@ -87,12 +89,13 @@ pub(crate) fn always(
 /// error.
 pub(crate) fn initial(
     alloc: Global,
+    unrolled: &mut Unrolled,
     statement: &Statement,
     mut state: State,
 ) -> Result<Found<State>, NoMemory>
     requires { IsReady state }
     ensures { IfOk result (IsStep (initial_item (view_statement statement.now)) state) }
 {
-    let found = process::initial(alloc, &mut state.scope, statement)?;
+    let found = process::initial(alloc, &mut state.scope, unrolled, statement)?;
     with_found(found, state)
 }

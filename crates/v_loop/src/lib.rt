@@ -2,7 +2,7 @@
 //!
 //! A loop is unrolled while its text is elaborated (IEEE 1364-2005, clause 9.6): [`counter`] finds the register that it counts in, and
 //! [`turns`] the values that the register has in its turns, and the last one. In a turn the register's name is that of a constant:
-//! [`enter_turn`] and [`leave_turn`] put it there and take it away, with no memory.
+//! [`enter_turn`] and [`leave_turn`] put it there and take it away, with no memory. [`Unrolled`] counts the statements and turns of a design.
 #![tactic(auto)]
 
 mod in_turn;
@@ -10,8 +10,10 @@ mod loop_turns;
 mod register;
 mod step;
 mod unroll;
+mod unrolled;
 
 pub use in_turn::{enter_turn, leave_turn};
 pub use loop_turns::LoopTurns;
 pub use register::counter;
 pub use unroll::turns;
+pub use unrolled::Unrolled;

@@ -10,10 +10,10 @@ ghost use Rattle.v_flat.specs.Statements.{first_value, most_turns, same_counter,
 ghost use Rattle.v_names.specs.Proper.{AreProper};
 ghost use Rattle.v_loop.specs.Turns.{HaveWidth};
 
-use crate::LoopTurns;
 use crate::in_turn::{holds_in_turn, next_in_turn, step_in_turn};
 use crate::register::same_counter;
 use crate::step::value_for;
+use crate::{LoopTurns, Unrolled};
 use four_value::Bits;
 use port_io::NoMemory;
 use std::alloc::Global;
@@ -69,11 +69,12 @@ fn checked_step(
     }
 }
 
-/// The turns from a first value on, `most` of them at most, or else LoopTooLong is broken at the `for`. Only want of memory is an error.
-/// Whatever the answer, each name means what it meant.
+/// The turns from a first value on, `most` of them at most, or else LoopTooLong is broken at the `for`. Each of them counts. Only want of
+/// memory is an error. Whatever the answer, each name means what it meant.
 fn turns_from(
     alloc: Global,
     scope: &mut Scope,
+    unrolled: &mut Unrolled,
     place: TokenNumber,
     header: &ForHeader,
     object: DataObject,
@@ -90,6 +91,7 @@ fn turns_from(
     let mut values = Vec::new(alloc);
     let mut value = first;
     for _turn in 0..most {
+        unrolled.count()?;
         match next_in_turn(alloc, scope, header, object, value)? {
             Ok(Some(next)) => {
                 values.push(value)?;
@@ -119,6 +121,7 @@ fn turns_from(
 fn turns_behind(
     alloc: Global,
     scope: &mut Scope,
+    unrolled: &mut Unrolled,
     place: TokenNumber,
     header: &ForHeader,
     object: DataObject,
@@ -131,18 +134,21 @@ fn turns_behind(
     ensures scope { means scope.new ≡ means scope.old }
 {
     match checked_step(alloc, scope, header, object, first)? {
-        Ok(()) => turns_from(alloc, scope, place, header, object, first, MOST_TURNS),
+        Ok(()) => turns_from(
+            alloc, scope, unrolled, place, header, object, first, MOST_TURNS,
+        ),
         Err(fault) => Ok(Found::Lost(fault)),
     }
 }
 
 /// The turns of a loop that counts in this register, where `place` is the number of the `for` (IEEE 1364-2005, clause 9.6): the values that
 /// the register has in them, and the one that it has behind the last. All that a header assigns, and its condition, are constants. Or the
-/// rule that is broken first, LoopTooLong where there are more than 4,096 turns. Only want of memory is an error. Whatever the answer, each
-/// name means what it meant.
+/// rule that is broken first, LoopTooLong where there are more than 4,096 turns. Each of them counts, as [`Unrolled`] says. Only want of memory is
+/// an error. Whatever the answer, each name means what it meant.
 pub fn turns(
     alloc: Global,
     scope: &mut Scope,
+    unrolled: &mut Unrolled,
     place: TokenNumber,
     header: &ForHeader,
     object: DataObject,
@@ -154,7 +160,7 @@ pub fn turns(
     ensures scope { means scope.new ≡ means scope.old }
 {
     match first_value(alloc, scope, header, object)? {
-        Ok(first) => turns_behind(alloc, scope, place, header, object, first),
+        Ok(first) => turns_behind(alloc, scope, unrolled, place, header, object, first),
         Err(fault) => Ok(Found::Lost(fault)),
     }
 }

@@ -11,7 +11,7 @@ ghost use Rattle.v_loop.specs.Turns.{HaveWidth};
 
 use port_io::NoMemory;
 use std::alloc::Global;
-use v_loop::{LoopTurns, counter};
+use v_loop::{LoopTurns, Unrolled, counter};
 use v_scope::{Broken, DataObject, Scope};
 use v_syntax::{ForHeader, Identifier, TokenNumber};
 
@@ -24,11 +24,12 @@ pub(crate) fn register(scope: &Scope, name: &Identifier) -> Result<DataObject, B
     counter(scope, name).ended()
 }
 
-/// The turns of a loop that counts in this register, or the rule that is broken first. Only want of memory is an error. Whatever the
-/// answer, each name means what it meant.
+/// The turns of a loop that counts in this register, which count, or the rule that is broken first. Only want of memory is an error.
+/// Whatever the answer, each name means what it meant.
 pub(crate) fn turns(
     alloc: Global,
     scope: &mut Scope,
+    unrolled: &mut Unrolled,
     place: TokenNumber,
     header: &ForHeader,
     object: DataObject,
@@ -39,6 +40,6 @@ pub(crate) fn turns(
     ensures widths { IfOk result (λ answer. IfOk answer (HaveWidth (width_of object.bounds))) }
     ensures scope { means scope.new ≡ means scope.old }
 {
-    let found = v_loop::turns(alloc, scope, place, header, object)?;
+    let found = v_loop::turns(alloc, scope, unrolled, place, header, object)?;
     Ok(found.ended())
 }

@@ -21,22 +21,29 @@ use std::alloc::Global;
 use v_act::{BlockParts, assignment, block, if_else, if_then, without_effect};
 use v_case::{CaseParts, case};
 use v_check::check;
-use v_loop::{LoopTurns, enter_turn, leave_turn};
+use v_loop::{LoopTurns, Unrolled, enter_turn, leave_turn};
 use v_scope::{DataObject, Found, Scope};
 use v_syntax::{CaseItem, ForHeader, Statement, TokenNumber};
 
 /// What is found in a statement of a procedure: what is broken first in it, or else the statement of `gpi` that it is (IEEE 1364-2005,
-/// clause 9). Only want of memory is an error. Whatever the answer, each name means what it meant.
+/// clause 9). It counts in `unrolled`, with each statement and each turn in it. Only want of memory is an error. Whatever the answer, each name
+/// means what it meant.
 #[cycle(statements)]
-pub fn statement(alloc: Global, scope: &mut Scope, tree: &Statement) -> Result<Found<Act>, NoMemory>
+pub fn statement(
+    alloc: Global,
+    scope: &mut Scope,
+    unrolled: &mut Unrolled,
+    tree: &Statement,
+) -> Result<Found<Act>, NoMemory>
     requires { AreProper (means scope.old) }
     ensures found { IfOk result (IsFoundStatement (means scope.old) (view_statement tree.now)) }
     ensures scope { means scope.new ≡ means scope.old }
 {
+    unrolled.count()?;
     match tree {
         Statement::Null => Ok(without_effect()),
         Statement::Block { statements, .. } => {
-            let parts = all(alloc, scope, statements)?;
+            let parts = all(alloc, scope, unrolled, statements)?;
             block(alloc, parts)
         }
         Statement::Assignment {
@@ -46,7 +53,7 @@ pub fn statement(alloc: Global, scope: &mut Scope, tree: &Statement) -> Result<F
         } => assignment(alloc, scope, *kind, target, value),
         Statement::If { condition, branch } => {
             let test = check(alloc, scope, condition)?;
-            let yes = statement(alloc, scope, branch)?;
+            let yes = statement(alloc, scope, unrolled, branch)?;
             if_then(alloc, test, yes)
         }
         Statement::IfElse {
@@ -55,8 +62,8 @@ pub fn statement(alloc: Global, scope: &mut Scope, tree: &Statement) -> Result<F
             otherwise,
         } => {
             let test = check(alloc, scope, condition)?;
-            let yes = statement(alloc, scope, branch)?;
-            let no = statement(alloc, scope, otherwise)?;
+            let yes = statement(alloc, scope, unrolled, branch)?;
+            let no = statement(alloc, scope, unrolled, otherwise)?;
             if_else(alloc, test, yes, no)
         }
         Statement::Case {
@@ -65,10 +72,10 @@ pub fn statement(alloc: Global, scope: &mut Scope, tree: &Statement) -> Result<F
             items,
         } => {
             let value = check(alloc, scope, selector)?;
-            let parts = case_items(alloc, scope, items)?;
+            let parts = case_items(alloc, scope, unrolled, items)?;
             case(alloc, *kind, value, parts)
         }
-        Statement::For { at, header, body } => for_loop(alloc, scope, *at, header, body),
+        Statement::For { at, header, body } => for_loop(alloc, scope, unrolled, *at, header, body),
         Statement::TaskEnable { .. } => Ok(without_effect()),
         Statement::Delay { .. } => Ok(without_effect()),
     }
@@ -80,6 +87,7 @@ pub fn statement(alloc: Global, scope: &mut Scope, tree: &Statement) -> Result<F
 fn all(
     alloc: Global,
     scope: &mut Scope,
+    unrolled: &mut Unrolled,
     statements: &[Statement],
 ) -> Result<Found<BlockParts>, NoMemory>
     requires { AreProper (means scope.old) }
@@ -88,7 +96,7 @@ fn all(
 {
     let mut found = BlockParts::none(alloc);
     for at in (0..statements.len()).rev() {
-        let first = statement(alloc, scope, &statements[at])?;
+        let first = statement(alloc, scope, unrolled, &statements[at])?;
         found = BlockParts::before(first, found)?;
     }
     Ok(found)
@@ -100,6 +108,7 @@ fn all(
 fn case_item(
     alloc: Global,
     scope: &mut Scope,
+    unrolled: &mut Unrolled,
     item: &CaseItem,
     rest: Found<CaseParts>,
 ) -> Result<Found<CaseParts>, NoMemory>
@@ -113,11 +122,11 @@ fn case_item(
             statement: tree,
         } => {
             let labels = labels(alloc, scope, expressions)?;
-            let act = statement(alloc, scope, tree)?;
+            let act = statement(alloc, scope, unrolled, tree)?;
             CaseParts::item(labels, act, rest)
         }
         CaseItem::Default { statement: tree } => {
-            let act = statement(alloc, scope, tree)?;
+            let act = statement(alloc, scope, unrolled, tree)?;
             Ok(CaseParts::default(act, rest))
         }
     }
@@ -129,6 +138,7 @@ fn case_item(
 fn case_items(
     alloc: Global,
     scope: &mut Scope,
+    unrolled: &mut Unrolled,
     items: &[CaseItem],
 ) -> Result<Found<CaseParts>, NoMemory>
     requires { AreProper (means scope.old) }
@@ -137,7 +147,7 @@ fn case_items(
 {
     let mut found = CaseParts::none(alloc);
     for at in (0..items.len()).rev() {
-        found = case_item(alloc, scope, &items[at], found)?;
+        found = case_item(alloc, scope, unrolled, &items[at], found)?;
     }
     Ok(found)
 }
@@ -148,6 +158,7 @@ fn case_items(
 fn in_turn(
     alloc: Global,
     scope: &mut Scope,
+    unrolled: &mut Unrolled,
     name: &[u8],
     object: DataObject,
     value: Bits,
@@ -160,7 +171,7 @@ fn in_turn(
     ensures scope { means scope.new ≡ means scope.old }
 {
     enter_turn(scope, name, object, value);
-    let found = statement(alloc, scope, body);
+    let found = statement(alloc, scope, unrolled, body);
     leave_turn(scope, name, object);
     found
 }
@@ -171,6 +182,7 @@ fn in_turn(
 fn all_turns(
     alloc: Global,
     scope: &mut Scope,
+    unrolled: &mut Unrolled,
     name: &[u8],
     object: DataObject,
     turns: &LoopTurns,
@@ -186,7 +198,7 @@ fn all_turns(
     let values = turns.values();
     let mut found = behind_turns(alloc, object, turns.last())?;
     for at in (0..values.len()).rev() {
-        let first = in_turn(alloc, scope, name, object, values[at], body)?;
+        let first = in_turn(alloc, scope, unrolled, name, object, values[at], body)?;
         found = BlockParts::before(first, found)?;
     }
     Ok(found)
@@ -198,6 +210,7 @@ fn all_turns(
 fn for_loop(
     alloc: Global,
     scope: &mut Scope,
+    unrolled: &mut Unrolled,
     place: TokenNumber,
     header: &ForHeader,
     body: &Statement,
@@ -208,9 +221,9 @@ fn for_loop(
 {
     let name = header.initial.name.name.bytes();
     match register(scope, &header.initial.name) {
-        Ok(object) => match turns(alloc, scope, place, header, object)? {
+        Ok(object) => match turns(alloc, scope, unrolled, place, header, object)? {
             Ok(turns) => {
-                let parts = all_turns(alloc, scope, name, object, &turns, body)?;
+                let parts = all_turns(alloc, scope, unrolled, name, object, &turns, body)?;
                 block(alloc, parts)
             }
             Err(fault) => Ok(Found::Lost(fault)),

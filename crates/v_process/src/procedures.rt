@@ -14,6 +14,7 @@ use crate::drivers::of_kind;
 use gpi::{Act, Kind, Process, Wake};
 use port_io::{NoMemory, Sequence};
 use std::alloc::Global;
+use v_loop::Unrolled;
 use v_procedure::statement as found_in;
 use v_scope::{Found, Scope};
 use v_syntax::Statement;
@@ -35,6 +36,7 @@ fn waiting(wakes: Found<Sequence<Wake>>, body: Found<Act>) -> Found<Process>
 pub fn always(
     alloc: Global,
     scope: &mut Scope,
+    unrolled: &mut Unrolled,
     wakes: Found<Sequence<Wake>>,
     statement: &Statement,
 ) -> Result<Found<Process>, NoMemory>
@@ -42,7 +44,7 @@ pub fn always(
     ensures found { IfOk result (IsAlways wakes (means scope.old) (view statement.now)) }
     ensures scope { means scope.new ≡ means scope.old }
 {
-    let body = found_in(alloc, scope, statement)?;
+    let body = found_in(alloc, scope, unrolled, statement)?;
     Ok(waiting(wakes, body))
 }
 
@@ -51,12 +53,13 @@ pub fn always(
 pub fn initial(
     alloc: Global,
     scope: &mut Scope,
+    unrolled: &mut Unrolled,
     statement: &Statement,
 ) -> Result<Found<Process>, NoMemory>
     requires { AreProper (means scope.old) }
     ensures found { IfOk result (IsFoundProcess Initial [] (means scope.old) (view statement.now) (statement_checked (means scope.old) (view statement.now))) }
     ensures scope { means scope.new ≡ means scope.old }
 {
-    let body = found_in(alloc, scope, statement)?;
+    let body = found_in(alloc, scope, unrolled, statement)?;
     Ok(of_kind(Kind::Initial, Sequence::new(alloc), body))
 }

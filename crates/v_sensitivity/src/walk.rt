@@ -14,7 +14,7 @@ use crate::targets::add_target;
 use four_value::Bits;
 use port_io::NoMemory;
 use std::alloc::Global;
-use v_loop::{enter_turn, leave_turn, turns};
+use v_loop::{Unrolled, enter_turn, leave_turn, turns};
 use v_reads::Span;
 use v_scope::{DataObject, Found, Meaning, Scope};
 use v_syntax::{CaseItem, ForHeader, Statement, TokenNumber};
@@ -35,22 +35,24 @@ fn add(
     alloc: Global,
     spans: &mut Vec<Span>,
     scope: &mut Scope,
+    unrolled: &mut Unrolled,
     tree: &Statement,
 ) -> Result<(), NoMemory>
     requires { AreProper (means scope.old) }
     ensures added { Adds spans.old.items spans.new.items (statement_reads (means scope.old) (view_statement tree.now)) result }
     ensures scope { means scope.new ≡ means scope.old }
 {
+    unrolled.count()?;
     match tree {
         Statement::Null => Ok(()),
-        Statement::Block { statements, .. } => add_all(alloc, spans, scope, statements),
+        Statement::Block { statements, .. } => add_all(alloc, spans, scope, unrolled, statements),
         Statement::Assignment { target, value, .. } => {
             add_target(alloc, spans, scope, target)?;
             add_expression(alloc, spans, scope, value)
         }
         Statement::If { condition, branch } => {
             add_expression(alloc, spans, scope, condition)?;
-            add(alloc, spans, scope, branch)
+            add(alloc, spans, scope, unrolled, branch)
         }
         Statement::IfElse {
             condition,
@@ -58,8 +60,8 @@ fn add(
             otherwise,
         } => {
             add_expression(alloc, spans, scope, condition)?;
-            add(alloc, spans, scope, branch)?;
-            add(alloc, spans, scope, otherwise)
+            add(alloc, spans, scope, unrolled, branch)?;
+            add(alloc, spans, scope, unrolled, otherwise)
         }
         Statement::Case {
             selector,
@@ -67,9 +69,11 @@ fn add(
             ..
         } => {
             add_expression(alloc, spans, scope, selector)?;
-            add_items(alloc, spans, scope, items)
+            add_items(alloc, spans, scope, unrolled, items)
         }
-        Statement::For { at, header, body } => { add_loop(alloc, spans, scope, *at, header, body) }
+        Statement::For { at, header, body } => {
+            add_loop(alloc, spans, scope, unrolled, *at, header, body)
+        }
         Statement::TaskEnable { .. } => Ok(()),
         Statement::Delay { .. } => Ok(()),
     }
@@ -81,6 +85,7 @@ fn add_all(
     alloc: Global,
     spans: &mut Vec<Span>,
     scope: &mut Scope,
+    unrolled: &mut Unrolled,
     statements: &[Statement],
 ) -> Result<(), NoMemory>
     requires { AreProper (means scope.old) }
@@ -88,7 +93,7 @@ fn add_all(
     ensures scope { means scope.new ≡ means scope.old }
 {
     for statement in statements {
-        add(alloc, spans, scope, statement)?;
+        add(alloc, spans, scope, unrolled, statement)?;
     }
     Ok(())
 }
@@ -99,6 +104,7 @@ fn add_item(
     alloc: Global,
     spans: &mut Vec<Span>,
     scope: &mut Scope,
+    unrolled: &mut Unrolled,
     item: &CaseItem,
 ) -> Result<(), NoMemory>
     requires { AreProper (means scope.old) }
@@ -108,9 +114,9 @@ fn add_item(
     match item {
         CaseItem::Match { labels, statement } => {
             add_labels(alloc, spans, scope, labels)?;
-            add(alloc, spans, scope, statement)
+            add(alloc, spans, scope, unrolled, statement)
         }
-        CaseItem::Default { statement } => add(alloc, spans, scope, statement),
+        CaseItem::Default { statement } => add(alloc, spans, scope, unrolled, statement),
     }
 }
 
@@ -120,6 +126,7 @@ fn add_items(
     alloc: Global,
     spans: &mut Vec<Span>,
     scope: &mut Scope,
+    unrolled: &mut Unrolled,
     items: &[CaseItem],
 ) -> Result<(), NoMemory>
     requires { AreProper (means scope.old) }
@@ -127,7 +134,7 @@ fn add_items(
     ensures scope { means scope.new ≡ means scope.old }
 {
     for item in items {
-        add_item(alloc, spans, scope, item)?;
+        add_item(alloc, spans, scope, unrolled, item)?;
     }
     Ok(())
 }
@@ -139,6 +146,7 @@ fn add_turn(
     alloc: Global,
     spans: &mut Vec<Span>,
     scope: &mut Scope,
+    unrolled: &mut Unrolled,
     name: &[u8],
     object: DataObject,
     value: Bits,
@@ -151,7 +159,7 @@ fn add_turn(
     ensures scope { means scope.new ≡ means scope.old }
 {
     enter_turn(scope, name, object, value);
-    let done = add(alloc, spans, scope, body);
+    let done = add(alloc, spans, scope, unrolled, body);
     leave_turn(scope, name, object);
     done
 }
@@ -163,6 +171,7 @@ fn add_turns(
     alloc: Global,
     spans: &mut Vec<Span>,
     scope: &mut Scope,
+    unrolled: &mut Unrolled,
     name: &[u8],
     object: DataObject,
     values: &[Bits],
@@ -175,7 +184,7 @@ fn add_turns(
     ensures scope { means scope.new ≡ means scope.old }
 {
     for value in values {
-        add_turn(alloc, spans, scope, name, object, *value, body)?;
+        add_turn(alloc, spans, scope, unrolled, name, object, *value, body)?;
     }
     Ok(())
 }
@@ -187,6 +196,7 @@ fn add_counted(
     alloc: Global,
     spans: &mut Vec<Span>,
     scope: &mut Scope,
+    unrolled: &mut Unrolled,
     place: TokenNumber,
     header: &ForHeader,
     object: DataObject,
@@ -198,10 +208,28 @@ fn add_counted(
     ensures scope { means scope.new ≡ means scope.old }
 {
     let name = header.initial.name.name.bytes();
-    match turns(alloc, scope, place, header, object)? {
-        Found::Sound(turns) => add_turns(alloc, spans, scope, name, object, turns.values(), body),
+    match turns(alloc, scope, unrolled, place, header, object)? {
+        Found::Sound(turns) => add_turns(
+            alloc,
+            spans,
+            scope,
+            unrolled,
+            name,
+            object,
+            turns.values(),
+            body,
+        ),
         Found::Noted(_fault, turns) => {
-            add_turns(alloc, spans, scope, name, object, turns.values(), body)
+            add_turns(
+                alloc,
+                spans,
+                scope,
+                unrolled,
+                name,
+                object,
+                turns.values(),
+                body,
+            )
         }
         Found::Lost(_fault) => Ok(()),
     }
@@ -214,6 +242,7 @@ fn add_loop(
     alloc: Global,
     spans: &mut Vec<Span>,
     scope: &mut Scope,
+    unrolled: &mut Unrolled,
     place: TokenNumber,
     header: &ForHeader,
     body: &Statement,
@@ -223,7 +252,7 @@ fn add_loop(
     ensures scope { means scope.new ≡ means scope.old }
 {
     match counter(scope, header.initial.name.name.bytes()) {
-        Some(object) => add_counted(alloc, spans, scope, place, header, object, body),
+        Some(object) => add_counted(alloc, spans, scope, unrolled, place, header, object, body),
         None => Ok(()),
     }
 }
@@ -240,6 +269,7 @@ pub fn statement_reads(
     ensures scope { means scope.new ≡ means scope.old }
 {
     let mut spans = Vec::new(alloc);
-    add(alloc, &mut spans, scope, statement)?;
+    let mut unrolled = Unrolled::none();
+    add(alloc, &mut spans, scope, &mut unrolled, statement)?;
     Ok(spans)
 }

@@ -8,6 +8,7 @@ ghost use Rattle.v_walk.specs.Steps.{IsInner, IsPlain, Passes, over_item};
 use port_io::NoMemory;
 use std::alloc::Global;
 use v_inner::{Inner, Level, Walked};
+use v_loop::Unrolled;
 use v_scope::Broken;
 use v_syntax::{Item, ItemKind};
 
@@ -36,6 +37,7 @@ pub(crate) fn as_inner(item: &Item) -> Option<Inner<'_>>
 pub(crate) fn plain(
     alloc: Global,
     level: &Level<'_>,
+    unrolled: &mut Unrolled,
     item: &Item,
     walked: Walked,
 ) -> Result<Result<Walked, Broken>, NoMemory>
@@ -44,7 +46,7 @@ pub(crate) fn plain(
     ensures { IfOk result (Passes level.now (over_item level.now (view_item item.now)) walked) }
 {
     let Walked { state, instances } = walked;
-    match v_items::item(alloc, item, state)? {
+    match v_items::item(alloc, unrolled, item, state)? {
         Ok(state) => Ok(Ok(Walked { state, instances })),
         Err(fault) => Ok(Err(fault)),
     }

@@ -14,16 +14,18 @@ use std::alloc::Global;
 use v_begin::{Outside, begin};
 use v_build::Parts;
 use v_inner::{Entered, Level, Walked, enter};
+use v_loop::Unrolled;
 use v_scope::Broken;
 use v_syntax::{Item, Module};
 
 /// What is built of the design behind an instance of this module that stands here and is given this from outside, with all that stands below it
 /// (IEEE 1364-2005, clause 12.1), where `parts` are built before; or the rule that is broken first in it, in the order of the text: in an instance
-/// among its items before the items behind that one. Only want of memory is an error.
+/// among its items before the items behind that one. Statements of procedures count in `unrolled`. Only want of memory is an error.
 #[cycle(instances)]
 pub fn instance(
     alloc: Global,
     level: &Level<'_>,
+    unrolled: &mut Unrolled,
     module: &Module,
     outside: Outside,
     parts: Parts,
@@ -33,7 +35,13 @@ pub fn instance(
 {
     let node = parts.nodes.len();
     match begin(alloc, module, level.path, outside, parts)? {
-        Ok(state) => match items(alloc, level, &module.items, Walked::of(alloc, state))? {
+        Ok(state) => match items(
+            alloc,
+            level,
+            unrolled,
+            &module.items,
+            Walked::of(alloc, state),
+        )? {
             Ok(walked) => Ok(Ok(closed(alloc, level.path, node, walked.state)?)),
             Err(fault) => Ok(Err(fault)),
         },
@@ -46,6 +54,7 @@ pub fn instance(
 fn items(
     alloc: Global,
     level: &Level<'_>,
+    unrolled: &mut Unrolled,
     items: &[Item],
     walked: Walked,
 ) -> Result<Result<Walked, Broken>, NoMemory>
@@ -54,7 +63,7 @@ fn items(
 {
     let mut walked = walked;
     for item in items {
-        match one_item(alloc, level, item, walked)? {
+        match one_item(alloc, level, unrolled, item, walked)? {
             Ok(more) => walked = more,
             Err(fault) => return Ok(Err(fault)),
         }
@@ -67,6 +76,7 @@ fn items(
 fn one_item(
     alloc: Global,
     level: &Level<'_>,
+    unrolled: &mut Unrolled,
     item: &Item,
     walked: Walked,
 ) -> Result<Result<Walked, Broken>, NoMemory>
@@ -90,13 +100,13 @@ fn one_item(
                     room: level.room - 1,
                     path: &path,
                 };
-                match instance(alloc, &below, module, outside, parts)? {
+                match instance(alloc, &below, unrolled, module, outside, parts)? {
                     Ok(parts) => Ok(Ok(waiting.leave(alloc, inner.name.name.bytes(), parts)?)),
                     Err(fault) => Ok(Err(fault)),
                 }
             }
             Err(fault) => Ok(Err(fault)),
         },
-        None => plain(alloc, level, item, walked),
+        None => plain(alloc, level, unrolled, item, walked),
     }
 }
