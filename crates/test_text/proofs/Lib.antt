@@ -1,0 +1,4 @@
+pub mod StartLaws
+pub mod AnswerLaws
+pub mod SomeLaws
+pub mod FaultLaws

@@ -1,0 +1,10 @@
+-- What a fault says of a text.
+use Rattle.std.specs.Prelude.{ℕ, List}
+use Rattle.test_text.specs.declared.fault.TestsFault.{TestsFault}
+use Rattle.test_text.specs.declared.fault.TestsFault.TheVariants as fault
+use Rattle.test_text.specs.Tests.{IsRefused}
+
+-- The text is refused so, or memory ran out.
+abbrev pub IsFault : TestsFault → List ℕ → Type 0
+IsFault (fault.Refused r) text = IsRefused r text
+IsFault fault.OutOfMemory text = Unit {0}
