@@ -50,7 +50,7 @@ both_true : (a b : Bool) → a ≡ true → b ≡ true → (a && b) ≡ true
 both_true true b h k = k
 both_true false b h k = h
 
-made_part : (s : Scope) (p : ℕ) (b : Bounds) (sel : SelectTree) → Holds (λ (w : ℕ). select_made s sel ≡ true) (part true s p b sel)
+pub made_part : (s : Scope) (p : ℕ) (b : Bounds) (sel : SelectTree) → Holds (λ (w : ℕ). select_made s sel ≡ true) (part true s p b sel)
 made_part s p b (Bit q i) = holds_each (λ (u : Unit {0}). IsMade s i) (λ (w : ℕ). IsMade s i) (λ (u : Unit {0}). 1) (index true s i (checked s i)) (made_index s i) (λ u h. h)
 made_part s p b (Part q l r) =
     holds_then (λ (x : List Digit × List Digit). IsMade s l × IsMade s r) (λ (w : ℕ). (made s l && made s r) ≡ true) (both (constant s l (checked s l)) (constant s r (checked s r)))

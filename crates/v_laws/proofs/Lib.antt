@@ -18,3 +18,5 @@ pub mod Procedures
 pub mod Registers
 pub mod Sorts
 pub mod FirstFaults
+pub mod Sufficient
+pub mod Settled

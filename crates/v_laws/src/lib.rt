@@ -11,5 +11,7 @@ mod laws;
 
 pub use first::first_broken;
 pub use laws::{
-    first_faults_count, names_differ, names_have_their_paths, one_driver, updates_are_recorded,
+    expressions_read_enough, first_faults_count, first_faults_end_procedures, joints_are_counted,
+    names_differ, names_have_their_paths, one_driver, processes_keep_to_their_kind,
+    statements_read_enough, targets_read_enough, updates_are_recorded,
 };
