@@ -30,7 +30,7 @@ holds_settled P (Sound a) h = h
 holds_settled P (Noted b a) h = tt
 holds_settled P (Lost b) h = tt
 
-abbrev IsMade : Scope → Tree → Type 0
+abbrev pub IsMade : Scope → Tree → Type 0
 IsMade s e = made s e ≡ true
 
 made_width : (s : Scope) (e : Tree) → Holds (λ (w : ℕ). IsMade s e) (constant_width s e (checked s e))
@@ -43,7 +43,7 @@ made_constant s e =
     holds_then (λ (w : ℕ). IsMade s e) (λ (ds : List Digit). IsMade s e) (constant_width s e (checked s e)) (λ (w : ℕ). known (first_at e) (meaning s e w no_signals)) (made_width s e)
     (λ w h. holds_all (IsMade s e) (known (first_at e) (meaning s e w no_signals)) h)
 
-made_index : (s : Scope) (e : Tree) → Holds (λ (u : Unit {0}). IsMade s e) (index true s e (checked s e))
+pub made_index : (s : Scope) (e : Tree) → Holds (λ (u : Unit {0}). IsMade s e) (index true s e (checked s e))
 made_index s e = holds_each (λ (ds : List Digit). IsMade s e) (λ (u : Unit {0}). IsMade s e) (λ ds. tt) (constant s e (checked s e)) (made_constant s e) (λ ds h. h)
 
 both_true : (a b : Bool) → a ≡ true → b ≡ true → (a && b) ≡ true

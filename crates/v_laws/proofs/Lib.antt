@@ -20,3 +20,6 @@ pub mod Sorts
 pub mod FirstFaults
 pub mod Sufficient
 pub mod Settled
+pub mod Steady
+pub mod Awaited
+pub mod Waiting

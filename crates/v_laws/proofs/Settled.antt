@@ -45,21 +45,19 @@ use Rattle.v_laws.proofs.Sufficient.{BaseSuffices, agree_first, agree_second, ba
 abbrev NameSettles : Scope → SelectsTree → Option Meaning → Type 0
 NameSettles s sel x = (m n : Values) (bits : List Digit) → AgreeOn (selects_read s sel) m n → name_update x s sel m bits ≡ name_update x s sel n bits
 
-one_settles : (s : Scope) (o : DataObject) (ws : Option Bounds) (sel : SelectTree) → BaseSuffices s sel → (m n : Values) (bits : List Digit) → AgreeOn (select_read s sel) m n
+pub one_update : (s : Scope) (o : DataObject) (ws : Option Bounds) (sel : SelectTree) (m n : Values) (bits : List Digit) → select_base s sel m ≡ select_base s sel n
     → object_update o ws s (One sel) m bits ≡ object_update o ws s (One sel) n bits
-one_settles s o None sel h m n bits a = ap (λ (base : Option ℕ). part_update (Some o.first) (overlap_of (range_of o.bounds) (width_of o.bounds) base (select_width s sel)) bits) (h m n a)
-one_settles s o (Some w) sel h m n bits a = ap (λ (base : Option ℕ). whole_update (word_at (words_of o.first w) base) bits) (h m n a)
+one_update s o None sel m n bits h = ap (λ (base : Option ℕ). part_update (Some o.first) (overlap_of (range_of o.bounds) (width_of o.bounds) base (select_width s sel)) bits) h
+one_update s o (Some w) sel m n bits h = ap (λ (base : Option ℕ). whole_update (word_at (words_of o.first w) base) bits) h
 
-two_settles : (s : Scope) (o : DataObject) (ws : Option Bounds) (p : ℕ) (i : Tree) (sel : SelectTree) → Suffices s i → BaseSuffices s sel → (m n : Values) (bits : List Digit)
-    → AgreeOn (reads s i ++ select_read s sel) m n → object_update o ws s (OfWord p i sel) m bits ≡ object_update o ws s (OfWord p i sel) n bits
-two_settles s o None p i sel f h m n bits a = refl
-two_settles s o (Some w) p i sel f h m n bits a =
-    ap (λ (ds : List Digit). part_update (word_at (words_of o.first w) (number ds)) (overlap_of (range_of o.bounds) (width_of o.bounds) (select_base s sel m) (select_width s sel)) bits)
-    (f (width s i) m n (agree_first (reads s i) (select_read s sel) m n a))
-    ∙ ap (λ (base : Option ℕ). part_update (word_at (words_of o.first w) (number (own_value s i n))) (overlap_of (range_of o.bounds) (width_of o.bounds) base (select_width s sel)) bits)
-    (h m n (agree_second (reads s i) (select_read s sel) m n a))
+pub two_update : (s : Scope) (o : DataObject) (ws : Option Bounds) (p : ℕ) (i : Tree) (sel : SelectTree) (m n : Values) (bits : List Digit) → own_value s i m ≡ own_value s i n
+    → select_base s sel m ≡ select_base s sel n → object_update o ws s (OfWord p i sel) m bits ≡ object_update o ws s (OfWord p i sel) n bits
+two_update s o None p i sel m n bits f h = refl
+two_update s o (Some w) p i sel m n bits f h =
+    ap (λ (ds : List Digit). part_update (word_at (words_of o.first w) (number ds)) (overlap_of (range_of o.bounds) (width_of o.bounds) (select_base s sel m) (select_width s sel)) bits) f
+    ∙ ap (λ (base : Option ℕ). part_update (word_at (words_of o.first w) (number (own_value s i n))) (overlap_of (range_of o.bounds) (width_of o.bounds) base (select_width s sel)) bits) h
 
-whole_settles : (s : Scope) (o : DataObject) (ws : Option Bounds) (m n : Values) (bits : List Digit) → object_update o ws s Whole m bits ≡ object_update o ws s Whole n bits
+pub whole_settles : (s : Scope) (o : DataObject) (ws : Option Bounds) (m n : Values) (bits : List Digit) → object_update o ws s Whole m bits ≡ object_update o ws s Whole n bits
 whole_settles s o None m n bits = refl
 whole_settles s o (Some w) m n bits = refl
 
@@ -69,11 +67,12 @@ nature_settles s p Whole o =
     holds_all (NameSettles s Whole (Some (Object o))) (by_nature p (nature_of_object o.words o.bounds) (λ b. of_vector false s p b Whole) (λ b. of_memory false s p b Whole)) (λ m n bits a. whole_settles s o o.words m n bits)
 nature_settles s p (One sel) o =
     weaker (BaseSuffices s sel) (NameSettles s (One sel) (Some (Object o))) (by_nature p (nature_of_object o.words o.bounds) (λ b. of_vector false s p b (One sel)) (λ b. of_memory false s p b (One sel)))
-    (one_found s p sel o.bounds o.words (base_suffices s p o.bounds sel) (word_suffices s o.bounds sel)) (λ h. one_settles s o o.words sel h)
+    (one_found s p sel o.bounds o.words (base_suffices s p o.bounds sel) (word_suffices s o.bounds sel)) (λ h m n bits a. one_update s o o.words sel m n bits (h m n a))
 nature_settles s p (OfWord q i sel) o =
     weaker (Suffices s i × BaseSuffices s sel) (NameSettles s (OfWord q i sel) (Some (Object o)))
     (by_nature p (nature_of_object o.words o.bounds) (λ b. of_vector false s p b (OfWord q i sel)) (λ b. of_memory false s p b (OfWord q i sel)))
-    (two_found s p q i sel o.bounds o.words (suffices s i) (base_suffices s p o.bounds sel)) (λ h. two_settles s o o.words q i sel h.0 h.1)
+    (two_found s p q i sel o.bounds o.words (suffices s i) (base_suffices s p o.bounds sel)) (λ h m n bits a. two_update s o o.words q i sel m n bits
+    (h.0 (width s i) m n (agree_first (reads s i) (select_read s sel) m n a)) (h.1 m n (agree_second (reads s i) (select_read s sel) m n a)))
 
 name_settles : (s : Scope) (p : ℕ) (sel : SelectsTree) (x : Option Meaning) → Holds (λ (w : ℕ). NameSettles s sel x) (named_target Procedural s p sel x)
 name_settles s p sel None = holds_all (NameSettles s sel None) (named_target Procedural s p sel None) (λ m n bits a. refl)

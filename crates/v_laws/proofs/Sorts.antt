@@ -445,7 +445,7 @@ sort_steps = record {
 
 -- ---- the whole
 
-member_at : (ps : List Proc) (i : ℕ) (p : Proc) → slice_get ps i ≡ Some p → Member p ps
+pub member_at : (ps : List Proc) (i : ℕ) (p : Proc) → slice_get ps i ≡ Some p → Member p ps
 member_at [] i p e = cc
 member_at (q ∷ ps) zero p e = inl (let f : p ≡ q = cc in f)
 member_at (q ∷ ps) (suc i) p e = inr (member_at ps i p e)

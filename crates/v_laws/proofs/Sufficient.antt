@@ -52,7 +52,7 @@ in_index : (P : Type 0) (s : Scope) (i : Tree) → Holds (λ (w : ℕ). P) (chec
 in_index P s i h = holds_each (λ (w : ℕ). P) (λ (u : Unit {0}). P) (λ w. tt) (checked s i) h (λ w k. k)
 
 -- a rule is broken in any case
-never : {A : Type 0} (P : Type 0) (x : Found A) (b : Broken) → Holds (λ (w : ℕ). P) (and_then x (λ u. Lost b))
+pub never : {A : Type 0} (P : Type 0) (x : Found A) (b : Broken) → Holds (λ (w : ℕ). P) (and_then x (λ u. Lost b))
 never {A} P x b = holds_then (λ (u : A). Unit {0}) (λ (w : ℕ). P) x (λ u. Lost b) (holds_any x) (λ u k. tt)
 
 -- ---- maps that agree
@@ -65,7 +65,7 @@ or_second : (a b : Bool) → b ≡ true → (a || b) ≡ true
 or_second true b h = refl
 or_second false b h = h
 
-abbrev is_in : ℕ → Span → Bool
+abbrev pub is_in : ℕ → Span → Bool
 is_in k x = nat_le x.first k && nat_lt k (x.first + x.count)
 
 pub read_first : (k : ℕ) (xs ys : List Span) → is_read k xs ≡ true → is_read k (xs ++ ys) ≡ true
