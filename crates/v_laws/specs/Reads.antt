@@ -8,11 +8,13 @@ use Rattle.gpi.specs.declared.types.Update.{Update}
 use Rattle.gpi.specs.Activation.{Map, all_applied}
 use Rattle.gpi.specs.Design.{Proc}
 use Rattle.gpi.specs.Terms.{read}
+use Rattle.v_syntax.specs.declared.item.Event.{Event}
 use Rattle.v_syntax.specs.ExpressionTrees.{Tree, TargetTree}
 use Rattle.v_syntax.specs.StatementTrees.{StatementTree}
-use Rattle.v_syntax.specs.SourceTrees.{Implicit, ModuleTree}
+use Rattle.v_syntax.specs.SourceTrees.{Always, Events, Implicit, ItemAt, ModuleTree}
 use Rattle.v_scope.specs.declared.meaning.DataObject.{DataObject}
 use Rattle.v_scope.specs.declared.meaning.Meaning.TheVariants.{Object}
+use Rattle.v_scope.specs.declared.found.Found.TheVariants.{Sound}
 use Rattle.v_scope.specs.Found.{Holds, HoldsOk}
 use Rattle.v_scope.specs.Scope.{Scope, find}
 use Rattle.v_flat.specs.Objects.{count_of}
@@ -20,7 +22,8 @@ use Rattle.v_flat.specs.Expressions.{Values, meaning}
 use Rattle.v_flat.specs.Checks.{checked}
 use Rattle.v_flat.specs.Targets.{target_checked, updates}
 use Rattle.v_flat.specs.Statements.{Span, reads, statement_checked, statement_reads, target_read}
-use Rattle.v_flat.specs.Design.{Design, State, adding, always_item, flat_design, is_read, running}
+use Rattle.v_flat.specs.Headers.{items_in}
+use Rattle.v_flat.specs.Design.{Design, State, adding, always_item, events_of, flat_design, is_read, running}
 
 -- the two have the same values of all signals that are read
 abbrev pub AgreeOn : List Span → Values → Values → Type 0
@@ -81,6 +84,25 @@ WaitsForEnough p = (m : Map) → Waited p m
 abbrev pub Assignments_wait_for_enough : Type 0
 Assignments_wait_for_enough = (ms : List ModuleTree) (top : Option (List ℕ)) → HoldsOk (λ (d : Design). (i : ℕ) (p : Proc)
     → slice_get d.processes i ≡ Some p → p.kind ≡ process_kind.Assign → WaitsForEnough p) (flat_design ms top)
+
+-- the process is that of an `always` of one of these modules with a list of events: it waits for these, and does that body
+pub record ListsEvents (ms : List ModuleTree) (p : Proc) : Type 0 where
+  pub number : ℕ
+  pub own : ModuleTree
+  pub is_one : slice_get ms number ≡ Some own
+  pub line : ℕ
+  pub place : ℕ
+  pub events : List Event
+  pub body : StatementTree
+  pub has : slice_get (items_in own) line ≡ Some (ItemAt place (Always (Events events) body))
+  pub scope : Scope
+  pub waits : events_of scope events ≡ Sound p.wakes
+  pub runs : p.run ≡ running scope body
+
+-- what each `always` of a design waits for suffices for all that it does, but for those that list events
+abbrev pub Procedures_wait_for_enough : Type 0
+Procedures_wait_for_enough = (ms : List ModuleTree) (top : Option (List ℕ)) → HoldsOk (λ (d : Design). (i : ℕ) (p : Proc)
+    → slice_get d.processes i ≡ Some p → p.kind ≡ process_kind.Always → WaitsForEnough p ⊎ ListsEvents ms p) (flat_design ms top)
 
 -- the signals of each object of the scope are among the first so many
 abbrev pub Lies : Scope → ℕ → Type 0

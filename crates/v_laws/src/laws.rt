@@ -4,7 +4,7 @@ ghost use Rattle.v_laws.specs.Drivers.{One_driver, Processes_keep_to_their_kind,
 ghost use Rattle.v_laws.specs.Instances.{Names_differ, Names_have_their_paths};
 ghost use Rattle.v_laws.specs.Joints.{Joints_are_counted};
 ghost use Rattle.v_laws.specs.Least.{First_faults_count, First_faults_end_procedures};
-ghost use Rattle.v_laws.specs.Reads.{Assignments_wait_for_enough, Expressions_read_enough, Implicit_controls_wait_for_enough, Statements_read_enough, Targets_read_enough};
+ghost use Rattle.v_laws.specs.Reads.{Assignments_wait_for_enough, Expressions_read_enough, Implicit_controls_wait_for_enough, Procedures_wait_for_enough, Statements_read_enough, Targets_read_enough};
 
 /// Each digit that a continuous assignment updates lies in a drive that is recorded for its target, and in none that was recorded before
 /// (IEEE 1364-2005, clause 6.1).
@@ -78,4 +78,10 @@ pub fn implicit_controls_wait_for_enough()
 /// signals that its process waits for, an activation makes the same updates in the same order (IEEE 1364-2005, clauses 6.1.2 and 12.3.9).
 pub fn assignments_wait_for_enough()
     ensures { Assignments_wait_for_enough }
+{}
+
+/// Each `always` of a design waits for enough, but for those that list events: on two maps of as many signals that agree on all signals that its
+/// process waits for, an activation makes the same updates, at once and for later, in the same order (IEEE 1364-2005, clause 9.7.5).
+pub fn procedures_wait_for_enough()
+    ensures { Procedures_wait_for_enough }
 {}
