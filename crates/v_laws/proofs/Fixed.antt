@@ -30,7 +30,7 @@ holds_settled P (Sound a) h = h
 holds_settled P (Noted b a) h = tt
 holds_settled P (Lost b) h = tt
 
-abbrev IsMade : Scope → Tree → Type 0
+abbrev pub IsMade : Scope → Tree → Type 0
 IsMade s e = made s e ≡ true
 
 made_width : (s : Scope) (e : Tree) → Holds (λ (w : ℕ). IsMade s e) (constant_width s e (checked s e))
@@ -43,14 +43,14 @@ made_constant s e =
     holds_then (λ (w : ℕ). IsMade s e) (λ (ds : List Digit). IsMade s e) (constant_width s e (checked s e)) (λ (w : ℕ). known (first_at e) (meaning s e w no_signals)) (made_width s e)
     (λ w h. holds_all (IsMade s e) (known (first_at e) (meaning s e w no_signals)) h)
 
-made_index : (s : Scope) (e : Tree) → Holds (λ (u : Unit {0}). IsMade s e) (index true s e (checked s e))
+pub made_index : (s : Scope) (e : Tree) → Holds (λ (u : Unit {0}). IsMade s e) (index true s e (checked s e))
 made_index s e = holds_each (λ (ds : List Digit). IsMade s e) (λ (u : Unit {0}). IsMade s e) (λ ds. tt) (constant s e (checked s e)) (made_constant s e) (λ ds h. h)
 
 both_true : (a b : Bool) → a ≡ true → b ≡ true → (a && b) ≡ true
 both_true true b h k = k
 both_true false b h k = h
 
-made_part : (s : Scope) (p : ℕ) (b : Bounds) (sel : SelectTree) → Holds (λ (w : ℕ). select_made s sel ≡ true) (part true s p b sel)
+pub made_part : (s : Scope) (p : ℕ) (b : Bounds) (sel : SelectTree) → Holds (λ (w : ℕ). select_made s sel ≡ true) (part true s p b sel)
 made_part s p b (Bit q i) = holds_each (λ (u : Unit {0}). IsMade s i) (λ (w : ℕ). IsMade s i) (λ (u : Unit {0}). 1) (index true s i (checked s i)) (made_index s i) (λ u h. h)
 made_part s p b (Part q l r) =
     holds_then (λ (x : List Digit × List Digit). IsMade s l × IsMade s r) (λ (w : ℕ). (made s l && made s r) ≡ true) (both (constant s l (checked s l)) (constant s r (checked s r)))

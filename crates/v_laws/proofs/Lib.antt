@@ -18,3 +18,8 @@ pub mod Procedures
 pub mod Registers
 pub mod Sorts
 pub mod FirstFaults
+pub mod Sufficient
+pub mod Settled
+pub mod Steady
+pub mod Awaited
+pub mod Waiting

@@ -303,11 +303,11 @@ module _ (m : ModuleTree) (path : Path) (out : Outside) (d : Design) (constants 
 
 -- ---- the whole
 
-once_steps : Steps Starts Behind Amid
-once_steps = record {
+once_steps : (ms : List ModuleTree) → Steps ms Starts Behind Amid
+once_steps ms = record {
   opens = λ m path out d constants ds h first second. opens_amid m path out d constants ds h first second;
   plain = λ m out d ds p k s here h. plain_amid m out d ds p k s h;
-  given = λ m out d ds p v i c s n x h e. given_starts m out d ds s n x h (joined_in m out d ds p v i c s n x h e);
+  given = λ m out d ds p v i c s n x h among e. given_starts m out d ds s n x h (joined_in m out d ds p v i c s n x h e);
   inner = λ m out d ds p v i c s n x e h f b. inner_amid m out d ds i s n x e h (joined_in m out d ds p v i c s n x h f) b;
   closes = λ m path out d ds t h. closes_behind m out d ds path t h;
 }
@@ -319,12 +319,12 @@ OneAssignment d = (i j : ℕ) (p q : Proc) (n k : ℕ) → slice_get d.processes
 
 pub one_assignment : (ms : List ModuleTree) (top : Option (List ℕ)) → HoldsOk OneAssignment (flat_design ms top)
 one_assignment ms top =
-    design_holds Starts Behind Amid once_steps OneAssignment
-    (λ m. record {
+    design_holds ms Starts Behind Amid (once_steps ms) OneAssignment
+    (λ m among. record {
       once = tt;
       old = λ n k t. absurd t;
       low = λ p n k here j. absurd (let e = j.found in cc);
       new = λ p n k here j t. t;
       apart = λ p q n k here there ne j i. absurd (let e = j.found in cc);
     })
-    (λ m out e b i j p q n k f g a c x y. one_each e.processes b.once i j p q n k f g (a, x) (c, y)) ms top
+    (λ m out e b i j p q n k f g a c x y. one_each e.processes b.once i j p q n k f g (a, x) (c, y)) top

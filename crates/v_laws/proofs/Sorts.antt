@@ -434,18 +434,18 @@ module _ (m : ModuleTree) (path : Path) (out : Outside) (d : Design) (constants 
           (λ p n k here j. sort_stays d.signals (all_signals path (length d.signals) own) n Z (starts.joined p n k here j)) inputs (ports_of m) (opened path own d) (λ p here. here)
           (all_stay d.signals (all_signals path (length d.signals) own) d.processes starts.all)
 
-sort_steps : Steps Starts Behind Amid
-sort_steps = record {
+sort_steps : (ms : List ModuleTree) → Steps ms Starts Behind Amid
+sort_steps ms = record {
   opens = λ m path out d constants ds h first second. opens_amid m path out d constants ds h first second;
   plain = λ m out d ds p k s here h. plain_amid m out d ds p k s here h;
-  given = λ m out d ds p v i c s n x h e. given_starts m out d ds s n x h (checked_joined s (no_words m out d ds s h) p v i c n x e);
+  given = λ m out d ds p v i c s n x h among e. given_starts m out d ds s n x h (checked_joined s (no_words m out d ds s h) p v i c n x e);
   inner = λ m out d ds p v i c s n x e h f b. inner_amid m out d ds i s n x e h b;
   closes = λ m path out d ds t h. record { all = h.all; more = h.more; signals = h.signals };
 }
 
 -- ---- the whole
 
-member_at : (ps : List Proc) (i : ℕ) (p : Proc) → slice_get ps i ≡ Some p → Member p ps
+pub member_at : (ps : List Proc) (i : ℕ) (p : Proc) → slice_get ps i ≡ Some p → Member p ps
 member_at [] i p e = cc
 member_at (q ∷ ps) zero p e = inl (let f : p ≡ q = cc in f)
 member_at (q ∷ ps) (suc i) p e = inr (member_at ps i p e)
@@ -455,7 +455,7 @@ AllOf d = AllKeep d.signals d.processes
 
 all_of : (ms : List ModuleTree) (top : Option (List ℕ)) → HoldsOk AllOf (flat_design ms top)
 all_of ms top =
-    design_holds Starts Behind Amid sort_steps AllOf (λ m. record { all = λ p h. absurd h; joined = λ p n k here j. absurd (let e = j.found in cc) }) (λ m out e b. b.all) ms top
+    design_holds ms Starts Behind Amid (sort_steps ms) AllOf (λ m among. record { all = λ p h. absurd h; joined = λ p n k here j. absurd (let e = j.found in cc) }) (λ m out e b. b.all) top
 
 weaker_ok : {A B : Design → Type 0} (r : Result Design Broken) → HoldsOk A r → ((d : Design) → A d → B d) → HoldsOk B r
 weaker_ok (Ok d) h f = f d h

@@ -4,3 +4,4 @@ pub mod Instances
 pub mod Least
 pub mod Steps
 pub mod Joints
+pub mod Reads
