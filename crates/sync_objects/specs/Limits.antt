@@ -1,0 +1,8 @@
+-- How many events and how many locks may be made in a test.
+use Rattle.std.specs.Prelude.{ℕ}
+
+abbrev pub event_limit : ℕ
+event_limit = 65536
+
+abbrev pub lock_limit : ℕ
+lock_limit = 65536
