@@ -1,7 +1,7 @@
 //! A task as its function's statements and a place among them.
-ghost use Rattle.std.specs.Prelude.{◌≡◌, ◌≤◌, ◌<◌, ◌∷◌, [], ◌+◌, ◌-◌, ◌^◌, length, IfOk, IfSome, MatchOption, drop};
+ghost use Rattle.std.specs.Prelude.{◌≡◌, ◌≤◌, ◌<◌, ◌∷◌, [], ◌+◌, ◌^◌, length, IfOk, IfSome, MatchOption, drop};
 ghost use Rattle.rig_model.specs.Sound.{Knows};
-ghost use Rattle.rig_model.specs.Task.{do_statement, fits};
+ghost use Rattle.rig_model.specs.Task.{do_statement};
 
 use gpi::SigId;
 use port_io::{Name, NoMemory, Sequence};
@@ -10,6 +10,7 @@ use rig_model::{
     Fault, Flow, FlowMaker, Form, Function, Given, Look, Statement, TaskNo, TestFile, Trig, TrigId,
     Turned, Value,
 };
+use signal_port::to_bits;
 use std::alloc::Global;
 
 /// A task of a tests file (cocotb 1.8, "Coroutines and Tasks"): the statements of its function, and the place of the next.
@@ -24,14 +25,6 @@ pub struct TreeFlow<'a> {
     at: usize,
     ended: bool,
     ghost few: { triggers ≤ at },
-}
-
-/// Whether so many digits can hold the number.
-#[tactic(auto, using(crate::proofs::Rooms::rooms))]
-fn has_room(width: u8, number: u8) -> bool
-    ensures { result ≡ fits width number }
-{
-    width >= 8 || number >> width == 0
 }
 
 fn plain_fault(kind: FaultKind) -> Fault
@@ -59,18 +52,21 @@ impl<'a> TreeFlow<'a> {
         }
     }
 
-    /// The number is staged for the signal, or raises OverflowError where the signal hasn't digits for it.
+    /// The digits of the number are staged for the signal, or the fault is raised where it hasn't digits for it.
     fn write<V: Look>(&mut self, sig: SigId, number: u8, view: &V) -> Option<Turned>
         requires ready { V.is_ready view.now }
         requires known { KnowsStatement (V.view view.now) (Statement.Write sig number) }
         ensures { do_statement (Statement.Write sig number) (flow_meaning self.old) (V.view view.now)
             ≡ record { task = flow_meaning self.new; turned = result } }
     {
-        if has_room(view.read(sig).width(), number) {
-            return Some(Turned::Stage { sig, number });
+        let value = py_value::Value::Whole(i128::from(number));
+        match to_bits(&value, view.read(sig).width()) {
+            Ok(bits) => Some(Turned::Stage { sig, bits }),
+            Err(kind) => {
+                self.ended = true;
+                Some(Turned::Raised(plain_fault(kind)))
+            }
         }
-        self.ended = true;
-        Some(Turned::Raised(plain_fault(FaultKind::OverflowError)))
     }
 
     /// The value of the signal is compared with the number.

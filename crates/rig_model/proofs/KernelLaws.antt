@@ -19,7 +19,7 @@ use Rattle.rig_model.specs.declared.file.TestCase.{TestCase}
 use Rattle.rig_model.specs.Run.{opening}
 use Rattle.rig_model.specs.Rig.{Rig, Setup, procs, awaited, named, keys_of, staged_key, event_of}
 use Rattle.rig_model.specs.Serve as serve
-use Rattle.rig_model.specs.Serve.{still_waiting, woken, all_waiting, all_woken, serve_keys, served, put_of, written_digits, after_put, deposited}
+use Rattle.rig_model.specs.Serve.{still_waiting, woken, all_waiting, all_woken, serve_keys, served, put_of, after_put, deposited}
 use Rattle.rig_model.specs.declared.tree.Waiting.{Waiting}
 use Rattle.rig_model.proofs.CountLaws.{among-more, count_none, counts_more, counts_same}
 use Rattle.rig_model.proofs.KeyLaws.{no_keys_are, same_is, same_sym, has_set, alike_among, among-append, among-filter, among-still, among-without, named_same, none_times, served_gone, times_without_all}

@@ -1,9 +1,14 @@
 -- What holds of the steps of a task, and of a poll.
-use Rattle.std.proofs.Common.{◌≡◌, ℕ, zero, suc, ◌-◌, ◌<◌, ◌≤◌, ◌⊎◌, ◌==◌, Bool, true, false, List, [], ◌∷◌, length, Option, None, Some, refl, subst, sym, inl, inr, arith, ap, ◌∙◌}
-use Rattle.rig_model.specs.Task.{Task, Frame, Todo, run, View, seen, Next, next, next_cost, do_first, do_todo, checked, compared, fits, stage_if, do_statement, todo_cost, first_cost}
+use Rattle.std.proofs.Common.{◌≡◌, ℕ, zero, suc, ◌-◌, ◌<◌, ◌≤◌, ◌⊎◌, ◌==◌, Bool, true, false, List, [], ◌∷◌, length, Ok, Err, Option, None, Some, refl, subst, sym, inl, inr, arith, ap, ◌∙◌}
+use Rattle.rig_model.specs.Task.{Task, Frame, Todo, run, View, seen, Next, next, next_cost, do_first, do_todo, checked, compared, stage_or, do_statement, todo_cost, first_cost}
 use Rattle.rig_model.specs.Poll.{asks, Wants, RunsOut, GoesBy, Polls, Polled}
+use Rattle.std.specs.Prelude.{pos}
+use Rattle.four_value.specs.declared.Digit.{Digit}
 use Rattle.four_value.specs.Vector.{number}
 use Rattle.gpi.specs.declared.types.SigId.{SigId}
+use Rattle.py_value.specs.Answer.{Answer}
+use Rattle.py_value.specs.declared.value.Value.TheVariants.{Whole}
+use Rattle.signal_port.specs.Written.{written_bits}
 use Rattle.rig_model.specs.declared.task.Given.{Given}
 use Rattle.rig_model.specs.declared.task.Given.TheVariants as given
 use Rattle.rig_model.specs.declared.task.Turned.{Turned}
@@ -67,12 +72,12 @@ checked_number : (value : Option ℕ) (number : ℕ) (task : Task) → (checked 
 checked_number None number task = refl
 checked_number (Some value) number task = compared_number (value == number) task
 
-stage_number : (b : Bool) (sig : SigId) (number : ℕ) (task : Task) → (stage_if b sig number task).task.number ≡ task.number
-stage_number true sig number task = refl
-stage_number false sig number task = refl
+stage_number : (sig : SigId) (r : Answer (List Digit)) (task : Task) → (stage_or sig r task).task.number ≡ task.number
+stage_number sig (Ok bits) task = refl
+stage_number sig (Err kind) task = refl
 
 statement_number : (s : Statement) (task : Task) (view : View) → (do_statement s task view).task.number ≡ task.number
-statement_number (statement.Write sig value) task view = stage_number (fits (length (seen view sig)) value) sig value task
+statement_number (statement.Write sig value) task view = stage_number sig (written_bits (length (seen view sig)) (Whole (pos value))) task
 statement_number (statement.Timer steps) task view = refl
 statement_number (statement.Assert sig expected) task view = checked_number (number (seen view sig)) expected task
 statement_number (statement.StartSoon func) task view = refl
@@ -148,12 +153,12 @@ checked_spent : (value : Option ℕ) (number : ℕ) (task : Task) → (checked v
 checked_spent None number task h = cc
 checked_spent (Some value) number task h = compared_spent (value == number) task h
 
-stage_spent : (b : Bool) (sig : SigId) (number : ℕ) (task : Task) → (stage_if b sig number task).turned ≡ Some turned.Spent → ⊥
-stage_spent true sig number task h = cc
-stage_spent false sig number task h = cc
+stage_spent : (sig : SigId) (r : Answer (List Digit)) (task : Task) → (stage_or sig r task).turned ≡ Some turned.Spent → ⊥
+stage_spent sig (Ok bits) task h = cc
+stage_spent sig (Err kind) task h = cc
 
 statement_spent : (s : Statement) (task : Task) (view : View) → (do_statement s task view).turned ≡ Some turned.Spent → ⊥
-statement_spent (statement.Write sig value) task view h = stage_spent (fits (length (seen view sig)) value) sig value task h
+statement_spent (statement.Write sig value) task view h = stage_spent sig (written_bits (length (seen view sig)) (Whole (pos value))) task h
 statement_spent (statement.Timer steps) task view h = cc
 statement_spent (statement.Assert sig expected) task view h = checked_spent (number (seen view sig)) expected task h
 statement_spent (statement.StartSoon func) task view h = cc

@@ -1,12 +1,18 @@
 -- Steps keep statements sound.
-use Rattle.std.proofs.Common.{◌≡◌, ℕ, zero, suc, ◌-◌, ◌<◌, ◌==◌, Bool, true, false, List, [], ◌∷◌, ◌++◌, length, Option, None, Some, refl, sym, subst, inl, inr}
+use Rattle.std.proofs.Common.{◌≡◌, ℕ, zero, suc, ◌-◌, ◌<◌, ◌==◌, Bool, true, false, List, [], ◌∷◌, ◌++◌, length, Ok, Err, Option, None, Some, refl, sym, subst, inl, inr}
+use Rattle.std.specs.Prelude.{pos}
+use Rattle.four_value.specs.declared.Digit.{Digit}
 use Rattle.four_value.specs.Vector.{number}
 use Rattle.gpi.specs.declared.types.SigId.{SigId}
-use Rattle.rig_model.specs.Task.{Task, Frame, Todo, run, View, seen, Next, next, next_cost, do_first, do_todo, do_statement, checked, compared, fits, stage_if, all_to_do, fresh}
+use Rattle.py_value.specs.Answer.{Answer}
+use Rattle.py_value.specs.declared.value.Value.TheVariants.{Whole}
+use Rattle.signal_port.specs.Written.{written_bits}
+use Rattle.signal_port.proofs.Numbers.{number_width}
+use Rattle.rig_model.specs.Task.{Task, Frame, Todo, run, View, seen, Next, next, next_cost, do_first, do_todo, do_statement, checked, compared, stage_or, all_to_do, fresh}
 use Rattle.rig_model.specs.Poll.{Polls, Polled}
 use Rattle.rig_model.specs.Effect.{function_at, is_numbered, dropped}
 use Rattle.rig_model.specs.Step.{task_at, stored}
-use Rattle.rig_model.specs.Sound.{Bounds, IsSoundStatement, AreSoundStatements, AreSoundFunctions, AreSoundTodos, AreSoundFrames, IsSoundTask, AreSoundTasks, IsSoundTurned, IsSoundWish, Knows}
+use Rattle.rig_model.specs.Sound.{Bounds, IsSoundStatement, AreSoundStatements, AreSoundFunctions, AreSoundTodos, AreSoundFrames, IsSoundTask, AreSoundTasks, IsSoundTurned, IsSoundWish, HasWidth, WishHasWidth, Knows}
 use Rattle.rig_model.specs.declared.file.Statement.{Statement}
 use Rattle.rig_model.specs.declared.file.Statement.TheVariants as statement
 use Rattle.rig_model.specs.declared.file.Function.{Function}
@@ -28,12 +34,12 @@ module _ (bounds : Bounds) where
   checked_sound None expected task h = (tt, tt)
   checked_sound (Some value) expected task h = compared_sound (value == expected) task h
 
-  stage_sound : (b : Bool) (sig : SigId) (number : ℕ) (task : Task) → sig.0 < bounds.signals → IsSoundTask bounds task → IsSoundNext (stage_if b sig number task)
-  stage_sound true sig number task s h = (h, s)
-  stage_sound false sig number task s h = (tt, tt)
+  stage_sound : (sig : SigId) (r : Answer (List Digit)) (task : Task) → sig.0 < bounds.signals → IsSoundTask bounds task → IsSoundNext (stage_or sig r task)
+  stage_sound sig (Ok bits) task s h = (h, s)
+  stage_sound sig (Err kind) task s h = (tt, tt)
 
   statement_sound : (s : Statement) (task : Task) (view : View) → IsSoundStatement bounds s → IsSoundTask bounds task → IsSoundNext (do_statement s task view)
-  statement_sound (statement.Write sig value) task view s h = stage_sound (fits (length (seen view sig)) value) sig value task s h
+  statement_sound (statement.Write sig value) task view s h = stage_sound sig (written_bits (length (seen view sig)) (Whole (pos value))) task s h
   statement_sound (statement.Timer steps) task view s h = (h, s)
   statement_sound (statement.Assert sig expected) task view s h = checked_sound (number (seen view sig)) expected task h
   statement_sound (statement.StartSoon func) task view s h = (h, s)
@@ -112,6 +118,60 @@ module _ (bounds : Bounds) where
       decided : (b : Bool) → is_numbered number u ≡ b → AreSoundTasks bounds (dropped number us) → AreSoundTasks bounds (dropped number (u ∷ us))
       decided true q more = rw q h.1
       decided false q more = rw q (h.0, more)
+
+-- ---- widths
+
+compared_width : (view : View) (b : Bool) (task : Task) → WishHasWidth view (compared b task).turned
+compared_width view true task = tt
+compared_width view false task = tt
+
+checked_width : (view : View) (value : Option ℕ) (expected : ℕ) (task : Task) → WishHasWidth view (checked value expected task).turned
+checked_width view None expected task = tt
+checked_width view (Some value) expected task = compared_width view (value == expected) task
+
+stage_width : (view : View) (sig : SigId) (r : Answer (List Digit)) (task : Task) → ((bits : List Digit) → r ≡ Ok bits → length bits ≡ length (seen view sig))
+    → WishHasWidth view (stage_or sig r task).turned
+stage_width view sig (Ok bits) task h = h bits refl
+stage_width view sig (Err kind) task h = tt
+
+statement_width : (s : Statement) (task : Task) (view : View) → WishHasWidth view (do_statement s task view).turned
+statement_width (statement.Write sig value) task view =
+    stage_width view sig (written_bits (length (seen view sig)) (Whole (pos value))) task (number_width (length (seen view sig)) (pos value))
+statement_width (statement.Timer steps) task view = tt
+statement_width (statement.Assert sig expected) task view = checked_width view (number (seen view sig)) expected task
+statement_width (statement.StartSoon func) task view = tt
+statement_width (statement.Start func) task view = tt
+statement_width (statement.Info text) task view = tt
+
+todo_width : (todo : List Todo) (frames : List Frame) (task : Task) (view : View) → WishHasWidth view (do_todo todo frames task view).turned
+todo_width [] frames task view = tt
+todo_width (run s ∷ rest) frames task view = statement_width s (record task { frames = record { todo = rest } ∷ frames }) view
+
+first_width : (frames : List Frame) (task : Task) (view : View) → WishHasWidth view (do_first frames task view).turned
+first_width [] task view = tt
+first_width (frame ∷ frames) task view = todo_width frame.todo frames task view
+
+next_width : (task : Task) (g : Option Given) (view : View) → WishHasWidth view (next task g view).turned
+next_width task None view = first_width task.frames task view
+next_width task (Some given.Begin) view = first_width task.frames task view
+next_width task (Some (given.Value value)) view = first_width task.frames task view
+next_width task (Some (given.Fault fault)) view = tt
+
+spent_width : (view : View) (t : Turned) → t ≡ Spent → HasWidth view t
+spent_width view t e = subst (λ (x : Turned). HasWidth view x) (sym e) tt
+
+polls_width : (view : View) (n fuel : ℕ) (task : Task) (g : Option Given) (t : Turned) (fuel' : ℕ) (task' : Task) → Polls view n fuel task g t fuel' task' → HasWidth view t
+unfolding Polls
+polls_width view zero fuel task g t fuel' task' p = elim p [
+  | inl w ↦ (let s : WishHasWidth view (Some t) = subst (λ (n : Next). WishHasWidth view n.turned) w.next_is (next_width task g view) in s)
+  | inr r ↦ spent_width view t r.spent
+]
+polls_width view (suc n) fuel task g t fuel' task' p =
+    polls_width view n (fuel - next_cost task g) (next task g view).task None t fuel' task' p.1
+
+-- what a poll wants to stage has as many digits as the view sees of its signal
+pub polled_width : (view : View) (fuel : ℕ) (task : Task) (g : Option Given) (t : Turned) (fuel' : ℕ) (task' : Task) → Polled view fuel task g t fuel' task' → HasWidth view t
+polled_width view fuel task g t fuel' task' p = polls_width view p.count fuel task g t fuel' task' p.polls
 
 -- a view of so many signals knows what a sound task names
 pub knows_sound : (bounds : Bounds) (view : View) (task : Task) → bounds.signals ≡ length view.signals → IsSoundTask bounds task → Knows view task

@@ -1,5 +1,6 @@
 -- What each thing that a task wants does, and what the task is given next.
-use Rattle.std.specs.Prelude.{ℕ, ◌+◌, ◌^◌, ◌==◌, ◌||◌, nat_lt, nat_le, Bool, true, false, not, List, [], ◌∷◌, ◌++◌, length, filter, Option, None, Some, if◌then◌else◌, slice_index_or}
+use Rattle.std.specs.Prelude.{ℕ, ◌+◌, ◌^◌, ◌==◌, ◌||◌, nat_lt, nat_le, Bool, true, false, List, [], ◌∷◌, ◌++◌, length, Option, None, Some, if◌then◌else◌, slice_index_or}
+use Rattle.four_value.specs.declared.Digit.{Digit}
 use Rattle.gpi.specs.State.{is_end}
 use Rattle.gpi.specs.declared.types.Key.TheVariants.{At}
 use Rattle.rig_model.specs.Line.{log_line}
@@ -12,7 +13,6 @@ use Rattle.rig_model.specs.declared.task.Value.TheVariants as value
 use Rattle.rig_model.specs.declared.task.Fault.{Fault}
 use Rattle.py_syntax.specs.declared.fault_kind.FaultKind.TheVariants.{OverflowError, RuntimeError}
 use Rattle.rig_model.specs.declared.task.Trig.{Trig}
-use Rattle.rig_model.specs.declared.task.Staged.{Staged}
 use Rattle.rig_model.specs.declared.task.Form.{Form}
 use Rattle.rig_model.specs.declared.task.Form.TheVariants.{Time}
 use Rattle.rig_model.specs.declared.task.Turned.{Turned}
@@ -22,6 +22,7 @@ use Rattle.rig_model.specs.declared.task.Outcome.TheVariants as outcome
 use Rattle.gpi.specs.declared.types.SigId.{SigId}
 use Rattle.rig_model.specs.Rig.{Rig, Setup, After, quiet}
 use Rattle.rig_model.specs.Counts.{counted}
+use Rattle.signal_port.specs.Staging.{restaged}
 use Rattle.rig_model.specs.declared.tree.Tree.{Tree}
 use Rattle.rig_model.specs.declared.tree.Tree.TheVariants.{Leaf}
 
@@ -61,18 +62,14 @@ abbrev pub awaits : TaskNo → Trig → Option Fault → Rig → After
 awaits task trig (Some fault) c = gives task (given.Fault fault) c
 awaits task trig None c = quiet (counted [] c (with_waiting task (begun trig.form trig c.sim.time) c))
 
--- a write that is staged is the last one; an older one of its signal is taken out
-abbrev pub restaged : SigId → ℕ → List Staged → List Staged
-restaged sig number writes = filter (λ (w : Staged). not (w.sig.0 == sig.0)) writes ++ record { sig = sig; number = number } ∷ []
-
 -- a write in the read-only phase ends the test, and gives the task nothing; in each other region this is done
 abbrev pub write_by : Bool → SigId → After → Rig → After
 write_by true sig a c = quiet (record c { outcome = Some (outcome.ReadOnlyWrite sig) })
 write_by false sig a c = a
 
 -- the write is staged, which is one effect, and the task goes on
-abbrev pub stages : TaskNo → SigId → ℕ → Rig → After
-stages task sig number c = gives task (given.Value value.Absent) (counted [] c (record c { staged = restaged sig number c.staged }))
+abbrev pub stages : TaskNo → SigId → List Digit → Rig → After
+stages task sig bits c = gives task (given.Value value.Absent) (counted [] c (record c { staged = restaged sig bits c.staged }))
 
 -- a function by its number
 abbrev pub function_at : List Function → ℕ → Function
@@ -118,7 +115,7 @@ returned false o = o
 -- What each thing that a task wants does, once the turn is taken from the task.
 abbrev pub effect : Setup → TaskNo → Turned → Rig → After
 effect setup task (Await trig) c = awaits task trig (refusal trig.form c.sim.time) c
-effect setup task (Stage sig number) c = write_by (is_end c.sim.region) sig (stages task sig number c) c
+effect setup task (Stage sig bits) c = write_by (is_end c.sim.region) sig (stages task sig bits c) c
 effect setup task (Start func give_way) c = starts (is_full c) task (function_at setup.functions func) give_way c
 effect setup task (Log level text) c = record { rig = goes_on task (Some (given.Value value.Absent)) c; lines = log_line c.sim.time level text ∷ [] }
 effect setup task (Done value) c = quiet (record c { tasks = dropped task c.tasks; outcome = returned (task.0 == 0) c.outcome })

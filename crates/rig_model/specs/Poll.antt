@@ -9,7 +9,7 @@ use Rattle.rig_model.specs.declared.task.Turned.TheVariants.{Spent}
 -- the task asks for something, and goes on unless that ends the test
 abbrev pub asks : Turned → Bool
 asks (turned.Await trig) = true
-asks (turned.Stage sig number) = true
+asks (turned.Stage sig bits) = true
 asks (turned.Start func give_way) = true
 asks (turned.Log level text) = true
 asks (turned.Done value) = false

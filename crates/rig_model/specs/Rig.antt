@@ -15,7 +15,7 @@ use Rattle.rig_model.specs.declared.file.Function.{Function}
 use Rattle.rig_model.specs.declared.task.TaskNo.{TaskNo}
 use Rattle.rig_model.specs.declared.task.Given.{Given}
 use Rattle.rig_model.specs.declared.task.Entry.{Entry}
-use Rattle.rig_model.specs.declared.task.Staged.{Staged}
+use Rattle.signal_port.specs.declared.staged.Staged.{Staged}
 use Rattle.rig_model.specs.declared.task.Outcome.{Outcome}
 use Rattle.rig_model.specs.Line.{sig_line, path_of}
 use Rattle.rig_model.specs.declared.tree.Tree.{Tree}

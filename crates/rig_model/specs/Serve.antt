@@ -1,10 +1,7 @@
 -- How fired keys are served.
-use Rattle.std.specs.Prelude.{Bool, true, false, List, [], ◌∷◌, ◌++◌, length, if◌then◌else◌}
-use Rattle.four_value.specs.declared.Digit.{Digit}
-use Rattle.four_value.specs.Vector.{vector}
+use Rattle.std.specs.Prelude.{Bool, true, false, List, [], ◌∷◌, ◌++◌, if◌then◌else◌}
 use Rattle.gpi.specs.Keys.{same_key, among, set_of}
-use Rattle.gpi.specs.State.{State}
-use Rattle.gpi.specs.Events.{Event, put, value_at}
+use Rattle.gpi.specs.Events.{Event, put}
 use Rattle.rig_model.specs.Rig.{Rig, Setup, After, quiet, and_then, awaited, procs, told_lines}
 use Rattle.rig_model.specs.Counts.{counted}
 use Rattle.gpi.specs.declared.types.Key.{Key}
@@ -13,7 +10,7 @@ use Rattle.rig_model.specs.declared.task.Given.{Given}
 use Rattle.rig_model.specs.declared.task.Given.TheVariants as given
 use Rattle.rig_model.specs.declared.task.Value.TheVariants.{Trigger}
 use Rattle.rig_model.specs.declared.task.Entry.{Entry}
-use Rattle.rig_model.specs.declared.task.Staged.{Staged}
+use Rattle.signal_port.specs.declared.staged.Staged.{Staged}
 use Rattle.rig_model.specs.declared.tree.Tree.{Tree}
 use Rattle.rig_model.specs.declared.tree.Tree.TheVariants.{Leaf}
 use Rattle.rig_model.specs.declared.tree.Waiting.{Waiting}
@@ -70,13 +67,9 @@ abbrev pub serve_keys : List Key → List Key → Rig → Rig
 serve_keys [] others c = record c { fired = others }
 serve_keys (k ∷ ks) others c = serve_keys ks others (record (serve_key k c) { fired = others ++ ks })
 
--- the digits that a write writes: as many as the signal has, of the number modulo 2 to the power of that
-abbrev pub written_digits : State → Staged → List Digit
-written_digits sim write = vector (length (value_at sim write.sig)) write.number
-
 -- the deposit of a write, where the awaited keys are registered
 abbrev pub put_of : Setup → Rig → Staged → Event
-put_of setup c write = put (procs setup) c.sim (set_of (awaited c)) write.sig (written_digits c.sim write)
+put_of setup c write = put (procs setup) c.sim (set_of (awaited c)) write.sig write.bits
 
 -- A deposit is done, its change is told, and the keys of that change are served: one effect.
 abbrev pub after_put : Setup → Event → Rig → After

@@ -1,6 +1,6 @@
 -- Statements that name functions of their file and signals of the design.
 use Rattle.std.specs.Prelude.{◌≡◌, ℕ, ◌<◌, ◌≤◌, List, [], ◌∷◌, length, Option, None, Some}
-use Rattle.rig_model.specs.Task.{Task, Frame, Todo, View, run}
+use Rattle.rig_model.specs.Task.{Task, Frame, Todo, View, run, seen}
 use Rattle.rig_model.specs.declared.file.Statement.{Statement}
 use Rattle.rig_model.specs.declared.file.Statement.TheVariants as statement
 use Rattle.rig_model.specs.declared.file.Function.{Function}
@@ -65,7 +65,7 @@ IsSoundForm (Time steps) = 1 ≤ steps
 -- what a task wants is sound: it is of functions and signals that are there
 abbrev pub IsSoundTurned : Bounds → Turned → Type 0
 IsSoundTurned bounds (turned.Await trig) = IsSoundForm trig.form
-IsSoundTurned bounds (turned.Stage sig number) = sig.0 < bounds.signals
+IsSoundTurned bounds (turned.Stage sig bits) = sig.0 < bounds.signals
 IsSoundTurned bounds (turned.Start func give_way) = func < bounds.functions
 IsSoundTurned bounds (turned.Log level text) = Unit {0}
 IsSoundTurned bounds (turned.Done value) = Unit {0}
@@ -75,6 +75,20 @@ IsSoundTurned bounds turned.Spent = Unit {0}
 abbrev pub IsSoundWish : Bounds → Option Turned → Type 0
 IsSoundWish bounds None = Unit {0}
 IsSoundWish bounds (Some t) = IsSoundTurned bounds t
+
+-- what is to be staged has as many digits as the view sees of its signal
+abbrev pub HasWidth : View → Turned → Type 0
+HasWidth view (turned.Stage sig bits) = length bits ≡ length (seen view sig)
+HasWidth view (turned.Await trig) = Unit {0}
+HasWidth view (turned.Start func give_way) = Unit {0}
+HasWidth view (turned.Log level text) = Unit {0}
+HasWidth view (turned.Done value) = Unit {0}
+HasWidth view (turned.Raised fault) = Unit {0}
+HasWidth view turned.Spent = Unit {0}
+
+abbrev pub WishHasWidth : View → Option Turned → Type 0
+WishHasWidth view None = Unit {0}
+WishHasWidth view (Some t) = HasWidth view t
 
 -- The view knows the signals that the task names.
 pub record Knows (view : View) (task : Task) : Type 0 where

@@ -1,12 +1,15 @@
 -- A task: its frames with what is still to do, and its next step.
-use Rattle.std.specs.Prelude.{ℕ, ◌+◌, ◌^◌, ◌==◌, nat_lt, Bool, true, false, List, [], ◌∷◌, length, Option, None, Some, slice_index_or}
+use Rattle.std.specs.Prelude.{ℕ, ◌+◌, ◌==◌, Bool, true, false, List, [], ◌∷◌, length, Option, None, Some, Ok, Err, slice_index_or, pos}
 use Rattle.four_value.specs.declared.Digit.{Digit}
 use Rattle.four_value.specs.Vector.{number}
 use Rattle.gpi.specs.declared.types.SigId.{SigId}
+use Rattle.py_value.specs.Answer.{Answer}
+use Rattle.py_value.specs.declared.value.Value.TheVariants.{Whole}
+use Rattle.signal_port.specs.Written.{written_bits}
 use Rattle.rig_model.specs.declared.task.TaskNo.{TaskNo}
 use Rattle.rig_model.specs.declared.task.Fault.{Fault}
 use Rattle.py_syntax.specs.declared.fault_kind.FaultKind.{FaultKind}
-use Rattle.py_syntax.specs.declared.fault_kind.FaultKind.TheVariants.{AssertionError, OverflowError, ValueError}
+use Rattle.py_syntax.specs.declared.fault_kind.FaultKind.TheVariants.{AssertionError, ValueError}
 use Rattle.rig_model.specs.declared.task.Given.{Given}
 use Rattle.rig_model.specs.declared.task.Given.TheVariants as given
 use Rattle.rig_model.specs.declared.task.Value.TheVariants.{Absent}
@@ -68,18 +71,14 @@ abbrev pub checked : Option ℕ → ℕ → Task → Next
 checked None expected task = raise task (plain_fault ValueError)
 checked (Some value) expected task = compared (value == expected) task
 
--- a number that so many digits can hold: at most 2^width - 1
-abbrev pub fits : ℕ → ℕ → Bool
-fits width number = nat_lt number (2 ^ width)
-
--- a write of a number that fits its signal is staged
-abbrev pub stage_if : Bool → SigId → ℕ → Task → Next
-stage_if true sig number task = wants task (turned.Stage sig number)
-stage_if false sig number task = raise task (plain_fault OverflowError)
+-- a write of digits is staged, or the fault of the value that was to be written is raised
+abbrev pub stage_or : SigId → Answer (List Digit) → Task → Next
+stage_or sig (Ok bits) task = wants task (turned.Stage sig bits)
+stage_or sig (Err kind) task = raise task (plain_fault kind)
 
 -- a statement of a task that has it taken off already
 abbrev pub do_statement : Statement → Task → View → Next
-do_statement (statement.Write sig number) task view = stage_if (fits (length (seen view sig)) number) sig number task
+do_statement (statement.Write sig number) task view = stage_or sig (written_bits (length (seen view sig)) (Whole (pos number))) task
 do_statement (statement.Timer steps) task view =
     wants (record task { triggers = task.triggers + 1 })
     (turned.Await (record { id = record { task = task.number; number = task.triggers }; form = Time steps }))

@@ -20,5 +20,5 @@ pub use laws::{
 };
 pub use ready::Ready;
 pub use steps::Steps;
-pub use task::{Entry, Fault, Form, Given, Outcome, Staged, TaskNo, Trig, TrigId, Turned, Value};
+pub use task::{Entry, Fault, Form, Given, Outcome, TaskNo, Trig, TrigId, Turned, Value};
 pub use tree::{Tree, Waiting};

@@ -1,4 +1,5 @@
 //! What tasks and the runner tell each other.
+use four_value::Bits;
 use gpi::SigId;
 use port_io::Name;
 use py_syntax::{FaultKind, LogLevel};
@@ -69,9 +70,9 @@ pub enum Given {
 pub enum Turned {
     /// To wait for the trigger. It is given the trigger once that has fired.
     Await(Trig),
-    /// To stage a write of the number. It is given `None`, and the design sees the write at the next read-write phase. In the
-    /// read-only phase the write ends the test, and no handler of the task sees it.
-    Stage { sig: SigId, number: u8 },
+    /// To stage a write of these digits, as many as the signal has. It is given `None`, and the design sees the write at the next
+    /// read-write phase. In the read-only phase the write ends the test, and no handler of the task sees it.
+    Stage { sig: SigId, bits: Bits },
     /// To start a task of the function of that number. It is given the task. With `give_way` the new task runs before
     /// this one goes on.
     Start { func: u32, give_way: bool },
@@ -108,15 +109,6 @@ impl Outcome {
     {
         matches!(self, Outcome::Normal)
     }
-}
-
-/// A write that is staged: it goes out in the read-write phase (cocotb 1.8, "Triggers", `ReadWrite`).
-#[derive(Clone, Copy, Debug, PartialEq, Eq)]
-pub struct Staged {
-    /// The signal to be written.
-    pub sig: SigId,
-    /// The number that it becomes.
-    pub number: u8,
 }
 
 /// A task that is ready to go on, with what it is given.

@@ -1,14 +1,15 @@
 -- An event, as a turn.
 use Rattle.std.specs.Prelude.{is_none}
-use Rattle.std.proofs.Common.{◌≡◌, ℕ, ◌||◌, ◌&&◌, Bool, true, false, not, if◌then◌else◌, List, [], ◌∷◌, ◌++◌, length, Option, None, Some, refl, sym, ap, subst, ◌∙◌, arith}
+use Rattle.std.proofs.Common.{◌≡◌, ℕ, ◌||◌, ◌&&◌, Bool, true, false, not, if◌then◌else◌, List, [], ◌∷◌, ◌++◌, Option, None, Some, refl, sym, ap, subst, ◌∙◌}
 use Rattle.port_io.specs.Means.{SinkMeans}
 use Rattle.four_value.specs.declared.Digit.{Digit}
 use Rattle.four_value.specs.Vector.{same_digits}
 use Rattle.gpi.specs.Content.{Content, Does, Answers}
 use Rattle.gpi.specs.Design.{Proc}
 use Rattle.gpi.specs.Events.{Event, event, put, value_at, idle}
-use Rattle.gpi.specs.Keys.{Keys, has, among, same_key, set_of, fired_of}
+use Rattle.gpi.specs.Keys.{Keys, has, among, same_key, fired_of}
 use Rattle.gpi.specs.State.{State, is_end}
+use Rattle.gpi.specs.Design.{widths}
 use Rattle.gpi.specs.Terms.{widths_of}
 use Rattle.gpi.specs.declared.types.Advance.TheVariants as advance
 use Rattle.gpi.specs.declared.types.Moved.{Moved}
@@ -22,14 +23,14 @@ use Rattle.port_io.specs.declared.ports.SinkFault.{SinkFault}
 use Rattle.rig_model.specs.Fires.{Fires, PutFires}
 use Rattle.rig_model.specs.Kernel.{StandsAhead, StandsFor}
 use Rattle.rig_model.specs.Keys.{AreAlike, AreKeysBut, AreOnce, AreOut, Reprimed, keys_in, without_all}
-use Rattle.rig_model.specs.Rig.{Rig, Setup, After, quiet, and_then, awaited, named, keys_of, staged_key, told_lines, procs}
-use Rattle.rig_model.specs.Serve.{all_waiting, all_woken, serve_keys, after_put, put_of, flushed, flushed_if, served, written_digits}
+use Rattle.rig_model.specs.Rig.{Rig, Setup, After, quiet, and_then, named, keys_of, staged_key, told_lines}
+use Rattle.rig_model.specs.Serve.{all_waiting, all_woken, serve_keys, after_put, put_of, flushed, flushed_if, served}
 use Rattle.rig_model.proofs.FireLaws.{told_back, put_fires, event_fires}
 use Rattle.rig_model.proofs.KernelLaws.{event_stands, put_stands, event_ahead, put_ahead, served_stands, serve_keys_is, among_all, among_awaited, among_then, but_deposit, but_event, but_others, but_served, once_alike, once_stays, out_fired, reprimed_stands}
 use Rattle.rig_model.proofs.KeyLaws.{among-append, same_is}
 use Rattle.rig_model.specs.Step.{evented}
 use Rattle.rig_model.specs.declared.task.Entry.{Entry}
-use Rattle.rig_model.specs.declared.task.Staged.{Staged}
+use Rattle.signal_port.specs.declared.staged.Staged.{Staged}
 use Rattle.rig_model.specs.declared.tree.Waiting.{Waiting}
 use Rattle.scheduler.specs.Parts.{Parts, rig_amid, FitsContent}
 use Rattle.scheduler.specs.Puts.{PutsOn}
@@ -87,27 +88,20 @@ told_same setup k sig old bits time change t o h =
     ∙ ap (told_lines setup k.state.time)
     (h ∙ ap (λ (ds : List Digit). (let x : Option Told = if same_digits ds bits then None else Some (record { sig = sig; bits = bits }) in x)) o ∙ sym (told_is k.procs k.state k.keys sig bits))
 
-length_widths : (m : List (List Digit)) → length (widths_of m) ≡ length m
-length_widths [] = refl
-length_widths (v ∷ vs) = let h : length (widths_of vs) ≡ length vs = length_widths vs in omega arith
-
-pub same_length : (m n : List (List Digit)) → widths_of m ≡ widths_of n → length m ≡ length n
-same_length m n e = sym (length_widths m) ∙ ap length e ∙ length_widths n
-
-module _ (setup : Setup) (p : Parts) (k k1 k2 : Content) (write : Staged) (bits : List Digit) (held held' : List Key) (fired : Fired) (ready' : List Entry) (waiting' : List Waiting)
-    (fired_is : fired ≡ fired_of (put k.procs k.state k.keys write.sig bits).fired)
-    (done : Does k (put k.procs k.state k.keys write.sig bits) k1)
+module _ (setup : Setup) (p : Parts) (k k1 k2 : Content) (write : Staged) (held held' : List Key) (fired : Fired) (ready' : List Entry) (waiting' : List Waiting)
+    (fired_is : fired ≡ fired_of (put k.procs k.state k.keys write.sig write.bits).fired)
+    (done : Does k (put k.procs k.state k.keys write.sig write.bits) k1)
     (waiting_is : waiting' ≡ all_waiting (keys_in fired) p.waiting) (held_is : AreAlike held' (without_all (keys_in fired) held)) (ready_is : ready' ≡ p.ready ++ all_woken (keys_in fired) p.waiting)
     (b : AreKeysBut k.keys (ReadWrite ∷ []) (named p.waiting held))
     (r : Reprimed k1 k2 (keys_in fired) (named p.waiting held) (named waiting' held')) where
   abbrev e : Event
-  e = put k.procs k.state k.keys write.sig bits
+  e = put k.procs k.state k.keys write.sig write.bits
 
   abbrev p' : Parts
   p' = record p { ready = ready'; waiting = waiting' }
 
   fires : PutFires k.state e
-  fires = put_fires k.procs k.state k.keys write.sig bits
+  fires = put_fires k.procs k.state k.keys write.sig write.bits
 
   pub keys_are : keys_in fired ≡ e.fired
   keys_are = ap keys_in fired_is ∙ told_back e.fired fires.few
@@ -116,8 +110,8 @@ module _ (setup : Setup) (p : Parts) (k k1 k2 : Content) (write : Staged) (bits 
   held_stays o = once_alike held' (without_all (keys_in fired) held) (ReadWrite ∷ []) held_is
       (once_stays (keys_in fired) held (ReadWrite ∷ []) (held_free (write ∷ []) (keys_in fired) (ap (among ReadWrite) keys_are ∙ fires.other)) o)
 
-  pub put_signals : (n : ℕ) → widths_of k1.state.signals ≡ widths_of k.state.signals → length k.state.signals ≡ n → length k2.state.signals ≡ n
-  put_signals n w h = ap (λ (st : State). length st.signals) r.state ∙ same_length k1.state.signals k.state.signals w ∙ h
+  pub put_signals : (ws : List ℕ) → widths_of k1.state.signals ≡ widths_of k.state.signals → widths_of k.state.signals ≡ ws → widths_of k2.state.signals ≡ ws
+  put_signals ws w h = ap (λ (st : State). widths_of st.signals) r.state ∙ w ∙ h
 
   pub put_stays : Stays k k2 p.waiting waiting'
   put_stays = record {
@@ -192,15 +186,15 @@ module _ (setup : Setup) (p : Parts) (k k1 k2 : Content) (write : Staged) (bits 
     rig_is : (after_put setup e c).rig ≡ rig_amid p' k2.state ahead (after_put setup e c).rig.counts
     rig_is = ap (λ (d : Rig). (let x : Rig = record d { counts = (after_put setup e c).rig.counts } in x)) served_rig
 
-    put_is : bits ≡ written_digits k.state write → e ≡ put_of setup c write
-    put_is h = put_stands ahead setup k c s write.sig bits ∙ ap (put (procs setup) k.state (set_of (awaited c)) write.sig) h
+    put_is : e ≡ put_of setup c write
+    put_is = put_stands ahead setup k c s write.sig write.bits
 
     -- the write is done, its change is told, and its keys are served
     pub put_serves : {O : Type 0} (sink : SinkMeans O) (fault : Option SinkFault) (out : O) (fault' : Option SinkFault) (out' : O)
-        → bits ≡ written_digits k.state write → PutsOn sink fault out (told_lines setup k.state.time e.told) fault' out'
+        → PutsOn sink fault out (told_lines setup k.state.time e.told) fault' out'
         → Serves sink setup ahead (after_put setup (put_of setup c write) c) p' k2 fault out fault' out'
-    put_serves sink fault out fault' out' h q =
-        subst (λ (x : Event). Serves sink setup ahead (after_put setup x c) p' k2 fault out fault' out') (put_is h)
+    put_serves sink fault out fault' out' q =
+        subst (λ (x : Event). Serves sink setup ahead (after_put setup x c) p' k2 fault out fault' out') put_is
         (record { rig_is = rig_is; stands = stands; puts = q })
 
 -- what the waiting part asks before the keys of a change are served
@@ -383,8 +377,8 @@ module _ (setup : Setup) (p : Parts) (k k1 : Content) (held : List Key) (f : Fit
   pub event_out : AreOut k1.keys (keys_in m.fired)
   event_out = out_fired k k1 (keys_in m.fired) [] event_left
 
-  pub event_signals : widths_of k1.state.signals ≡ widths_of k.state.signals → length k1.state.signals ≡ length setup.flat.signals
-  event_signals w = same_length k1.state.signals k.state.signals w ∙ f.signals
+  pub event_signals : widths_of k1.state.signals ≡ widths_of k.state.signals → widths_of k1.state.signals ≡ widths setup.flat.signals
+  event_signals w = w ∙ f.signals
 
   -- in the read-write phase writes may go out
   pub event_writable : among ReadWrite (keys_in m.fired) ≡ true → is_end k1.state.region ≡ false
@@ -404,7 +398,7 @@ module _ (setup : Setup) (p : Parts) (k k1 : Content) (held : List Key) (f : Fit
   module _ {O : Type 0} (sink : SinkMeans O) (p2 : Parts) (k2 k3 : Content) (f1 : Option SinkFault) (o1 : O) (f2 : Option SinkFault) (o2 : O)
       (fl : Serves sink setup own_keys (flushed_if setup (among ReadWrite own_keys) (rig_amid p k1.state own_keys k.counts)) p2 k2 f1 o1 f2 o2)
       (free : (x : Key) → among x (staged_key p2.staged) ≡ true → among x own_keys ≡ false) (held2 held3 : List Key) (goes : AreOnce (without_all own_keys held2) (staged_key p2.staged))
-      (s2 : length k2.state.signals ≡ length setup.flat.signals) (ready3 : List Entry) (waiting3 : List Waiting) (waiting_is : waiting3 ≡ all_waiting own_keys p2.waiting) (held_is : AreAlike held3 (without_all own_keys held2))
+      (s2 : widths_of k2.state.signals ≡ widths setup.flat.signals) (ready3 : List Entry) (waiting3 : List Waiting) (waiting_is : waiting3 ≡ all_waiting own_keys p2.waiting) (held_is : AreAlike held3 (without_all own_keys held2))
       (ready_is : ready3 ≡ p2.ready ++ all_woken own_keys p2.waiting) (b : AreKeysBut k2.keys own_keys (named p2.waiting held2)) (out_is : AreOut k2.keys own_keys)
       (r : Reprimed k2 k3 own_keys (named p2.waiting held2) (named waiting3 held3)) where
     abbrev flush_of : List Key → State → After
@@ -450,7 +444,7 @@ module _ (setup : Setup) (p : Parts) (k k1 : Content) (held : List Key) (f : Fit
     event_fits = record {
       stands = subst (λ (d : Rig). StandsFor setup k3 d) after_is stands_after;
       held_is = once_alike held3 (without_all own_keys held2) (staged_key p2.staged) held_is goes;
-      signals = ap (λ (st : State). length st.signals) r.state ∙ s2;
+      signals = ap (λ (st : State). widths_of st.signals) r.state ∙ s2;
     }
 
     same_flush : flush_of a.event.fired a.event.state ≡ flush_of own_keys k1.state

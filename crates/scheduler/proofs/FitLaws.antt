@@ -1,7 +1,9 @@
 -- What holds of the engine's own parts is kept.
 use Rattle.std.proofs.Common.{◌≡◌, ℕ, ◌+◌, ◌≤◌, ◌<◌, Bool, true, false, List, [], ◌∷◌, ◌++◌, length, Option, None, Some, IsSome, refl, ap, sym, subst, arith, rules, ◌∙◌, length-append, get_or, zero, suc}
 use Rattle.std.specs.Prelude.{nat_le, ◌||◌, not, filter, ◌==◌, IfOk, OnOk, Result, Ok, Err}
+use Rattle.four_value.specs.declared.Digit.{Digit}
 use Rattle.gpi.specs.Content.{Content}
+use Rattle.gpi.specs.declared.design.Signal.{Signal}
 use Rattle.port_io.specs.declared.ports.NoMemory.{NoMemory}
 use Rattle.rig_model.specs.declared.file.Function.{Function}
 use Rattle.gpi.specs.declared.types.Key.{Key}
@@ -9,7 +11,8 @@ use Rattle.gpi.specs.declared.types.SigId.{SigId}
 use Rattle.rig_model.specs.Task.{Task, View, fresh}
 use Rattle.rig_model.specs.Placed.{ArePlaced, placed, in_turn}
 use Rattle.rig_model.specs.Rig.{Rig, Setup}
-use Rattle.rig_model.specs.Effect.{is_numbered, dropped, function_at, live_limit, start_limit, restaged}
+use Rattle.rig_model.specs.Effect.{is_numbered, dropped, function_at, live_limit, start_limit}
+use Rattle.signal_port.specs.Staging.{restaged}
 use Rattle.rig_model.specs.Step.{task_at, stored}
 use Rattle.rig_model.specs.Sound.{Bounds, IsSoundTurned, IsSoundTask, AreSoundTasks, AreSoundFunctions}
 use Rattle.rig_model.specs.Serve.{all_woken, all_waiting}
@@ -21,13 +24,13 @@ use Rattle.rig_model.specs.declared.task.TaskNo.{TaskNo}
 use Rattle.rig_model.specs.declared.task.Entry.{Entry}
 use Rattle.rig_model.specs.declared.task.Given.{Given}
 use Rattle.rig_model.specs.declared.task.Given.TheVariants as given
-use Rattle.rig_model.specs.declared.task.Staged.{Staged}
+use Rattle.signal_port.specs.declared.staged.Staged.{Staged}
 use Rattle.rig_model.specs.declared.task.Turned.{Turned}
 use Rattle.rig_model.specs.declared.tree.Waiting.{Waiting}
 use Rattle.scheduler.specs.Tasks.{PollsTask}
 use Rattle.scheduler.specs.Fits.{FitsAt, FitsKernel, FitsNext}
 use Rattle.scheduler.specs.Engine.{setup_of, parts_of}
-use Rattle.scheduler.specs.Parts.{Parts, Fits, bounds_of, AreSoundWrites}
+use Rattle.scheduler.specs.Parts.{Parts, Fits, bounds_of, IsSoundWrite, AreSoundWrites}
 use Rattle.scheduler.specs.declared.engine.Engine.{Engine}
 use Rattle.scheduler.specs.declared.turn.Turn.{Turn}
 use Rattle.scheduler.specs.declared.turn.Next.{Next}
@@ -61,7 +64,7 @@ sound_at bounds (t ∷ ts) zero d h s = s.0
 sound_at bounds (t ∷ ts) (suc at) d h s = sound_at bounds ts at d (omega arith) s.1
 
 -- without some of them writes are still sound
-filter_sound : (signals : ℕ) (test : Staged → Bool) (ws : List Staged) → AreSoundWrites signals ws → AreSoundWrites signals (filter test ws)
+filter_sound : (signals : List Signal) (test : Staged → Bool) (ws : List Staged) → AreSoundWrites signals ws → AreSoundWrites signals (filter test ws)
 filter_sound signals test [] h = tt
 filter_sound signals test (w ∷ ws) h = decided (test w) refl (filter_sound signals test ws h.1)
   where
@@ -69,25 +72,26 @@ filter_sound signals test (w ∷ ws) h = decided (test w) refl (filter_sound sig
     decided true q more = rw q (h.0, more)
     decided false q more = rw q more
 
-write_last : (signals : ℕ) (ws : List Staged) (w : Staged) → AreSoundWrites signals ws → w.sig.0 < signals → AreSoundWrites signals (ws ++ w ∷ [])
+write_last : (signals : List Signal) (ws : List Staged) (w : Staged) → AreSoundWrites signals ws → IsSoundWrite signals w → AreSoundWrites signals (ws ++ w ∷ [])
 write_last signals [] w h k = (k, tt)
 write_last signals (v ∷ vs) w h k = (h.0, write_last signals vs w h.1 k)
 
-restaged_sound : (signals : ℕ) (sig : SigId) (number : ℕ) (ws : List Staged) → AreSoundWrites signals ws → sig.0 < signals → AreSoundWrites signals (restaged sig number ws)
-restaged_sound signals sig number ws h k =
-    write_last signals (filter (λ (w : Staged). not (w.sig.0 == sig.0)) ws) (record { sig = sig; number = number }) (filter_sound signals (λ (w : Staged). not (w.sig.0 == sig.0)) ws h) k
+restaged_sound : (signals : List Signal) (sig : SigId) (bits : List Digit) (ws : List Staged) → AreSoundWrites signals ws → IsSoundWrite signals (record { sig = sig; bits = bits }) → AreSoundWrites signals (restaged sig bits ws)
+restaged_sound signals sig bits ws h k =
+    write_last signals (filter (λ (w : Staged). not (w.sig.0 == sig.0)) ws) (record { sig = sig; bits = bits }) (filter_sound signals (λ (w : Staged). not (w.sig.0 == sig.0)) ws h) k
 
 module _ (setup : Setup) (room : ℕ) (p : Parts) where
   -- a write is staged
-  pub fits_staged : (turn : Option TaskNo) (sig : SigId) (number : ℕ) → Fits setup turn room p → sig.0 < length setup.flat.signals → Fits setup turn room (record p { staged = restaged sig number p.staged })
-  fits_staged turn sig number f k =
-      record { placed_are = f.placed_are; room_is = f.room_is; live = f.live; started = f.started; tasks = f.tasks; writes = restaged_sound (length setup.flat.signals) sig number p.staged f.writes k; functions = f.functions }
+  pub fits_staged : (turn : Option TaskNo) (sig : SigId) (bits : List Digit) → Fits setup turn room p → IsSoundWrite setup.flat.signals (record { sig = sig; bits = bits })
+      → Fits setup turn room (record p { staged = restaged sig bits p.staged })
+  fits_staged turn sig bits f k =
+      record { placed_are = f.placed_are; room_is = f.room_is; live = f.live; started = f.started; tasks = f.tasks; writes = restaged_sound setup.flat.signals sig bits p.staged f.writes k; functions = f.functions }
 
   -- the oldest write is taken out
   pub fits_unstaged : (turn : Option TaskNo) (write : Staged) (writes : List Staged) → Fits setup turn room p → p.staged ≡ write ∷ writes
-      → (write.sig.0 < length setup.flat.signals) × Fits setup turn room (record p { staged = writes })
+      → IsSoundWrite setup.flat.signals write × Fits setup turn room (record p { staged = writes })
   fits_unstaged turn write writes f e =
-      let w : AreSoundWrites (length setup.flat.signals) (write ∷ writes) = rw e at f.writes in
+      let w : AreSoundWrites setup.flat.signals (write ∷ writes) = rw e at f.writes in
       (w.0, record { placed_are = f.placed_are; room_is = f.room_is; live = f.live; started = f.started; tasks = f.tasks; writes = w.1; functions = f.functions })
 
   -- a task that has its turn lives no more

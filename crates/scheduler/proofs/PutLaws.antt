@@ -1,5 +1,5 @@
 -- Lines that are put one after the other, until a put fails.
-use Rattle.std.proofs.Common.{◌≡◌, ℕ, false, List, [], ◌∷◌, ◌++◌, Option, None, Some, Result, Ok, Err, OnOk, OnErr, IsErrOf, refl, ap, subst, ◌∙◌, inl, inr, append_assoc}
+use Rattle.std.proofs.Common.{◌≡◌, ℕ, List, [], ◌∷◌, ◌++◌, Option, None, Some, Result, Ok, Err, OnOk, OnErr, IsErrOf, refl, ap, subst, ◌∙◌, inl, inr, append_assoc}
 use Rattle.std.specs.Result.{result_err}
 use Rattle.port_io.specs.Ports.{AppendsPart}
 use Rattle.port_io.specs.PutsPart.{IsPart}

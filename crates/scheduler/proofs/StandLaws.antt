@@ -1,10 +1,14 @@
 -- An engine and its simulator stand together, before and after each effect.
-use Rattle.std.proofs.Common.{◌≡◌, ℕ, ◌||◌, Bool, true, false, not, List, [], ◌∷◌, ◌++◌, length, refl, sym, ap, subst, ◌∙◌, eqb-true, arith, Option, None, Some}
+use Rattle.std.proofs.Common.{◌≡◌, ℕ, suc, ◌<◌, get_or, ◌||◌, Bool, true, false, not, List, [], ◌∷◌, ◌++◌, length, refl, sym, ap, subst, ◌∙◌, eqb-true, arith, Option, None, Some}
 use Rattle.std.specs.Prelude.{filter, ◌==◌}
+use Rattle.four_value.specs.declared.Digit.{Digit}
+use Rattle.std.proofs.lemmas.List.{length-replicate}
+use Rattle.gpi.proofs.Widths.{length_widths, get_or_widths}
+use Rattle.gpi.specs.Terms.{widths_of}
 use Rattle.gpi.specs.Content.{Content, opening}
 use Rattle.gpi.specs.Keys.{among, has, same_key}
 use Rattle.gpi.specs.State.{State, is_end}
-use Rattle.gpi.specs.Design.{procs_of, start_map}
+use Rattle.gpi.specs.Design.{procs_of, start_map, widths}
 use Rattle.gpi.specs.declared.design.Flat.{Flat}
 use Rattle.gpi.specs.declared.design.Signal.{Signal}
 use Rattle.gpi.specs.declared.types.Counts.{Counts}
@@ -12,7 +16,8 @@ use Rattle.gpi.specs.declared.types.Key.{Key}
 use Rattle.gpi.specs.declared.types.Key.TheVariants.{At, ReadWrite}
 use Rattle.gpi.specs.declared.types.SigId.{SigId}
 use Rattle.rig_model.specs.Counts.{counted}
-use Rattle.rig_model.specs.Effect.{restaged, with_waiting, refusal, begun, awaits, effect, goes_on, stages, write_by}
+use Rattle.signal_port.specs.Staging.{restaged}
+use Rattle.rig_model.specs.Effect.{with_waiting, refusal, begun, awaits, effect, goes_on, stages, write_by}
 use Rattle.rig_model.specs.Kernel.{StandsFor}
 use Rattle.rig_model.specs.Keys.{AreAlike, AreKeys, AreOnce, Registers, KeepsKeys, Rekeyed, AreCounted}
 use Rattle.rig_model.specs.Rig.{Rig, Setup, awaited, named, keys_of, staged_key}
@@ -22,7 +27,7 @@ use Rattle.rig_model.proofs.CountLaws.{among-more, counts_same}
 use Rattle.rig_model.proofs.KernelLaws.{awaited_named, effect_stands, same_stands, once_alike, once_more, registers_rekeyed, registers_counted}
 use Rattle.rig_model.proofs.KeyLaws.{alike_among, named_same, named_unheld, no_keys_are}
 use Rattle.rig_model.specs.declared.task.Entry.{Entry}
-use Rattle.rig_model.specs.declared.task.Staged.{Staged}
+use Rattle.signal_port.specs.declared.staged.Staged.{Staged}
 use Rattle.rig_model.specs.declared.task.TaskNo.{TaskNo}
 use Rattle.rig_model.specs.declared.task.Fault.{Fault}
 use Rattle.rig_model.specs.declared.task.Trig.{Trig}
@@ -32,11 +37,34 @@ use Rattle.rig_model.specs.declared.task.Turned.TheVariants.{Stage}
 use Rattle.rig_model.specs.declared.tree.Tree.{Tree}
 use Rattle.rig_model.specs.declared.tree.Tree.TheVariants.{Leaf}
 use Rattle.rig_model.specs.declared.tree.Waiting.{Waiting}
-use Rattle.scheduler.specs.Parts.{Parts, rig_amid, FitsContent}
+use Rattle.scheduler.specs.Parts.{Parts, rig_amid, FitsContent, IsSoundWrite}
 
 -- the configuration between two turns
 abbrev pub rig_between : Parts → Content → Rig
 rig_between p k = rig_amid p k.state [] k.counts
+
+-- ---- signals
+
+count_widths : (ss : List Signal) → length (widths ss) ≡ length ss
+count_widths [] = refl
+count_widths (s ∷ ss) = ap suc (count_widths ss)
+
+-- there are as many signals as in the design
+pub signal_count : (m : List (List Digit)) (ss : List Signal) → widths_of m ≡ widths ss → length m ≡ length ss
+signal_count m ss e = sym (length_widths m) ∙ ap length e ∙ count_widths ss
+
+pub is_inside : (m : List (List Digit)) (ss : List Signal) (sig : SigId) → widths_of m ≡ widths ss → sig.0 < length ss → sig.0 < length m
+is_inside m ss sig e h = let n : length m ≡ length ss = signal_count m ss e in omega arith
+
+-- digits of the width of a signal of the design are as many as its value has, and the other way round
+pub written_fits : (m : List (List Digit)) (ss : List Signal) (w : Staged) → widths_of m ≡ widths ss → IsSoundWrite ss w → length w.bits ≡ length (get_or m w.sig.0 [])
+written_fits m ss w e s =
+    s.1 ∙ ap (λ (ws : List ℕ). get_or ws w.sig.0 0) (sym e) ∙ get_or_widths m w.sig.0 [] (is_inside m ss w.sig e s.0)
+
+pub write_sound : (m : List (List Digit)) (ss : List Signal) (sig : SigId) (bits : List Digit) → widths_of m ≡ widths ss → sig.0 < length ss → length bits ≡ length (get_or m sig.0 [])
+    → IsSoundWrite ss (record { sig = sig; bits = bits })
+write_sound m ss sig bits e h l =
+    (h, l ∙ sym (get_or_widths m sig.0 [] (is_inside m ss sig e h)) ∙ ap (λ (ws : List ℕ). get_or ws sig.0 0) e)
 
 -- ---- registered keys
 
@@ -103,7 +131,7 @@ module _ (setup : Setup) (p : Parts) (k k' : Content) (held : List Key) (f : Fit
   effect_fits = record {
     stands = subst (λ (c : Rig). StandsFor setup k' c) effect_is (effect_stands setup k k' before after refl f.stands rekeyed counts_are);
     held_is = own;
-    signals = ap (λ (st : State). length st.signals) r.state ∙ f.signals;
+    signals = ap (λ (st : State). widths_of st.signals) r.state ∙ f.signals;
   }
 
 -- ---- a task waits
@@ -128,10 +156,10 @@ module _ (setup : Setup) (p : Parts) (k k' : Content) (held held' : List Key) (f
 -- ---- a write is staged
 
 -- some write is staged then
-pub restaged_key : (sig : SigId) (number : ℕ) (ws : List Staged) → staged_key (restaged sig number ws) ≡ ReadWrite ∷ []
-restaged_key sig number ws = some (filter (λ (w : Staged). not (w.sig.0 == sig.0)) ws)
+pub restaged_key : (sig : SigId) (bits : List Digit) (ws : List Staged) → staged_key (restaged sig bits ws) ≡ ReadWrite ∷ []
+restaged_key sig bits ws = some (filter (λ (w : Staged). not (w.sig.0 == sig.0)) ws)
   where
-    some : (vs : List Staged) → staged_key (vs ++ record { sig = sig; number = number } ∷ []) ≡ ReadWrite ∷ []
+    some : (vs : List Staged) → staged_key (vs ++ record { sig = sig; bits = bits } ∷ []) ≡ ReadWrite ∷ []
     some [] = refl
     some (v ∷ vs) = refl
 
@@ -174,18 +202,18 @@ module _ (setup : Setup) (p : Parts) (k : Content) (held : List Key) (f : FitsCo
   pub unheld_waited : has ReadWrite k.keys ≡ among ReadWrite (keys_of p.waiting)
   unheld_waited = keys_named setup held k p f ReadWrite ∙ named_unheld ReadWrite p.waiting held unheld
 
-module _ (setup : Setup) (p : Parts) (k : Content) (held : List Key) (f : FitsContent setup held k (rig_between p k)) (sig : SigId) (number : ℕ) (staged' : List Staged) (is : staged' ≡ restaged sig number p.staged) where
+module _ (setup : Setup) (p : Parts) (k : Content) (held : List Key) (f : FitsContent setup held k (rig_between p k)) (sig : SigId) (bits : List Digit) (staged' : List Staged) (is : staged' ≡ restaged sig bits p.staged) where
   abbrev wanted : Rig
-  wanted = counted [] (rig_between p k) (record (rig_between p k) { staged = restaged sig number p.staged })
+  wanted = counted [] (rig_between p k) (record (rig_between p k) { staged = restaged sig bits p.staged })
 
   written_key : staged_key staged' ≡ ReadWrite ∷ []
-  written_key = ap staged_key is ∙ restaged_key sig number p.staged
+  written_key = ap staged_key is ∙ restaged_key sig bits p.staged
 
   -- where the read-only phase hasn't begun
   pub goes_on_is : (task : TaskNo) (e : Rig) → is_end k.state.region ≡ false → wanted ≡ e
-      → (effect setup task (Stage sig number) (rig_between p k)).rig ≡ goes_on task (Some (given.Value Absent)) e
+      → (effect setup task (Stage sig bits) (rig_between p k)).rig ≡ goes_on task (Some (given.Value Absent)) e
   goes_on_is task e unended h =
-      ap (λ (b : Bool). (write_by b sig (stages task sig number (rig_between p k)) (rig_between p k)).rig) unended
+      ap (λ (b : Bool). (write_by b sig (stages task sig bits (rig_between p k)) (rig_between p k)).rig) unended
       ∙ ap (goes_on task (Some (given.Value Absent))) h
 
   wanted_is : wanted ≡ counted [] (rig_between p k) (record (rig_between p k) { staged = staged' })
@@ -250,14 +278,14 @@ module _ (setup : Setup) (p : Parts) (k k' : Content) (held : List Key) (f : Fit
   pub dropped_fits : FitsContent setup [] k' (rig_between nothing k')
   dropped_fits = effect_fits setup p k k' held f nothing [] none_once r n
 
-length_start : (ss : List Signal) → length (start_map ss) ≡ length ss
-length_start [] = refl
-length_start (s ∷ ss) = let h : length (start_map ss) ≡ length ss = length_start ss in omega arith
+start_widths : (ss : List Signal) → widths_of (start_map ss) ≡ widths ss
+start_widths [] = refl
+start_widths (s ∷ ss) = rw (length-replicate s.width s.start, start_widths ss) refl
 
 -- a simulator that has just loaded the design
 pub opening_fits : (setup : Setup) (flat : Flat) → setup.flat ≡ flat → FitsContent setup [] (opening flat) (rig_between (record { tasks = []; started = 0; ready = []; waiting = []; staged = [] }) (opening flat))
 opening_fits setup flat e = record {
   stands = record { procs_are = ap (λ (f : Flat). procs_of f.processes) (sym e); state_is = refl; keys_are = no_keys_are; counts_are = refl };
   held_is = none_once;
-  signals = length_start flat.signals ∙ ap (λ (f : Flat). length f.signals) (sym e);
+  signals = start_widths flat.signals ∙ ap (λ (f : Flat). widths f.signals) (sym e);
 }

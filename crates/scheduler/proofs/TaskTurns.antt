@@ -1,5 +1,5 @@
 -- A step of a turn's loop: a task is polled, and what it wanted is done.
-use Rattle.std.proofs.Common.{◌≡◌, ◌≢◌, ℕ, ◌≤◌, ◌<◌, ◌⊎◌, true, List, Option, Some, IsSome, Result, Ok, IsErr, subst, arith, length, inl, inr}
+use Rattle.std.proofs.Common.{◌≡◌, ◌≢◌, ℕ, ◌≤◌, ◌<◌, ◌⊎◌, true, List, Some, IsSome, Result, Ok, IsErr, subst, arith, length, inl, inr}
 use Rattle.port_io.specs.PutsPart.{PutsPart}
 use Rattle.port_io.specs.Means.{SinkMeans, PutsTo}
 use Rattle.port_io.specs.declared.ports.NoMemory.{NoMemory}
@@ -10,7 +10,8 @@ use Rattle.rig_model.specs.Poll.{asks}
 use Rattle.rig_model.specs.Effect.{effect, goes_on}
 use Rattle.rig_model.specs.Step.{task_at}
 use Rattle.rig_model.specs.FitSteps.{FitSteps, in_turn, Moves}
-use Rattle.rig_model.specs.Sound.{IsSoundTurned}
+use Rattle.rig_model.specs.Sound.{HasWidth, IsSoundTurned}
+use Rattle.rig_model.proofs.SoundLaws.{polled_width}
 use Rattle.rig_model.proofs.PollLaws.{Leaves, polled_leaves}
 use Rattle.rig_model.specs.declared.task.TaskNo.{TaskNo}
 use Rattle.rig_model.specs.declared.task.Given.{Given}
@@ -56,6 +57,10 @@ module _ {O : Type 0} (sink : SinkMeans O) (setup' setup : Setup) (same : setup'
         let fits : Fits setup (Some number) room (record p { tasks = tasks' }) × IsSoundTurned (bounds_of setup) t × IsSome (task_at number tasks')
         = fits_polled setup room p (record { signals = k.state.signals }) fuel number g t f tasks' h q.0 in
         rw (same, q.1) fits
+
+    -- what it wants to stage has the width of its signal
+    pub still_wide : HasWidth (record { signals = k.state.signals }) t
+    still_wide = polled_width (record { signals = k.state.signals }) fuel q.0.task (Some g) t f q.0.rest q.0.polled
 
     abbrev moves : (t ≢ turned.Spent) → Moves (FitSteps in_turn setup) fuel (goes_on number (Some g) (rig_between p k)) (effect setup number t after).lines f (effect setup number t after).rig
     moves n = poll_moves setup number p k fuel g t f tasks' started' q.0 q.1 n

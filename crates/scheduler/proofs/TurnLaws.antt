@@ -21,6 +21,7 @@ use Rattle.rig_model.specs.declared.task.Trig.{Trig}
 use Rattle.rig_model.specs.declared.task.Turned.{Turned}
 use Rattle.rig_model.specs.declared.task.Turned.TheVariants as turned
 use Rattle.gpi.specs.Content.{Content}
+use Rattle.four_value.specs.declared.Digit.{Digit}
 use Rattle.gpi.specs.State.{is_end}
 use Rattle.gpi.specs.declared.types.SigId.{SigId}
 use Rattle.scheduler.specs.Parts.{Parts}
@@ -41,10 +42,10 @@ await_quiet setup task trig c = by_fault (refusal trig.form c.sim.time)
     by_fault None = refl
     by_fault (Some fault) = refl
 
-pub stage_quiet : (setup : Setup) (task : TaskNo) (sig : SigId) (number : ℕ) (c : Rig) → (effect setup task (turned.Stage sig number) c).lines ≡ []
-stage_quiet setup task sig number c = by_region (is_end c.sim.region)
+pub stage_quiet : (setup : Setup) (task : TaskNo) (sig : SigId) (bits : List Digit) (c : Rig) → (effect setup task (turned.Stage sig bits) c).lines ≡ []
+stage_quiet setup task sig bits c = by_region (is_end c.sim.region)
   where
-    by_region : (over : Bool) → (write_by over sig (stages task sig number c) c).lines ≡ []
+    by_region : (over : Bool) → (write_by over sig (stages task sig bits c) c).lines ≡ []
     by_region true = refl
     by_region false = refl
 

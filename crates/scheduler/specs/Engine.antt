@@ -14,7 +14,7 @@ parts_of waiting e = record {
   started = e.live.started;
   ready = e.ready.entries;
   waiting = waiting e.awaits;
-  staged = e.staged.items;
+  staged = e.staged;
 }
 
 -- The configuration between two turns, in all but what has been written and what it has cost: the engine's parts, and the

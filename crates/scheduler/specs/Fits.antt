@@ -1,6 +1,8 @@
 -- When an engine and a simulator fit.
-use Rattle.std.specs.Prelude.{◌≡◌, List, Option, None, Some, length}
+use Rattle.std.specs.Prelude.{◌≡◌, List, Option, None, Some}
 use Rattle.gpi.specs.Content.{Content}
+use Rattle.gpi.specs.Design.{widths}
+use Rattle.gpi.specs.Terms.{widths_of}
 use Rattle.gpi.specs.declared.types.Key.{Key}
 use Rattle.rig_model.specs.Keys.{AreKeys, AreKeysBut, AreOut}
 use Rattle.rig_model.specs.Rig.{named}
@@ -30,7 +32,7 @@ FitsKernel functions waiting held e content = FitsAt None functions waiting held
 pub record FitsAmid (fired : List Key) {M W F : Type 0} (functions : M → List Function) (waiting : W → List Waiting) (held : W → List Key)
     (e : Engine M W F) (content : Content) : Type 0 where
   pub own : Fits (setup_of functions e) None e.ready.room (parts_of waiting e)
-  pub signals : length content.state.signals ≡ length e.flat.now.signals
+  pub signals : widths_of content.state.signals ≡ widths e.flat.now.signals
   pub keys : AreKeysBut content.keys fired (named (waiting e.awaits) (held e.awaits))
   pub out : AreOut content.keys fired
 

@@ -1,5 +1,5 @@
 -- Effects in the midst of an event, while fired keys are still to be served.
-use Rattle.std.specs.Prelude.{◌≡◌, ℕ, true, List, Option, Some}
+use Rattle.std.specs.Prelude.{◌≡◌, true, List, Option, Some}
 use Rattle.gpi.specs.Content.{Content}
 use Rattle.gpi.specs.Events.{Event}
 use Rattle.gpi.specs.Keys.{among}

@@ -1,11 +1,13 @@
 //! What each thing that a task wants does.
-ghost use Rattle.std.specs.Prelude.{◌≡◌, ◌≢◌, ℕ, ◌<◌, ◌∷◌, [], length, ◌≤◌, IfOk, OnErr, IsOk, Ok, Some, None, IsSome, MatchOption, true};
+ghost use Rattle.std.specs.Prelude.{◌≡◌, ◌≢◌, ◌<◌, ◌∷◌, [], List, length, ◌≤◌, IfOk, OnErr, IsOk, Ok, Some, None, IsSome, MatchOption, true};
 ghost use Rattle.gpi.specs.Content.{Content};
+ghost use Rattle.four_value.specs.declared.Digit.{Digit};
+ghost use Rattle.gpi.specs.Events.{value_at};
 ghost use Rattle.gpi.specs.State.{is_end};
 ghost use Rattle.gpi.specs.declared.types.Key.TheVariants.{At};
 ghost use Rattle.rig_model.specs.Effect.{effect, refusal, begun, last_time};
 ghost use Rattle.rig_model.specs.Line.{log_line};
-ghost use Rattle.rig_model.specs.Sound.{IsSoundTurned, IsSoundForm};
+ghost use Rattle.rig_model.specs.Sound.{HasWidth, IsSoundTurned, IsSoundForm};
 ghost use Rattle.rig_model.specs.Step.{task_at};
 ghost use Rattle.rig_model.specs.Task.{plain_fault};
 ghost use Rattle.py_syntax.specs.declared.fault_kind.FaultKind.TheVariants.{OverflowError};
@@ -17,7 +19,7 @@ ghost use Rattle.port_io.specs.Means.{PutsTo, sink_means};
 use crate::Engine;
 use crate::line::log_text;
 use crate::turn::{Next, Turn};
-use crate::writes::stage;
+use four_value::Bits;
 use gpi::{Gpi, Key, Region, SigId};
 use port_io::{Name, NoMemory, Sink, SinkFault};
 use py_syntax::{FaultKind, LogLevel};
@@ -96,18 +98,19 @@ impl<'a, M: FlowMaker + Drop, W: Awaits> Engine<'a, M, W> {
         &mut self,
         kernel: &mut K,
         sig: SigId,
-        number: u8,
+        bits: Bits,
         steps: &mut Steps<L>,
     ) -> Result<Next, NoMemory>
         requires loaded { K.is_loaded kernel.old }
         requires kernel { FitsContent (setup_of M.functions self.old) (W.held self.old.awaits) (K.content kernel.old) (rig_of W.waiting self.old (K.content kernel.old)) }
         requires sound { sig.0 < length self.old.flat.now.signals }
-        ensures leads { IfOk result (λ next. (task : TaskNo) → LeadsTo (setup_of M.functions self.old) task (Turned.Stage sig number)
+        requires width { length bits ≡ length (value_at (K.content kernel.old).state sig) }
+        ensures leads { IfOk result (λ next. (task : TaskNo) → LeadsTo (setup_of M.functions self.old) task (Turned.Stage sig bits)
             (rig_of W.waiting self.old (K.content kernel.old)) next (rig_of W.waiting self.new (K.content kernel.new))) }
         ensures fits { IfOk result (λ next. (task : TaskNo) → Fits (setup_of M.functions self.old) (Some task) self.old.ready.room (parts_of W.waiting self.old)
             → FitsNext M.functions W.waiting W.held task next self.new (K.content kernel.new)) }
         ensures fine { IfOk result (λ next. next_fault (Ok next) ≡ None) }
-        ensures staged { OnErr result (self.new.staged.items ≡ self.old.staged.items) }
+        ensures staged { OnErr result (self.new.staged ≡ self.old.staged) }
         ensures closed { is_end (K.content kernel.old).state.region ≡ true → IsOk result }
         ensures keeps { Keeps M.functions W.waiting W.held K.is_loaded K.content self.old self.new kernel.new }
     {
@@ -117,7 +120,7 @@ impl<'a, M: FlowMaker + Drop, W: Awaits> Engine<'a, M, W> {
         if self.staged.is_empty() {
             self.awaits.hold(kernel, Key::ReadWrite, steps)?;
         }
-        stage(&mut self.staged, sig, number)?;
+        self.staged.stage(sig, bits)?;
         Ok(Next::GoesOn(Given::Value(Value::Absent)))
     }
 
@@ -176,20 +179,21 @@ impl<'a, M: FlowMaker + Drop, W: Awaits> Engine<'a, M, W> {
         requires fits { FitsAt (Some task) M.functions W.waiting W.held self.old (K.content kernel.old) }
         requires live { IsSome (task_at task self.old.live.tasks) }
         requires sound { IsSoundTurned (bounds_of (setup_of M.functions self.old)) turned }
+        requires width { HasWidth (record { signals = (K.content kernel.old).state.signals }) turned }
         requires wanted { turned ≢ Turned.Spent }
         ensures leads { IfOk result (λ next. LeadsTo (setup_of M.functions self.old) task turned
             (rig_of W.waiting self.old (K.content kernel.old)) next (rig_of W.waiting self.new (K.content kernel.new))) }
         ensures puts { PutsTo (sink_means O.Sink) out.old
             (effect (setup_of M.functions self.old) task turned (rig_of W.waiting self.old (K.content kernel.old))).lines (next_fault result) out.new }
         ensures fits { IfOk result (λ next. FitsNext M.functions W.waiting W.held task next self.new (K.content kernel.new)) }
-        ensures staged { OnErr result (self.new.staged.items ≡ self.old.staged.items) }
-        ensures closed { (sig : SigId) (number : ℕ) → turned ≡ Turned.Stage sig number
+        ensures staged { OnErr result (self.new.staged ≡ self.old.staged) }
+        ensures closed { (sig : SigId) (bits : List Digit) → turned ≡ Turned.Stage sig bits
             → is_end (K.content kernel.old).state.region ≡ true → IsOk result }
         ensures keeps { Keeps M.functions W.waiting W.held K.is_loaded K.content self.old self.new kernel.new }
     {
         match turned {
             Turned::Await(trig) => self.wait(kernel, task, trig, steps),
-            Turned::Stage { sig, number } => self.stage_write(kernel, sig, number, steps),
+            Turned::Stage { sig, bits } => self.stage_write(kernel, sig, bits, steps),
             Turned::Start { func, give_way } => self.start_task(alloc, task, func, give_way),
             Turned::Log { level, text } => self.write_log(alloc, kernel.now(), level, &text, out),
             Turned::Done(_) => Ok(self.finish(task)),

@@ -14,7 +14,8 @@ use crate::tasks::LiveTasks;
 use crate::turn::{Turn, has_gone};
 use gpi::{Flat, Gpi, SigId};
 use port_io::{Name, NoMemory, Sink, SinkFault};
-use rig_model::{Awaits, FlowMaker, Ready, Staged, Steps, TestCase};
+use rig_model::{Awaits, FlowMaker, Ready, Steps, TestCase};
+use signal_port::WriteStage;
 use std::alloc::Global;
 use std::sync::ledger::Ledger;
 
@@ -34,7 +35,7 @@ pub struct Engine<'a, M: FlowMaker + Drop, W: Awaits> {
     pub(crate) awaits: W,
     pub(crate) live: LiveTasks<M::Flow>,
     pub(crate) ready: Ready,
-    pub(crate) staged: Vec<Staged>,
+    pub(crate) staged: WriteStage,
     /// A test was begun, and has no outcome yet: a turn may follow.
     pub(crate) runs_test: bool,
 }
@@ -69,7 +70,7 @@ impl<'a, M: FlowMaker + Drop, W: Awaits> Engine<'a, M, W> {
             awaits,
             live: LiveTasks::new(alloc),
             ready: Ready::new(alloc)?,
-            staged: Vec::new(alloc),
+            staged: WriteStage::new(alloc),
             runs_test: false,
         })
     }

@@ -17,11 +17,11 @@ ghost use Rattle.rig_model.specs.Serve.{after_put, put_of, flushed, flushed_if};
 use crate::Engine;
 use crate::puts::{change_of, put_change};
 use crate::turn::Turn;
-use crate::writes::take_first;
 use four_value::Bits;
-use gpi::{Advance, Fired, Gpi, Key, Told};
+use gpi::{Advance, Fired, Gpi, Key, SigId, Told};
 use port_io::{NoMemory, Sink, SinkFault};
-use rig_model::{Awaits, FlowMaker, Outcome, Staged, Steps};
+use rig_model::{Awaits, FlowMaker, Outcome, Steps};
+use signal_port::Staged;
 use std::alloc::Global;
 use std::sync::ledger::Ledger;
 
@@ -38,9 +38,17 @@ fn settles(fired: Fired) -> bool
     is_read_write(fired.first) || is_read_write(fired.second)
 }
 
+/// A signal and its digits, as a staged write.
+fn staged_of(write: (SigId, Bits)) -> Staged
+    ensures { result ≡ record { sig = write.0; bits = write.1 } }
+{
+    let (sig, bits) = write;
+    Staged { sig, bits }
+}
+
 impl<'a, M: FlowMaker + Drop, W: Awaits> Engine<'a, M, W> {
     ghost use Rattle.scheduler.specs.Engine.{parts_of, rig_of, setup_of};
-    ghost use Rattle.scheduler.specs.Parts.{rig_amid};
+    ghost use Rattle.scheduler.specs.Parts.{IsSoundWrite, rig_amid};
     ghost use Rattle.scheduler.specs.Puts.{PutsOn};
     ghost use Rattle.scheduler.specs.Serves.{Serves, Stays, IsEvented};
     ghost use Rattle.scheduler.specs.Fits.{FitsAmid, FitsKernel, Keeps};
@@ -81,7 +89,7 @@ impl<'a, M: FlowMaker + Drop, W: Awaits> Engine<'a, M, W> {
         requires amid { FitsAmid (ReadWrite ∷ []) M.functions W.waiting W.held self.old (K.content kernel.old) }
         requires held { AreOnce (W.held self.old.awaits) (ReadWrite ∷ []) }
         requires open { is_end (K.content kernel.old).state.region ≡ false }
-        requires sig { write.sig.0 < length self.old.flat.now.signals }
+        requires sound { IsSoundWrite self.old.flat.now.signals write }
         ensures amid { FitsAmid (ReadWrite ∷ []) M.functions W.waiting W.held self.new (K.content kernel.new) }
         ensures held { AreOnce (W.held self.new.awaits) (ReadWrite ∷ []) }
         ensures stays { Stays (K.content kernel.old) (K.content kernel.new) (W.waiting self.old.awaits) (W.waiting self.new.awaits) }
@@ -96,9 +104,9 @@ impl<'a, M: FlowMaker + Drop, W: Awaits> Engine<'a, M, W> {
     {
         let time = kernel.now();
         let old = kernel.read(write.sig);
-        let bits = Bits::from_number(old.width(), u128::from(write.number));
-        let fired = kernel.deposit(write.sig, bits);
-        let fault = self.tell(alloc, time, change_of(write.sig, old, bits), out, fault);
+        let fired = kernel.deposit(write.sig, write.bits);
+        let change = change_of(write.sig, old, write.bits);
+        let fault = self.tell(alloc, time, change, out, fault);
         self.awaits.fire(kernel, fired, &mut self.ready, steps);
         fault
     }
@@ -114,22 +122,23 @@ impl<'a, M: FlowMaker + Drop, W: Awaits> Engine<'a, M, W> {
     ) -> Option<SinkFault>
         requires loaded { K.is_loaded kernel.old }
         requires amid { FitsAmid (ReadWrite ∷ []) M.functions W.waiting W.held self.old (K.content kernel.old) }
-        requires held { AreOnce (W.held self.old.awaits) (staged_key self.old.staged.items) }
+        requires held { AreOnce (W.held self.old.awaits) (staged_key self.old.staged) }
         requires open { is_end (K.content kernel.old).state.region ≡ false }
         ensures amid { FitsAmid (ReadWrite ∷ []) M.functions W.waiting W.held self.new (K.content kernel.new) }
-        ensures held { AreOnce (W.held self.new.awaits) (staged_key self.old.staged.items) }
+        ensures held { AreOnce (W.held self.new.awaits) (staged_key self.old.staged) }
         ensures stays { Stays (K.content kernel.old) (K.content kernel.new) (W.waiting self.old.awaits) (W.waiting self.new.awaits) }
         ensures serves { (counts : Counts)
             → let fired = ReadWrite ∷ [] in let setup = setup_of M.functions self.old in let before = K.content kernel.old in
             let c = rig_amid (parts_of W.waiting self.old) before.state fired counts in
-            StandsAhead fired setup before c → Serves (sink_means O.Sink) setup fired (flushed setup self.old.staged.items c)
+            StandsAhead fired setup before c → Serves (sink_means O.Sink) setup fired (flushed setup self.old.staged c)
             (parts_of W.waiting self.new) (K.content kernel.new) fault out.old result out.new }
         ensures loaded { K.is_loaded kernel.new }
         ensures setup { setup_of M.functions self.new ≡ setup_of M.functions self.old }
-        ensures staged { self.new.staged.items ≡ [] }
+        ensures staged { self.new.staged ≡ [] }
     {
         let mut fault = fault;
-        'writes: while let Some(write) = take_first(&mut self.staged) {
+        'writes: while let Some(first) = self.staged.take_first() {
+            let write = staged_of(first);
             fault = self.put_out(alloc, kernel, write, out, fault, steps);
         }
         fault
@@ -147,13 +156,13 @@ impl<'a, M: FlowMaker + Drop, W: Awaits> Engine<'a, M, W> {
     ) -> Option<SinkFault>
         requires loaded { K.is_loaded kernel.old }
         requires amid { FitsAmid (keys_in keys) M.functions W.waiting W.held self.old (K.content kernel.old) }
-        requires held { AreOnce (W.held self.old.awaits) (staged_key self.old.staged.items) }
+        requires held { AreOnce (W.held self.old.awaits) (staged_key self.old.staged) }
         requires open { among ReadWrite (keys_in keys) ≡ true → is_end (K.content kernel.old).state.region ≡ false }
         requires alone { among ReadWrite (keys_in keys) ≡ true → keys_in keys ≡ ReadWrite ∷ [] }
         ensures amid { FitsAmid (keys_in keys) M.functions W.waiting W.held self.new (K.content kernel.new) }
-        ensures held { AreOnce (without_all (keys_in keys) (W.held self.new.awaits)) (staged_key self.new.staged.items) }
+        ensures held { AreOnce (without_all (keys_in keys) (W.held self.new.awaits)) (staged_key self.new.staged) }
         ensures stays { Stays (K.content kernel.old) (K.content kernel.new) (W.waiting self.old.awaits) (W.waiting self.new.awaits) }
-        ensures free { (x : Key) → among x (staged_key self.new.staged.items) ≡ true → among x (keys_in keys) ≡ false }
+        ensures free { (x : Key) → among x (staged_key self.new.staged) ≡ true → among x (keys_in keys) ≡ false }
         ensures serves { (counts : Counts)
             → let fired = keys_in keys in let setup = setup_of M.functions self.old in let before = K.content kernel.old in
             let c = rig_amid (parts_of W.waiting self.old) before.state fired counts in

@@ -13,7 +13,6 @@ mod task_turn;
 mod tasks;
 mod turn;
 mod view;
-mod writes;
 
 pub use engine::Engine;
 pub use line::{Tally, budget_text, report_text, sig_text, test_text, verdict_text};

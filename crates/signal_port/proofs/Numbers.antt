@@ -1,14 +1,17 @@
 -- Numbers in so many digits.
 use Rattle.std.proofs.Common.{◌≡◌, ℕ, zero, suc, ◌+◌, ◌-◌, ◌^◌, ◌<◌, ◌≤◌, true, false, Ok, Err, refl, ap, sym, ◌∙◌, arith}
-use Rattle.std.specs.Prelude.{pos, neg_ℤ, int_le, unsigned_abs, ◌/◌, ◌%◌, ◌&&◌}
+use Rattle.std.specs.Prelude.{ℤ, pos, neg_ℤ, int_le, unsigned_abs, ◌/◌, ◌%◌, ◌&&◌, Bool, List, length, if◌then◌else◌}
 use Rattle.std.specs.Int.{int_rem_euclid}
 use Rattle.std.proofs.Math.Nat.{pow-suc, mod-eq_of_lt}
 use Rattle.std.proofs.Math.Pow.{pow_mono}
 use Rattle.std.proofs.lemmas.Nat.{pow_pos}
 use Rattle.std.proofs.lemmas.Int.{ints}
 use Rattle.four_value.specs.Vector.{vector}
+use Rattle.four_value.specs.declared.Digit.{Digit}
+use Rattle.four_value.proofs.Numbers.{length_vector}
+use Rattle.py_value.specs.Answer.{Answer}
 use Rattle.py_syntax.specs.declared.fault_kind.FaultKind.TheVariants.{OverflowError}
-use Rattle.signal_port.specs.Written.{number_bits}
+use Rattle.signal_port.specs.Written.{fits_width, number_bits}
 
 double : (w : ℕ) → 1 ≤ w → 2 ^ w ≡ 2 ^ (w - 1) + 2 ^ (w - 1)
 double zero h = absurd (omega arith)
@@ -60,3 +63,11 @@ pub ruleset negatives = (negative_fits, negative_far)
 
 pub half_high : (w : ℕ) → w ≤ 128 → 2 ^ (w - 1) ≤ 2 ^ 127
 half_high w h = pow_mono {i = w - 1} {j = 127} (omega arith)
+
+-- a number has as many digits as the signal
+pub number_width : (w : ℕ) (z : ℤ) (bits : List Digit) → number_bits w z ≡ Ok bits → length bits ≡ w
+number_width w z bits h = decided (fits_width w z) (vector w (unsigned_abs (int_rem_euclid z (pos (2 ^ w))))) (length_vector w (unsigned_abs (int_rem_euclid z (pos (2 ^ w))))) h
+  where
+    decided : (b : Bool) (ds : List Digit) → length ds ≡ w → (let r : Answer (List Digit) = if b then Ok ds else Err OverflowError in r ≡ Ok bits) → length bits ≡ w
+    decided true ds l e = let s : ds ≡ bits = cc in ap length (sym s) ∙ l
+    decided false ds l e = cc

@@ -12,7 +12,7 @@ returns-in-Await-clause-puts g c = rw c.in-Await.is
 
 pub returns-in-Stage-clause-puts : goal.returns-in-Stage-clause-puts
 returns-in-Stage-clause-puts g c = rw c.in-Stage.is
-    (next_quiet (sink_means g.O.Sink) c.args.out.now _ _ (stage_quiet (setup_of g.M.FlowMaker.functions c.args.self.now) c.args.task c.in-Stage.sig c.in-Stage.number (rig_of g.W.Awaits.waiting c.args.self.now (g.K.Gpi.content c.args.kernel.now))) c.stage_write.ensures.fine)
+    (next_quiet (sink_means g.O.Sink) c.args.out.now _ _ (stage_quiet (setup_of g.M.FlowMaker.functions c.args.self.now) c.args.task c.in-Stage.sig c.in-Stage.bits (rig_of g.W.Awaits.waiting c.args.self.now (g.K.Gpi.content c.args.kernel.now))) c.stage_write.ensures.fine)
 
 pub returns-in-Start-clause-puts : goal.returns-in-Start-clause-puts
 returns-in-Start-clause-puts g c = rw c.in-Start.is

@@ -5,8 +5,6 @@ use Rattle.port_io.proofs.PartLaws.{part_one}
 use Rattle.rig_model.specs.Effect.{live_limit, start_limit}
 use Rattle.rig_model.specs.Line.{test_line}
 use Rattle.rig_model.specs.Rig.{Rig}
-use Rattle.rig_model.specs.declared.task.Staged.{Staged}
-use Rattle.std.proofs.Common.{Vec, Global}
 use Rattle.scheduler.specs.Engine.{setup_of, parts_of}
 use Rattle.scheduler.proofs.FitLaws.{few_tasks, fits_added, fits_told, parts_in}
 use Rattle.scheduler.proofs.StandLaws.{stands_same}
@@ -31,7 +29,7 @@ returns-in-Ok-clause-fits g c =
     record {
       own = fits_told _ _ None _ _ _ c.add_task.ensures.setup (ap parts_in (c.in_ok-add_task.ensures.added no_design))
           (fits_added (setup_of g.M.FlowMaker.functions c.args.self.now) _ (parts_of g.W.Awaits.waiting c.args.self.now) _ None c.args.case.now.func c.requires.fits.own few young c.in_ok-add_task.ensures.room);
-      kernel = stands_same g.W.Awaits.waiting g.W.Awaits.held _ _ _ _ _ _ _ _ _ _ _ _ _ c.add_task.ensures.setup c.add_task.ensures.awaits (ap (λ (v : Vec Staged Global). v.items) c.add_task.ensures.staged) c.requires.fits.kernel;
+      kernel = stands_same g.W.Awaits.waiting g.W.Awaits.held _ _ _ _ _ _ _ _ _ _ _ _ _ c.add_task.ensures.setup c.add_task.ensures.awaits c.add_task.ensures.staged c.requires.fits.kernel;
     }
 
 pub returns-in-Err-Failed-clause-begins : goal.returns-in-Err-Failed-clause-begins
@@ -52,7 +50,7 @@ returns-in-Err-Failed-clause-fits g c =
     record {
       own = fits_told _ _ None _ _ _ c.add_task.ensures.setup (ap parts_in (c.in_ok-add_task.ensures.added no_design))
           (fits_added (setup_of g.M.FlowMaker.functions c.args.self.now) _ (parts_of g.W.Awaits.waiting c.args.self.now) _ None c.args.case.now.func c.requires.fits.own few young c.in_ok-add_task.ensures.room);
-      kernel = stands_same g.W.Awaits.waiting g.W.Awaits.held _ _ _ _ _ _ _ _ _ _ _ _ _ c.add_task.ensures.setup c.add_task.ensures.awaits (ap (λ (v : Vec Staged Global). v.items) c.add_task.ensures.staged) c.requires.fits.kernel;
+      kernel = stands_same g.W.Awaits.waiting g.W.Awaits.held _ _ _ _ _ _ _ _ _ _ _ _ _ c.add_task.ensures.setup c.add_task.ensures.awaits c.add_task.ensures.staged c.requires.fits.kernel;
     }
 
 pub returns-clause-begins : goal.returns-clause-begins

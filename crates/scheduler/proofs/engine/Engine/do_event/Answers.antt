@@ -1,12 +1,14 @@
-use Rattle.std.proofs.Common.{◌∙◌, ap, refl, length}
+use Rattle.std.proofs.Common.{◌∙◌, ap, refl, subst, ℕ}
 use Rattle.port_io.specs.Means.{sink_means}
+use Rattle.gpi.specs.Content.{IsChangeOf}
+use Rattle.gpi.specs.Design.{widths}
 use Rattle.rig_model.specs.Keys.{keys_in}
 use Rattle.rig_model.specs.Rig.{Setup}
 use Rattle.rig_model.proofs.KernelLaws.{but_more}
 use Rattle.scheduler.specs.Engine.{setup_of, parts_of}
 use Rattle.scheduler.proofs.EventLaws.{advances_of, event_alone, event_but, event_out, event_signals, event_writable, event_stands_ahead, event_fits, event_evented}
 use Rattle.scheduler.proofs.FitLaws.{fits_served, room_to_wake}
-use Rattle.scheduler.proofs.StandLaws.{keys_named}
+use Rattle.scheduler.proofs.StandLaws.{keys_named, signal_count}
 use Rattle.scheduler.proofs.engine.Engine.do_event.Goals as goal
 
 pub returns-in_err-moved-clause-keeps : goal.returns-in_err-moved-clause-keeps
@@ -15,6 +17,10 @@ returns-in_err-moved-clause-keeps g c = record {
   loaded = c.advance.ensures.loaded;
   keys = rw c.in_err-moved.ensures.kept (keys_named (setup_of g.M.FlowMaker.functions c.args.self.now) _ _ (parts_of g.W.Awaits.waiting c.args.self.now) c.requires.fits.kernel);
 }
+
+pub tell-told-requires : goal.tell-told-requires
+tell-told-requires g c =
+    subst (λ (n : ℕ). IsChangeOf n c.in-Moved.moved.change) (signal_count _ _ c.requires.fits.kernel.signals) (rw c.in-Moved.is at c.in_ok-moved.ensures.told)
 
 pub flush_if-put-requires-clause-amid : goal.flush_if-put-requires-clause-amid
 flush_if-put-requires-clause-amid g c =
@@ -43,7 +49,7 @@ returns-clause-done g c = event_evented (setup_of g.M.FlowMaker.functions c.args
     (event_stands_ahead (setup_of g.M.FlowMaker.functions c.args.self.now) (parts_of g.W.Awaits.waiting c.args.self.now) (g.K.Gpi.content c.args.kernel.now) (g.K.Gpi.content c.advance.new.self) (g.W.Awaits.held c.args.self.now.awaits) c.requires.fits.kernel c.in-Moved.moved
     (advances_of (g.K.Gpi.content c.args.kernel.now) c.in-Moved.moved (g.K.Gpi.content c.advance.new.self) (rw c.in-Moved.is at c.in_ok-moved.ensures.is))))
     c.flush_if-put.ensures.free _ _ c.flush_if-put.ensures.held
-    (c.flush_if-put.ensures.amid.signals ∙ ap (λ (s : Setup). length s.flat.signals) c.flush_if-put.ensures.setup)
+    (c.flush_if-put.ensures.amid.signals ∙ ap (λ (s : Setup). widths s.flat.signals) c.flush_if-put.ensures.setup)
     _ _ c.fire.ensures.waiting c.fire.ensures.held c.fire.ensures.ready c.flush_if-put.ensures.amid.keys c.flush_if-put.ensures.amid.out c.fire.ensures.keys
     c.args.out.now _ c.now-time.ensures c.tell-told.ensures
 
@@ -58,7 +64,7 @@ returns-clause-fits g c = record {
       (event_stands_ahead (setup_of g.M.FlowMaker.functions c.args.self.now) (parts_of g.W.Awaits.waiting c.args.self.now) (g.K.Gpi.content c.args.kernel.now) (g.K.Gpi.content c.advance.new.self) (g.W.Awaits.held c.args.self.now.awaits) c.requires.fits.kernel c.in-Moved.moved
       (advances_of (g.K.Gpi.content c.args.kernel.now) c.in-Moved.moved (g.K.Gpi.content c.advance.new.self) (rw c.in-Moved.is at c.in_ok-moved.ensures.is))))
       c.flush_if-put.ensures.free _ _ c.flush_if-put.ensures.held
-      (c.flush_if-put.ensures.amid.signals ∙ ap (λ (s : Setup). length s.flat.signals) c.flush_if-put.ensures.setup)
+      (c.flush_if-put.ensures.amid.signals ∙ ap (λ (s : Setup). widths s.flat.signals) c.flush_if-put.ensures.setup)
       _ _ c.fire.ensures.waiting c.fire.ensures.held c.fire.ensures.ready c.flush_if-put.ensures.amid.keys c.flush_if-put.ensures.amid.out c.fire.ensures.keys);
 }
 
@@ -75,7 +81,7 @@ returns-clause-keeps g c = record {
       (event_stands_ahead (setup_of g.M.FlowMaker.functions c.args.self.now) (parts_of g.W.Awaits.waiting c.args.self.now) (g.K.Gpi.content c.args.kernel.now) (g.K.Gpi.content c.advance.new.self) (g.W.Awaits.held c.args.self.now.awaits) c.requires.fits.kernel c.in-Moved.moved
       (advances_of (g.K.Gpi.content c.args.kernel.now) c.in-Moved.moved (g.K.Gpi.content c.advance.new.self) (rw c.in-Moved.is at c.in_ok-moved.ensures.is))))
       c.flush_if-put.ensures.free _ _ c.flush_if-put.ensures.held
-      (c.flush_if-put.ensures.amid.signals ∙ ap (λ (s : Setup). length s.flat.signals) c.flush_if-put.ensures.setup)
+      (c.flush_if-put.ensures.amid.signals ∙ ap (λ (s : Setup). widths s.flat.signals) c.flush_if-put.ensures.setup)
       _ _ c.fire.ensures.waiting c.fire.ensures.held c.fire.ensures.ready c.flush_if-put.ensures.amid.keys c.flush_if-put.ensures.amid.out c.fire.ensures.keys);
 }
 

@@ -18,8 +18,8 @@ returns-then-settles-clause-serves g c = λ counts s.
 pub returns-then-settles-clause-held : goal.returns-then-settles-clause-held
 returns-then-settles-clause-held g c =
     subst (AreOnce (without_all (keys_in c.args.keys) (g.W.Awaits.held c.flush.new.self.awaits))) (sym (ap staged_key c.flush.ensures.staged))
-    (once_goes (keys_in c.args.keys) (g.W.Awaits.held c.flush.new.self.awaits) (staged_key c.args.self.now.staged.items)
-    (λ x m. ap (among x) (c.requires.alone (sym c.settles.ensures ∙ c.if-settles.true)) ∙ held_all c.args.self.now.staged.items x m) c.flush.ensures.held)
+    (once_goes (keys_in c.args.keys) (g.W.Awaits.held c.flush.new.self.awaits) (staged_key c.args.self.now.staged)
+    (λ x m. ap (among x) (c.requires.alone (sym c.settles.ensures ∙ c.if-settles.true)) ∙ held_all c.args.self.now.staged x m) c.flush.ensures.held)
 
 pub returns-then-settles-clause-free : goal.returns-then-settles-clause-free
 returns-then-settles-clause-free g c = nothing_staged _ _ c.flush.ensures.staged
@@ -31,8 +31,8 @@ returns-else-settles-clause-serves g c = λ counts s.
 
 pub returns-else-settles-clause-held : goal.returns-else-settles-clause-held
 returns-else-settles-clause-held g c =
-    once_stays (keys_in c.args.keys) (g.W.Awaits.held c.args.self.now.awaits) (staged_key c.args.self.now.staged.items)
-    (held_free c.args.self.now.staged.items (keys_in c.args.keys) (sym c.settles.ensures ∙ c.if-settles.false)) c.requires.held
+    once_stays (keys_in c.args.keys) (g.W.Awaits.held c.args.self.now.awaits) (staged_key c.args.self.now.staged)
+    (held_free c.args.self.now.staged (keys_in c.args.keys) (sym c.settles.ensures ∙ c.if-settles.false)) c.requires.held
 
 pub returns-else-settles-clause-stays : goal.returns-else-settles-clause-stays
 returns-else-settles-clause-stays g c = stays_same (g.K.Gpi.content c.args.kernel.now) (g.W.Awaits.waiting c.args.self.now.awaits)

@@ -6,13 +6,13 @@ use Rattle.scheduler.specs.Parts.{bounds_of}
 use Rattle.scheduler.specs.declared.turn.Next.{Next}
 use Rattle.scheduler.proofs.FitLaws.{fits_less}
 use Rattle.rig_model.proofs.PlacedLaws.{turn_lives}
-use Rattle.scheduler.proofs.StandLaws.{keys_named, stands_same}
+use Rattle.scheduler.proofs.StandLaws.{keys_named, signal_count, stands_same}
 use Rattle.scheduler.proofs.TurnLaws.{turning_short_of_memory}
-use Rattle.scheduler.proofs.TaskTurns.{still_fits, spends, cut, ends, goes, ends_fall, goes_fall, leads_of, puts_of, ok_same, paid}
+use Rattle.scheduler.proofs.TaskTurns.{still_fits, still_wide, spends, cut, ends, goes, ends_fall, goes_fall, leads_of, puts_of, ok_same, paid}
 use Rattle.scheduler.proofs.engine.Engine.run_task.Goals as goal
 
 pub poll_task-requires-clause-known : goal.poll_task-requires-clause-known
-poll_task-requires-clause-known g c = record { bounds = bounds_of (setup_of g.M.FlowMaker.functions c.effects.self); signals = sym c.effects.invariant.fits.kernel.signals; sound = c.effects.invariant.fits.own.tasks }
+poll_task-requires-clause-known g c = record { bounds = bounds_of (setup_of g.M.FlowMaker.functions c.effects.self); signals = sym (signal_count _ _ c.effects.invariant.fits.kernel.signals); sound = c.effects.invariant.fits.own.tasks }
 
 pub poll_task-requires-clause-live : goal.poll_task-requires-clause-live
 poll_task-requires-clause-live g c = turn_lives c.effects.self.live.tasks c.effects.self.live.started c.args.task c.effects.self.ready.entries (g.W.Awaits.waiting c.effects.self.awaits) c.effects.invariant.fits.own.placed_are
@@ -55,6 +55,8 @@ apply-requires g c =
       fits = record { own = k.0; kernel = stands_same g.W.Awaits.waiting g.W.Awaits.held _ _ _ _ _ _ _ _ _ _ _ _ _ refl refl refl c.effects.invariant.fits.kernel };
       live = k.2;
       sound = k.1;
+      width = still_wide (sink_means g.O.Sink) (setup_of g.M.FlowMaker.functions c.effects.self) (setup_of g.M.FlowMaker.functions c.effects.self) refl c.args.task (parts_of g.W.Awaits.waiting c.effects.self) (g.K.Gpi.content c.effects.kernel) c.effects.fuel c.effects.given c.effects.out c.in_ok-turned.turned c.poll_task.new.fuel c.poll_task.new.live.tasks c.poll_task.new.live.started
+          c.in_ok-turned.ensures;
       wanted = c.in_default.not-Spent;
     }
 

@@ -1,16 +1,11 @@
-use Rattle.std.proofs.Common.{◌≡◌, refl, sym, ap, ◌∙◌, Some, ℕ, Bool, false, length, vec_len, Vec, Global, arith, rules}
-use Rattle.std.specs.Prelude.{◌==◌}
+use Rattle.std.proofs.Common.{◌≡◌, refl, sym, ◌∙◌, Some, false, rules}
 use Rattle.gpi.specs.State.{is_end}
-use Rattle.rig_model.specs.declared.task.Staged.{Staged}
-use Rattle.rig_model.specs.Effect.{restaged}
+use Rattle.signal_port.specs.Staging.{restaged}
 use Rattle.scheduler.specs.Engine.{setup_of, parts_of}
 use Rattle.scheduler.proofs.FitLaws.{fits_staged}
-use Rattle.scheduler.proofs.StandLaws.{keys_kept, keys_named, goes_on_is, first_is, first_fits, first_keys, more_is, more_fits, unheld_waited}
+use Rattle.scheduler.proofs.StandLaws.{keys_kept, keys_named, goes_on_is, first_is, first_fits, first_keys, more_is, more_fits, unheld_waited, write_sound}
 use Rattle.scheduler.proofs.engine.Engine.stage_write.Goals as goal
 use Rattle.scheduler.proofs.engine.Engine.stage_write.Goals.{then-is_empty+in_ok-hold, else-is_empty}
-
-staged_len : (v : Vec Staged Global) {b : Bool} → (vec_len v == 0) ≡ b → (length v.items == 0) ≡ b
-staged_len v e = let z : length v.items ≡ vec_len v = omega (arith, v.ok.0) in ap (λ (n : ℕ). n == 0) z ∙ e
 
 pub returns-then-eq-clause-keeps : goal.returns-then-eq-clause-keeps
 returns-then-eq-clause-keeps g c = record {
@@ -21,7 +16,7 @@ returns-then-eq-clause-keeps g c = record {
 
 pub hold-requires-clause-waited : goal.hold-requires-clause-waited
 hold-requires-clause-waited g c = unheld_waited (setup_of g.M.FlowMaker.functions c.args.self.now) (parts_of g.W.Awaits.waiting c.args.self.now) (g.K.Gpi.content c.args.kernel.now) _ c.requires.kernel
-    (staged_len c.args.self.now.staged (sym c.is_empty.ensures ∙ c.if-is_empty.true))
+    (sym c.is_empty.ensures ∙ c.if-is_empty.true)
 
 pub returns-in_err-hold-clause-keeps : goal.returns-in_err-hold-clause-keeps
 returns-in_err-hold-clause-keeps g c = record {
@@ -37,8 +32,8 @@ returns-in_err-stage-clause-keeps g c = elim c.if-is_empty.branch [
   | then-is_empty+in_ok-hold w ↦ rw (w.self-is, w.kernel-is) (record {
     setup = refl;
     loaded = w.hold.ensures.loaded;
-    keys = first_keys (setup_of g.M.FlowMaker.functions c.args.self.now) (parts_of g.W.Awaits.waiting c.args.self.now) _ _ c.requires.kernel c.args.sig c.args.number
-        (restaged c.args.sig c.args.number c.args.self.now.staged.items) refl (staged_len c.args.self.now.staged (sym c.is_empty.ensures ∙ w.if-is_empty.true)) _ _ _
+    keys = first_keys (setup_of g.M.FlowMaker.functions c.args.self.now) (parts_of g.W.Awaits.waiting c.args.self.now) _ _ c.requires.kernel c.args.sig c.args.bits
+        (restaged c.args.sig c.args.bits c.args.self.now.staged) refl (sym c.is_empty.ensures ∙ w.if-is_empty.true) _ _ _
         w.hold.ensures.waiting w.in_ok-hold.ensures.ok w.in_ok-hold.ensures.registers;
   })
   | else-is_empty w ↦ rw (w.self-is, w.kernel-is) (record { setup = refl; loaded = c.requires.loaded; keys = keys_named (setup_of g.M.FlowMaker.functions c.args.self.now) _ _ (parts_of g.W.Awaits.waiting c.args.self.now) c.requires.kernel })
@@ -50,31 +45,31 @@ returns-clause-leads g c =
     elim c.if-is_empty.branch [
       | then-is_empty+in_ok-hold w ↦ rw (w.self-is, w.kernel-is) (λ task. (
         refl,
-        goes_on_is (setup_of g.M.FlowMaker.functions c.args.self.now) (parts_of g.W.Awaits.waiting c.args.self.now) _ _ c.requires.kernel c.args.sig c.args.number _ (rw w.self-is at c.in_ok-stage.ensures.ok) task _ unended
-            (first_is (setup_of g.M.FlowMaker.functions c.args.self.now) (parts_of g.W.Awaits.waiting c.args.self.now) _ _ c.requires.kernel c.args.sig c.args.number _ (rw w.self-is at c.in_ok-stage.ensures.ok)
-            (staged_len c.args.self.now.staged (sym c.is_empty.ensures ∙ w.if-is_empty.true)) _ _ _
+        goes_on_is (setup_of g.M.FlowMaker.functions c.args.self.now) (parts_of g.W.Awaits.waiting c.args.self.now) _ _ c.requires.kernel c.args.sig c.args.bits _ (rw w.self-is at c.in_ok-stage.ensures.ok) task _ unended
+            (first_is (setup_of g.M.FlowMaker.functions c.args.self.now) (parts_of g.W.Awaits.waiting c.args.self.now) _ _ c.requires.kernel c.args.sig c.args.bits _ (rw w.self-is at c.in_ok-stage.ensures.ok)
+            (sym c.is_empty.ensures ∙ w.if-is_empty.true) _ _ _
             w.hold.ensures.waiting w.in_ok-hold.ensures.ok w.in_ok-hold.ensures.registers),
       ))
       | else-is_empty w ↦ rw (w.self-is, w.kernel-is) (λ task. (
         refl,
-        goes_on_is (setup_of g.M.FlowMaker.functions c.args.self.now) (parts_of g.W.Awaits.waiting c.args.self.now) _ _ c.requires.kernel c.args.sig c.args.number _ (rw w.self-is at c.in_ok-stage.ensures.ok) task _ unended
-            (more_is (setup_of g.M.FlowMaker.functions c.args.self.now) (parts_of g.W.Awaits.waiting c.args.self.now) _ _ c.requires.kernel c.args.sig c.args.number _ (rw w.self-is at c.in_ok-stage.ensures.ok)
-            (staged_len c.args.self.now.staged (sym c.is_empty.ensures ∙ w.if-is_empty.false))),
+        goes_on_is (setup_of g.M.FlowMaker.functions c.args.self.now) (parts_of g.W.Awaits.waiting c.args.self.now) _ _ c.requires.kernel c.args.sig c.args.bits _ (rw w.self-is at c.in_ok-stage.ensures.ok) task _ unended
+            (more_is (setup_of g.M.FlowMaker.functions c.args.self.now) (parts_of g.W.Awaits.waiting c.args.self.now) _ _ c.requires.kernel c.args.sig c.args.bits _ (rw w.self-is at c.in_ok-stage.ensures.ok)
+            (sym c.is_empty.ensures ∙ w.if-is_empty.false)),
       ))
     ]
 
 pub returns-clause-fits : goal.returns-clause-fits
 returns-clause-fits g c = elim c.if-is_empty.branch [
   | then-is_empty+in_ok-hold w ↦ rw (w.self-is, w.kernel-is) (λ task own. record {
-    own = rw ((rw w.self-is at c.in_ok-stage.ensures.ok), w.hold.ensures.waiting) (fits_staged (setup_of g.M.FlowMaker.functions c.args.self.now) _ (parts_of g.W.Awaits.waiting c.args.self.now) (Some task) c.args.sig c.args.number own c.requires.sound);
-    kernel = first_fits (setup_of g.M.FlowMaker.functions c.args.self.now) (parts_of g.W.Awaits.waiting c.args.self.now) _ _ c.requires.kernel c.args.sig c.args.number _ (rw w.self-is at c.in_ok-stage.ensures.ok)
-        (staged_len c.args.self.now.staged (sym c.is_empty.ensures ∙ w.if-is_empty.true)) _ _ _
+    own = rw ((rw w.self-is at c.in_ok-stage.ensures.ok), w.hold.ensures.waiting) (fits_staged (setup_of g.M.FlowMaker.functions c.args.self.now) _ (parts_of g.W.Awaits.waiting c.args.self.now) (Some task) c.args.sig c.args.bits own (write_sound _ _ c.args.sig c.args.bits c.requires.kernel.signals c.requires.sound c.requires.width));
+    kernel = first_fits (setup_of g.M.FlowMaker.functions c.args.self.now) (parts_of g.W.Awaits.waiting c.args.self.now) _ _ c.requires.kernel c.args.sig c.args.bits _ (rw w.self-is at c.in_ok-stage.ensures.ok)
+        (sym c.is_empty.ensures ∙ w.if-is_empty.true) _ _ _
         w.hold.ensures.waiting w.in_ok-hold.ensures.ok w.in_ok-hold.ensures.registers;
   })
   | else-is_empty w ↦ rw (w.self-is, w.kernel-is) (λ task own. record {
-    own = rw (rw w.self-is at c.in_ok-stage.ensures.ok) (fits_staged (setup_of g.M.FlowMaker.functions c.args.self.now) _ (parts_of g.W.Awaits.waiting c.args.self.now) (Some task) c.args.sig c.args.number own c.requires.sound);
-    kernel = more_fits (setup_of g.M.FlowMaker.functions c.args.self.now) (parts_of g.W.Awaits.waiting c.args.self.now) _ _ c.requires.kernel c.args.sig c.args.number _ (rw w.self-is at c.in_ok-stage.ensures.ok)
-        (staged_len c.args.self.now.staged (sym c.is_empty.ensures ∙ w.if-is_empty.false));
+    own = rw (rw w.self-is at c.in_ok-stage.ensures.ok) (fits_staged (setup_of g.M.FlowMaker.functions c.args.self.now) _ (parts_of g.W.Awaits.waiting c.args.self.now) (Some task) c.args.sig c.args.bits own (write_sound _ _ c.args.sig c.args.bits c.requires.kernel.signals c.requires.sound c.requires.width));
+    kernel = more_fits (setup_of g.M.FlowMaker.functions c.args.self.now) (parts_of g.W.Awaits.waiting c.args.self.now) _ _ c.requires.kernel c.args.sig c.args.bits _ (rw w.self-is at c.in_ok-stage.ensures.ok)
+        (sym c.is_empty.ensures ∙ w.if-is_empty.false);
   })
 ]
 
@@ -83,8 +78,8 @@ returns-clause-keeps g c = elim c.if-is_empty.branch [
   | then-is_empty+in_ok-hold w ↦ rw (w.self-is, w.kernel-is) (record {
     setup = refl;
     loaded = w.hold.ensures.loaded;
-    keys = first_keys (setup_of g.M.FlowMaker.functions c.args.self.now) (parts_of g.W.Awaits.waiting c.args.self.now) _ _ c.requires.kernel c.args.sig c.args.number
-        (restaged c.args.sig c.args.number c.args.self.now.staged.items) refl (staged_len c.args.self.now.staged (sym c.is_empty.ensures ∙ w.if-is_empty.true)) _ _ _
+    keys = first_keys (setup_of g.M.FlowMaker.functions c.args.self.now) (parts_of g.W.Awaits.waiting c.args.self.now) _ _ c.requires.kernel c.args.sig c.args.bits
+        (restaged c.args.sig c.args.bits c.args.self.now.staged) refl (sym c.is_empty.ensures ∙ w.if-is_empty.true) _ _ _
         w.hold.ensures.waiting w.in_ok-hold.ensures.ok w.in_ok-hold.ensures.registers;
   })
   | else-is_empty w ↦ rw (w.self-is, w.kernel-is) (record { setup = refl; loaded = c.requires.loaded; keys = keys_named (setup_of g.M.FlowMaker.functions c.args.self.now) _ _ (parts_of g.W.Awaits.waiting c.args.self.now) c.requires.kernel })
