@@ -43,7 +43,7 @@ fn tables_of<'a>(alloc: Global, nodes: &'a Sequence<Node>) -> Result<Vec<NodeNam
 }
 
 impl<'a> DesignNames<'a> {
-    /// The names of a design. It takes a time that grows with the names of all nodes together. Only want of memory is an error.
+    /// The names of a design, of all nodes at once. Only want of memory is an error.
     pub fn new(alloc: Global, flat: &'a Flat) -> Result<DesignNames<'a>, NoMemory>
         ensures { IfOk result (λ names. names ≡ flat.now.nodes) }
     {
@@ -60,7 +60,7 @@ impl<'a> DesignNames<'a> {
     }
 
     /// What a name means that is declared in a node (IEEE 1364-2005, clause 12.5), where the first entry of the name counts; None where the
-    /// node has no such name. One look-up, whose time doesn't grow with the number of names. It takes no memory.
+    /// node has no such name. One look-up in a map, and no scan. It takes no memory.
     pub fn child(&self, node: u32, name: &Name) -> Option<Spot>
         requires { node < length self.now }
         ensures { result ≡ child_of self.now node name.now }
