@@ -2,3 +2,4 @@ pub mod Names
 pub mod Known
 pub mod RowLaws
 pub mod WholeLaws
+mod Declared

@@ -137,5 +137,8 @@ impl Look for Scene {
         }
     }
 
+    #[tactic(auto, using(crate::proofs::Declared::names_known))]
+    fn names_are_known(&self) {}
+
     ghost told = { λ _. refl };
 }

@@ -6,7 +6,7 @@ use Rattle.py_value.specs.Limits.{signal_numbers}
 use Rattle.py_value.specs.Trigger.{Trig, Made, Form, Trigs, NoTrig, Then, Rise, Fall, Change, Cycles, Event, Lock, Join, First, Combine, Limit, AreSteps, IsSound}
 use Rattle.py_value.specs.declared.value.Value.{Value}
 use Rattle.py_value.specs.declared.value.Value.TheVariants as value
-use Rattle.py_attribute.specs.Look.{View, Names, width, local}
+use Rattle.py_attribute.specs.Look.{View, Names, child, local, spot_value, width}
 
 -- a signal of the design
 abbrev pub KnowsSignal : View → ℕ → Type 0
@@ -68,3 +68,7 @@ KnowsAll view (v ∷ vs) = Knows view v × KnowsAll view vs
 -- the values of all names
 abbrev pub KnowsNames : View → Names → Type 0
 KnowsNames view names = (n : List ℕ) → IfSome (local names n) (Knows view)
+
+-- what each name means that is declared in a node of the design
+abbrev pub KnowsDesign : View → Type 0
+KnowsDesign view = (node : ℕ) (name : List ℕ) → IfSome (child view node name) (λ s. Knows view (spot_value s))

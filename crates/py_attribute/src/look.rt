@@ -8,7 +8,7 @@ use py_value::{EventNo, LockNo, Paths, TaskNo};
 pub trait Look: Paths {
     ghost use Rattle.std.specs.Prelude.{◌≡◌, ◌<◌, ◌≤◌, length, false, slice_index_or, IfSome};
     ghost use Rattle.py_attribute.specs.Look.{View, read, width, child, spot_value};
-    ghost use Rattle.py_attribute.specs.Knows.{Knows};
+    ghost use Rattle.py_attribute.specs.Knows.{Knows, KnowsDesign};
 
     /// What it sees.
     ghost view: { Self → View };
@@ -56,6 +56,10 @@ pub trait Look: Paths {
     fn is_done(&self, task: TaskNo) -> bool
         requires { task.0 < length (view self.now).ended }
         ensures { result ≡ slice_index_or (view self.now).ended task.0 false };
+
+    /// That each name that is declared in the design means something that is known. It does nothing, and only carries a proof.
+    fn names_are_known(&self)
+        ensures { KnowsDesign (view self.now) };
 
     /// The paths that it tells are those that it sees.
     ghost told: { (x : Self) → Self.places x ≡ (view x).places };

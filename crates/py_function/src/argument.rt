@@ -1,5 +1,5 @@
 //! Arguments of calls.
-ghost use Rattle.std.specs.Prelude.{◌≡◌, ◌≤◌, IfOk, MatchResult, slice_get, Ok, Err};
+ghost use Rattle.std.specs.Prelude.{◌≡◌, ◌≤◌, IfOk, MatchResult, option_copied, slice_get, Ok, Err};
 ghost use Rattle.py_attribute.specs.Look.{View};
 ghost use Rattle.py_attribute.specs.Knows.{Knows, KnowsAll};
 ghost use Rattle.py_function.specs.Functions as meaning;
@@ -21,6 +21,17 @@ pub(crate) fn argument(values: &[Value], at: usize) -> Result<&Value, FaultKind>
     }
 }
 
+/// The femtoseconds of the unit that a value names, or why it is refused. A unit that is left out is the step.
+pub fn unit_or_step<V: Look>(view: &V, unit: Option<&Value>) -> Result<u64, FaultKind>
+    ensures is { result ≡ meaning.unit_or_step (V.view view.now).step_fs (option_copied unit.entry) }
+    ensures some { IfOk result (λ fs. 1 ≤ fs) }
+{
+    match unit {
+        Some(unit) => unit_of(view.step_fs(), unit),
+        None => Ok(view.step_fs()),
+    }
+}
+
 /// The femtoseconds of the unit that the argument at a place names, or why it is refused. A unit that is left out is the step.
 pub(crate) fn unit_argument<V: Look>(
     view: &V,
@@ -31,9 +42,9 @@ pub(crate) fn unit_argument<V: Look>(
     ensures some { IfOk result (λ fs. 1 ≤ fs) }
 {
     if at < values.len() {
-        unit_of(view.step_fs(), &values[at])
+        unit_or_step(view, Some(&values[at]))
     } else {
-        Ok(view.step_fs())
+        unit_or_step(view, None)
     }
 }
 

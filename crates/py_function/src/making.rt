@@ -12,7 +12,7 @@ use py_value::{Form, TaskNo, Trig, TrigId, Value};
 const TRIGGER_LIMIT: u64 = 1 << 63;
 
 /// A new trigger, which takes the next number. One beyond the limit is a RuntimeError, and the number stays.
-pub(crate) fn new_trigger(task: TaskNo, form: Form, next: &mut u64) -> Result<Trig, FaultKind>
+pub fn new_trigger(task: TaskNo, form: Form, next: &mut u64) -> Result<Trig, FaultKind>
     ensures is { lift result next.new ≡ meaning.new_trigger task (view_form form) next.old }
     ensures rises { next.old ≤ next.new }
 {
@@ -29,7 +29,7 @@ pub(crate) fn new_trigger(task: TaskNo, form: Form, next: &mut u64) -> Result<Tr
 }
 
 /// A new trigger that holds others. One that is too large is a ValueError, and the number stays.
-pub(crate) fn new_tree(task: TaskNo, form: Form, next: &mut u64) -> Result<Trig, FaultKind>
+pub fn new_tree(task: TaskNo, form: Form, next: &mut u64) -> Result<Trig, FaultKind>
     ensures is { lift result next.new ≡ meaning.new_tree task (view_form form) next.old }
     ensures rises { next.old ≤ next.new }
 {

@@ -13,7 +13,7 @@ use py_value::{Form, TaskNo, Trig, Trigs, Value};
 use std::alloc::Global;
 
 /// Whether a value is a trigger or a task.
-fn is_waitable(v: &Value) -> bool
+pub fn is_waitable(v: &Value) -> bool
     ensures { result ≡ meaning.is_waitable v.now }
 {
     match v {
@@ -31,7 +31,7 @@ fn are_waitable(values: &[Value]) -> bool
 }
 
 /// The trigger that a value is; a task is its join, a new trigger. Another value is a TypeError.
-fn as_trigger(
+pub fn as_trigger(
     alloc: Global,
     task: TaskNo,
     v: &Value,

@@ -48,8 +48,8 @@ pub fn push(
     }
 }
 
-#[tactic(auto, using(crate::proofs::QueueLaws::newest_again))]
 /// Makes room in a full queue: the stale writes go, and where more than half of it is left it grows.
+#[tactic(auto, using(crate::proofs::QueueLaws::newest_again))]
 pub fn make_room(
     queue: &mut VecDeque<Staged>,
     tally: &mut IndexMap<u32, usize>,

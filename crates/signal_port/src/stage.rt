@@ -44,8 +44,8 @@ impl WriteStage {
         }
     }
 
-    #[tactic(auto, using(crate::proofs::QueueLaws::newest_restaged))]
     /// Stages a write as the last one, and takes an older one of the signal out. After `NoMemory` the same writes are staged.
+    #[tactic(auto, using(crate::proofs::QueueLaws::newest_restaged))]
     pub fn stage(&mut self, sig: SigId, bits: Bits) -> Result<(), NoMemory>
         ensures ok { OnOk result (self.new ≡ restaged sig bits self.old) }
         ensures err { OnErr result (self.new ≡ self.old) }

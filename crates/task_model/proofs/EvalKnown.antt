@@ -20,7 +20,7 @@ use Rattle.py_value.specs.declared.value.Value.{Value}
 use Rattle.py_value.specs.declared.value.Value.TheVariants as value
 use Rattle.py_operator.specs.Operation.{unary_value, binary_value}
 use Rattle.py_attribute.specs.Attribute.{indexed, text_value, path_attribute}
-use Rattle.py_attribute.specs.Knows.{Knows, KnowsAll, KnowsNames}
+use Rattle.py_attribute.specs.Knows.{Knows, KnowsAll, KnowsDesign, KnowsNames}
 use Rattle.py_attribute.specs.Look.{View, read, child, spot_value, place_attribute, attribute, local, name_value, operated, compared}
 use Rattle.py_attribute.specs.Outcome.{Outcome, Scope, gives, lift, bind, after}
 use Rattle.py_attribute.proofs.Plain.{either, text_plain, path_plain, vector_plain}
@@ -29,7 +29,6 @@ use Rattle.py_function.specs.Functions.{called, method_value}
 use Rattle.py_function.proofs.Known.{called_known, method_known}
 use Rattle.py_evaluate.specs.Eval.{constant_value, decided, eval, eval_row, eval_parts}
 use Rattle.py_evaluate.proofs.Plain.{unary_plain, word_plain}
-use Rattle.task_model.specs.Known.{KnowsDesign}
 
 -- ---- one evaluation after another
 

@@ -6,7 +6,8 @@ use Rattle.test_body.specs.BodyTrees.{Function}
 use Rattle.task_model.specs.Frame.{Task}
 use Rattle.task_model.specs.Step.{Next, next}
 use Rattle.task_model.specs.Cost.{next_cost}
-use Rattle.task_model.specs.Known.{KnowsDesign, KnowsWhole, KnowsGiven, KnowsTurned}
+use Rattle.py_attribute.specs.Knows.{KnowsDesign}
+use Rattle.task_model.specs.Known.{KnowsWhole, KnowsGiven, KnowsTurned}
 use Rattle.task_model.specs.Poll.{Wants, RunsOut, Polls, Polled}
 use Rattle.await_tree.specs.declared.cause.Given.{Given}
 use Rattle.task_model.specs.declared.task.Turned.{Turned}

@@ -22,7 +22,7 @@ use Rattle.py_value.specs.declared.value.Value.{Value}
 use Rattle.py_value.specs.declared.value.Value.TheVariants as value
 use Rattle.py_operator.specs.Identity.{same_kind}
 use Rattle.py_operator.specs.Number.{whole}
-use Rattle.py_attribute.specs.Knows.{Knows, KnowsAll, KnowsNames}
+use Rattle.py_attribute.specs.Knows.{Knows, KnowsAll, KnowsDesign, KnowsNames}
 use Rattle.py_attribute.specs.Look.{View}
 use Rattle.py_attribute.specs.Outcome.{Outcome, Scope, gives, lift, bind}
 use Rattle.py_attribute.proofs.Plain.{whole_plain}
@@ -39,7 +39,7 @@ use Rattle.task_model.specs.Values.{write_of, stage, put_now, use_value, drawn, 
 use Rattle.task_model.specs.Statements.{act_of, throw_text, asserted, eval_logger, log_text, log, do_statement}
 use Rattle.task_model.specs.Blocks.{choose, ask, eval_span, is_before, each, ask_number, ask_next, lock_of, enter, do_item, do_first}
 use Rattle.task_model.specs.Leaving.{catches, handle, find_handler, at_handlers, at_limit, at_loop, drop_mark}
-use Rattle.task_model.specs.Known.{KnowsTask, KnowsLock, KnowsDesign, AreSoundCalls, KnowsUse, KnowsTodo, KnowsTodos, KnowsJump, KnowsCourse, KnowsFrame, KnowsFrames, AreSoundFunctions, KnowsWhole, KnowsGiven, KnowsTurned}
+use Rattle.task_model.specs.Known.{KnowsTask, KnowsLock, AreSoundCalls, KnowsUse, KnowsTodo, KnowsTodos, KnowsJump, KnowsCourse, KnowsFrame, KnowsFrames, AreSoundFunctions, KnowsWhole, KnowsGiven, KnowsTurned}
 use Rattle.task_model.specs.Step.{Next, frame_limit, settled, next_of, next, frame_move, given_to, result_course, ending, returned, call, at, step_on, step_with, step}
 use Rattle.await_tree.specs.declared.cause.Given.{Given}
 use Rattle.await_tree.specs.declared.cause.Given.TheVariants as given

@@ -1,6 +1,6 @@
 -- Which tasks a view knows: each value that a task holds, and each lock and task in its marks, is one that the view knows, and each call in its file and
 -- in what it has still to do is sound. Which things that it wants and is given a view knows.
-use Rattle.std.specs.Prelude.{◌≡◌, ℕ, ◌<◌, ◌≤◌, ◌+ℤ◌, ◌-ℤ◌, IsTrue, IfSome, List, [], ◌∷◌, length, pos}
+use Rattle.std.specs.Prelude.{◌≡◌, ℕ, ◌<◌, ◌≤◌, ◌+ℤ◌, ◌-ℤ◌, IsTrue, List, [], ◌∷◌, length, pos}
 use Rattle.std.specs.List.{list_all}
 use Rattle.py_integer.specs.Integer.{is_whole}
 use Rattle.py_value.specs.Limits.{text_limit}
@@ -8,7 +8,7 @@ use Rattle.py_value.specs.Trigger.{AreSteps, IsSound}
 use Rattle.py_value.specs.declared.trigger.LockNo.{LockNo}
 use Rattle.py_value.specs.declared.trigger.TaskNo.{TaskNo}
 use Rattle.py_attribute.specs.Knows.{Knows, KnowsAll, KnowsNames, KnowsSignal, KnowsTrig}
-use Rattle.py_attribute.specs.Look.{View, width, child, spot_value}
+use Rattle.py_attribute.specs.Look.{View, width}
 use Rattle.test_body.specs.BodyTrees.{Call, Function}
 use Rattle.test_body.specs.Sound.{item_calls, block_calls, handler_calls, is_sound_call, is_sound_function}
 use Rattle.task_model.specs.Frame.{Use, Times, Limited, Enters, Todo, Do, Again, Each, Uses, Handles, Bound, Holds, Jump, Return, Course, On, Has, Leaves, Frame, Task}
@@ -23,10 +23,6 @@ KnowsTask view t = t.0 < length view.ended
 
 abbrev pub KnowsLock : View → LockNo → Type 0
 KnowsLock view l = l.0 < length view.locks
-
--- what each name means that is declared in a node of the design
-abbrev pub KnowsDesign : View → Type 0
-KnowsDesign view = (node : ℕ) (name : List ℕ) → IfSome (child view node name) (λ s. Knows view (spot_value s))
 
 -- ---- what is still to do
 

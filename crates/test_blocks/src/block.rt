@@ -8,7 +8,7 @@ ghost use Rattle.test_meaning.specs.Bodies.{block_in, item_in};
 
 use crate::clause::clause;
 use crate::tail::Tail;
-use port_io::NoMemory;
+use port_io::{NoMemory, boxed};
 use py_syntax::BlockItem;
 use std::alloc::Global;
 use test_body::Item;
@@ -32,7 +32,7 @@ fn item<M: Meanings>(
             ..
         } => {
             let made = statement(alloc, meanings, line)?;
-            rest.with_item(alloc, Item::Statement(made))
+            rest.with_item(alloc, Item::Statement(boxed(alloc, made)?))
         }
         BlockItem::Clause {
             header,

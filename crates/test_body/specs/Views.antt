@@ -73,7 +73,7 @@ view_statement (statement_value.StartSoon c) = StartSoon (view_call c)
 
 abbrev mutual
   pub view_item : code.Item → Item
-  view_item (item.Statement s) = Simple (view_statement s)
+  view_item (item.Statement s) = Simple (view_statement s.value)
   view_item (item.If' e shape all other_shape other) = If (view e) (view_row all) (view_row other)
   view_item (item.While' e shape all) = While (view e) (view_row all)
   view_item (item.For' n span shape all) = For n (view_span span) (view_row all)

@@ -8,7 +8,7 @@ use py_syntax::{Caught, Expression, Span};
 #[cycle(items)]
 #[derive(Drop)]
 pub enum Item {
-    Statement(Statement),
+    Statement(Box<Statement>),
     /// `if condition:` with its block, and the block of `else`, which is empty where there is none. An `elif` is an `if` that stands
     /// alone in the `else` of the one before.
     If {

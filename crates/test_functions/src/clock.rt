@@ -5,11 +5,11 @@ ghost use Rattle.py_syntax.specs.ExpressionTrees as tree;
 ghost use Rattle.py_syntax.specs.ExpressionTrees.{view};
 ghost use Rattle.py_syntax.specs.declared.constant.Const.TheVariants as constant;
 ghost use Rattle.test_body.specs.BodyTrees as body;
-ghost use Rattle.test_body.specs.Views.{block_of, view_function, view_item};
+ghost use Rattle.test_body.specs.Views.{block_of, view_function, view_item, view_statement};
 ghost use Rattle.test_functions.specs.Clock.{cycle};
 ghost use Rattle.test_meaning.specs.Library.{clock_start, goes_on, set_count, wait_half, write};
 
-use port_io::{Name, NoMemory, Sequence};
+use port_io::{Name, NoMemory, Sequence, boxed};
 use py_syntax as syntax;
 use py_syntax::{BinOp, BoolOp, Const, Expression};
 use std::alloc::Global;
@@ -39,12 +39,19 @@ fn goes_on(alloc: Global) -> Result<Expression, NoMemory>
     choice(alloc, BoolOp::Or, is_none, is_below)
 }
 
+/// An item of one line. Only want of memory is an error.
+fn simple(alloc: Global, statement: Statement) -> Result<Item, NoMemory>
+    ensures { IfOk result (λ made. view_item made ≡ body.Simple (view_statement statement)) }
+{
+    Ok(Item::Statement(boxed(alloc, statement)?))
+}
+
 /// `n = value`. Only want of memory is an error.
 fn set_count(alloc: Global, value: Expression) -> Result<Item, NoMemory>
     ensures { IfOk result (λ made. view_item made ≡ set_count (view value)) }
 {
     let n = Name::of(alloc, b"n")?;
-    Ok(Item::Statement(Statement::Assign(n, RightSide::Value(value))))
+    simple(alloc, Statement::Assign(n, RightSide::Value(value)))
 }
 
 /// `s.value = value`. Only want of memory is an error.
@@ -52,7 +59,10 @@ fn write(alloc: Global, value: Expression) -> Result<Item, NoMemory>
     ensures { IfOk result (λ made. view_item made ≡ write (view value)) }
 {
     let signal = name(alloc, b"s")?;
-    Ok(Item::Statement(Statement::AssignValue(signal, RightSide::Value(value))))
+    simple(
+        alloc,
+        Statement::AssignValue(signal, RightSide::Value(value)),
+    )
 }
 
 /// `await Timer(half, "step")`. Only want of memory is an error.
@@ -63,7 +73,7 @@ fn wait_half(alloc: Global) -> Result<Item, NoMemory>
     arguments.push(name(alloc, b"half")?)?;
     arguments.push(Expression::Constant(Const::Text(Name::of(alloc, b"step")?)))?;
     let timer = function_call(syntax::Function::Timer, arguments);
-    Ok(Item::Statement(Statement::Await(Awaited::Value(timer))))
+    simple(alloc, Statement::Await(Awaited::Value(timer)))
 }
 
 /// What is done in one cycle of the clock. Only want of memory is an error.
