@@ -110,4 +110,5 @@ def main():
     print("Worked_rows =\n    " + "\n    × ".join(row(*entry) for entry in ROWS))
 
 
-main()
+if __name__ == "__main__":
+    main()
