@@ -1,0 +1,11 @@
+-- What the events, locks and tasks of a test tell a tree that begins.
+use Rattle.await_tree.specs.Begin.{Facts}
+use Rattle.sync_objects.specs.States.{States}
+use Rattle.ended_tasks.specs.Endings.{Endings, all_failed}
+
+abbrev pub facts_of : States → Endings → Facts
+facts_of objects endings = record { events = objects.events; locks = objects.locks; tasks = all_failed endings }
+
+-- the events and the locks that are told
+abbrev pub objects_of : Facts → States
+objects_of facts = record { events = facts.events; locks = facts.locks }

@@ -1,0 +1,130 @@
+//! What a task sees of a running simulation.
+ghost use Rattle.std.specs.Prelude.{◌≡◌};
+ghost use Rattle.run_view.specs.View.{view_of, IsOf};
+
+use design_names::DesignNames;
+use ended_tasks::EndedTasks;
+use four_value::Bits;
+use gpi::{Flat, Gpi, Region, SigId, Spot};
+use port_io::Name;
+use py_attribute::Look;
+use py_value::{EventNo, LockNo, Paths, TaskNo};
+use std::marker::Model;
+use sync_objects::Objects;
+
+/// What a task sees of a simulator that runs a design, of the events and locks of the test, and of how its tasks have ended, which
+/// contracts see as the `View` that `view_of` of `specs/View.antt` gives of these.
+pub struct RunView<'a, K: Gpi> {
+    kernel: &'a K,
+    flat: &'a Flat,
+    names: &'a DesignNames<'a>,
+    objects: &'a Objects,
+    ended: &'a EndedTasks,
+}
+
+impl<'a, K: Gpi> Model for RunView<'a, K> {
+    ghost use Rattle.py_attribute.specs.Look.{View};
+    ghost use Rattle.run_view.specs.View.{view_of, IsOf};
+
+    ghost Value = { View };
+
+    ghost view = { λ v. view_of v.flat.now (K.content v.kernel.now).state v.objects.now v.ended.now };
+
+    ghost invariant = { λ v. K.is_loaded v.kernel.now × IsOf v.flat.now v.names.now (K.content v.kernel.now).state };
+}
+
+impl<'a, K: Gpi> Drop for RunView<'a, K> {
+    fn drop(self) {
+        let RunView {
+            kernel: _,
+            flat: _,
+            names: _,
+            objects: _,
+            ended: _,
+        } = self;
+    }
+}
+
+impl<'a, K: Gpi> RunView<'a, K> {
+    /// The view of a simulator that holds a design, with this design's names. The design must be sound, and the simulator must have a value
+    /// for each of its signals. It takes no memory.
+    pub fn new(
+        kernel: &'a K,
+        flat: &'a Flat,
+        names: &'a DesignNames<'a>,
+        objects: &'a Objects,
+        ended: &'a EndedTasks,
+    ) -> RunView<'a, K>
+        requires loaded { K.is_loaded kernel.now }
+        requires design { IsOf flat.now names.now (K.content kernel.now).state }
+        ensures { result ≡ view_of flat.now (K.content kernel.now).state objects.now ended.now }
+    {
+        RunView {
+            kernel,
+            flat,
+            names,
+            objects,
+            ended,
+        }
+    }
+}
+
+impl<'a, K: Gpi> Paths for RunView<'a, K> {
+    ghost places = { λ v. v.places };
+
+    fn path(&self, sig: SigId) -> &[u8] {
+        self.flat.path(sig)
+    }
+
+    fn node_path(&self, node: u32) -> &[u8] {
+        self.flat.node_path(node)
+    }
+}
+
+impl<'a, K: Gpi> Look for RunView<'a, K> {
+    ghost use Rattle.std.specs.Prelude.{refl};
+
+    ghost view = { λ v. v };
+
+    fn now(&self) -> u64 {
+        self.kernel.now()
+    }
+
+    fn region(&self) -> Region {
+        self.kernel.region()
+    }
+
+    fn step_fs(&self) -> u64 {
+        self.flat.step_fs
+    }
+
+    fn read(&self, sig: SigId) -> Bits {
+        self.kernel.read(sig)
+    }
+
+    fn width(&self, sig: SigId) -> u8 {
+        self.kernel.read(sig).width()
+    }
+
+    fn child(&self, node: u32, name: &Name) -> Option<Spot> {
+        self.names.child(node, name)
+    }
+
+    fn is_set(&self, event: EventNo) -> bool {
+        self.objects.is_set(event)
+    }
+
+    fn is_locked(&self, lock: LockNo) -> bool {
+        self.objects.is_locked(lock)
+    }
+
+    fn is_done(&self, task: TaskNo) -> bool {
+        self.ended.is_done(task)
+    }
+
+    fn names_are_known(&self) {
+        let _ = &self.flat;
+    }
+
+    ghost told = { λ v. refl };
+}
