@@ -1,0 +1,15 @@
+pub mod Whole
+pub mod Fronts
+pub mod Costs
+pub mod Gone
+pub mod Served
+pub mod Starts
+pub mod Free
+pub mod Falls
+pub mod Exists
+pub mod Worked
+pub mod Wider
+pub mod Trees
+pub mod Lists
+pub mod Known
+pub mod KnownRuns

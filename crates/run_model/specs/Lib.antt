@@ -1,0 +1,16 @@
+pub mod Line
+pub mod Rig
+pub mod Counts
+pub mod Serve
+pub mod Limits
+pub mod Effect
+pub mod Step
+pub mod Verdict
+pub mod Case
+pub mod Run
+pub mod Gone
+pub mod Known
+pub mod Texts
+pub mod TestRows
+pub mod WaitRows
+pub mod ObjectRows
