@@ -1,0 +1,17 @@
+-- What the code keeps of what a `for` has still to go over.
+use Rattle.std.specs.Prelude.{ℤ, ◌+ℤ◌}
+use Rattle.py_integer.specs.Integer.{number}
+use Rattle.task_model.specs.Frame as frame
+use Rattle.loop_span.specs.declared.left.Left.{Left}
+use Rattle.loop_span.specs.declared.left.Left.TheVariants.{Numbers, Listed}
+use Rattle.loop_span.specs.declared.left.Upcoming.{Upcoming}
+use Rattle.loop_span.specs.declared.left.Upcoming.TheVariants.{First, Behind}
+
+-- the next number of a range with this step
+abbrev pub upcoming : Upcoming → ℤ → ℤ
+upcoming (First z) step = number z
+upcoming (Behind z) step = z +ℤ step
+
+abbrev pub left_in : Left → frame.Left
+left_in (Numbers next stop step) = frame.Numbers (upcoming next (number step)) (number stop) (number step)
+left_in (Listed cs) = frame.Listed cs.now
