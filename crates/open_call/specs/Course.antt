@@ -1,0 +1,26 @@
+-- The jumps, courses and wishes that the code's types stand for.
+use Rattle.task_model.specs.Frame as frame
+use Rattle.task_model.specs.Moves as move
+use Rattle.open_call.specs.declared.course.Jump.{Jump}
+use Rattle.open_call.specs.declared.course.Jump.TheVariants as jump
+use Rattle.open_call.specs.declared.course.Course.{Course}
+use Rattle.open_call.specs.declared.course.Course.TheVariants as course
+use Rattle.open_call.specs.declared.course.Wish.{Wish}
+use Rattle.open_call.specs.declared.course.Wish.TheVariants as wish
+
+abbrev pub jump_in : Jump → frame.Jump
+jump_in (jump.Throw fault) = frame.Throw fault
+jump_in (jump.Return v) = frame.Return v
+jump_in jump.Break = frame.Break
+jump_in jump.Continue = frame.Continue
+
+abbrev pub course_in : Course → frame.Course
+course_in course.On = frame.On
+course_in (course.Has v) = frame.Has v
+course_in (course.Leaves j) = frame.Leaves (jump_in j)
+
+abbrev pub wish_in : Wish → move.Wish
+wish_in wish.Nothing = move.Nothing
+wish_in (wish.Asks t) = move.Asks t
+wish_in (wish.Calls n vs) = move.Calls n vs
+wish_in (wish.Ends j) = move.Ends (jump_in j)
