@@ -1,0 +1,14 @@
+-- What the code's arguments and calls stand for.
+use Rattle.std.specs.Prelude.{List, map}
+use Rattle.task_model.specs.Calls.{Argument, Called}
+use Rattle.task_values.specs.declared.operands.Argument as code
+use Rattle.task_values.specs.declared.call.Called as called
+
+abbrev pub argument_in : code.Argument → Argument
+argument_in x = record { parameter = x.parameter; value = x.value }
+
+abbrev pub arguments_in : List code.Argument → List Argument
+arguments_in xs = map argument_in xs
+
+abbrev pub called_in : called.Called → Called
+called_in c = record { function = c.function; arguments = c.arguments }

@@ -1,0 +1,4 @@
+pub mod Evaluation
+pub mod Arguments
+pub mod Times
+pub mod Waits
