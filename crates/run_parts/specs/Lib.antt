@@ -1,0 +1,4 @@
+pub mod Queue
+pub mod Fits
+pub mod Placed
+pub mod Steps
