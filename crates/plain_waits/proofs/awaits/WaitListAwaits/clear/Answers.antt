@@ -1,0 +1,13 @@
+use Rattle.std.proofs.Common.{refl}
+use Rattle.plain_waits.specs.Kept.{names_of}
+use Rattle.plain_waits.proofs.Rekeys.{fits_unfired}
+use Rattle.plain_waits.proofs.awaits.WaitListAwaits.clear.Goals as goal
+
+pub drop_all-requires-clause-fits : goal.drop_all-requires-clause-fits
+drop_all-requires-clause-fits g c = fits_unfired (g.K.Gpi.content c.args.kernel.now) c.args.self.now.held.items (names_of c.args.self.now) c.requires.keys
+
+pub returns-clause-held : goal.returns-clause-held
+returns-clause-held g c = rw c.drop_all.ensures.held (λ k. refl)
+
+pub returns-clause-keys : goal.returns-clause-keys
+returns-clause-keys g c = c.drop_all.ensures.keys.keys

@@ -1,0 +1,8 @@
+use Rattle.std.proofs.Common.{sym, ap, ◌∙◌}
+use Rattle.wait_list.specs.Keys.{without_all}
+use Rattle.wait_list.specs.Waiting.{key_list}
+use Rattle.plain_waits.proofs.Calls.{without_both}
+use Rattle.plain_waits.proofs.keeper.WaitList.take_out_all.Goals as goal
+
+pub returns-clause-held : goal.returns-clause-held
+returns-clause-held c = c.take_out_one-2.ensures.held ∙ ap (without_all (key_list c.args.fired.second)) c.take_out_one.ensures.held ∙ sym (without_both (key_list c.args.fired.first) (key_list c.args.fired.second) c.args.self.now.held.items)
