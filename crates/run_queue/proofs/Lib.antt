@@ -1,0 +1,10 @@
+pub mod Tests
+pub mod KeyLaws
+pub mod CountLaws
+pub mod Rekeys
+pub mod StillLaws
+pub mod HeldLaws
+pub mod WaitLaws
+pub mod FitLaws
+pub mod CallLaws
+pub mod ClearLaws

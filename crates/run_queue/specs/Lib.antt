@@ -1,0 +1,4 @@
+pub mod Fits
+pub mod Still
+pub mod Effects
+pub mod Sheds
