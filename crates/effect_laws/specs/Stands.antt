@@ -1,0 +1,21 @@
+-- Where the tasks of a configuration stand.
+use Rattle.std.specs.Prelude.{◌≤◌, length, Option, None, Some}
+use Rattle.py_value.specs.declared.trigger.TaskNo.{TaskNo}
+use Rattle.run_model.specs.Limits.{live_limit}
+use Rattle.run_model.specs.Rig.{Rig, Running}
+use Rattle.run_parts.specs.Placed.{ArePlaced, placed}
+
+-- the task that has its turn, if one has
+abbrev pub turn_of : Option Running → Option TaskNo
+turn_of None = None
+turn_of (Some r) = Some r.task
+
+-- Where this task has its turn, it, those that are ready and those that wait are live, none stands in two places, of the tasks that were started each one
+-- lives or has ended, and no more live than may.
+pub record StandsIn (turn : Option TaskNo) (c : Rig) : Type 0 where
+  pub placed_are : ArePlaced c.tasks c.endings (placed turn c.ready c.waiting)
+  pub live : length c.tasks ≤ live_limit
+
+-- the same with the turn that the configuration says
+abbrev pub StandsOwn : Rig → Type 0
+StandsOwn c = StandsIn (turn_of c.running) c
