@@ -1,0 +1,25 @@
+-- What a step of a call tells.
+use Rattle.std.specs.Prelude.{◌≡◌, ℕ, ◌≤◌, ◌∷◌, Result, IfOk}
+use Rattle.py_value.specs.declared.trigger.TaskNo.{TaskNo}
+use Rattle.py_attribute.specs.Look.{View}
+use Rattle.task_model.specs.Frame.{On, Use, Uses}
+use Rattle.task_model.specs.Moves.{At, Move, Asks}
+use Rattle.task_model.specs.declared.task.Turned.{Turned}
+use Rattle.open_call.specs.Call.{Moved, at_in, frame_in}
+use Rattle.open_call.specs.Course.{wish_in}
+use Rattle.open_call.specs.Parts.{todos_in}
+use Rattle.open_call.specs.Slots.{names_in}
+use Rattle.open_call.specs.declared.call.OpenCall.{OpenCall}
+use Rattle.open_call.specs.declared.course.Wish.{Wish}
+
+-- The move, from the place that the call was at, leaves the call, the number of the next trigger and the wish; after want of memory there is no wish.
+-- The next number never falls.
+pub record Stepped {E : Type 0} (move : At → Move) (task : TaskNo) (view : View) (before after : OpenCall) (old next : ℕ) (result : Result Wish E)
+    : Type 0 where
+  pub moved : IfOk result (λ wish. Moved (move (at_in task view before old)) after next wish)
+  pub rises : old ≤ next
+
+-- The call goes on, and this is wanted of the runner; what that gives is used so.
+pub record Wanted (before after : OpenCall) (answer : Wish) (u : Use) (wanted : Turned) : Type 0 where
+  pub frame : frame_in after ≡ record { names = names_in before.slots; course = On; todo = Uses u ∷ todos_in before.todo }
+  pub wish : wish_in answer ≡ Asks wanted
