@@ -1,0 +1,7 @@
+pub mod PutLaws
+pub mod FireLaws
+pub mod SignalLaws
+pub mod ServeLaws
+pub mod DepositLaws
+pub mod FlushLaws
+pub mod EventLaws

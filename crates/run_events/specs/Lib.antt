@@ -1,0 +1,5 @@
+pub mod Amid
+pub mod Events
+pub mod Fires
+pub mod Puts
+pub mod Setups
