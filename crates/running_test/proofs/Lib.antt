@@ -1,0 +1,4 @@
+pub mod Nexts
+pub mod Leading
+pub mod Waiting
+pub mod Quiet
