@@ -1,0 +1,9 @@
+pub mod Known
+pub mod StepsLeft
+pub mod Timing
+pub mod TaskTurns
+pub mod EventTurns
+pub mod Fitting
+pub mod Running
+pub mod Begins
+pub mod Still

@@ -1,0 +1,19 @@
+-- How a test has begun.
+use Rattle.std.specs.Prelude.{Option, None, Some}
+use Rattle.py_syntax.specs.declared.fault_kind.FaultKind.{FaultKind}
+use Rattle.py_value.specs.Answer.{plain_fault}
+use Rattle.run_model.specs.Case.{refused}
+use Rattle.run_model.specs.Rig.{Rig}
+use Rattle.run_model.specs.declared.outcome.Outcome.TheVariants.{Raised}
+use Rattle.run_turns.specs.declared.turn.Turn.{Turn}
+use Rattle.run_turns.specs.declared.turn.Turn.TheVariants.{Went, Over}
+
+-- the fault of an argument or of the time, where there was one, has ended the test
+abbrev pub faulted : Option FaultKind → Rig → Rig
+faulted None c = c
+faulted (Some kind) c = refused kind c
+
+-- what the begin comes to
+abbrev pub begun_turn : Option FaultKind → Turn
+begun_turn None = Went
+begun_turn (Some kind) = Over (Raised (plain_fault kind))

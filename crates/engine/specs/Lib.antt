@@ -1,0 +1,4 @@
+pub mod Engine
+pub mod Fits
+pub mod Begins
+pub mod Events
