@@ -1,0 +1,10 @@
+pub mod Skipping
+pub mod RunLaws
+pub mod Stands
+pub mod Puts
+pub mod Waiting
+pub mod TestBegins
+pub mod CaseRuns
+pub mod WaitRuns
+pub mod StageLaws
+pub mod LeaveLaws
