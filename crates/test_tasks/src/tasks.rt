@@ -1,5 +1,5 @@
 //! The tasks of a test, by number.
-ghost use Rattle.std.specs.Prelude.{◌≡◌, ◌≤◌, ◌<◌, ◌++◌, ◌∷◌, [], length, IfOk, OnOk, OnErr, IsSome};
+ghost use Rattle.std.specs.Prelude.{◌≡◌, ◌⊎◌, ◌≤◌, ◌<◌, ◌++◌, ◌∷◌, [], length, IfOk, OnOk, OnErr, IsSome};
 ghost use Rattle.ended_tasks.specs.Endings as endings;
 ghost use Rattle.ended_tasks.specs.Memory as memory;
 ghost use Rattle.live_tasks.specs.Flows.{meanings};
@@ -93,7 +93,8 @@ impl<M: FlowMaker + Drop> TestTasks<M> {
     }
 
     /// Starts a task of that function with these values for its parameters, in order: it lives, and has the next number. Fewer than 16,777,216 were
-    /// started before. After `NoMemory` the same tasks live, and the new one may count as started.
+    /// started before. After `NoMemory` the same tasks live, and the new one may count
+    /// as started (`counted`); then only `clear` may follow.
     pub fn start(
         &mut self,
         alloc: Global,
@@ -110,6 +111,7 @@ impl<M: FlowMaker + Drop> TestTasks<M> {
         ensures whole { OnOk result (IsWhole M.functions (meanings M.Flow.functions M.Flow.meaning) self.new) }
         ensures maker { self.new.maker ≡ self.old.maker }
         ensures err { OnErr result (live_in M.Flow.meaning self.new ≡ live_in M.Flow.meaning self.old) }
+        ensures counted { OnErr result ((self.new.ended ≡ self.old.ended) ⊎ (self.new.ended ≡ endings.with_task self.old.ended)) }
     {
         let number = TaskNo(self.ended.count());
         let flow = self.maker.make(alloc, number, func, args)?;
@@ -120,8 +122,8 @@ impl<M: FlowMaker + Drop> TestTasks<M> {
 
     /// Polls the live task of that number, where it is given the answer to what it wanted last. It sees the simulator, which runs this design with these
     /// names, the events and locks, and how tasks have ended, and must know there what the tasks hold and what this one is given. The fuel falls by what
-    /// the steps cost, and `Spent` comes where it doesn't suffice for the next one. After want of memory the task keeps its number, and all else is as
-    /// before.
+    /// the steps cost, and `Spent` comes where it doesn't suffice for the next one. After want of memory the task keeps its number, what it has still to do
+    /// may be anything, the fuel hasn't risen, and all else is as before.
     pub fn poll<K: Gpi>(
         &mut self,
         alloc: Global,
