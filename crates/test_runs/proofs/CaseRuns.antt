@@ -1,8 +1,7 @@
 -- A test that runs, as steps of a run.
-use Rattle.std.proofs.Common.{◌≡◌, ℕ, suc, ◌+◌, ◌≤◌, ◌<◌, Bool, true, false, List, [], ◌∷◌, ◌++◌, length, map, Option, None, Some, Result, Ok, Err, IsErr, refl, ap, sym, subst, ◌∙◌, arith, append_assoc, append-nil, length-append}
+use Rattle.std.proofs.Common.{◌≡◌, ℕ, suc, ◌+◌, ◌≤◌, ◌<◌, true, false, List, [], ◌∷◌, ◌++◌, length, Option, None, Some, Result, Ok, Err, IsErr, refl, ap, sym, subst, ◌∙◌, arith, append_assoc, append-nil, length-append}
 use Rattle.std.specs.Prelude.{IfOk, is_some}
 use Rattle.std.specs.List.{slice_get}
-use Rattle.std.specs.Result.{result_err}
 use Rattle.std.proofs.lemmas.List.{length-map}
 use Rattle.port_io.specs.Ports.{TakesAll}
 use Rattle.port_io.specs.PutsPart.{PutsPart}
@@ -19,15 +18,14 @@ use Rattle.test_body.specs.BodyTrees.{Case}
 use Rattle.test_body.specs.Sound.{most_cases}
 use Rattle.test_body.specs.Views.{view_case}
 use Rattle.test_body.specs.declared.file.TestCase.{TestCase}
-use Rattle.run_model.specs.Case.{emptied, ended, start_planned, test_begun}
-use Rattle.run_model.specs.Line.{budget_line, skip_line, test_line, verdict_line}
+use Rattle.run_model.specs.Case.{ended, test_begun}
+use Rattle.run_model.specs.Line.{budget_line, test_line, verdict_line}
 use Rattle.run_model.specs.Rig.{Rig, Setup}
-use Rattle.run_model.specs.Run.{Run, IsRun, IsStart, Runs, begun, judged, opening, planned, skipped, steps, test_ended, unskipped, with_skips, written}
+use Rattle.run_model.specs.Run.{Run, IsRun, judged, opening, planned, skipped, steps, unskipped, with_skips, written}
 use Rattle.run_model.specs.Verdict.{reason_of, verdict_of}
 use Rattle.run_model.specs.declared.outcome.Outcome.{Outcome}
-use Rattle.run_model.specs.declared.outcome.Verdict.{Verdict}
 use Rattle.run_parts.specs.Fits.{StandsFor}
-use Rattle.run_parts.specs.Steps.{FitSteps, anywhere, Moves, Short, Begins}
+use Rattle.run_parts.specs.Steps.{FitSteps, anywhere, Short, Begins}
 use Rattle.run_times.proofs.Runs.{time_bounded}
 use Rattle.run_lines.specs.Tallies.{tally_of}
 use Rattle.run_turns.specs.Turns.{BeginsTo, Turning, TurnsTo, turn_fault}
@@ -35,7 +33,7 @@ use Rattle.run_turns.specs.declared.turn.Turn.{Turn}
 use Rattle.run_turns.specs.declared.turn.Turn.TheVariants as turn
 use Rattle.test_runs.specs.Reached.{Reached, Pending, run_in}
 use Rattle.test_runs.specs.Runs.{EndsTo, PutsStart, RunsTo}
-use Rattle.test_runs.specs.Stages.{AfterEnd, IsEnded, IsPending, Judged, Judges, SkipsOver, StepsTo, TestsTo, cases_from, cases_of, skip_lines, skips_of}
+use Rattle.test_runs.specs.Stages.{AfterEnd, IsPending, Judged, Judges, StepsTo, TestsTo, cases_from, cases_of, skip_lines, skips_of}
 use Rattle.test_runs.specs.declared.progress.Progress.{Progress}
 use Rattle.test_runs.specs.declared.status.Status.{Status}
 use Rattle.test_runs.specs.declared.status.Status.TheVariants as status
@@ -96,13 +94,6 @@ module _ {O : Type 0} (sink : SinkMeans O) (setup : Setup) (case : Case) (fuel :
     steps = subst (λ (x : Rig). StepsTo setup fuel x w.lines r fuel' e) h (tests_steps w.lines r d fuel' e p n w.turns);
     puts = puts_to_then sink out (own ∷ []) mid w.lines (turn_fault r) out' (takes_one sink.takes sink.breaks out own mid t) w.puts;
   }
-
-  -- it neither goes on nor is it due
-  pub tests_stop : (t : Turn) (fuel' : ℕ) (e : Rig) (out' : O) → TestsTo sink setup case fuel c out (Ok t) fuel' e out' → (t ≡ turn.Went → ⊥) × (t ≡ turn.Due → ⊥)
-  tests_stop t fuel' e out' w = (
-    λ h. subst (λ (x : Turn). StepsTo setup fuel (test_begun setup case c) w.lines (Ok x) fuel' e) h w.steps,
-    λ h. subst (λ (x : Turn). StepsTo setup fuel (test_begun setup case c) w.lines (Ok x) fuel' e) h w.steps,
-  )
 
 -- ---- from a test to a run
 

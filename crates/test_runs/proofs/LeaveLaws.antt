@@ -1,5 +1,5 @@
 -- What a run leaves, known from what the engine's calls keep.
-use Rattle.std.proofs.Common.{◌≡◌, true, false, [], Option, None, Some, Result, Ok, Err, IsErr, refl, ap, subst, sym, ◌∙◌}
+use Rattle.std.proofs.Common.{◌≡◌, true, false, Option, None, Some, Result, Ok, Err, IsErr, refl, ap, subst, sym, ◌∙◌}
 use Rattle.gpi.specs.Content.{Content}
 use Rattle.port_io.specs.declared.ports.NoMemory.{NoMemory}
 use Rattle.port_io.specs.declared.ports.SinkFault.{SinkFault}
@@ -51,11 +51,6 @@ module _ {M W F K : Type 0} (m : Means M W F) (is_loaded : K → Type 0) (conten
       → Leaves m is_loaded content (stage_status r) before after k
   stage_short (Ok s) before after k h keeps idle = cc
   stage_short (Err x) before after k h keeps idle = leaves_none before after k keeps idle
-
-  pub run_short : (r : Result Status NoMemory) (before after : Engine M W F) (k : K) → IsErr r → KeepsAll m is_loaded content before after k → runs_test after ≡ false
-      → Leaves m is_loaded content (status_in r) before after k
-  run_short (Ok s) before after k h keeps idle = cc
-  run_short (Err x) before after k h keeps idle = leaves_none before after k keeps idle
 
   pub run_none : (r : Result Status NoMemory) (before after : Engine M W F) (k : K) → IsErr r → Leaves m is_loaded content status.NoMemory before after k
       → Leaves m is_loaded content (status_in r) before after k

@@ -1,9 +1,8 @@
 -- From lines that are put at the end of a run to its status.
-use Rattle.std.proofs.Common.{◌≡◌, ℕ, Bool, true, false, List, [], ◌∷◌, ◌++◌, Option, None, Some, Result, Ok, Err, IsErr, refl, ap, sym, subst, ◌∙◌, append-nil, arith}
+use Rattle.std.proofs.Common.{◌≡◌, ℕ, Bool, true, false, List, [], ◌∷◌, ◌++◌, Option, None, Some, Result, Ok, Err, refl, ap, sym, subst, ◌∙◌, append-nil, arith}
 use Rattle.std.specs.Prelude.{◌+◌, ◌||◌, cond, IfOk}
 use Rattle.std.specs.List.{count_by, list_any}
 use Rattle.std.proofs.lemmas.List.Sums.{sum_by-cons}
-use Rattle.std.specs.Result.{result_err}
 use Rattle.port_io.specs.Ports.{TakesAll}
 use Rattle.port_io.specs.Means.{SinkMeans, PutsTo}
 use Rattle.port_io.specs.PutLaws.{takes_then}
@@ -30,11 +29,6 @@ use Rattle.test_runs.specs.declared.status.Status.TheVariants as status
 use Rattle.test_runs.proofs.RunLaws.{reached_start}
 
 module _ {O : Type 0} (sink : SinkMeans O) where
-  -- one line was put, and this is the status
-  pub ends_put : (line : List ℕ) (own : Status) (fault : Option SinkFault) (s : Status) (out out' : O) → s ≡ put_status own fault → PutsTo sink out (line ∷ []) fault out'
-      → EndsTo sink (line ∷ []) own s out out'
-  ends_put line own fault s out out' e p = record { fault = fault; puts = p; status_is = e }
-
   module _ (setup : Setup) (seed : ℕ) (all : List Case) (budget : ℕ) where
     -- the status of a put that failed says no more than how far the lines were put
     pub start_runs : (own : Status) (fault : SinkFault) (e : Rig) (content : Content) (out out' : O) → PutsStart sink setup seed all budget fault out out'

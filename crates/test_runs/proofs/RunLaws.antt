@@ -1,16 +1,15 @@
 -- Steps of a test and of the wait for the next one, as steps of a run.
 use Rattle.std.proofs.Common.{◌≡◌, ℕ, zero, suc, ◌+◌, ◌-◌, ◌≤◌, ◌<◌, Bool, true, false, List, [], ◌∷◌, ◌++◌, Option, None, Some, refl, ap, sym, subst, ◌∙◌, arith, rules, append_assoc, append-nil}
-use Rattle.std.specs.Prelude.{nat_le, not, ◌&&◌, is_some}
+use Rattle.std.specs.Prelude.{nat_le, is_some}
 use Rattle.test_body.specs.BodyTrees.{Case}
 use Rattle.run_model.specs.Rig.{Rig, Setup}
 use Rattle.run_model.specs.Step.{Stepped, rig_step}
-use Rattle.run_model.specs.Line.{budget_line, test_line}
-use Rattle.run_model.specs.Case.{test_begun}
+use Rattle.run_model.specs.Line.{budget_line}
 use Rattle.run_model.specs.Verdict.{reason_of}
-use Rattle.run_model.specs.Run.{Place, Begins, Runs, Waits, Over, Run, skipped, unskipped, with_skips, closed, begun, planned, judged, test_ended, is_over, within, step, step_in, step_at, cost_in, place_by, placed, goes, steps, opening, written, IsRun, IsStart}
+use Rattle.run_model.specs.Run.{Place, Begins, Waits, Run, skipped, unskipped, with_skips, closed, begun, planned, judged, test_ended, is_over, within, step, step_in, cost_in, place_by, placed, goes, steps, opening, written, IsRun, IsStart}
 use Rattle.run_model.specs.declared.outcome.Outcome.{Outcome}
 use Rattle.run_model.specs.declared.outcome.Verdict.{Verdict}
-use Rattle.run_model.proofs.Whole.{steps_one, steps_none}
+use Rattle.run_model.proofs.Whole.{steps_one}
 use Rattle.run_parts.specs.Steps.{FitSteps, anywhere}
 use Rattle.test_runs.specs.Reached.{Reached, Pending, run_at, run_in}
 use Rattle.test_runs.specs.Stages.{is_planned}
@@ -224,10 +223,3 @@ module _ (setup : Setup) (seed : ℕ) (all : List Case) (budget : ℕ) where
   reached_start c lines more r e =
       let w : (rest : List (List ℕ)) × (written setup budget c ≡ c.lines ++ rest) = written_more c in
       record { count = r.count; more = more ++ w.0; reached = ap (written setup budget) r.is ∙ w.1 ∙ ap (λ (ls : List (List ℕ)). ls ++ w.0) e ∙ append_assoc lines more w.0 }
-
-  -- before its first step a run has written nothing
-  pub start_none : IsStart setup seed all budget []
-  unfolding steps
-  start_none =
-      let w : (rest : List (List ℕ)) × (written setup budget (opening setup seed all) ≡ (opening setup seed all).lines ++ rest) = written_more (opening setup seed all) in
-      record { count = 0; more = w.0; reached = w.1 }

@@ -1,12 +1,11 @@
 -- Tests that are skipped, and how many have their verdicts.
-use Rattle.std.proofs.Common.{◌≡◌, ℕ, suc, ◌+◌, ◌-◌, ◌^◌, ◌<◌, ◌≤◌, Bool, true, false, List, [], ◌∷◌, ◌++◌, length, map, drop, Option, None, Some, Result, Ok, Err, refl, ap, sym, subst, ◌∙◌, arith, append_assoc, append-nil, length-append}
+use Rattle.std.proofs.Common.{◌≡◌, ℕ, suc, ◌+◌, ◌-◌, ◌<◌, ◌≤◌, Bool, true, false, List, [], ◌∷◌, ◌++◌, length, drop, Option, Some, Result, Ok, Err, refl, ap, sym, subst, ◌∙◌, arith, append_assoc, append-nil, length-append}
 use Rattle.std.specs.Prelude.{zero, ◌&&◌, IfOk, if◌then◌else◌}
 use Rattle.std.specs.List.{list_all, slice_get}
 use Rattle.std.specs.Result.{result_err}
 use Rattle.std.proofs.lemmas.List.{drop_all, length-map, length-drop}
 use Rattle.port_io.specs.Ports.{TakesAll}
 use Rattle.port_io.specs.Means.{SinkMeans, PutsTo}
-use Rattle.port_io.specs.PutLaws.{takes_one}
 use Rattle.port_io.proofs.PartLaws.{puts_to_then}
 use Rattle.port_io.specs.declared.ports.SinkFault.{SinkFault}
 use Rattle.gpi.proofs.Sound.{drop_next}
@@ -41,9 +40,6 @@ place_more p verdict q h c =
     let l : length (h.verdicts ++ verdict ∷ []) ≡ length h.verdicts + 1 = length-append h.verdicts (verdict ∷ []) in
     record { verdicts = h.verdicts ++ verdict ∷ []; counted = c.counted h.verdicts h.counted; places = omega arith }
 
-pub place_first : (p : Progress) → p.at ≡ 0 → p.tally ≡ tally_of [] → HasPlace p
-place_first p a t = record { verdicts = []; counted = t; places = sym a }
-
 -- ---- the tests of a file
 
 -- the test at a place, and those behind it
@@ -58,9 +54,6 @@ count_from cases at = length-map (drop at cases) view_case ∙ length-drop at ca
 
 pub skip_at : (cases : List TestCase) (at : ℕ) (case : TestCase) → slice_get cases at ≡ Some case → case.skip ≡ starts_skipped (cases_from cases at)
 skip_at cases at case g = sym (ap starts_skipped (case_at cases at case g))
-
-pub skip_none : (cases : List TestCase) (at : ℕ) → length cases ≤ at → false ≡ starts_skipped (cases_from cases at)
-skip_none cases at h = sym (ap starts_skipped (none_from cases at h))
 
 -- what holds of all tests holds of the one at a place
 pub sound_at : (test : Case → Bool) (cases : List TestCase) (at : ℕ) (case : TestCase) → list_all test (cases_of cases) ≡ true → slice_get cases at ≡ Some case

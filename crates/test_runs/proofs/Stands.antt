@@ -1,7 +1,7 @@
 -- The configuration that a simulator stands for, known from an engine's that fits it.
-use Rattle.std.proofs.Common.{◌≡◌, ℕ, Bool, true, false, not, List, [], Option, None, Some, refl, ap, sym, subst, ◌∙◌}
+use Rattle.std.proofs.Common.{◌≡◌, ℕ, Bool, true, false, not, List, [], Option, None, refl, ap, sym, subst, ◌∙◌}
 use Rattle.std.specs.Prelude.{◌&&◌}
-use Rattle.gpi.specs.Content.{Content, no_counts}
+use Rattle.gpi.specs.Content.{Content}
 use Rattle.gpi.specs.Keys.{Keys, among}
 use Rattle.gpi.specs.State.{State}
 use Rattle.gpi.specs.declared.types.Counts.{Counts}
@@ -12,7 +12,7 @@ use Rattle.wait_list.specs.Keys.{AreAlike, AreKeys}
 use Rattle.wait_list.specs.Waiting.{Waiting, named, awaited_keys, held_keys}
 use Rattle.run_model.specs.Case.{emptied}
 use Rattle.run_model.specs.Rig.{Rig, Setup, awaited, is_any}
-use Rattle.run_parts.specs.Fits.{FitsQueue, StandsFor}
+use Rattle.run_parts.specs.Fits.{StandsFor}
 use Rattle.run_parts.specs.Queue.{queue_held}
 use Rattle.run_parts.specs.Steps.{SameRest, SameTasks, behind}
 use Rattle.run_queue.proofs.KeyLaws.{among_test, named_alike}

@@ -1,16 +1,16 @@
 -- How a test begins and goes on with its turns.
-use Rattle.std.proofs.Common.{◌≡◌, ℕ, List, Option, None, Some, Result, Ok, Err, IsErr, refl, ap, subst, ◌∙◌}
+use Rattle.std.proofs.Common.{◌≡◌, ℕ, List, Option, None, Some, Result, Ok, Err, refl, ap, subst, ◌∙◌}
 use Rattle.port_io.specs.Means.{SinkMeans}
 use Rattle.port_io.specs.declared.ports.NoMemory.{NoMemory}
 use Rattle.py_value.specs.Answer.{Answer}
 use Rattle.py_value.specs.declared.value.Value.{Value}
 use Rattle.test_body.specs.BodyTrees.{Case, Limit}
-use Rattle.run_model.specs.Case.{emptied, limit_steps, test_begun, values_of, with_deadline, with_limit, with_test}
+use Rattle.run_model.specs.Case.{limit_steps, test_begun, values_of, with_deadline, with_limit, with_test}
 use Rattle.run_model.specs.Rig.{Rig, Setup}
 use Rattle.run_parts.specs.Steps.{FitSteps, anywhere}
-use Rattle.run_turns.specs.Turns.{Turning, turn_fault}
+use Rattle.run_turns.specs.Turns.{Turning}
 use Rattle.run_turns.specs.declared.turn.Turn.{Turn}
-use Rattle.test_runs.specs.Stages.{IsEmpty, TestsTo}
+use Rattle.test_runs.specs.Stages.{IsEmpty}
 
 deadline_planned : (r : Answer ℕ) (c : Rig) → (with_deadline r c).planned ≡ c.planned
 deadline_planned (Ok steps) c = refl
@@ -28,11 +28,6 @@ test_planned setup case (Err kind) c = refl
 pub begun_planned : (setup : Setup) (case : Case) (c d : Rig) → IsEmpty c → d ≡ test_begun setup case c → d.planned ≡ None
 begun_planned setup case c d empty h =
     ap (λ (x : Rig). x.planned) h ∙ test_planned setup case (values_of case.arguments) c ∙ ap (λ (x : Rig). x.planned) empty
-
--- want of memory is told so
-pub fault_err : (r : Result Turn NoMemory) → IsErr r → turn_fault r ≡ None → ⊥
-fault_err (Ok t) h n = cc
-fault_err (Err x) h n = cc
 
 module _ {O : Type 0} (sink : SinkMeans O) where
   -- turns under the same setup

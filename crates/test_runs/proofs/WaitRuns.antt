@@ -1,5 +1,5 @@
 -- The begin of a run, the wait for its next test, and its end.
-use Rattle.std.proofs.Common.{◌≡◌, ℕ, suc, ◌+◌, ◌-◌, ◌≤◌, ◌<◌, Bool, true, false, List, [], ◌∷◌, ◌++◌, length, map, Option, None, Some, Result, Ok, Err, IsErr, refl, ap, sym, subst, ◌∙◌, arith, append_assoc, append-nil, length-append}
+use Rattle.std.proofs.Common.{◌≡◌, ℕ, suc, ◌+◌, ◌-◌, ◌≤◌, ◌<◌, true, false, List, [], ◌∷◌, ◌++◌, length, Option, None, Some, Ok, Err, refl, ap, sym, subst, ◌∙◌, arith, append-nil}
 use Rattle.std.specs.Prelude.{is_some}
 use Rattle.std.specs.List.{list_any}
 use Rattle.std.proofs.lemmas.List.{length-map}
@@ -22,12 +22,11 @@ use Rattle.run_model.specs.Verdict.{is_fail, report_of}
 use Rattle.run_parts.specs.Fits.{StandsFor}
 use Rattle.run_parts.specs.Steps.{FitSteps, Moves, Short}
 use Rattle.run_parts.specs.Steps as parts
-use Rattle.run_turns.specs.Turns.{Turning, TurnsTo, turn_fault}
-use Rattle.run_turns.specs.declared.turn.Turn.{Turn}
+use Rattle.run_turns.specs.Turns.{TurnsTo}
 use Rattle.run_turns.specs.declared.turn.Turn.TheVariants as turn
 use Rattle.test_runs.specs.Reached.{Reached, Pending, run_at}
 use Rattle.test_runs.specs.Runs.{EndsTo, PutsStart, RunsTo, verdict_status}
-use Rattle.test_runs.specs.Stages.{IsEmpty, IsEnded, IsPending, IsWaiting, Skips, SkipsOver, Stands, WaitTurns, cases_from, cases_of, is_planned, skip_lines, skips_of}
+use Rattle.test_runs.specs.Stages.{IsEmpty, IsEnded, IsPending, IsWaiting, Skips, SkipsOver, WaitTurns, cases_from, cases_of, is_planned, skip_lines, skips_of}
 use Rattle.test_runs.specs.declared.progress.Progress.{Progress}
 use Rattle.test_runs.specs.declared.status.Status.{Status}
 use Rattle.test_runs.specs.declared.status.Status.TheVariants as status

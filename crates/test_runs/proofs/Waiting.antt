@@ -1,16 +1,11 @@
 -- Turns while the start of the next test is planned.
-use Rattle.std.proofs.Common.{◌≡◌, ◌≢◌, ℕ, zero, suc, ◌+◌, ◌-◌, ◌≤◌, ◌<◌, Bool, true, false, List, [], Option, None, Some, Result, Ok, Err, IsErr, refl, ap, sym, subst, ◌∙◌, ◌⊎◌, inl, inr}
+use Rattle.std.proofs.Common.{◌≡◌, ℕ, zero, suc, ◌<◌, true, false, List, [], Option, None, Some, Result, Ok, Err, IsErr, refl, ap, sym, subst, ◌∙◌, ◌⊎◌, inl, inr}
 use Rattle.std.specs.Prelude.{is_some}
 use Rattle.port_io.specs.Means.{SinkMeans}
 use Rattle.port_io.specs.declared.ports.NoMemory.{NoMemory}
-use Rattle.gpi.specs.State.{State}
-use Rattle.gpi.specs.declared.types.Counts.{Counts}
-use Rattle.random_stream.specs.Generator.{Generator}
-use Rattle.run_model.specs.Case.{emptied, start_planned}
 use Rattle.run_model.specs.Rig.{Rig, Setup}
-use Rattle.run_model.specs.Step.{Stepped, rig_step}
 use Rattle.run_model.specs.declared.outcome.Outcome.{Outcome}
-use Rattle.run_parts.specs.Steps.{FitSteps, TurnSteps, anywhere, Moves, Short, Begins}
+use Rattle.run_parts.specs.Steps.{FitSteps, TurnSteps, anywhere, Moves, Begins}
 use Rattle.run_turns.proofs.ManyTurns.{turning_anywhere}
 use Rattle.engine.proofs.StepsLeft.{steps_fall, steps_left}
 use Rattle.run_turns.proofs.Between.{one_step}
@@ -32,16 +27,6 @@ between_quiet c b = ap (λ (x : Rig). x.running) b.is
 
 pub between_ready : (c : Rig) → IsBetween c → c.ready ≡ []
 between_ready c b = ap (λ (x : Rig). x.ready) b.is
-
--- the start of the next test was planned
-pub planned_between : (c d : Rig) → IsEmpty c → d ≡ start_planned c → IsBetween d
-planned_between c d empty h = record {
-  sim = c.sim;
-  random = c.random;
-  counts = (start_planned (emptied c.sim c.random c.counts)).counts;
-  time = c.sim.time + 1;
-  is = h ∙ ap start_planned empty;
-}
 
 between_again : (c : Rig) → IsAfter c → is_planned c ≡ true → IsBetween c
 between_again c a p = by_start a.planned a.is (sym (ap is_planned a.is) ∙ p)
@@ -160,11 +145,6 @@ module _ {O : Type 0} (sink : SinkMeans O) (setup : Setup) where
       → Turning sink (TurnSteps setup') setup' fuel c out a f d mid → (d.planned ≡ None) ⊎ IsBetween d
   place_still setup' fuel c out a f d mid h (inl n) t = inl (none_of d.planned (went_planned setup' fuel c out a f d mid h t ∙ ap (λ (o : Option ℕ). is_some o) n))
   place_still setup' fuel c out a f d mid h (inr b) t = inr (between_still setup' fuel c out a f d mid h b t)
-
-  -- the wait goes neither on nor over
-  pub waits_stop : (fuel : ℕ) (c : Rig) (out : O) (t : Turn) (fuel' : ℕ) (e : Rig) (out' : O) → WaitTurns sink setup fuel c out (Ok t) fuel' e out'
-      → ((o : Outcome) → t ≢ turn.Over o) × (t ≢ turn.Went)
-  waits_stop fuel c out t fuel' e out' w = (λ o h. subst (λ (x : Turn). WaitsTo (Ok x) e) h w.ends, λ h. subst (λ (x : Turn). WaitsTo (Ok x) e) h w.ends)
 
 -- what a turn needs
 pub alone : (c : Rig) → (c.planned ≡ None) ⊎ IsBetween c → (c.planned ≡ None) ⊎ (c.ready ≡ [])

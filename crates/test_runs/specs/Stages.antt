@@ -1,5 +1,5 @@
 -- A means of proof: how far a run over tests has come between two of them, and what leads on from there. It says nothing that a reader must trust.
-use Rattle.std.specs.Prelude.{◌≡◌, ℕ, ◌+◌, ◌≤◌, Bool, true, false, List, [], ◌∷◌, ◌++◌, length, map, drop, Option, None, Some, Result, Ok, Err, IfOk, is_some}
+use Rattle.std.specs.Prelude.{◌≡◌, ℕ, ◌+◌, ◌≤◌, Bool, true, false, List, [], ◌∷◌, ◌++◌, length, map, drop, Option, Some, Result, Ok, Err, IfOk, is_some}
 use Rattle.std.specs.Result.{result_err}
 use Rattle.port_io.specs.Ports.{TakesAll}
 use Rattle.port_io.specs.Means.{SinkMeans, PutsTo}
@@ -16,7 +16,6 @@ use Rattle.run_model.specs.Rig.{Rig, Setup}
 use Rattle.run_model.specs.Case.{emptied, test_begun}
 use Rattle.run_model.specs.Run.{Run, Waits, planned, skipped, unskipped}
 use Rattle.run_model.specs.Verdict.{verdict_of}
-use Rattle.run_model.specs.declared.outcome.Outcome.{Outcome}
 use Rattle.run_model.specs.declared.outcome.Verdict.{Verdict}
 use Rattle.run_model.specs.declared.outcome.Verdict.TheVariants.{Skip}
 use Rattle.run_parts.specs.Steps.{FitSteps, anywhere, Short, Begins}

@@ -1,6 +1,6 @@
 //! Lines that a run puts between and behind its tests.
-ghost use Rattle.std.specs.Prelude.{◌≡◌, ◌<◌, ◌≤◌, ℕ, List, [], ◌∷◌, length, drop, IfOk, Some};
-ghost use Rattle.std.specs.List.{list_any, slice_get};
+ghost use Rattle.std.specs.Prelude.{◌≡◌, ◌<◌, ◌≤◌, ℕ, List, [], ◌∷◌, length, IfOk};
+ghost use Rattle.std.specs.List.{list_any};
 ghost use Rattle.std.specs.Result.{result_err};
 ghost use Rattle.port_io.specs.Means.{PutsTo, sink_means};
 ghost use Rattle.test_body.specs.Sound.{most_cases};

@@ -1,4 +1,4 @@
-use Rattle.std.proofs.Common.{◌∙◌, ℕ, List, [], ◌∷◌, Err, None, Some, subst}
+use Rattle.std.proofs.Common.{ℕ, List, [], ◌∷◌, None, Some, subst}
 use Rattle.std.proofs.lemmas.Result.{err_from_is_err_and}
 use Rattle.port_io.specs.Means.{PutsTo, sink_means}
 use Rattle.test_body.specs.Views.{view_case}

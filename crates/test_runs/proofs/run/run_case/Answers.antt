@@ -1,4 +1,4 @@
-use Rattle.std.proofs.Common.{◌≡◌, ◌+◌, ◌<◌, ◌∙◌, ℕ, Ok, ap, arith, refl, subst, sym}
+use Rattle.std.proofs.Common.{◌≡◌, ◌+◌, ◌<◌, ◌∙◌, ℕ, Ok, ap, refl, subst, sym}
 use Rattle.port_io.specs.Means.{sink_means}
 use Rattle.run_model.specs.Rig.{Rig, Setup}
 use Rattle.running_test.specs.Parts.{means}

@@ -1,4 +1,4 @@
-use Rattle.std.proofs.Common.{◌≡◌, ◌≤◌, ◌<◌, length, rules, arith, subst}
+use Rattle.std.proofs.Common.{◌≤◌, ◌<◌, length, rules, arith, subst}
 use Rattle.port_io.specs.Means.{sink_means}
 use Rattle.run_model.specs.Rig.{Rig, Setup}
 use Rattle.running_test.specs.Parts.{means}

@@ -1,4 +1,4 @@
-use Rattle.std.proofs.Common.{◌≡◌, ◌∙◌, ap, Ok, None, inl}
+use Rattle.std.proofs.Common.{◌∙◌, ap, Ok, inl}
 use Rattle.port_io.specs.Means.{sink_means}
 use Rattle.test_body.specs.Views.{view_case}
 use Rattle.run_model.specs.Rig.{Rig, Setup}
