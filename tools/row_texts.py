@@ -15,8 +15,7 @@ each byte that isn't printed, and with `\\` itself:
     6 cost     of the whole run
     7 keys     the keys that are awaited after each turn but the last of a test, with `|` between two turns; in the table of kills alone
 
-The seed of random numbers is 0. The first five are a line of the `stdin` of crates/runner_tests, and the answer is what stands there behind the
-rule in `stdout`.
+The seed of random numbers is 0. `tools/runner_rows.py` makes rows of crates/runner_tests of them.
 """
 import re
 from collections import namedtuple

@@ -128,6 +128,8 @@ CALLS = [
     one("default values", 'await f(dut, 1); await f(dut, 1, 5); await f(dut, 1, 5, "x", 6)', DEFAULTS),
     one("named arguments", 'await f(dut, a=1, c="x"); await f(dut, d=4, a=2); await f(dut, 3, d=True)', DEFAULTS),
     one("named arguments are evaluated as they are written", "try: { await f(dut, c=1 // 0, a=x) } except ZeroDivisionError: { " + say("c first") + " }; x = 1", DEFAULTS),
+    one("arguments are evaluated from left to right", "try: { await f(dut, 1 // 0, x) } except ZeroDivisionError: { " + say("division") + " }; try: { await f(dut, x, 1 // 0) } "
+        "except UnboundLocalError: { " + say("x") + " }; x = 1", DEFAULTS),
     one("a fault of an argument is the caller's", "try: { await f(dut, 1 // 0) } except ZeroDivisionError: { " + say("caught") + " }",
         function("f(dut, n)", "try: { " + say("in") + " } except: { " + say("no") + " }")),
     one("a fault goes out through three calls", "try: { await f(dut) } except IndexError as e: { " + say("{e}") + " }", DEEP),
@@ -162,6 +164,8 @@ VALUES = [
     one("log statements with arguments", 'x = 5; dut._log.info("x is %s", x); dut._log.warning("%s and %s and %s", x + 1, None, "t"); dut._log.info("%s", True)'),
     one("a log statement of a number, a truth value and None", "dut._log.info(5); dut._log.info(1 == 2); dut._log.info(None)"),
     one("a fault in an argument of a log statement", 'try: { dut._log.info("%s %s", 1, 1 // 0) } except ZeroDivisionError: { ' + say("not written") + " }"),
+    one("the arguments of a log statement are evaluated from left to right", 'try: { dut._log.info("%s %s", 1 // 0, x) } except ZeroDivisionError: { ' + say("division")
+        + ' }; try: { dut._log.info("%s %s", x, 1 // 0) } except UnboundLocalError: { ' + say("x") + " }; x = 1"),
     one("a fault as an argument", 'try: { raise ValueError("v w") } except ValueError as e: { dut._log.error("got %s", e) }'),
     one("division and remainder", say("{7 // 2} {-7 // 2} {7 // -2} {-7 // -2} {7 % 2} {-7 % 2} {7 % -2} {-7 % -2}")),
     one("bits", say("{12 & 10} {12 | 3} {12 ^ 5} {~12} {-1 & 255} {1 << 100} {-5 >> 1} {(1 << 100) >> 98}")),

@@ -126,6 +126,10 @@ LIMITS = [
         function("inner(dut)", 'try: { await with_timeout(Timer(9, "step"), 3, "step") } except SimTimeoutError: { dut._log.info("inner") }')),
     row("a limit of a time below 1 is refused before its call starts", 'try: { await with_timeout(f(dut), 0, "step") } except ValueError: { dut._log.info("no") }; '
         'await Timer(1, "step")', passing(1, "0 INFO no"), (1, 0, 1), function("f(dut)", 'dut._log.info("started")')),
+    row("the operands of a limit come before its kinds, and these before its time", 'try: { await with_timeout(5, 1 // 0, "step") } except ZeroDivisionError: { '
+        'dut._log.info("operand") }; try: { await with_timeout(5, 0, "step") } except TypeError: { dut._log.info("kind") }; try: { await with_timeout('
+        'Timer(1), 0, 5) } except TypeError: { dut._log.info("unit") }; await with_timeout(Timer(1), 0, "step")',
+        failing(0, "ValueError", "0 INFO operand", "0 INFO kind", "0 INFO unit"), (0, 0, 0)),
     row("a limit whose due time is too late leaves the task that it started", 'await Timer(1, "step"); try: { await with_timeout(f(dut), 4611686018427387904, '
         '"step") } except OverflowError: { dut._log.info("no") }; await Timer(1, "step")', passing(2, "1 INFO no", "1 INFO started"), (2, 0, 2),
         function("f(dut)", 'dut._log.info("started")')),

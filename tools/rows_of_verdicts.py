@@ -44,6 +44,13 @@ def row(rule, tests, lines, counts=None, **more):
 
 WAITS = 'await Timer(2, "step")'
 SKIP = "skip=True"
+LATER = """module top(input clk, input [7:0] a, output reg r, output reg [7:0] q);
+  always @(posedge clk) begin
+    r = 1;
+    q <= a;
+  end
+endmodule
+"""
 SEVERAL = [
     row("a skipped test first", test("pass", "a", SKIP) + test(WAITS, "b"), ["0 SKIP a", "0 TEST b", "2 PASS b", report(2, 1, 0, 1, 2)], (1, 0, 1)),
     # no start is planned behind the last test that isn't skipped
@@ -82,6 +89,10 @@ SEVERAL = [
     # the activation of the flip-flop runs at time 0, behind the end of a
     row("pending updates of the design stay between tests", test("dut.a.setimmediatevalue(5); dut.clk.setimmediatevalue(1)", "a") + test(
         'dut._log.info(f"{dut.q.value}")', "b"), ["0 TEST a", "0 PASS a", "1 TEST b", "1 INFO 00000101", "1 PASS b", report(2, 2, 0, 0, 1)], (1, 0, 1)),
+    # the activation is over and its update of q is left for later, where r is told and a ends
+    row("an update that is left for later stays between tests", test("dut.a.setimmediatevalue(5); dut.clk.setimmediatevalue(1); await Edge(dut.r)", "a") + test(
+        'dut._log.info(f"{dut.q.value}")', "b"), ["0 TEST a", "0 SIG top.a 00000101", "0 SIG top.clk 1", "0 SIG top.r 1", "0 PASS a", "0 SIG top.q 00000101",
+        "1 TEST b", "1 INFO 00000101", "1 PASS b", report(2, 2, 0, 0, 1)], (2, 0, 2), design=LATER, trace=True),
     row("tasks end with their test", function("f(dut)", 'await Timer(3, "step"); dut._log.info("late")') + test("cocotb.start_soon(f(dut))", "a") + test(
         'cocotb.start_soon(f(dut)); await Timer(9, "step")', "b"),
         ["0 TEST a", "0 PASS a", "1 TEST b", "4 INFO late", "10 PASS b", report(2, 2, 0, 0, 10)], (3, 0, 3)),
@@ -118,6 +129,9 @@ def cases(names, told):
 FACTORIES = [
     made("a factory, the last option fastest", cases([f"f_{at:03d}" for at in (1, 2, 3, 4)], ["1 7", "1 8", "2 7", "2 8"]),
          'add_option("x", [1, 2])', 'add_option("y", [7, 8])', "generate_tests()"),
+    # by their names, though y stands before x
+    made("the values of a case go to the parameters of their names", cases([f"f_{at:03d}" for at in (1, 2, 3, 4)], ["1 7", "2 7", "1 8", "2 8"]),
+         'add_option("y", [7, 8])', 'add_option("x", [1, 2])', "generate_tests()"),
     made("a factory leaves a default", cases(["f_001", "f_002"], ["0 3", "True 3"]), 'add_option("x", [0, True])', "generate_tests()"),
     made("names of a factory's cases", cases(["a_f_b_001"], ["None 3"]), 'add_option(name="x", optionlist=[None])', 'generate_tests(postfix="_b", prefix="a_")'),
     Row("two factories of one function", FACTORY + """tf = TestFactory(test_function=f)

@@ -1,4 +1,7 @@
 """Runs that were worked out before there was a model, with their lines, counts and costs. `tools/run_rows.py` tells what they are for."""
+import itertools
+
+from made_texts import DESIGN as MADE_DESIGN, tests_of
 from row_texts import HEADER, MORE, SMALL, Row, failing, function, passing, report, test
 
 FLIP_FLOP = "`timescale 1us/1ns\nmodule dff(input clk, d, output reg q);\n  always @(posedge clk) q <= d;\nendmodule\n"
@@ -24,6 +27,7 @@ async def dff_simple_test(dut):
     await RisingEdge(dut.clk)
     assert dut.q.value == expected_val, "output q was incorrect on the last cycle"
 '''
+PORT = "module top(input [7:0] a);\nendmodule\n"
 OSCILLATOR = "module top(input en, output y); assign y = en & ~y; endmodule\n"
 OPERATORS = """module top(input [3:0] a, output [3:0] s, output e, output c);
   assign s = a + 4'd9;
@@ -54,40 +58,14 @@ tf.generate_tests(prefix="p_")
 """ % options
 
 
-def generated(first, second):
-    """The tests that are made of two numbers, and their design."""
-    def listed(last):
-        return ", ".join(map(str, range(1, last + 1)))
-    tests = f"""import cocotb
-from cocotb.clock import Clock
-from cocotb.regression import TestFactory
-from cocotb.triggers import ClockCycles, First, Lock, RisingEdge, Timer
-
-async def worker(dut, lock, k):
-    while True:
-        async with lock:
-            await RisingEdge(dut.clk)
-        await First(RisingEdge(dut.clk), Timer(k, "step"))
-
-async def made(dut, n, m):
-    lock = Lock()
-    cocotb.start_soon(Clock(dut.clk, 10, "step").start())
-    for i in range(n):
-        cocotb.start_soon(worker(dut, lock, i + 1))
-    await ClockCycles(dut.clk, m)
-    extra = cocotb.start_soon(worker(dut, lock, n + 1))
-    await Timer(3, "step")
-    extra.kill()
-
-tf = TestFactory(made)
-tf.add_option("n", [{listed(first)}])
-tf.add_option("m", [{listed(second)}])
-tf.generate_tests()
-"""
-    return tests
+def made_lines(first, second):
+    """The lines of the tests that are made of two numbers."""
+    time = -1
+    for case, (_, cycles) in enumerate(itertools.product(range(1, first + 1), range(1, second + 1))):
+        begin, time = time + 1, time + 1 + 10 * (cycles if case else cycles - 1) + 3
+        yield from (f"{begin} TEST made_{case + 1:03d}", f"{time} PASS made_{case + 1:03d}")
 
 
-MADE = "module made(input clk, output reg [7:0] q);\n  initial q = 0;\n  always @(posedge clk) q <= q + 1;\nendmodule\n"
 GENERATED_LINES = ["0 TEST made_001", "3 PASS made_001", report(1, 1, 0, 0, 3)]
 FACTORY_LINES = [
     line
@@ -174,9 +152,12 @@ WORKED = [
         'await ReadOnly(); dut._log.info(f"{dut.p.value}{dut.q.value}")'), passing(1, "1 INFO 01", "1 INFO 10"), design=EXCHANGE),
     Row("repeated writes", HEADER + test("dut.a.value = 1; dut.clk.value = 0; dut.a.value = 2; await ReadOnly()"),
         passing(0, "0 SIG top.clk 0", "0 SIG top.a 00000010"), (2, 0, 2), trace=True),
-    Row("tasks in their order", HEADER + ORDERED + test(ORDERED_TEST), passing(1, *ORDERED_LINES, "1 INFO end"), cost=11),
-    Row("tasks in their order, with the budget of their cost", HEADER + ORDERED + test(ORDERED_TEST), passing(1, *ORDERED_LINES, "1 INFO end"), cost=11, budget=11),
-    Row("tasks in their order, with one less", HEADER + ORDERED + test(ORDERED_TEST), ["0 TEST t", *ORDERED_LINES, "BUDGET 10"], cost=10, budget=10),
+    Row("a write, a Timer and an assertion", HEADER + test('dut.a.value = 5; await Timer(2, "step"); assert dut.a.value == 5'), passing(2), (2, 0, 2), 5, PORT),
+    Row("an assertion behind a write that hasn't gone out", HEADER + test("dut.a.value = 5; assert dut.a.value == 5"), failing(0, "ValueError"), design=PORT),
+    Row("tasks in their order", HEADER + ORDERED + test(ORDERED_TEST), passing(1, *ORDERED_LINES, "1 INFO end"), cost=11, design=PORT),
+    Row("tasks in their order, with the budget of their cost", HEADER + ORDERED + test(ORDERED_TEST), passing(1, *ORDERED_LINES, "1 INFO end"), cost=11, design=PORT,
+        budget=11),
+    Row("tasks in their order, with one less", HEADER + ORDERED + test(ORDERED_TEST), ["0 TEST t", *ORDERED_LINES, "BUDGET 10"], cost=10, design=PORT, budget=10),
     Row("functions and loops", HEADER + LOOPS + test(LOOPED), failing(0, "ValueError", "0 WARNING got 29"), cost=21),
     Row("functions and loops, with one less than they cost", HEADER + LOOPS + test(LOOPED), ["0 TEST t", "0 WARNING got 29", "BUDGET 20"], cost=20, budget=20),
     Row("a thousand open calls, and one more", HEADER + function("r(dut, n)", "if n: { await r(dut, n - 1) }") + test(
@@ -184,10 +165,12 @@ WORKED = [
     Row("a clock and phases", HEADER + MORE + test(
         'clock = Clock(dut.clk, 10, "step"); cocotb.start_soon(clock.start(cycles=3)); await ClockCycles(dut.clk, 2); dut._log.info("c"); await ReadOnly(); '
         'await NextTimeStep(); await Edge(dut.clk); dut._log.info(f"{dut.clk.value}")'), passing(15, "10 INFO c", "15 INFO 0"), (13, 1, 12)),
-    Row("generated tests, one case", generated(1, 1), GENERATED_LINES, design=MADE),
-    Row("generated tests, four cases", generated(2, 2), [
+    Row("generated tests, one case", tests_of(1, 1), GENERATED_LINES, design=MADE_DESIGN),
+    Row("generated tests, four cases", tests_of(2, 2), [
         line for at, (begin, end) in enumerate([(0, 3), (4, 27), (28, 41), (42, 65)], 1) for line in (f"{begin} TEST made_{at:03d}", f"{end} PASS made_{at:03d}")
-    ] + [report(4, 4, 0, 0, 65)], design=MADE),
+    ] + [report(4, 4, 0, 0, 65)], design=MADE_DESIGN),
+    # behind the first case the clock is high where a test begins, so m cycles take 10 * m + 3 steps, and one step lies between two cases
+    Row("generated tests, 256 cases", tests_of(16, 16), [*made_lines(16, 16), report(256, 256, 0, 0, 22773)], design=MADE_DESIGN),
     Row("a lock that is held in a loop with handlers", HEADER + function(
         "f(dut, l)", 'for i in range(3): { try: { async with l: { await Timer(1, "step"); if i == 1: { return i }; raise ValueError("v") } } '
         'except ValueError as e: { dut._log.info(f"{e} {l.locked}") } }') + test('l = Lock(); r = await f(dut, l); dut._log.info(f"{r} {l.locked}")'),

@@ -3,12 +3,13 @@
 
     tools/run_rows.py             compares the model with what each row wants, and writes tools/data/*_rows.txt
     tools/run_rows.py --check     compares the tables that are there with the model
-    tools/run_rows.py --runner    compares the answers of crates/runner_tests, which were worked out by hand, with the model
     tools/run_rows.py FILE ..     compares the answers in these files with the model
 
 The tables: `worked` has the runs that were worked out first, with their bytes, counts and costs; `trigger` each thing that a task waits for, alone
 and within others; `pair` each two of them in `First` and `Combine`; `order` events, locks and joins; `kill` a kill of each kind of waiting; `verdict`
-tests of one file, their options and ends; `signal` what is written, read and refused; `budget` runs within each budget up to their cost.
+tests of one file, their options and ends; `signal` what is written, read and refused; `budget` runs within each budget up to their cost; `key` which keys are
+registered, removed and fired; `trace` the told changes of small designs, which `tools/runner_traces.py` compares with Icarus Verilog; `limit` runs up to a limit and
+past it.
 Where a row has lines, counts or a cost in its script, these were worked out by hand, and this script ends with the status 1, and writes nothing,
 where the model has others, or where a text is none of the profile (`tools/tests_profile.py`). `tools/row_texts.py` tells the form of a row.
 """
@@ -16,23 +17,24 @@ import re
 import sys
 from pathlib import Path
 
-from row_texts import DATA, answer_of, differs, line_of, ran
+from row_texts import DATA, differs, line_of, ran
 from rows_of_budgets import BUDGETS, CUTS, is_front
+from rows_of_keys import KEYS, TRACES
 from rows_of_kills import KILLS
+from rows_of_limits import LIMITS
 from rows_of_order import ORDER
 from rows_of_pairs import PAIRS
 from rows_of_signals import SIGNALS
 from rows_of_triggers import TRIGGERS
 from rows_of_verdicts import VERDICTS
 from rows_worked import WORKED
-from run_model import model
 from tests_profile import breaks
 
-RUNNER = DATA.parent.parent / "crates" / "runner_tests"
 TABLES = {
     "worked": WORKED, "trigger": TRIGGERS, "pair": PAIRS, "order": ORDER, "kill": KILLS, "verdict": VERDICTS, "signal": SIGNALS, "budget": BUDGETS,
+    "key": KEYS, "trace": TRACES, "limit": LIMITS,
 }
-LEAST = {"worked": 20, "trigger": 40, "pair": 200, "order": 30, "kill": 42, "verdict": 40, "signal": 40, "budget": 80}
+LEAST = {"worked": 20, "trigger": 40, "pair": 200, "order": 30, "kill": 42, "verdict": 40, "signal": 40, "budget": 80, "key": 20, "trace": 10, "limit": 5}
 WHOLE = {row.rule: lines for row, lines in CUTS}
 
 
@@ -69,38 +71,7 @@ def compared(path, known):
     return len(wrong), len(lines)
 
 
-def plain(part):
-    return re.sub(r"\\([0-9a-f]{2})", lambda found: chr(int(found[1], 16)), part)
-
-
-def runner_answer(asked, parts):
-    """The model's answer to a row of crates/runner_tests, or None where it isn't asked for a run."""
-    if asked == "run":
-        return answer_of(model(plain(parts[1]), plain(parts[2]), int(parts[0])))
-    if asked == "trace":
-        return answer_of(model(plain(parts[0]), plain(parts[1]), 100, trace=True), False)
-    if asked == "command" and parts[0] == "d.v t.py" and parts[3:] == ["0", "0"]:
-        return answer_of(model(plain(parts[1]), plain(parts[2])), False)
-    return None
-
-
-def runner():
-    rows = zip(*((RUNNER / name).read_text(encoding="ascii").splitlines() for name in ("stdin", "stdout")))
-    total, wrong = 0, 0
-    for line, answer in rows:
-        asked, rule, *parts = line.split("\t")
-        found = runner_answer(asked, parts) if "error: " not in answer and "Refused" not in answer else None
-        total += found is not None
-        if found not in (None, answer[len(rule) + 2 :]):
-            wrong += 1
-            print(f"{rule}: {answer[len(rule) + 2 :]}\n  {found}")
-    print(f"{total} rows of crates/runner_tests, {wrong} differ")
-    return 1 if wrong or not total else 0
-
-
 def main(words):
-    if words == ["--runner"]:
-        return runner()
     tables, wrong = made()
     if words and not wrong:
         known = {line for lines in tables.values() for line in lines}

@@ -1,34 +1,70 @@
 #!/usr/bin/env python3
-"""Makes of tables of runs what a test program is run on, and what it must print.
+"""Makes of the tables of runs, and of the rows of the command, what the program `runner_tests` is run on, and what it must print.
 
-    tools/runner_rows.py FOLDER [TABLE ..]    writes FOLDER/stdin and FOLDER/stdout
+    tools/runner_rows.py            writes crates/runner_tests/stdin and crates/runner_tests/stdout
+    tools/runner_rows.py --check    compares the two that are there
+    tools/runner_rows.py TABLE ..   lists the rules of these tables, with their numbers of lines in `stdin`
 
-TABLE is one of control, worked, trigger, pair, order, kill, verdict, signal, budget and example, without one all of them: tools/data/TABLE_rows.txt. A line
-of `stdin` has the first five parts of a row (`tools/row_texts.py`), and the same line of `stdout` is the rule, `: ` and the answer, as the rows `run` of
-crates/runner_tests have them; a row `trace` has its budget and its counts here too. No answer comes from the program. FOLDER is made where it isn't there.
+Each row of the tables tools/data/TABLE_rows.txt (`tools/row_texts.py` tells their form) becomes a row `kept`, whose words name its budget, and `--trace` where the
+changes of signals are told. Behind these stand what refusals leave, and the rows of words, tops, refusals, faults and cuts (`tools/command_rows.py` tells their
+form), of designs (tools/data/design_rows.txt) and of tests. The first word of a row says what is asked; crates/runner_tests/src/main.rt tells which parts follow.
+No answer comes from the program: they were worked out by hand, or come from CPython or from the model of `tools/run_model.py`.
 """
 import sys
 from pathlib import Path
 
-DATA = Path(__file__).resolve().parent / "data"
-TABLES = ["control", "worked", "trigger", "pair", "order", "kill", "verdict", "signal", "budget", "example"]
+from command_rows import Asked
+from row_texts import DATA
+from rows_of_faults import FAULTS
+from rows_of_refusals import KEPT, READ, REFUSALS
+from rows_of_tops import TOPS
+from rows_of_words import WORDS
+
+PROGRAM = Path(__file__).resolve().parent.parent / "crates" / "runner_tests"
+TABLES = ["worked", "control", "trigger", "pair", "order", "kill", "verdict", "signal", "budget", "key", "trace", "limit", "example"]
+# the program takes no more bytes
+MOST = 1_048_576
 
 
-def rows(table):
+def stored(table):
+    """The rows of a table, by their parts."""
     lines = (DATA / f"{table}_rows.txt").read_text(encoding="ascii").splitlines()
     return [line.split("\t") for line in lines if not line.startswith("#")]
 
 
+def run(row):
+    """A run of a table, as a command on the simulator of the runs before."""
+    asked, rule, budget, design, tests, answer, *_ = row
+    trace = " --trace" if asked == "trace" else ""
+    return Asked("kept", rule, [f"--budget {budget}{trace} d.v t.py", design, tests], answer)
+
+
+def all_rows():
+    runs = [run(row) for table in TABLES for row in stored(table)]
+    designs = [Asked("design", rule, [text], answer) for rule, text, answer in stored("design")]
+    return [*runs, *KEPT, *WORDS, *TOPS, *REFUSALS, *FAULTS, *designs, *READ]
+
+
 def main(words):
-    if not words or not set(words[1:]) <= set(TABLES):
-        print(__doc__)
-        return 2
-    folder, found = Path(words[0]), [row for table in words[1:] or TABLES for row in rows(table)]
-    folder.mkdir(exist_ok=True)
-    (folder / "stdin").write_text("".join("\t".join(row[:5]) + "\n" for row in found), encoding="ascii")
-    (folder / "stdout").write_text("".join(f"{row[1]}: {row[5]}\n" for row in found), encoding="ascii")
-    print(f"{len(found)} rows")
-    return 0
+    rows = all_rows()
+    if words and words != ["--check"]:
+        wanted = {row[1] for table in words for row in stored(table)}
+        print("\n".join(f"{at} {row.rule}" for at, row in enumerate(rows, 1) if row.rule in wanted))
+        return 0
+    texts = {
+        "stdin": "".join("\t".join([row.kind, row.rule, *row.parts]) + "\n" for row in rows),
+        "stdout": "".join(f"{row.rule}: {row.answer}\n" for row in rows),
+    }
+    assert len(texts["stdin"]) <= MOST
+    wrong = 0
+    for name, text in texts.items():
+        wrong += words == ["--check"] and (PROGRAM / name).read_text(encoding="ascii") != text
+        if not words:
+            (PROGRAM / name).write_text(text, encoding="ascii")
+        print(f"{name}: {len(text)} bytes")
+    kinds = {row.kind: sum(other.kind == row.kind for other in rows) for row in rows}
+    print(f"{len(rows)} rows: " + ", ".join(f"{count} {kind}" for kind, count in kinds.items()))
+    return wrong
 
 
 if __name__ == "__main__":

@@ -1,12 +1,12 @@
 #!/usr/bin/env python3
-"""Compares the traces among the rows of crates/runner_tests with Icarus Verilog.
+"""Compares the rows of tools/data/trace_rows.txt with Icarus Verilog.
 
     tools/runner_traces.py
 
-Each row `trace` of `stdin` that stages writes and waits is run by `iverilog -g2005`: a bench whose registers, z at first, stand behind the
-top's inputs, sets them as the test does and shows all ports where a wait ends. The same line of `stdout` tells each change of a signal with its
-time; the values that the ports have by these, where a change was told, are compared. A row whose values differ is printed, and the script then
-ends with the status 1. The gate needs neither this script nor Icarus.
+Each row that stages writes and waits is run by `iverilog -g2005`: a bench whose registers, z at first, stand behind the top's inputs, sets them as the
+test does and shows all ports where a wait ends. The answer of the row tells each change of a signal with its time; the values that the ports have by
+these, where a change was told, are compared. A row whose values differ is printed, and the script then ends with the status 1. The gate needs neither
+this script nor Icarus. `tools/runner_rows.py` hands the rows on to crates/runner_tests.
 """
 import re
 import subprocess
@@ -14,7 +14,7 @@ import sys
 import tempfile
 from pathlib import Path
 
-TESTS = Path(__file__).resolve().parent.parent / "crates" / "runner_tests"
+TABLE = Path(__file__).resolve().parent / "data" / "trace_rows.txt"
 
 
 def text_of(part):
@@ -60,13 +60,12 @@ def told(answer, time):
 
 
 def main():
-    lines = ((TESTS / name).read_text(encoding="ascii").splitlines() for name in ("stdin", "stdout"))
     rows, wrong = 0, 0
-    for line, answer in zip(*lines):
-        asked, rule, *parts = line.split("\t")
-        if asked != "trace" or "await Timer" not in line:
+    for line in TABLE.read_text(encoding="ascii").splitlines():
+        if line.startswith("#") or "await Timer" not in line:
             continue
-        design, tests = map(text_of, parts[:2])
+        _, rule, _, design, tests, answer, *_ = line.split("\t")
+        design, tests = map(text_of, (design, tests))
         ports = ports_of(design)
         rows += 1
         for time, values in simulated(design, tests, ports):

@@ -17,7 +17,7 @@ async def one_request(dut, at):
     dut.request.value = 1 << at
     await Timer(1, "ns")
     assert dut.valid.value == 1
-    assert dut.index.value == at, f"request {at} has the number {int(dut.index.value)}"
+    assert dut.index.value == at, f"input {at} is told as {int(dut.index.value)}"
     dut.request.value = (2 << at) - 1
     await Timer(1, "ns")
     assert dut.index.value == at

@@ -1,52 +1,74 @@
 -- What an answer tells.
-use Rattle.std.proofs.Common.{◌≡◌, ◌≢◌, ℕ, ◌≤◌, List, [], ◌∷◌, ◌++◌, Option, None, Some, refl, ap, sym, subst, ◌∙◌, append_assoc, inl, inr}
+use Rattle.std.proofs.Common.{◌≡◌, ◌≢◌, ◌⊎◌, ℕ, ◌≤◌, Bool, true, false, List, [], ◌∷◌, ◌++◌, Option, None, Some, refl, ap, sym, subst, ◌∙◌, append_assoc, inl, inr}
 use Rattle.std.specs.Io.KnownBytes.{Appends}
+use Rattle.std.specs.List.{list_any}
 use Rattle.port_io.specs.Ports.{AppendsPart, IsRaised}
 use Rattle.port_io.specs.Means.{StoreMeans, SinkMeans, PutsTo}
-use Rattle.port_io.specs.ToldLaws.{joined, joined_then, takes_all_told, puts_broken_told, puts_part_told, puts_broken_count}
+use Rattle.port_io.specs.ToldLaws.{appends_none, joined, joined_then, takes_all_told, puts_broken_told, puts_part_told, puts_broken_count}
 use Rattle.port_io.specs.declared.ports.SinkFault.{SinkFault}
 use Rattle.port_io.specs.declared.ports.SinkFault.TheVariants.{Failed, OutOfMemory}
 use Rattle.gpi.specs.Content.{Content}
-use Rattle.rig_model.specs.Rig.{Rig, Setup}
-use Rattle.rig_model.specs.Run.{Run, IsRun, IsStart, written}
-use Rattle.rig_model.proofs.Whole.{run_unique, start_is_front}
-use Rattle.rig_model.proofs.Stops.{run_stops}
-use Rattle.rig_model.specs.declared.file.TestCase.{TestCase}
-use Rattle.command.specs.Answer.{Answers, Answered, IsAnswer, TellsLines, RaisedAt, Quit, setup_with}
-use Rattle.command.specs.Reading.{Reading, refused, runs, Reads, IsTold}
-use Rattle.regression.specs.Runs.{RunsTo, Whole, PutsStart, status_of}
-use Rattle.regression.specs.Status.{put_status}
-use Rattle.command.proofs.Words.{IsRefusal}
-use Rattle.regression.specs.declared.status.Status.{Status}
-use Rattle.regression.specs.declared.status.Status.TheVariants as status
+use Rattle.gpi.specs.declared.design.Flat.{Flat}
+use Rattle.test_body.specs.BodyTrees.{Case, TestFile}
+use Rattle.test_body.specs.Views.{view_file}
+use Rattle.run_model.specs.Rig.{Rig, Setup}
+use Rattle.run_model.specs.Run.{Run, IsRun, IsStart, is_over, written}
+use Rattle.run_model.specs.Verdict.{is_fail}
+use Rattle.run_model.proofs.Whole.{run_unique}
+use Rattle.run_model.proofs.Fronts.{start_is_front}
+use Rattle.run_model.proofs.Exists.{run_stops}
+use Rattle.command.specs.declared.options.RunOptions.{RunOptions}
+use Rattle.command.specs.declared.options.Shown.{Shown}
+use Rattle.command.specs.declared.options.Shown.TheVariants.{AllLines, LastLine}
+use Rattle.command.specs.Answer.{Answers, Answered, IsAnswer, RunsShown, TellsLines, RaisedAt, RefusesWords, Quit, lines_shown, setup_with}
+use Rattle.command.specs.declared.decision.Decision.{Decision}
+use Rattle.command.specs.declared.decision.Decision.TheVariants.{Refused, Runs}
+use Rattle.command.specs.Reading.{CanRun, IsRefusalStatus, IsTold, Reading, Reads, reading_of, refused, runs, usage_line}
+use Rattle.test_runs.specs.Runs.{EndsTo, RunsTo, Whole, PutsStart, status_of, stopped_status}
+use Rattle.test_runs.specs.Status.{put_status}
+use Rattle.test_runs.specs.declared.status.Status.{Status}
+use Rattle.test_runs.specs.declared.status.Status.TheVariants as status
 
 -- known bytes grew by a front of these, and so by a front of more
 longer_part : (old new : Option (List ℕ)) (xs more ys : List (List ℕ)) → ys ≡ xs ++ more → AppendsPart old new (joined xs) → AppendsPart old new (joined ys)
 longer_part old new xs more ys e (front, rest, is, appended) =
     (front, rest ++ joined more, ap joined e ∙ joined_then xs more ∙ ap (λ (l : List ℕ). l ++ joined more) is ∙ append_assoc front rest (joined more), appended)
 
+-- a run that stopped has not the status of a put that failed
+run_writes : (run : Run) → status_of run ≢ status.WriteFault
+run_writes run = by_place (is_over run.place) (list_any is_fail run.verdicts)
+  where
+    by_place : (over has_failed : Bool) → stopped_status over has_failed ≢ status.WriteFault
+    by_place true true is = cc
+    by_place true false is = cc
+    by_place false has_failed is = cc
+
 module _ {O : Type 0} (sink : SinkMeans O)
     (takes_told : (before : O) (piece : List ℕ) (after : O) → sink.takes before piece after → Appends (sink.told before) (sink.told after) piece)
     (breaks_told : (before : O) (piece : List ℕ) (after : O) → sink.breaks before piece after → AppendsPart (sink.told before) (sink.told after) piece)
     (faults : O → ℕ)
     (takes_count : (before : O) (piece : List ℕ) (after : O) → sink.takes before piece after → faults before ≤ faults after)
-    (breaks_count : (before : O) (piece : List ℕ) (after : O) → sink.breaks before piece after → IsRaised (faults before) (faults after))
-    (budget : ℕ) where
-  module _ (setup : Setup) (case : TestCase) (run : Run) (is_run : IsRun setup case budget run) where
-    whole_tells : (s : Status) (e : Rig) (content : Content) (out out' : O) → Whole sink setup case budget s e content out out' → TellsLines (sink.told out) (sink.told out') (written setup budget run) (status_of run) s
+    (breaks_count : (before : O) (piece : List ℕ) (after : O) → sink.breaks before piece after → IsRaised (faults before) (faults after)) where
+  -- ---- runs
+
+  module _ (setup : Setup) (seed : ℕ) (cases : List Case) (budget : ℕ) (run : Run) (is_run : IsRun setup seed cases budget run) where
+    whole_tells : (s : Status) (e : Rig) (content : Content) (out out' : O) → Whole sink setup seed cases budget s e content out out'
+        → TellsLines (sink.told out) (sink.told out') (written setup budget run) (status_of run) s
     whole_tells s e content out out' w =
-        let same : w.run ≡ run = run_unique setup case budget w.run run w.is_run is_run in
+        let same : w.run ≡ run = run_unique setup seed cases budget w.run run w.is_run is_run in
         inl (
           w.status_is ∙ ap status_of same,
           subst (λ (c : Run). Appends (sink.told out) (sink.told out') (joined (written setup budget c))) same (takes_all_told sink.told sink.takes sink.breaks takes_told breaks_told out (written setup budget w.run) out' w.puts),
         )
 
-    part_tells : (lines : List (List ℕ)) (before after : Option (List ℕ)) → IsStart setup case budget lines → AppendsPart before after (joined lines) → AppendsPart before after (joined (written setup budget run))
+    part_tells : (lines : List (List ℕ)) (before after : Option (List ℕ)) → IsStart setup seed cases budget lines → AppendsPart before after (joined lines)
+        → AppendsPart before after (joined (written setup budget run))
     part_tells lines before after starts p =
-        let f : (more : List (List ℕ)) × (written setup budget run ≡ lines ++ more) = start_is_front setup case budget run lines is_run starts in
+        let f : (more : List (List ℕ)) × (written setup budget run ≡ lines ++ more) = start_is_front setup seed cases budget run lines is_run starts in
         longer_part before after lines f.0 (written setup budget run) f.1 p
 
-    run_tells : (s : Status) (e : Rig) (content : Content) (out out' : O) → RunsTo sink setup case budget s e content out out' → TellsLines (sink.told out) (sink.told out') (written setup budget run) (status_of run) s
+    run_tells : (s : Status) (e : Rig) (content : Content) (out out' : O) → RunsTo sink setup seed cases budget s e content out out'
+        → TellsLines (sink.told out) (sink.told out') (written setup budget run) (status_of run) s
     run_tells status.Passed e content out out' w = whole_tells status.Passed e content out out' w
     run_tells status.Failed e content out out' w = whole_tells status.Failed e content out out' w
     run_tells status.Budget e content out out' w = whole_tells status.Budget e content out out' w
@@ -59,59 +81,104 @@ module _ {O : Type 0} (sink : SinkMeans O)
     run_tells status.TestsRefused e content out out' w = absurd w
     run_tells status.ReadFault e content out out' w = absurd w
 
-  refusal_tells : (own : Status) (line : List ℕ) (s : Status) (content : Content) (out out' : O) → Answers sink budget (refused own line) s content out out' → TellsLines (sink.told out) (sink.told out') (line ∷ []) own s
-  refusal_tells own line s content out out' a = by_fault a.fault a.status_is a.puts
-    where
-      by_fault : (f : Option SinkFault) → s ≡ put_status own f → PutsTo sink out (line ∷ []) f out' → TellsLines (sink.told out) (sink.told out') (line ∷ []) own s
-      by_fault None e p = inl (e, takes_all_told sink.told sink.takes sink.breaks takes_told breaks_told out (line ∷ []) out' p)
-      by_fault (Some Failed) e p = inr (inl e, puts_broken_told sink.told sink.takes sink.breaks takes_told breaks_told out (line ∷ []) out' p)
-      by_fault (Some OutOfMemory) e p = inr (inr e, puts_part_told sink.told sink.takes sink.breaks takes_told breaks_told out (line ∷ []) out' p)
-
-  answer_tells : (r : Reading) (s : Status) (content : Content) (out out' : O) → Answers sink budget r s content out out'
-      → (lines : List (List ℕ)) × (own : Status) × IsAnswer budget r lines own × TellsLines (sink.told out) (sink.told out') lines own s
-  answer_tells (refused own line) s content out out' a = (line ∷ [], own, (refl, refl), refusal_tells own line s content out out' a)
-  answer_tells (runs flat file) s content out out' a =
-      let stop : (c : Run) × IsRun (setup_with flat file) a.case budget c = run_stops (setup_with flat file) a.case budget in (
-        written (setup_with flat file) budget stop.0,
-        status_of stop.0,
-        (a.case, a.is_case, stop.0, stop.1, refl, refl),
-        run_tells (setup_with flat file) a.case stop.0 stop.1 s a.last content out out' a.runs,
-      )
-
-  pub answered : {S : Type 0} (from : StoreMeans S) (words : List (List ℕ)) (r : Reading) (s : Status) (store store' : S) (content : Content) (out out' : O)
-      → Reads from words store r store' → IsTold (from.files store) words r → Answers sink budget r s content out out' → Answered from sink budget words s store store' content out out'
-  answered from words r s store store' content out out' reads is_told answers =
-      let t = answer_tells r s content out out' answers in
-      record { reading = r; reads = reads; is_told = is_told; answers = answers; lines = t.0; own = t.1; is_answer = t.2; tells = t.3 }
-
   -- a run breaks with its put alone
-  run_raised : (setup : Setup) (case : TestCase) (s : Status) (e : Rig) (content : Content) (out out' : O) → RunsTo sink setup case budget s e content out out' → s ≡ status.WriteFault → IsRaised (faults out) (faults out')
-  run_raised setup case s e content out out' h is =
-      let b : PutsStart sink setup case budget Failed out out' = subst (λ (x : Status). RunsTo sink setup case budget x e content out out') is h in
+  run_raised : (setup : Setup) (seed : ℕ) (cases : List Case) (budget : ℕ) (s : Status) (e : Rig) (content : Content) (out out' : O)
+      → RunsTo sink setup seed cases budget s e content out out' → s ≡ status.WriteFault → IsRaised (faults out) (faults out')
+  run_raised setup seed cases budget s e content out out' h is =
+      let b : PutsStart sink setup seed cases budget Failed out out' = subst (λ (x : Status). RunsTo sink setup seed cases budget x e content out out') is h in
       puts_broken_count faults sink.takes sink.breaks takes_count breaks_count out b.lines out' b.puts
 
-  pub write_raised : (before after : ℕ) (r : Reading) (s : Status) (content : Content) (out out' : O) → IsRefusal before after r → Answers sink budget r s content out out' → RaisedAt status.WriteFault (faults out) (faults out') s
-  write_raised before after (refused own line) s content out out' i a = by_fault a.fault a.status_is a.puts
+  -- ---- lines that end an answer
+
+  lines_tell : (own : Status) (lines : List (List ℕ)) (s : Status) (out out' : O) → EndsTo sink lines own s out out' → TellsLines (sink.told out) (sink.told out') lines own s
+  lines_tell own lines s out out' a = by_fault a.fault a.status_is a.puts
     where
-      by_fault : (f : Option SinkFault) → s ≡ put_status own f → PutsTo sink out (line ∷ []) f out' → RaisedAt status.WriteFault (faults out) (faults out') s
-      by_fault None e p = λ is. absurd (i.0 (sym e ∙ is))
-      by_fault (Some Failed) e p = λ is. puts_broken_count faults sink.takes sink.breaks takes_count breaks_count out (line ∷ []) out' p
+      by_fault : (f : Option SinkFault) → s ≡ put_status own f → PutsTo sink out lines f out' → TellsLines (sink.told out) (sink.told out') lines own s
+      by_fault None e p = inl (e, takes_all_told sink.told sink.takes sink.breaks takes_told breaks_told out lines out' p)
+      by_fault (Some Failed) e p = inr (inl e, puts_broken_told sink.told sink.takes sink.breaks takes_told breaks_told out lines out' p)
+      by_fault (Some OutOfMemory) e p = inr (inr e, puts_part_told sink.told sink.takes sink.breaks takes_told breaks_told out lines out' p)
+
+  lines_raised : (own : Status) (lines : List (List ℕ)) (s : Status) (out out' : O) → own ≢ status.WriteFault → EndsTo sink lines own s out out' → RaisedAt status.WriteFault (faults out) (faults out') s
+  lines_raised own lines s out out' n a = by_fault a.fault a.status_is a.puts
+    where
+      by_fault : (f : Option SinkFault) → s ≡ put_status own f → PutsTo sink out lines f out' → RaisedAt status.WriteFault (faults out) (faults out') s
+      by_fault None e p = λ is. absurd (n (sym e ∙ is))
+      by_fault (Some Failed) e p = λ is. puts_broken_count faults sink.takes sink.breaks takes_count breaks_count out lines out' p
       by_fault (Some OutOfMemory) e p = λ is. let no : status.NoMemory ≡ status.WriteFault = sym e ∙ is in cc
-  write_raised before after (runs flat file) s content out out' i a = run_raised (setup_with flat file) a.case s a.last content out out' a.runs
 
-  -- no run is refused for a read
-  run_reads : (setup : Setup) (case : TestCase) (s : Status) (e : Rig) (content : Content) (out out' : O) → RunsTo sink setup case budget s e content out out' → s ≡ status.ReadFault → ⊥
-  run_reads setup case s e content out out' h is = subst (λ (x : Status). RunsTo sink setup case budget x e content out out') is h
+  -- nothing was put
+  quit_tells : (lines : List (List ℕ)) (own s : Status) (out out' : O) → Quit s out out' → TellsLines (sink.told out) (sink.told out') lines own s
+  quit_tells lines own s out out' q =
+      inr (inr q.short, ([], joined lines, refl, subst (λ (x : O). Appends (sink.told out) (sink.told x) []) (sym q.same) (appends_none (sink.told out))))
 
-  pub read_raised : (before after : ℕ) (r : Reading) (s : Status) (content : Content) (out out' : O) → IsRefusal before after r → Answers sink budget r s content out out' → RaisedAt status.ReadFault before after s
-  read_raised before after (refused own line) s content out out' i a = by_fault a.fault a.status_is
-    where
-      by_fault : (f : Option SinkFault) → s ≡ put_status own f → RaisedAt status.ReadFault before after s
-      by_fault None e = λ is. i.2 (sym e ∙ is)
-      by_fault (Some Failed) e = λ is. let no : status.WriteFault ≡ status.ReadFault = sym e ∙ is in cc
-      by_fault (Some OutOfMemory) e = λ is. let no : status.NoMemory ≡ status.ReadFault = sym e ∙ is in cc
-  read_raised before after (runs flat file) s content out out' i a = λ is. absurd (run_reads (setup_with flat file) a.case s a.last content out out' a.runs is)
+  quit_raised : (s : Status) (out out' : O) → Quit s out out' → RaisedAt status.WriteFault (faults out) (faults out') s
+  quit_raised s out out' q = λ is. let no : status.NoMemory ≡ status.WriteFault = sym q.short ∙ is in cc
 
--- after want of memory nothing is said of other faults
-pub quit_raised : {O : Type 0} (at s : Status) (before after : ℕ) (out out' : O) → at ≢ status.NoMemory → Quit s out out' → RaisedAt at before after s
-quit_raised at s before after out out' n q = λ is. absurd (n (sym is ∙ q.short))
+  -- ---- answers
+
+  module _ (options : RunOptions) where
+    -- the lines and the status of a run, and what was put of these lines
+    abbrev Tells : Shown → Flat → TestFile → Status → O → O → Type 0
+    Tells shown flat file s out out' =
+        (lines : List (List ℕ)) × (own : Status)
+        × ((run : Run) × IsRun (setup_with options.trace flat file) options.seed file.cases options.budget run
+        × (lines ≡ lines_shown shown (written (setup_with options.trace flat file) options.budget run)) × (own ≡ status_of run))
+        × TellsLines (sink.told out) (sink.told out') lines own s
+
+    shown_tells : (shown : Shown) (flat : Flat) (file : TestFile) (s : Status) (content : Content) (out out' : O)
+        → RunsShown shown sink options flat file s content out out' → Tells shown flat file s out out'
+    shown_tells AllLines flat file s content out out' a =
+        let setup : Setup = setup_with options.trace flat file in
+        let stop : (c : Run) × IsRun setup options.seed file.cases options.budget c = run_stops setup options.seed file.cases options.budget in (
+          written setup options.budget stop.0,
+          status_of stop.0,
+          (stop.0, stop.1, refl, refl),
+          run_tells setup options.seed file.cases options.budget stop.0 stop.1 s a.0 content out out' a.1,
+        )
+    shown_tells LastLine flat file s content out out' (inl (run, is_run, puts)) =
+        let lines : List (List ℕ) = lines_shown LastLine (written (setup_with options.trace flat file) options.budget run) in
+        (lines, status_of run, (run, is_run, refl, refl), lines_tell (status_of run) lines s out out' puts.ends)
+    shown_tells LastLine flat file s content out out' (inr q) =
+        let setup : Setup = setup_with options.trace flat file in
+        let stop : (c : Run) × IsRun setup options.seed file.cases options.budget c = run_stops setup options.seed file.cases options.budget in
+        let lines : List (List ℕ) = lines_shown LastLine (written setup options.budget stop.0) in
+        (lines, status_of stop.0, (stop.0, stop.1, refl, refl), quit_tells lines (status_of stop.0) s out out' q)
+
+    answer_tells : (r : Reading) (s : Status) (content : Content) (out out' : O) → Answers sink options r s content out out'
+        → (lines : List (List ℕ)) × (own : Status) × IsAnswer options r lines own × TellsLines (sink.told out) (sink.told out') lines own s
+    answer_tells (refused own line) s content out out' a = (line ∷ [], own, (refl, refl), lines_tell own (line ∷ []) s out out' a)
+    answer_tells (runs flat file) s content out out' a = shown_tells options.shown flat file s content out out' a
+
+    pub answered : {S : Type 0} (from : StoreMeans S) (words : List (List ℕ)) (r : Reading) (s : Status) (store store' : S) (content : Content) (out out' : O)
+        → Reads from words store options r store' → IsTold (from.files store) words options r → Answers sink options r s content out out'
+        → Answered from sink words s store store' content out out'
+    answered from words r s store store' content out out' reads is_told answers =
+        let t = answer_tells r s content out out' answers in
+        record { options = options; reading = r; reads = reads; is_told = is_told; answers = answers; lines = t.0; own = t.1; is_answer = t.2; tells = t.3 }
+
+    shown_raised : (shown : Shown) (flat : Flat) (file : TestFile) (s : Status) (content : Content) (out out' : O)
+        → RunsShown shown sink options flat file s content out out' → RaisedAt status.WriteFault (faults out) (faults out') s
+    shown_raised AllLines flat file s content out out' a =
+        run_raised (setup_with options.trace flat file) options.seed file.cases options.budget s a.0 content out out' a.1
+    shown_raised LastLine flat file s content out out' (inl (run, is_run, puts)) =
+        lines_raised (status_of run) (lines_shown LastLine (written (setup_with options.trace flat file) options.budget run)) s out out' (run_writes run) puts.ends
+    shown_raised LastLine flat file s content out out' (inr q) = quit_raised s out out' q
+
+    -- a refusal that was decided isn't for a put
+    pub write_raised : (decision : Decision) (s : Status) (content : Content) (out out' : O) → CanRun decision → Answers sink options (reading_of decision) s content out out'
+        → RaisedAt status.WriteFault (faults out) (faults out') s
+    write_raised (Refused own line) s content out out' can a = lines_raised own (line.items ∷ []) s out out' (λ is. subst IsRefusalStatus is can) a
+    write_raised (Runs flat file) s content out out' can a = shown_raised options.shown flat (view_file file) s content out out' a
+
+  -- ---- words that are refused
+
+  pub words_answered : {S : Type 0} (from : StoreMeans S) (words : List (List ℕ)) (options : RunOptions) (s : Status) (store : S) (content : Content) (out out' : O)
+      → Reads from words store options (refused status.Usage usage_line) store → IsTold (from.files store) words options (refused status.Usage usage_line)
+      → RefusesWords sink s out out' → Answered from sink words s store store content out out' ⊎ Quit s out out'
+  words_answered from words options s store content out out' reads is_told (inl e) =
+      inl (answered options from words (refused status.Usage usage_line) s store store content out out' reads is_told e)
+  words_answered from words options s store content out out' reads is_told (inr q) = inr q
+
+  pub words_write : (s : Status) (out out' : O) → RefusesWords sink s out out' → RaisedAt status.WriteFault (faults out) (faults out') s
+  words_write s out out' (inl e) = lines_raised status.Usage (usage_line ∷ []) s out out' (λ x. cc) e
+  words_write s out out' (inr q) = quit_raised s out out' q

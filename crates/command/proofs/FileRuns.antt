@@ -1,30 +1,91 @@
--- The run of a file, for which memory was short.
-use Rattle.std.proofs.Common.{ℕ, [], length, Result, IsErr}
+-- The run of a file: it begins in the opening state, and where memory is short before it nothing is put.
+use Rattle.std.proofs.Common.{◌≡◌, ℕ, ◌≤◌, Bool, true, List, [], length, map, Result, Ok, Err, IsErr, refl, ap, sym, subst, ◌∙◌}
+use Rattle.std.specs.Prelude.{nat_le, ◌&&◌}
+use Rattle.std.specs.List.{list_all}
+use Rattle.std.proofs.lemmas.Bool.{and_parts, leb-true}
+use Rattle.std.proofs.lemmas.List.{length-map}
 use Rattle.port_io.specs.Means.{SinkMeans}
 use Rattle.port_io.specs.declared.ports.NoMemory.{NoMemory}
 use Rattle.port_io.proofs.PartLaws.{part_none}
+use Rattle.gpi.specs.Content as content
 use Rattle.gpi.specs.Content.{Content, no_counts}
 use Rattle.gpi.specs.declared.design.Flat.{Flat}
-use Rattle.rig_model.specs.Rig.{Rig, Setup}
-use Rattle.rig_model.specs.Run.{emptied, opening_sim}
-use Rattle.rig_model.specs.declared.file.TestFile.{TestFile}
-use Rattle.rig_model.proofs.RunLaws.{start_none}
-use Rattle.regression.specs.Runs.{status_in}
-use Rattle.regression.specs.declared.status.Status.{Status}
-use Rattle.regression.proofs.TestRuns.{runs_err}
-use Rattle.text_forms.specs.TestsForm.{IsOneTest}
+use Rattle.random_stream.specs.Generator.{seeded}
+use Rattle.test_body.specs.BodyTrees as trees
+use Rattle.test_body.specs.BodyTrees.{Case}
+use Rattle.test_body.specs.Sound.{is_sound, is_sound_case, is_sound_function, most_cases}
+use Rattle.test_body.specs.Views.{view_case, view_file, view_function}
+use Rattle.test_body.specs.declared.file.Function.{Function}
+use Rattle.test_body.specs.declared.file.TestFile.{TestFile}
+use Rattle.task_model.specs.Known.{AreSoundFunctions}
+use Rattle.run_model.specs.Case.{emptied}
+use Rattle.run_model.specs.Rig.{Rig, Setup}
+use Rattle.run_model.specs.Run.{IsStart, opening, opening_sim, steps, written}
+use Rattle.test_runs.specs.Runs.{RunsTo, status_in}
+use Rattle.test_runs.specs.Stages.{cases_of}
+use Rattle.test_runs.specs.declared.status.Status.{Status}
+use Rattle.command.specs.declared.options.RunOptions.{RunOptions}
 use Rattle.command.specs.Answer.{RunsFile, setup_with}
 
-module _ {O : Type 0} (sink : SinkMeans O) where
-  -- nothing was put for want of memory
-  pub file_none : (budget : ℕ) (flat : Flat) (file : TestFile) (r : Result Status NoMemory) (content : Content) (out : O) → IsOneTest (length flat.signals) file → IsErr r
-      → RunsFile sink budget flat file (status_in r) content out out
-  file_none budget flat file r content out one h =
-      let setup : Setup = setup_with flat file in
-      let last : Rig = emptied (opening_sim setup) no_counts in
-      record {
-        case = one.case;
-        is_case = one.is_case;
-        last = last;
-        runs = runs_err sink setup one.case budget r last content out out h (record { lines = []; starts = start_none setup budget one.case; puts = part_none sink.takes sink.told out [] });
-      }
+-- no line is a front of those of a run
+start_none : (setup : Setup) (seed : ℕ) (cases : List Case) (budget : ℕ) → IsStart setup seed cases budget []
+unfolding steps
+start_none setup seed cases budget = record { count = 0; more = written setup budget (opening setup seed cases); reached = refl }
+
+-- nothing was put for want of memory
+pub file_none : {O : Type 0} (sink : SinkMeans O) (options : RunOptions) (flat : Flat) (file : trees.TestFile) (r : Result Status NoMemory) (c : Content) (out : O) → IsErr r
+    → RunsFile sink options flat file (status_in r) c out out
+file_none sink options flat file (Ok s) c out h = cc
+file_none sink options flat file (Err e) c out h =
+    let setup : Setup = setup_with options.trace flat file in (
+      emptied (opening_sim setup) (seeded options.seed) no_counts,
+      record { lines = []; starts = start_none setup options.seed file.cases options.budget; puts = part_none sink.takes sink.told out [] },
+    )
+
+-- ---- the parts of a sound file
+
+module _ (file : TestFile) (sound : is_sound (view_file file) ≡ true) where
+  parts : ((list_all (is_sound_function (view_file file).functions) (view_file file).functions && list_all (is_sound_case (view_file file).functions) (view_file file).cases) ≡ true)
+      × (nat_le (length (view_file file).cases) most_cases ≡ true)
+  parts = and_parts _ _ sound
+
+  sound_functions : AreSoundFunctions (view_file file).functions
+  sound_functions = (and_parts _ _ parts.0).0
+
+  sound_cases : list_all (is_sound_case (view_file file).functions) (view_file file).cases ≡ true
+  sound_cases = (and_parts _ _ parts.0).1
+
+  pub few_cases : length file.cases ≤ most_cases
+  few_cases = subst (λ (n : ℕ). n ≤ most_cases) (length-map file.cases view_case) (leb-true _ _ parts.1)
+
+-- ---- the opening of a run
+
+-- what tests share, with functions that a maker borrows
+abbrev lent_setup : Bool → Flat → List Function → Setup
+lent_setup trace flat lent = record { functions = map view_function lent; flat = flat; trace = trace }
+
+-- a maker that borrows the functions of a file
+pub maker_sound : (file : TestFile) (lent : List Function) → lent ≡ file.functions → is_sound (view_file file) ≡ true → AreSoundFunctions (map view_function lent)
+maker_sound file lent are sound = subst (λ (fs : List Function). AreSoundFunctions (map view_function fs)) (sym are) (sound_functions file sound)
+
+module _ (options : RunOptions) (flat : Flat) (file : TestFile) (lent : List Function) (setup : Setup)
+    (lent_are : lent ≡ file.functions) (setup_is : setup ≡ lent_setup options.trace flat lent) where
+  setup_same : setup ≡ setup_with options.trace flat (view_file file)
+  setup_same = setup_is ∙ ap (lent_setup options.trace flat) lent_are
+
+  -- an engine stands in the opening configuration of its design
+  pub opens : (c : Content) (rig : Rig) → c ≡ content.opening flat → rig ≡ emptied c.state (seeded options.seed) c.counts
+      → rig ≡ emptied (opening_sim setup) (seeded options.seed) no_counts
+  opens c rig o is =
+      is ∙ ap (λ (k : Content). emptied k.state (seeded options.seed) k.counts) o
+      ∙ ap (λ (s : Setup). emptied (opening_sim s) (seeded options.seed) no_counts) (sym setup_same)
+
+  -- its tests name functions that it has
+  pub engine_cases : is_sound (view_file file) ≡ true → list_all (is_sound_case setup.functions) (cases_of file.cases) ≡ true
+  engine_cases sound = subst (λ (s : Setup). list_all (is_sound_case s.functions) (cases_of file.cases) ≡ true) (sym setup_same) (sound_cases file sound)
+
+  -- its run is that of the file
+  pub engine_runs : {O : Type 0} (sink : SinkMeans O) (s : Status) (last : Rig) (c : Content) (out out' : O)
+      → RunsTo sink setup options.seed (cases_of file.cases) options.budget s last c out out' → RunsFile sink options flat (view_file file) s c out out'
+  engine_runs sink s last c out out' runs =
+      (last, subst (λ (x : Setup). RunsTo sink x options.seed (cases_of file.cases) options.budget s last c out out') setup_same runs)

@@ -1,3 +1,6 @@
 pub mod FileRuns
+pub mod Closing
+pub mod LastRuns
+pub mod Leaving
 pub mod Words
 pub mod AnswerLaws

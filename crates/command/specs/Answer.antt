@@ -1,35 +1,100 @@
 -- What is put for a reading, and what is known of it from without.
-use Rattle.std.specs.Prelude.{◌≡◌, ◌⊎◌, ℕ, false, List, [], ◌∷◌, Option}
+use Rattle.std.specs.Prelude.{◌≡◌, ◌⊎◌, ℕ, Bool, List, [], ◌∷◌, Option, option_to_list}
 use Rattle.std.specs.Io.KnownBytes.{Appends}
 use Rattle.port_io.specs.Ports.{AppendsPart, IsRaised}
 use Rattle.port_io.specs.Means.{StoreMeans, SinkMeans}
 use Rattle.port_io.specs.ToldLaws.{joined}
 use Rattle.gpi.specs.Content.{Content}
 use Rattle.gpi.specs.declared.design.Flat.{Flat}
-use Rattle.rig_model.specs.Rig.{Rig, Setup}
-use Rattle.rig_model.specs.Run.{Run, IsRun, written}
-use Rattle.rig_model.specs.declared.file.TestCase.{TestCase}
-use Rattle.rig_model.specs.declared.file.TestFile.{TestFile}
-use Rattle.command.specs.Reading.{Reading, refused, runs, Reads, IsTold}
-use Rattle.regression.specs.Runs.{RunsTo, EndsTo, status_of}
-use Rattle.regression.specs.declared.status.Status.{Status}
-use Rattle.regression.specs.declared.status.Status.TheVariants as status
+use Rattle.test_body.specs.BodyTrees.{TestFile}
+use Rattle.run_model.specs.Rig.{Rig, Setup}
+use Rattle.run_model.specs.Run.{Run, IsRun, written}
+use Rattle.run_parts.specs.Fits.{StandsFor}
+use Rattle.last_line.specs.Last.{last_of}
+use Rattle.test_runs.specs.Runs.{RunsTo, EndsTo, status_of}
+use Rattle.test_runs.specs.declared.status.Status.{Status}
+use Rattle.test_runs.specs.declared.status.Status.TheVariants as status
+use Rattle.command.specs.declared.options.RunOptions.{RunOptions}
+use Rattle.command.specs.declared.options.Shown.{Shown}
+use Rattle.command.specs.declared.options.Shown.TheVariants.{AllLines, LastLine}
+use Rattle.command.specs.Reading.{Reading, refused, runs, Reads, IsTold, usage_line}
 
--- what a run of the command may cost where its words name no budget: one for each statement that begins, and one for each event
-abbrev pub default_budget : ℕ
-default_budget = 10000000
+-- ---- lines and statuses
 
--- the functions of the file, and the design; told changes aren't written
-abbrev pub setup_with : Flat → TestFile → Setup
-setup_with flat file = record { functions = file.functions; flat = flat; trace = false }
+-- what all tests of a run share: the functions of the file, the design, and whether told changes are written
+abbrev pub setup_with : Bool → Flat → TestFile → Setup
+setup_with trace flat file = record { functions = file.functions; flat = flat; trace = trace }
 
--- The test of a file is run, which leaves the simulator with this content.
-pub record RunsFile {O : Type 0} (sink : SinkMeans O) (budget : ℕ) (flat : Flat) (file : TestFile)
-    (s : Status) (content : Content) (out out' : O) : Type 0 where
-  pub case : TestCase
-  pub is_case : file.cases ≡ case ∷ []
-  pub last : Rig
-  pub runs : RunsTo sink (setup_with flat file) case budget s last content out out'
+-- the lines of a run that are put: all of them, or the last one alone
+abbrev pub lines_shown : Shown → List (List ℕ) → List (List ℕ)
+lines_shown AllLines lines = lines
+lines_shown LastLine lines = option_to_list (last_of lines)
+
+-- The lines and the status of a reading, where nothing fails: the one line of a refusal, or those of the run that are put.
+abbrev pub IsAnswer : RunOptions → Reading → List (List ℕ) → Status → Type 0
+IsAnswer options (refused own line) lines s = (lines ≡ line ∷ []) × (s ≡ own)
+IsAnswer options (runs flat file) lines s =
+    (run : Run) × IsRun (setup_with options.trace flat file) options.seed file.cases options.budget run
+    × (lines ≡ lines_shown options.shown (written (setup_with options.trace flat file) options.budget run)) × (s ≡ status_of run)
+
+-- ---- what is put
+
+-- The tests of a file are run, and all lines of the run are put, which leaves the simulator with this content.
+abbrev pub RunsFile : {O : Type 0} → SinkMeans O → RunOptions → Flat → TestFile → Status → Content → O → O → Type 0
+RunsFile sink options flat file s content out out' =
+    (last : Rig) × RunsTo sink (setup_with options.trace flat file) options.seed file.cases options.budget s last content out out'
+
+-- Memory was short before anything was put.
+pub record Quit {O : Type 0} (s : Status) (out out' : O) : Type 0 where
+  pub short : s ≡ status.NoMemory
+  pub same : out' ≡ out
+
+-- A run has stopped, what the simulator holds stands for that place, and then the last line of the run is put.
+pub record PutsLast {O : Type 0} (sink : SinkMeans O) (setup : Setup) (budget : ℕ) (run : Run) (s : Status) (content : Content) (out out' : O) : Type 0 where
+  pub stands : StandsFor setup content run.rig
+  pub ends : EndsTo sink (lines_shown LastLine (written setup budget run)) (status_of run) s out out'
+
+-- The tests of a file are run, and the last line of the run is put alone, unless memory was short before it.
+abbrev pub RunsLast : {O : Type 0} → SinkMeans O → RunOptions → Flat → TestFile → Status → Content → O → O → Type 0
+RunsLast sink options flat file s content out out' =
+    ((run : Run) × IsRun (setup_with options.trace flat file) options.seed file.cases options.budget run
+    × PutsLast sink (setup_with options.trace flat file) options.budget run s content out out')
+    ⊎ Quit s out out'
+
+-- The tests of a file are run, and these lines of the run are put.
+abbrev pub RunsShown : {O : Type 0} → Shown → SinkMeans O → RunOptions → Flat → TestFile → Status → Content → O → O → Type 0
+RunsShown AllLines sink options flat file s content out out' = RunsFile sink options flat file s content out out'
+RunsShown LastLine sink options flat file s content out out' = RunsLast sink options flat file s content out out'
+
+-- The line of a refusal is put, or else the tests are run.
+abbrev pub Answers : {O : Type 0} → SinkMeans O → RunOptions → Reading → Status → Content → O → O → Type 0
+Answers sink options (refused own line) s content out out' = EndsTo sink (line ∷ []) own s out out'
+Answers sink options (runs flat file) s content out out' = RunsShown options.shown sink options flat file s content out out'
+
+-- What a sink that tells its bytes has after a status: all the bytes of the lines with the own status, and a front of them where a put
+-- broke or memory was short.
+abbrev pub TellsLines : Option (List ℕ) → Option (List ℕ) → List (List ℕ) → Status → Status → Type 0
+TellsLines before after lines own s =
+    ((s ≡ own) × Appends before after (joined lines))
+    ⊎ (((s ≡ status.WriteFault) ⊎ (s ≡ status.NoMemory)) × AppendsPart before after (joined lines))
+
+-- ---- the answer
+
+-- An answer by the reads of the store and the puts of the sink, by the files where the store tells them, by what the simulator holds
+-- after a run, and by the bytes where the sink tells them.
+pub record Answered {S O : Type 0} (from : StoreMeans S) (sink : SinkMeans O) (words : List (List ℕ))
+    (s : Status) (store store' : S) (content : Content) (out out' : O) : Type 0 where
+  pub options : RunOptions
+  pub reading : Reading
+  pub reads : Reads from words store options reading store'
+  pub is_told : IsTold (from.files store) words options reading
+  pub answers : Answers sink options reading s content out out'
+  pub lines : List (List ℕ)
+  pub own : Status
+  pub is_answer : IsAnswer options reading lines own
+  pub tells : TellsLines (sink.told out) (sink.told out') lines own s
+
+-- ---- besides
 
 -- The simulator that was handed in, after a status: a run leaves it with a design, and a refusal as it was. After a failed put it is one
 -- or the other, and after want of memory nothing is said of it.
@@ -44,43 +109,10 @@ LeavesKernel is_loaded status.ReadFault before after = after ≡ before
 LeavesKernel is_loaded status.WriteFault before after = is_loaded after ⊎ (after ≡ before)
 LeavesKernel is_loaded status.NoMemory before after = Unit {0}
 
--- The line of a refusal is put, or else the test is run.
-abbrev pub Answers : {O : Type 0} → SinkMeans O → ℕ → Reading → Status → Content → O → O → Type 0
-Answers sink budget (refused own line) s content out out' = EndsTo sink (line ∷ []) own s out out'
-Answers sink budget (runs flat file) s content out out' = RunsFile sink budget flat file s content out out'
-
--- The lines and the status of a reading, where nothing fails: the one line of a refusal, or those of the run.
-abbrev pub IsAnswer : ℕ → Reading → List (List ℕ) → Status → Type 0
-IsAnswer budget (refused own line) lines s = (lines ≡ line ∷ []) × (s ≡ own)
-IsAnswer budget (runs flat file) lines s =
-    (case : TestCase) × (file.cases ≡ case ∷ []) × (run : Run) × IsRun (setup_with flat file) case budget run
-    × (lines ≡ written (setup_with flat file) budget run) × (s ≡ status_of run)
-
--- What a sink that tells its bytes has after a status: all the bytes of the lines with the own status, and a front of them where a put
--- broke or memory was short.
-abbrev pub TellsLines : Option (List ℕ) → Option (List ℕ) → List (List ℕ) → Status → Status → Type 0
-TellsLines before after lines own s =
-    ((s ≡ own) × Appends before after (joined lines))
-    ⊎ (((s ≡ status.WriteFault) ⊎ (s ≡ status.NoMemory)) × AppendsPart before after (joined lines))
-
--- An answer by the reads of the store and the puts of the sink, by the files where the store tells them, by what the simulator holds
--- after a run, and by the bytes where the sink tells them.
-pub record Answered {S O : Type 0} (from : StoreMeans S) (sink : SinkMeans O) (budget : ℕ) (words : List (List ℕ))
-    (s : Status) (store store' : S) (content : Content) (out out' : O) : Type 0 where
-  pub reading : Reading
-  pub reads : Reads from words store reading store'
-  pub is_told : IsTold (from.files store) words reading
-  pub answers : Answers sink budget reading s content out out'
-  pub lines : List (List ℕ)
-  pub own : Status
-  pub is_answer : IsAnswer budget reading lines own
-  pub tells : TellsLines (sink.told out) (sink.told out') lines own s
-
--- Memory was short before anything was put.
-pub record Quit {O : Type 0} (s : Status) (out out' : O) : Type 0 where
-  pub short : s ≡ status.NoMemory
-  pub same : out' ≡ out
-
 -- A count of faults rose where that status says so.
 abbrev pub RaisedAt : Status → ℕ → ℕ → Status → Type 0
 RaisedAt at before after s = s ≡ at → IsRaised before after
+
+-- The usage line is put, or memory was short for it.
+abbrev pub RefusesWords : {O : Type 0} → SinkMeans O → Status → O → O → Type 0
+RefusesWords sink s out out' = EndsTo sink (usage_line ∷ []) status.Usage s out out' ⊎ Quit s out out'

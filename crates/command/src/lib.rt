@@ -3,9 +3,14 @@
 #![tactic(auto)]
 
 mod decision;
+mod files;
+mod lines;
+mod options;
 mod process;
 mod top;
 
 pub use decision::Decision;
+pub use files::decide;
+pub use options::{RunOptions, Shown};
 pub use process::run_process;
-pub use top::{answer, cocorun, decide};
+pub use top::cocorun;

@@ -1,180 +1,124 @@
 //! The top call.
-ghost use Rattle.std.specs.Prelude.{◌≡◌, ◌⊎◌, ◌∷◌, [], List, ℕ, length, IfOk, OnOk, map, codes, string_bytes};
+ghost use Rattle.std.specs.Prelude.{◌≡◌, ◌⊎◌, ◌∷◌, [], true, OnOk, map, string_bytes};
 ghost use Rattle.port_io.specs.Means.{sink_means, store_means};
-ghost use Rattle.command.specs.Answer.{Answers, Answered, Quit, RunsFile, RaisedAt, LeavesKernel, default_budget};
 ghost use Rattle.gpi.specs.Soundness.{IsSoundFlat};
-ghost use Rattle.text_forms.specs.TestsForm.{IsOneTest};
-ghost use Rattle.regression.specs.Runs.{EndsTo, status_in};
-ghost use Rattle.v_design.specs.Words.{refusal_word};
-ghost use Rattle.command.specs.Reading.{CanRun, ReadsBoth, ReadsTests, not_built, read_line, reading_of, refused, refused_line, usage_line};
+ghost use Rattle.test_body.specs.Sound.{is_sound};
+ghost use Rattle.test_body.specs.Views.{view_file};
+ghost use Rattle.test_runs.specs.Runs.{EndsTo, status_in};
+ghost use Rattle.command.specs.Answer.{Answered, Answers, LeavesKernel, Quit, RaisedAt, RefusesWords, RunsFile, RunsLast, RunsShown};
+ghost use Rattle.command.specs.Reading.{CanRun, reading_of};
 
 use crate::decision::Decision;
+use crate::files::decide_work;
+use crate::lines::usage_text;
+use crate::options::{RunOptions, Shown, options_of};
+use command_words::{WordsFault, read_words};
+use engine::Engine;
 use gpi::{Flat, Gpi};
-use plain_task::{TreeMaker, WaitList};
-use port_io::{NoMemory, Sink, Store, StoreFault};
-use regression::{Status, run_all};
-use rig_model::{Steps, TestFile};
-use scheduler::Engine;
+use last_line::LastLine;
+use plain_waits::WaitList;
+use port_io::{NoMemory, Sink, Store};
 use std::alloc::Global;
-use std::sync::ledger::Ledger;
-use text_forms::read_tests;
-use v_design::{DesignFault, DesignRefusal, read_design};
+use test_body::TestFile;
+use test_runs::{Status, run_all};
+use tree_flow::TreeMaker;
 
-/// How many bytes of a file are asked for: one more than a file may have.
-const MOST: usize = 1_048_577;
-
-/// What a run may cost: one for each statement that begins, and one for each event of the simulator.
-const BUDGET: u64 = 10_000_000;
-
-/// The line that says how the command is called.
-fn usage_text(alloc: Global) -> Result<Vec<u8>, NoMemory>
-    ensures { IfOk result (λ line. line.items ≡ usage_line) }
-{
-    let mut line = Vec::new(alloc);
-    line.extend_from_slice(
-        b"usage: cocorun [--top NAME] [--budget N] [--seed N] [--trace] DESIGN TESTS\n",
-    )?;
-    Ok(line)
-}
-
-/// The line that says that a file could not be read.
-fn read_text(alloc: Global, name: &str) -> Result<Vec<u8>, NoMemory>
-    ensures { IfOk result (λ line. line.items ≡ read_line name.now) }
-{
-    let mut line = Vec::new(alloc);
-    line.extend_from_slice(b"error: cannot read ")?;
-    line.extend_from_slice(name.as_bytes())?;
-    line.push(b'\n')?;
-    Ok(line)
-}
-
-/// The line that says why a text is refused.
-fn refused_text(alloc: Global, name: &str, reason: &[u8]) -> Result<Vec<u8>, NoMemory>
-    ensures { IfOk result (λ line. line.items ≡ refused_line name.now reason.now) }
-{
-    let mut line = Vec::new(alloc);
-    line.extend_from_slice(b"error: ")?;
-    line.extend_from_slice(name.as_bytes())?;
-    line.extend_from_slice(b": ")?;
-    line.extend_from_slice(reason)?;
-    line.push(b'\n')?;
-    Ok(line)
-}
-
-/// The refusal of a design.
-fn design_refused(alloc: Global, design: &str, refusal: DesignRefusal) -> Result<Decision, NoMemory>
-    ensures { IfOk result (λ decision. reading_of decision ≡ refused Status.DesignRefused (refused_line design.now (refusal_word refusal))) }
-{
-    let reason = refusal.text(alloc)?;
-    Ok(Decision::Refused(Status::DesignRefused, refused_text(alloc, design, &reason)?))
-}
-
-/// The refusal of tests that are of no form that is built.
-fn tests_refused(alloc: Global, tests: &str) -> Result<Decision, NoMemory>
-    ensures { IfOk result (λ decision. reading_of decision ≡ refused Status.TestsRefused (refused_line tests.now not_built)) }
-{
-    Ok(Decision::Refused(
-        Status::TestsRefused,
-        refused_text(alloc, tests, b"NotBuilt")?,
-    ))
-}
-
-/// The refusal for a file that could not be read.
-fn unread(alloc: Global, name: &str) -> Result<Decision, NoMemory>
-    ensures { IfOk result (λ decision. reading_of decision ≡ refused Status.ReadFault (read_line name.now)) }
-{
-    Ok(Decision::Refused(Status::ReadFault, read_text(alloc, name)?))
-}
-
-/// Reads the tests, for this design.
-fn decide_tests<S: Store>(
-    alloc: Global,
-    tests: &str,
-    flat: Flat,
-    store: &mut S,
-) -> Result<Decision, NoMemory>
-    requires { IsSoundFlat flat }
-    ensures reads { IfOk result (λ decision. ReadsTests (store_means S.Store) tests.now flat store.old (reading_of decision) store.new) }
-    ensures can_run { IfOk result (λ decision. CanRun decision) }
-{
-    match store.read_file(alloc, tests, MOST) {
-        Ok(text) => match read_tests(alloc, &flat, text.as_slice())? {
-            Some(file) => Ok(Decision::Runs(flat, file)),
-            None => tests_refused(alloc, tests),
-        },
-        Err(StoreFault::Failed) => unread(alloc, tests),
-        Err(StoreFault::OutOfMemory) => Err(NoMemory),
-    }
-}
-
-/// Reads the design, and then the tests.
-pub fn decide<S: Store>(
-    alloc: Global,
-    design: &str,
-    tests: &str,
-    store: &mut S,
-) -> Result<Decision, NoMemory>
-    ensures reads { IfOk result (λ decision. ReadsBoth (store_means S.Store) design.now tests.now store.old (reading_of decision) store.new) }
-    ensures can_run { IfOk result (λ decision. CanRun decision) }
-{
-    match store.read_file(alloc, design, MOST) {
-        Ok(text) => match read_design(alloc, text.as_slice()) {
-            Ok(flat) => decide_tests(alloc, tests, flat, store),
-            Err(DesignFault::Refused(refusal)) => design_refused(alloc, design, refusal),
-            Err(DesignFault::OutOfMemory) => Err(NoMemory),
-        },
-        Err(StoreFault::Failed) => unread(alloc, design),
-        Err(StoreFault::OutOfMemory) => Err(NoMemory),
-    }
-}
-
-/// Puts the line of a refusal.
-fn refuse<O: Sink>(alloc: Global, own: Status, line: &[u8], out: &mut O) -> Status
+/// Puts the one line of an answer, which has this status where it is taken.
+fn put_line<O: Sink>(alloc: Global, own: Status, line: &[u8], out: &mut O) -> Status
     ensures { EndsTo (sink_means O.Sink) (line.now ∷ []) own result out.old out.new }
 {
     let put = out.put(alloc, line);
     own.after(put)
 }
 
-/// Runs the test of the file on a design.
-fn run_file<O: Sink, K: Gpi, L: Ledger>(
+/// Puts the usage line.
+fn refuse_words<O: Sink>(alloc: Global, out: &mut O) -> Status
+    ensures { RefusesWords (sink_means O.Sink) result out.old out.new }
+{
+    match usage_text(alloc) {
+        Ok(line) => put_line(alloc, Status::Usage, line.as_slice(), out),
+        Err(NoMemory) => Status::NoMemory,
+    }
+}
+
+/// Runs the tests of the file on a design, and puts all lines of the run. Only want of memory is an error.
+fn run_file<O: Sink, K: Gpi>(
     alloc: Global,
     flat: &Flat,
     file: &TestFile,
-    budget: u64,
+    options: RunOptions,
     kernel: &mut K,
     out: &mut O,
-    steps: &mut Steps<L>,
 ) -> Result<Status, NoMemory>
     requires flat { IsSoundFlat flat.now }
-    requires file { IsOneTest (length flat.now.signals) file.now }
-    ensures runs { RunsFile (sink_means O.Sink) budget flat.now file.now (status_in result) (K.content kernel.new) out.old out.new }
+    requires file { is_sound (view_file file.now) ≡ true }
+    ensures runs { RunsFile (sink_means O.Sink) options flat.now (view_file file.now) (status_in result) (K.content kernel.new) out.old out.new }
     ensures loaded { OnOk result (K.is_loaded kernel.new) }
 {
     kernel.load(alloc, flat)?;
-    let maker = TreeMaker::new(alloc, file)?;
-    let mut engine = Engine::new(alloc, maker, WaitList::new(alloc), flat, false)?;
-    let case = file.cases.get(0);
-    Ok(run_all(alloc, case, &mut engine, kernel, out, budget, steps))
+    let maker = TreeMaker::new(file);
+    let awaits = WaitList::new(alloc);
+    let mut engine = Engine::new(alloc, maker, awaits, flat, options.seed, options.trace)?;
+    Ok(run_all(alloc, &file.cases, &mut engine, kernel, out, options.budget))
 }
 
-/// Does what was decided, within a budget.
-pub fn answer<O: Sink, K: Gpi, L: Ledger>(
+/// Runs the tests of the file on a design, and puts the last line of the run alone. Only want of memory is an error, and then nothing was put.
+fn run_last<O: Sink, K: Gpi>(
     alloc: Global,
-    decision: &Decision,
-    budget: u64,
+    flat: &Flat,
+    file: &TestFile,
+    options: RunOptions,
     kernel: &mut K,
     out: &mut O,
-    steps: &mut Steps<L>,
+) -> Result<Status, NoMemory>
+    requires flat { IsSoundFlat flat.now }
+    requires file { is_sound (view_file file.now) ≡ true }
+    ensures runs { RunsLast (sink_means O.Sink) options flat.now (view_file file.now) (status_in result) (K.content kernel.new) out.old out.new }
+    ensures loaded { OnOk result (K.is_loaded kernel.new) }
+{
+    let mut last = LastLine::new(alloc);
+    match run_file(alloc, flat, file, options, kernel, &mut last)? {
+        Status::NoMemory => Err(NoMemory),
+        own => Ok(put_line(alloc, own, last.bytes(), out)),
+    }
+}
+
+/// Runs the tests of the file on a design, and puts the lines that the options ask for. Only want of memory is an error.
+fn run_shown<O: Sink, K: Gpi>(
+    alloc: Global,
+    flat: &Flat,
+    file: &TestFile,
+    options: RunOptions,
+    kernel: &mut K,
+    out: &mut O,
+) -> Result<Status, NoMemory>
+    requires flat { IsSoundFlat flat.now }
+    requires file { is_sound (view_file file.now) ≡ true }
+    ensures runs { RunsShown options.shown (sink_means O.Sink) options flat.now (view_file file.now) (status_in result) (K.content kernel.new) out.old out.new }
+    ensures loaded { OnOk result (K.is_loaded kernel.new) }
+{
+    match options.shown {
+        Shown::AllLines => run_file(alloc, flat, file, options, kernel, out),
+        Shown::LastLine => run_last(alloc, flat, file, options, kernel, out),
+    }
+}
+
+/// Does what was decided.
+fn answer<O: Sink, K: Gpi>(
+    alloc: Global,
+    decision: &Decision,
+    options: RunOptions,
+    kernel: &mut K,
+    out: &mut O,
 ) -> Status
     requires { CanRun decision.now }
-    ensures answers { Answers (sink_means O.Sink) budget (reading_of decision.now) result (K.content kernel.new) out.old out.new }
+    ensures answers { Answers (sink_means O.Sink) options (reading_of decision.now) result (K.content kernel.new) out.old out.new }
     ensures kernel { LeavesKernel K.is_loaded result kernel.old kernel.new }
 {
     match decision {
-        Decision::Refused(own, line) => refuse(alloc, *own, line.as_slice(), out),
+        Decision::Refused(own, line) => put_line(alloc, *own, line.as_slice(), out),
         Decision::Runs(flat, file) => {
-            match run_file(alloc, flat, file, budget, kernel, out, steps) {
+            match run_shown(alloc, flat, file, options, kernel, out) {
                 Ok(status) => status,
                 Err(NoMemory) => Status::NoMemory,
             }
@@ -182,17 +126,24 @@ pub fn answer<O: Sink, K: Gpi, L: Ledger>(
     }
 }
 
-/// Runs the tests of a file on a design.
+/// Runs the tests of a file on a design, or generated ones.
 ///
-/// `words` are those of the command without the program's name: exactly two, the name of the design and the name of the tests. The
-/// design is read first. What is put, one put for each line, and the status:
+/// `words` are those of the command without the program's name: `[--top NAME] [--budget N] [--seed N] [--trace] DESIGN TESTS`, or
+/// `[--budget N] [--seed N] [--trace] --made N`, options and files in any order, as `read_words` of `command_words` takes them. DESIGN and
+/// TESTS are the names of the two files. The top of the design is the module that `--top` names, or else the only one that no module
+/// instantiates. The design is read first. With `--made` no file is read: the texts are those that `made_texts` makes of the number, which count as
+/// those of the files `made.v` and `made.py`. What is put, one put for each line, and the status:
 ///
-/// - other words: the usage line, `Usage`, and nothing is read;
+/// - words without a reading: the usage line, `Usage`, and nothing is read;
 /// - a file that cannot be read: `error: cannot read <file>`, `ReadFault`;
 /// - a design that has more than 1,048,576 bytes: `error: <file>: TooLong`, `DesignRefused`; one that breaks a rule:
 ///   `error: <file>: <rule> at <line>:<column>`, `DesignRefused`, by the rule that it breaks first;
-/// - tests of a form that is not built: `error: <file>: NotBuilt`, `TestsRefused`;
-/// - else the lines of the run, with `Passed`, `Failed`, or, where the budget is reached, `Budget`.
+/// - tests that have more than 1,048,576 bytes: `error: <file>: TooLong`, `TestsRefused`; ones that break a rule:
+///   `error: <file>: <rule> at line <line>`, `TestsRefused`, by the rule that they break first;
+/// - else the lines of the run of all tests, in which random numbers are drawn by the seed of `--seed`, or of seed 0, and in which each
+///   told change of a signal has a line where `--trace` asks for it; with `--made`, and without `--trace`, the last of these lines alone. The
+///   status is `Passed`, or `Failed` where a test failed. Where the next step doesn't fit what is left of the budget it is `Budget`, and the
+///   last line is `BUDGET <budget>`: the budget of `--budget`, or 10,000,000.
 ///
 /// Where the store tells its files, the texts are the first bytes of the files that it told when it was handed in.
 ///
@@ -204,28 +155,26 @@ pub fn answer<O: Sink, K: Gpi, L: Ledger>(
 /// `Passed`, `Failed` and `Budget` it stands for the run's last configuration: it holds that configuration's state, its awaited keys are
 /// the registered ones, and its counts are those of the run. After `Usage`, `DesignRefused`,
 /// `TestsRefused` and `ReadFault` it is as it was handed in. After `WriteFault` it holds a design, or it is as it was handed in. After
-/// `NoMemory` nothing is said of it. `steps` counts the steps of work of the parts.
-pub fn cocorun<S: Store, O: Sink, K: Gpi, L: Ledger>(
+/// `NoMemory` nothing is said of it.
+pub fn cocorun<S: Store, O: Sink, K: Gpi>(
     alloc: Global,
     words: &[String],
     store: &mut S,
     out: &mut O,
     kernel: &mut K,
-    steps: &mut Steps<L>,
 ) -> Status
-    ensures answer { Answered (store_means S.Store) (sink_means O.Sink) default_budget (map string_bytes words.now) result store.old store.new (K.content kernel.new) out.old out.new ⊎ Quit result out.old out.new }
+    ensures answer { Answered (store_means S.Store) (sink_means O.Sink) (map string_bytes words.now) result store.old store.new (K.content kernel.new) out.old out.new ⊎ Quit result out.old out.new }
     ensures kernel { LeavesKernel K.is_loaded result kernel.old kernel.new }
     ensures read_fault { RaisedAt Status.ReadFault (S.faults store.old) (S.faults store.new) result }
     ensures write_fault { RaisedAt Status.WriteFault (O.faults out.old) (O.faults out.new) result }
 {
-    if words.len() != 2 {
-        let Ok(line) = usage_text(alloc) else {
-            return Status::NoMemory;
-        };
-        return refuse(alloc, Status::Usage, line.as_slice(), out);
-    }
-    match decide(alloc, words[0].as_str(), words[1].as_str(), store) {
-        Ok(decision) => answer(alloc, &decision, BUDGET, kernel, out, steps),
+    let reading = match read_words(alloc, words) {
+        Ok(reading) => reading,
+        Err(WordsFault::Usage) => return refuse_words(alloc, out),
+        Err(WordsFault::OutOfMemory) => return Status::NoMemory,
+    };
+    match decide_work(alloc, reading.work, store) {
+        Ok(decision) => answer(alloc, &decision, options_of(reading), kernel, out),
         Err(NoMemory) => Status::NoMemory,
     }
 }

@@ -23,13 +23,13 @@ use Rattle.run_parts.specs.Queue.{Leads, Queue}
 use Rattle.run_queue.specs.Effects.{giving_up, planning}
 use Rattle.run_queue.specs.Fits.{Fits, queue_of}
 use Rattle.run_queue.specs.declared.queue.RunQueue.{RunQueue}
-use Rattle.run_times.specs.Timely.{IsTimely}
+use Rattle.engine.specs.Timely.{IsTimely}
 use Rattle.run_view.specs.View.{IsOf}
 use Rattle.effect_laws.specs.Stands.{StandsIn}
 use Rattle.effect_laws.proofs.Effects.{new_stands}
-use Rattle.running_test.specs.Fits.{HasRoom}
-use Rattle.running_test.specs.Parts.{Means, Parts, rig_by, parts_of}
-use Rattle.running_test.specs.declared.test.RunningTest.{RunningTest}
+use Rattle.engine.specs.TestFits.{HasRoom}
+use Rattle.engine.specs.Parts.{Means, Parts, rig_by, parts_of}
+use Rattle.engine.specs.declared.test.RunningTest.{RunningTest}
 use Rattle.engine.specs.Engine.{counting, rig_of, setup_of}
 use Rattle.engine.specs.Fits.{FitsKernel}
 use Rattle.engine.specs.declared.engine.Engine.{Engine}

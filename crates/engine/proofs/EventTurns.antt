@@ -25,13 +25,13 @@ use Rattle.run_parts.specs.Fits.{FitsQueue}
 use Rattle.run_parts.specs.Queue.{Queue, queue_awaited, rig_at}
 use Rattle.run_parts.specs.Steps.{TurnSteps, Moves, Begins}
 use Rattle.run_queue.proofs.Rekeys.{keys_awaited}
-use Rattle.run_events.proofs.DepositLaws.{has_set}
-use Rattle.run_times.specs.Timely.{IsTimely}
-use Rattle.run_times.proofs.Steps.{step_timely}
-use Rattle.run_turns.proofs.StepLaws.{turn_one, turn_none}
-use Rattle.run_turns.specs.Turns.{Turning, TurnsTo, turn_fault}
-use Rattle.run_turns.specs.declared.turn.Turn.{Turn}
-use Rattle.run_turns.specs.declared.turn.Turn.TheVariants.{Over, Spent}
+use Rattle.engine.proofs.DepositLaws.{has_set}
+use Rattle.engine.specs.Timely.{IsTimely}
+use Rattle.engine.proofs.Steps.{step_timely}
+use Rattle.engine.proofs.StepLaws.{turn_one, turn_none}
+use Rattle.engine.specs.Turns.{Turning, TurnsTo, turn_fault}
+use Rattle.engine.specs.declared.turned.Turn.{Turn}
+use Rattle.engine.specs.declared.turned.Turn.TheVariants.{Over, Spent}
 use Rattle.effect_laws.specs.Stands.{StandsIn, StandsOwn, turn_of}
 use Rattle.effect_laws.proofs.Effects.{evented_stands}
 use Rattle.engine.specs.Events.{event_turn, IsEventTurn}

@@ -23,9 +23,9 @@ use Rattle.port_io.specs.Means.{SinkMeans}
 use Rattle.port_io.specs.declared.ports.NoMemory.{NoMemory}
 use Rattle.gpi.specs.Events.{Event}
 use Rattle.wait_list.specs.declared.ready.Entry.{Entry}
-use Rattle.run_turns.specs.Turns.{Turning}
-use Rattle.run_turns.specs.declared.turn.Turn.{Turn}
-use Rattle.run_turns.proofs.TurnLaws.{turning_resumed}
+use Rattle.engine.specs.Turns.{Turning}
+use Rattle.engine.specs.declared.turned.Turn.{Turn}
+use Rattle.engine.proofs.TurnLaws.{turning_resumed}
 use Rattle.task_model.specs.Known.{AreSoundFunctions, KnowsGiven, KnowsWhole}
 use Rattle.task_model.specs.Frame.{Task}
 use Rattle.wait_list.specs.Keys.{AreKeys}
@@ -40,15 +40,15 @@ use Rattle.run_parts.specs.Steps.{FitSteps, TurnSteps, in_turn}
 use Rattle.run_queue.specs.Effects.{dropping, with_first}
 use Rattle.run_queue.specs.Fits.{Fits, IsBare, queue_of}
 use Rattle.run_queue.specs.declared.queue.RunQueue.{RunQueue}
-use Rattle.run_times.specs.Timely.{IsTimely}
+use Rattle.engine.specs.Timely.{IsTimely}
 use Rattle.run_view.specs.View.{IsOf}
-use Rattle.run_events.specs.Setups as events
+use Rattle.engine.specs.Setups as events
 use Rattle.effect_laws.specs.Stands.{StandsIn}
 use Rattle.effect_laws.proofs.Effects.{over_stands, rest_stands}
-use Rattle.running_test.specs.Fits.{HasRoom}
-use Rattle.running_test.specs.Parts.{Means, Parts, rig_by, parts_of}
-use Rattle.running_test.specs.Parts as parts
-use Rattle.running_test.specs.declared.test.RunningTest.{RunningTest}
+use Rattle.engine.specs.TestFits.{HasRoom}
+use Rattle.engine.specs.Parts.{Means, Parts, rig_by, parts_of}
+use Rattle.engine.specs.Parts as parts
+use Rattle.engine.specs.declared.test.RunningTest.{RunningTest}
 use Rattle.engine.specs.Engine.{rig_of, setup_of}
 use Rattle.engine.specs.Fits.{FitsAt, FitsKernel}
 use Rattle.engine.specs.declared.engine.Engine.{Engine}

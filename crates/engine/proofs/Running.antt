@@ -18,18 +18,18 @@ use Rattle.run_model.specs.Known.{IsKnown}
 use Rattle.run_model.specs.Rig.{Rig, Setup, view_of}
 use Rattle.run_model.specs.Step.{kept}
 use Rattle.run_parts.specs.Steps.{FitSteps, in_turn}
-use Rattle.run_times.specs.Timely.{IsTimely}
-use Rattle.run_turns.specs.Turns.{LeadsTo, Turning, next_fault, turn_fault}
-use Rattle.run_turns.specs.declared.turn.Next.{Next}
-use Rattle.run_turns.specs.declared.turn.Next.TheVariants.{GoesOn, Ends}
-use Rattle.run_turns.specs.declared.turn.Turn.{Turn}
-use Rattle.run_turns.specs.declared.turn.Turn.TheVariants as turn
+use Rattle.engine.specs.Timely.{IsTimely}
+use Rattle.engine.specs.Turns.{LeadsTo, Turning, next_fault, turn_fault}
+use Rattle.engine.specs.declared.turned.Next.{Next}
+use Rattle.engine.specs.declared.turned.Next.TheVariants.{GoesOn, Ends}
+use Rattle.engine.specs.declared.turned.Turn.{Turn}
+use Rattle.engine.specs.declared.turned.Turn.TheVariants as turn
 use Rattle.run_view.specs.View as view
-use Rattle.run_events.specs.Setups as events
-use Rattle.running_test.specs.Fits.{HasRoom, FitsAfter, FitsNext}
-use Rattle.running_test.specs.Fits as test
-use Rattle.running_test.specs.Parts.{Means, parts_of}
-use Rattle.running_test.specs.declared.test.RunningTest.{RunningTest}
+use Rattle.engine.specs.Setups as events
+use Rattle.engine.specs.TestFits.{HasRoom, FitsAfter, FitsNext}
+use Rattle.engine.specs.TestFits as test
+use Rattle.engine.specs.Parts.{Means, parts_of}
+use Rattle.engine.specs.declared.test.RunningTest.{RunningTest}
 use Rattle.engine.specs.Engine.{rig_of, setup_of}
 use Rattle.engine.specs.Fits.{FitsAt, FitsKernel}
 use Rattle.engine.specs.declared.engine.Engine.{Engine}

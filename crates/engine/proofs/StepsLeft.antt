@@ -6,7 +6,7 @@ use Rattle.run_model.specs.Step.{rig_step}
 use Rattle.run_model.specs.declared.outcome.Outcome.{Outcome}
 use Rattle.run_model.proofs.Falls.{mass, rig_falls}
 use Rattle.run_parts.specs.Steps.{FitSteps, Moves}
-use Rattle.run_turns.proofs.StepLaws.{fit_then}
+use Rattle.engine.proofs.StepLaws.{fit_then}
 
 module _ (from : Rig → Bool) (setup : Setup) where
   -- So many steps may follow and no more.

@@ -20,15 +20,15 @@ use Rattle.run_model.specs.Known.{IsKnown}
 use Rattle.run_model.specs.Rig.{Rig, Setup, view_of}
 use Rattle.run_model.specs.Step.{kept, task_at}
 use Rattle.run_parts.specs.Steps.{FitSteps, in_turn, Moves}
-use Rattle.run_times.specs.Timely.{IsTimely}
-use Rattle.run_turns.specs.Turns.{Turning, LeadsTo, next_fault, turn_fault}
-use Rattle.run_turns.proofs.KnownSteps.{polled_known}
-use Rattle.run_turns.proofs.Planned.{effect_planned}
-use Rattle.run_turns.proofs.TurnLaws.{turning_spent, turning_cut, turning_ends, turning_goes_on, poll_moves, poll_short}
-use Rattle.run_turns.specs.declared.turn.Turn.{Turn}
-use Rattle.run_turns.specs.declared.turn.Turn.TheVariants as turn
-use Rattle.run_turns.specs.declared.turn.Next.{Next}
-use Rattle.run_turns.specs.declared.turn.Next.TheVariants.{GoesOn, Ends}
+use Rattle.engine.specs.Timely.{IsTimely}
+use Rattle.engine.specs.Turns.{Turning, LeadsTo, next_fault, turn_fault}
+use Rattle.engine.proofs.KnownSteps.{polled_known}
+use Rattle.engine.proofs.Planned.{effect_planned}
+use Rattle.engine.proofs.TurnLaws.{turning_spent, turning_cut, turning_ends, turning_goes_on, poll_moves, poll_short}
+use Rattle.engine.specs.declared.turned.Turn.{Turn}
+use Rattle.engine.specs.declared.turned.Turn.TheVariants as turn
+use Rattle.engine.specs.declared.turned.Next.{Next}
+use Rattle.engine.specs.declared.turned.Next.TheVariants.{GoesOn, Ends}
 use Rattle.engine.proofs.Known.{known_over, known_stopped}
 use Rattle.engine.proofs.StepsLeft.{steps_left, steps_fall}
 use Rattle.engine.proofs.Timing.{moves_timely}

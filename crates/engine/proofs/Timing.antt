@@ -13,9 +13,9 @@ use Rattle.run_model.specs.Rig.{Rig, Setup, procs, awaited}
 use Rattle.run_model.specs.Serve.{with_fired, not_due, is_due, deposit, flushed, flushed_if, ended_if, served}
 use Rattle.run_model.specs.Step.{rig_step, evented}
 use Rattle.run_parts.specs.Steps.{FitSteps, Moves}
-use Rattle.run_times.specs.Timely.{IsTimely}
-use Rattle.run_times.proofs.Steps.{step_timely}
-use Rattle.run_turns.proofs.Planned.{serve_keys_planned}
+use Rattle.engine.specs.Timely.{IsTimely}
+use Rattle.engine.proofs.Steps.{step_timely}
+use Rattle.engine.proofs.Planned.{serve_keys_planned}
 
 -- ---- times
 

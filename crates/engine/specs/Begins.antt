@@ -5,8 +5,8 @@ use Rattle.py_value.specs.Answer.{plain_fault}
 use Rattle.run_model.specs.Case.{refused}
 use Rattle.run_model.specs.Rig.{Rig}
 use Rattle.run_model.specs.declared.outcome.Outcome.TheVariants.{Raised}
-use Rattle.run_turns.specs.declared.turn.Turn.{Turn}
-use Rattle.run_turns.specs.declared.turn.Turn.TheVariants.{Went, Over}
+use Rattle.engine.specs.declared.turned.Turn.{Turn}
+use Rattle.engine.specs.declared.turned.Turn.TheVariants.{Went, Over}
 
 -- the fault of an argument or of the time, where there was one, has ended the test
 abbrev pub faulted : Option FaultKind → Rig → Rig

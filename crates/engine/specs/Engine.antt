@@ -2,10 +2,10 @@
 use Rattle.std.specs.Prelude.{Bool}
 use Rattle.gpi.specs.Content.{Content}
 use Rattle.gpi.specs.declared.types.Counts.{Counts}
-use Rattle.run_events.specs.Setups as events
+use Rattle.engine.specs.Setups as events
 use Rattle.run_model.specs.Rig.{Rig, Setup}
-use Rattle.running_test.specs.Parts as parts
-use Rattle.running_test.specs.Parts.{Means}
+use Rattle.engine.specs.Parts as parts
+use Rattle.engine.specs.Parts.{Means}
 use Rattle.engine.specs.declared.engine.Engine.{Engine}
 
 -- what all its tests share

@@ -6,8 +6,8 @@ use Rattle.port_io.specs.declared.ports.SinkFault.TheVariants.{Failed, OutOfMemo
 use Rattle.py_syntax.specs.declared.fault_kind.FaultKind.TheVariants.{SimTimeoutError}
 use Rattle.py_value.specs.Answer.{plain_fault}
 use Rattle.run_model.specs.declared.outcome.Outcome.TheVariants.{Raised}
-use Rattle.run_turns.specs.declared.turn.Turn.{Turn}
-use Rattle.run_turns.specs.declared.turn.Turn.TheVariants.{Went, Due, Over, WriteFault}
+use Rattle.engine.specs.declared.turned.Turn.{Turn}
+use Rattle.engine.specs.declared.turned.Turn.TheVariants.{Went, Due, Over, WriteFault}
 
 -- all lines were taken: the test's time is over, or the planned start has fired, or neither
 abbrev pub event_turn : Bool → Bool → Turn

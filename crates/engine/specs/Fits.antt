@@ -5,10 +5,10 @@ use Rattle.gpi.specs.Limits.{latest_time}
 use Rattle.py_value.specs.declared.trigger.TaskNo.{TaskNo}
 use Rattle.run_model.specs.Known.{IsKnown}
 use Rattle.run_queue.specs.Fits.{Keeps}
-use Rattle.run_times.specs.Timely.{IsTimely}
+use Rattle.engine.specs.Timely.{IsTimely}
 use Rattle.run_view.specs.View.{IsOf}
-use Rattle.running_test.specs.Fits as test
-use Rattle.running_test.specs.Parts.{Means}
+use Rattle.engine.specs.TestFits as test
+use Rattle.engine.specs.Parts.{Means}
 use Rattle.engine.specs.Engine.{rig_of, setup_of}
 use Rattle.engine.specs.declared.engine.Engine.{Engine}
 

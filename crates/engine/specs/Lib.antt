@@ -1,3 +1,13 @@
+pub mod Timely
+pub mod Turns
+pub mod Amid
+pub mod Evented
+pub mod Fires
+pub mod Puts
+pub mod Setups
+pub mod Parts
+pub mod TestFits
+pub mod Waits
 pub mod Engine
 pub mod Fits
 pub mod Begins

@@ -10,11 +10,14 @@ ghost use Rattle.run_model.specs.Case.{emptied, test_begun, with_deadline, with_
 ghost use Rattle.run_model.specs.Effect.{with_new_task};
 ghost use Rattle.run_model.specs.Counts.{counted};
 ghost use Rattle.run_model.specs.Rig.{awaited};
-ghost use Rattle.run_turns.specs.Turns.{BeginsTo, has_gone};
-ghost use Rattle.running_test.specs.Parts.{means};
+ghost use Rattle.engine.specs.Turns.{BeginsTo, has_gone};
+ghost use Rattle.engine.specs.Parts.{means};
 ghost use Rattle.engine.specs.Begins.{begun_turn, faulted};
 
 use crate::Engine;
+use crate::limits::{deadline_at, limit_steps};
+use crate::starts::task_arguments;
+use crate::turned::Turn;
 use gpi::Gpi;
 use port_io::{NoMemory, Sequence, Sink, SinkFault};
 use py_attribute::OperationFault;
@@ -22,10 +25,8 @@ use py_syntax::{Const, FaultKind};
 use py_value::{Fault, Value};
 use run_lines::test_line;
 use run_model::Outcome;
-use run_turns::Turn;
 use std::alloc::Global;
 use task_model::FlowMaker;
-use test_begin::{deadline_at, limit_steps, task_arguments};
 use test_body::TestCase;
 use wait_list::Awaits;
 

@@ -9,13 +9,13 @@ ghost use Rattle.wait_list.specs.Keys.{AreAlike, AreKeys};
 ghost use Rattle.run_model.specs.Case.{emptied, ended, start_planned};
 ghost use Rattle.run_model.specs.Rig.{path_of};
 ghost use Rattle.run_queue.specs.Fits.{Keeps};
-ghost use Rattle.running_test.specs.Parts.{means};
+ghost use Rattle.engine.specs.Parts.{means};
 
+use crate::teller::Teller;
+use crate::test::RunningTest;
 use design_names::DesignNames;
 use gpi::{Flat, Gpi, SigId};
 use port_io::NoMemory;
-use run_events::Teller;
-use running_test::RunningTest;
 use std::alloc::Global;
 use task_model::FlowMaker;
 use wait_list::Awaits;

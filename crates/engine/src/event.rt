@@ -2,18 +2,18 @@
 ghost use Rattle.std.specs.Prelude.{◌≡◌, ◌&&◌, not, [], None, Ok};
 ghost use Rattle.port_io.specs.Means.{sink_means};
 ghost use Rattle.run_parts.specs.Steps.{TurnSteps};
-ghost use Rattle.run_turns.specs.Turns.{Turning, turn_fault};
+ghost use Rattle.engine.specs.Turns.{Turning, turn_fault};
 ghost use Rattle.engine.specs.Events.{IsEventTurn, event_turn};
-ghost use Rattle.running_test.specs.Parts.{means};
+ghost use Rattle.engine.specs.Parts.{means};
 
 use crate::Engine;
+use crate::evented::Evented;
+use crate::turned::Turn;
 use gpi::Gpi;
 use port_io::{NoMemory, Sink, SinkFault};
 use py_syntax::FaultKind;
 use py_value::Fault;
-use run_events::Evented;
 use run_model::Outcome;
-use run_turns::Turn;
 use std::alloc::Global;
 use task_model::FlowMaker;
 use wait_list::Awaits;

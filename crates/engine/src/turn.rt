@@ -5,15 +5,15 @@ ghost use Rattle.task_model.specs.Known.{KnowsGiven};
 ghost use Rattle.run_model.specs.Effect.{goes_on};
 ghost use Rattle.run_model.specs.Rig.{view_of};
 ghost use Rattle.run_parts.specs.Steps.{FitSteps, TurnSteps, in_turn};
-ghost use Rattle.run_turns.specs.Turns.{Turning, has_gone, turn_fault};
-ghost use Rattle.running_test.specs.Parts.{means};
+ghost use Rattle.engine.specs.Turns.{Turning, has_gone, turn_fault};
+ghost use Rattle.engine.specs.Parts.{means};
 
 use crate::Engine;
+use crate::turned::{Next, Turn, has_gone};
 use await_tree::Given;
 use gpi::Gpi;
 use port_io::{NoMemory, Sink};
 use py_value::TaskNo;
-use run_turns::{Next, Turn, has_gone};
 use std::alloc::Global;
 use task_model::{FlowMaker, Turned};
 use wait_list::Awaits;

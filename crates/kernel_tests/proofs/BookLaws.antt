@@ -1,5 +1,5 @@
 -- The book stays that of the simulator.
-use Rattle.std.proofs.Common.{◌≡◌, ◌≤◌, ◌&&◌, ◌||◌, not, Bool, false, suc, List, [], ◌∷◌, ◌++◌, Option, Some, None, length, take, refl, ap, sym, ◌∙◌, append-nil, subst}
+use Rattle.std.proofs.Common.{◌≡◌, ◌&&◌, ◌||◌, not, Bool, false, suc, List, [], ◌∷◌, ◌++◌, Option, Some, None, length, take, refl, ap, sym, ◌∙◌, subst}
 use Rattle.std.proofs.Math.Seq.{take-append_seam}
 use Rattle.std.specs.List.{list_any}
 use Rattle.four_value.specs.declared.Digit.{Digit}
@@ -17,12 +17,10 @@ use Rattle.gpi.specs.declared.types.Key.{Key}
 use Rattle.gpi.specs.declared.types.Key.TheVariants.{At, Rise, Fall, Change, ReadWrite, ReadOnly, NextStep}
 use Rattle.gpi.specs.declared.types.Moved.{Moved}
 use Rattle.gpi.specs.declared.types.SigId.{SigId}
-use Rattle.rig_model.specs.Keys.{keys_in, without, without_all}
-use Rattle.rig_model.proofs.CountLaws.{among-more}
-use Rattle.rig_model.proofs.FireLaws.{event_fires, put_fires, told_back}
-use Rattle.rig_model.proofs.KernelLaws.{among_without_all}
 use Rattle.kernel_tests.specs.Calls.{IsBook}
+use Rattle.kernel_tests.specs.Keys.{keys_in, without, without_all}
 use Rattle.kernel_tests.specs.declared.booked.Book.{Book}
+use Rattle.kernel_tests.proofs.KeyLaws.{AreFew, among_push, among_without_all, event_few, put_few, told_back}
 
 pub among_any : (key : Key) (keys : List Key) → list_any (same_key key) keys ≡ among key keys
 among_any key [] = refl
@@ -85,7 +83,7 @@ noted key before after book new b r signals keys = record {
   signals = signals ∙ b.signals ∙ ap (λ (s : State). length s.signals) (sym r.state);
   keys = λ x.
       r.keys x ∙ ap (λ (h : Bool). same_key x key || h) (b.keys x)
-      ∙ sym (ap (among x) keys ∙ among-more x key book.keys.items [] ∙ ap (λ (ks : List Key). same_key x key || among x ks) (append-nil book.keys.items));
+      ∙ sym (ap (among x) keys ∙ among_push x key book.keys.items);
 }
 
 -- a key is removed
@@ -100,7 +98,7 @@ struck key before after book new b r signals keys = record {
 
 -- keys fired
 fired_out : (e : Event) (fired : Fired) (before after : Content) (book new : Book)
-    → IsBook book before → length e.fired ≤ 2 → fired ≡ fired_of e.fired → Does before e after
+    → IsBook book before → AreFew e → fired ≡ fired_of e.fired → Does before e after
     → widths_of after.state.signals ≡ widths_of before.state.signals
     → new.signals ≡ book.signals → new.keys.items ≡ without_all (keys_in fired) book.keys.items → IsBook new after
 fired_out e fired before after book new b few is does widths signals keys = record {
@@ -119,7 +117,7 @@ pub put_out : (before after : Content) (sig : SigId) (bits : List Digit) (fired 
     → new.signals ≡ book.signals → new.keys.items ≡ without_all (keys_in fired) book.keys.items → IsBook new after
 put_out before after sig bits fired book new b is does widths signals keys =
     let e : Event = put before.procs before.state before.keys sig bits in
-    fired_out e fired before after book new b (put_fires before.procs before.state before.keys sig bits).few is does widths signals keys
+    fired_out e fired before after book new b (put_few before.procs before.state before.keys sig bits) is does widths signals keys
 
 -- by an event
 pub event_out : (before after : Content) (m : Moved) (book new : Book)
@@ -135,7 +133,7 @@ event_out before after m book new b answers widths signals keys = by_event (even
     by_event None q h = let no : advance.Moved m ≡ advance.Idle = h.0 in cc
     by_event (Some e) q h =
         let is : m ≡ record { change = e.told; fired = fired_of e.fired } = moved_is m (record { change = e.told; fired = fired_of e.fired }) h.0 in
-        fired_out e m.fired before after book new b (event_fires before.procs before.state before.keys e q).few
+        fired_out e m.fired before after book new b (event_few before.procs before.state before.keys e q)
         (ap (λ (x : Moved). x.fired) is) h.1 widths signals keys
 
 -- nothing happened

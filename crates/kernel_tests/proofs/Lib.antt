@@ -1,3 +1,4 @@
 pub mod DesignLaws
+pub mod KeyLaws
 pub mod BookLaws
 pub mod RowLaws

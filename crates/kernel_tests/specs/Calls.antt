@@ -9,8 +9,8 @@ use Rattle.gpi.specs.State.{is_end}
 use Rattle.gpi.specs.declared.types.Key.{Key}
 use Rattle.gpi.specs.declared.types.Key.TheVariants.{At, Rise, Fall, Change, ReadWrite, ReadOnly, NextStep}
 use Rattle.gpi.specs.declared.types.SigId.{SigId}
-use Rattle.rig_model.specs.Keys.{AreKeys}
 use Rattle.table_rows.specs.Rows.{decimal, part_at}
+use Rattle.kernel_tests.specs.Keys.{AreKeys}
 use Rattle.kernel_tests.specs.declared.booked.Book.{Book}
 use Rattle.kernel_tests.specs.declared.calls.Call.{Call}
 use Rattle.kernel_tests.specs.declared.calls.Call.TheVariants as call

@@ -1,3 +1,4 @@
 pub mod Designs
+pub mod Keys
 pub mod Calls
 pub mod Shown

@@ -7,8 +7,8 @@ ghost use Rattle.std.specs.Prelude.{◌≡◌, Bool, true, false, [], length, If
 ghost use Rattle.gpi.specs.Content.{IsAsked, no_design, opening};
 ghost use Rattle.gpi.specs.Soundness.{IsSoundFlat};
 ghost use Rattle.gpi.specs.Keys.{same_key};
-ghost use Rattle.rig_model.specs.Keys.{keys_in, without, without_all};
 ghost use Rattle.kernel_tests.specs.Calls.{IsAnswered, IsBook};
+ghost use Rattle.kernel_tests.specs.Keys.{keys_in, without, without_all};
 ghost use Rattle.kernel_tests.specs.declared.calls.Call.TheVariants as call;
 
 use crate::calls::{Answer, Call};
@@ -55,7 +55,7 @@ impl Book {
         ensures keys { self.new.keys.items ≡ without key self.old.keys.items }
         ensures signals { self.new.signals ≡ self.old.signals }
     {
-        self.keys.retain(|own| !is_same(key, *own));
+        self.keys.retain(|own| !is_same(*own, key));
     }
 
     /// Notes that these keys aren't registered any more.

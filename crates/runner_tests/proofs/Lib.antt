@@ -1,3 +1,2 @@
-mod FirstPath
-pub mod Texts
-pub mod Left
+pub mod Written
+pub mod Shown

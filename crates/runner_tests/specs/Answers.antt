@@ -3,22 +3,12 @@ use Rattle.std.specs.Prelude.{◌≡◌, ◌≢◌, ℕ, List, ◌++◌, Option,
 use Rattle.std.specs.Str.{bytes_eq}
 use Rattle.list_kernel.specs.declared.kernel.ListKernel.{ListKernel}
 use Rattle.table_rows.specs.Rows.{part_at, written}
-use Rattle.table_rows.specs.Shown.{in_quotes, latin}
+use Rattle.table_rows.specs.Shown.{latin}
 use Rattle.runner_tests.specs.declared.answer.Asked.{Asked}
 use Rattle.runner_tests.specs.declared.answer.Asked.TheVariants as asked
-use Rattle.runner_tests.specs.declared.lines.AskedLine.{AskedLine}
 use Rattle.runner_tests.specs.Commands.{ShowsCommand, ShowsKept, ShowsLong}
 use Rattle.runner_tests.specs.Designs.{ShowsDesign}
-use Rattle.runner_tests.specs.Engines.{ShowsFiles}
-use Rattle.runner_tests.specs.Lines.{decimal_at, line_asked_by, line_of}
-use Rattle.runner_tests.specs.Releases.{ShowsRelease}
-use Rattle.runner_tests.specs.Runs.{ShowsRun, ShowsTrace}
-use Rattle.runner_tests.specs.Tests.{ShowsFile}
-
--- a line, where one is asked for
-abbrev pub among_lines : Option AskedLine → Option Asked
-among_lines None = None
-among_lines (Some line) = Some (asked.Line line)
+use Rattle.runner_tests.specs.Tests.{ShowsTests}
 
 -- what a word asks, if anything
 abbrev pub asked_by : List ℕ → Option Asked
@@ -26,25 +16,16 @@ asked_by word =
     if bytes_eq word (codes "command") then Some asked.Command
     else (if bytes_eq word (codes "kept") then Some asked.Kept
     else (if bytes_eq word (codes "long") then Some asked.Long
-    else (if bytes_eq word (codes "run") then Some asked.Run
-    else (if bytes_eq word (codes "trace") then Some asked.Trace
     else (if bytes_eq word (codes "design") then Some asked.Design
-    else (if bytes_eq word (codes "tests") then Some asked.Tests
-    else (if bytes_eq word (codes "engine") then Some asked.Engine
-    else (if bytes_eq word (codes "release") then Some asked.Release else among_lines (line_asked_by word)))))))))
+    else (if bytes_eq word (codes "tests") then Some asked.Tests else None))))
 
 -- What is shown of a row. The simulator of the `kept` rows was the first one and is the second one then.
 abbrev pub ShowsAsked : Asked → List ℕ → ListKernel → ListKernel → List ℕ → Type 0
 ShowsAsked asked.Command row before after text = ShowsCommand row text
 ShowsAsked asked.Kept row before after text = ShowsKept row before after text
 ShowsAsked asked.Long row before after text = ShowsLong row text
-ShowsAsked asked.Run row before after text = ShowsRun (decimal_at 2 row) (part_at 3 row) (part_at 4 row) text
-ShowsAsked asked.Trace row before after text = ShowsTrace (part_at 2 row) (part_at 3 row) text
 ShowsAsked asked.Design row before after text = ShowsDesign (written (part_at 2 row)) text
-ShowsAsked asked.Tests row before after text = ShowsFile (written (part_at 2 row)) (written (part_at 3 row)) text
-ShowsAsked asked.Engine row before after text = ShowsFiles (part_at 2 row) (part_at 3 row) text
-ShowsAsked asked.Release row before after text = ShowsRelease (part_at 2 row) (part_at 3 row) text
-ShowsAsked (asked.Line line) row before after text = text ≡ in_quotes (line_of line row)
+ShowsAsked asked.Tests row before after text = ShowsTests (written (part_at 2 row)) text
 
 -- A row whose word asks nothing shows that it doesn't.
 abbrev pub ShowsWord : Option Asked → List ℕ → ListKernel → ListKernel → List ℕ → Type 0

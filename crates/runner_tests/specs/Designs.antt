@@ -1,5 +1,5 @@
 -- What a design is read as, as it is shown.
-use Rattle.std.specs.Prelude.{◌≡◌, ℕ, List, ◌++◌, Result, Ok, Err, codes}
+use Rattle.std.specs.Prelude.{◌≡◌, ℕ, List, ◌++◌, None, Result, Ok, Err, codes}
 use Rattle.std.specs.Fmt.{decimal}
 use Rattle.std.specs.List.{flat_map}
 use Rattle.gpi.specs.declared.design.Flat.{Flat}
@@ -10,10 +10,10 @@ use Rattle.v_design.specs.Words.{refusal_word}
 use Rattle.table_rows.specs.Shown.{latin}
 use Rattle.runner_tests.specs.Words.{digit_word}
 
--- The text is a design, or is refused for this reason.
+-- The text is a design under the only module that no module instantiates, or is refused for this reason.
 abbrev pub IsRead : List ℕ → Result Flat DesignRefusal → Type 0
-IsRead source (Ok flat) = IsDesign source flat
-IsRead source (Err why) = IsRefused why source
+IsRead source (Ok flat) = IsDesign None source flat
+IsRead source (Err why) = IsRefused None why source
 
 -- a signal: its path, its width, and what each of its digits begins as
 abbrev pub signal_word : Signal → List ℕ

@@ -1,10 +1,6 @@
 pub mod Files
-pub mod Lines
 pub mod Words
-pub mod Engines
+pub mod Commands
 pub mod Designs
 pub mod Tests
-pub mod Runs
-pub mod Releases
-pub mod Commands
 pub mod Answers

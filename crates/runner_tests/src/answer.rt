@@ -4,12 +4,8 @@ ghost use Rattle.table_rows.specs.Rows.{part_at};
 ghost use Rattle.runner_tests.specs.Answers.{LeavesKept, ShowsAsked, ShowsRow, ShowsWord, asked_by};
 
 use crate::commands::{command_text, kept_text, long_text};
-use crate::engines::engine_text;
-use crate::forms::{design_text, file_text};
-use crate::lines::{AskedLine, line_asked_by, line_text};
-use crate::releases::release_text;
-use crate::runs::run_text;
-use crate::traces::trace_text;
+use crate::designs::design_text;
+use crate::texts::tests_text;
 use list_kernel::ListKernel;
 use port_io::NoMemory;
 use std::alloc::Global;
@@ -18,16 +14,16 @@ use table_rows::{Row, push_bytes};
 /// What is asked.
 #[derive(Clone, Copy, Debug, PartialEq, Eq)]
 enum Asked {
+    /// A command.
     Command,
+    /// A command on the simulator of these rows.
     Kept,
+    /// A command over texts of a number of bytes.
     Long,
-    Run,
-    Trace,
+    /// What a design is read as.
     Design,
+    /// What tests are read as.
     Tests,
-    Engine,
-    Release,
-    Line(AskedLine),
 }
 
 /// What a word asks, if anything.
@@ -40,20 +36,12 @@ fn asked_by(word: &[u8]) -> Option<Asked>
         Some(Asked::Kept)
     } else if word == b"long".as_slice() {
         Some(Asked::Long)
-    } else if word == b"run".as_slice() {
-        Some(Asked::Run)
-    } else if word == b"trace".as_slice() {
-        Some(Asked::Trace)
     } else if word == b"design".as_slice() {
         Some(Asked::Design)
     } else if word == b"tests".as_slice() {
         Some(Asked::Tests)
-    } else if word == b"engine".as_slice() {
-        Some(Asked::Engine)
-    } else if word == b"release".as_slice() {
-        Some(Asked::Release)
     } else {
-        Some(Asked::Line(line_asked_by(word)?))
+        None
     }
 }
 
@@ -72,13 +60,8 @@ fn asked_text(
         Asked::Command => command_text(alloc, row),
         Asked::Kept => kept_text(alloc, row, kernel),
         Asked::Long => long_text(alloc, row),
-        Asked::Run => run_text(alloc, row),
-        Asked::Trace => trace_text(alloc, row),
         Asked::Design => design_text(alloc, row),
-        Asked::Tests => file_text(alloc, row),
-        Asked::Engine => engine_text(alloc, row),
-        Asked::Release => release_text(alloc, row),
-        Asked::Line(line) => line_text(alloc, line, row),
+        Asked::Tests => tests_text(alloc, row),
     }
 }
 

@@ -1,48 +1,22 @@
 //! The command with its words, over files and lines in memory.
-ghost use Rattle.std.specs.Prelude.{◌≡◌, ◌<◌, ◌++◌, IfOk, OnErr, OnOk, map, string_bytes};
+ghost use Rattle.std.specs.Prelude.{◌≡◌, ◌++◌, IfOk, OnErr, OnOk, codes, map, string_bytes};
 ghost use Rattle.std.specs.List.{slice_split};
 ghost use Rattle.command.specs.Answer.{LeavesKernel};
 ghost use Rattle.list_kernel.specs.Kernel.{IsLoaded, content_of};
-ghost use Rattle.table_rows.specs.Rows.{is_byte};
-ghost use Rattle.table_rows.specs.Rows.{part_at, written};
-ghost use Rattle.runner_tests.specs.Commands.{RowEnds, CommandEnds, ShowsCommand, ShowsKept, ShowsLong, long_store, of_length, word_in, words_of};
-ghost use Rattle.runner_tests.specs.Files.{store_with, with_file};
-ghost use Rattle.runner_tests.specs.Lines.{decimal_at};
+ghost use Rattle.table_rows.specs.Rows.{is_byte, part_at};
+ghost use Rattle.runner_tests.specs.Files.{decimal_at, sink_failing, store_at};
+ghost use Rattle.runner_tests.specs.Commands.{Ends, ShowsCommand, ShowsKept, ShowsLong, word_in, words_of};
 
+use crate::files::{long_store, store_of};
 use crate::words::{counted_text, ended_text, latin_text};
 use command::cocorun;
 use list_kernel::ListKernel;
 use port_io::{MemSink, MemStore, NoMemory};
-use regression::Status;
-use rig_model::Steps;
 use std::alloc::{AllocError, Global};
-use std::marker::Brand;
-use std::sync::ledger::{Blank, Ledger};
-use table_rows::{Row, text_of};
+use table_rows::Row;
+use test_runs::Status;
 
-/// Adds the file of that name whose text a part is, unless that is `-`. After an Err the store is as it was. Only want of memory is an
-/// error, here and below.
-fn add_file(alloc: Global, store: &mut MemStore, name: &str, part: &[u8]) -> Result<(), NoMemory>
-    ensures ok { OnOk result (store.new ≡ with_file name.now part.now store.old) }
-    ensures err { OnErr result (store.new ≡ store.old) }
-{
-    if part == b"-".as_slice() {
-        return Ok(());
-    }
-    store.add(name, &text_of(alloc, part)?)
-}
-
-/// A store with the design and the tests, each where there is one.
-pub fn store_of(alloc: Global, design: &[u8], tests: &[u8]) -> Result<MemStore, NoMemory>
-    ensures { IfOk result (λ store. store ≡ store_with design.now tests.now) }
-{
-    let mut store = MemStore::new(alloc);
-    add_file(alloc, &mut store, "d.v", design)?;
-    add_file(alloc, &mut store, "t.py", tests)?;
-    Ok(store)
-}
-
-/// What stands between the spaces of a text.
+/// What stands between the spaces of a text. Only want of memory is an error, here and below.
 fn parts_of(alloc: Global, text: &[u8]) -> Result<Vec<&[u8]>, AllocError>
     ensures { IfOk result (λ parts. map (λ part. part.now) parts.items ≡ slice_split (is_byte 32) text.now) }
 {
@@ -72,94 +46,64 @@ fn words_of(alloc: Global, text: &[u8]) -> Result<Vec<String>, AllocError>
     Ok(words)
 }
 
-/// The status of a command. The blank is for the counter of steps of work.
-fn run<L: Ledger>(
+/// The status of a command with words between spaces, over a store and on a kernel, and what it put into a sink of which that put fails.
+/// After an Err the kernel is as it was.
+fn ended(
     alloc: Global,
-    words: &[String],
-    store: &mut MemStore,
-    sink: &mut MemSink,
+    text: &[u8],
+    store: MemStore,
+    failing: u64,
     kernel: &mut ListKernel,
-    blank: Blank,
-) -> Status
-    requires name { blank.name ≡ L.name }
-    requires parts { blank.parts ≡ L.parts }
-    requires some { 0 < blank.parts }
-    ensures answer { CommandEnds (map string_bytes words.now) store.old sink.old result store.new (content_of kernel.new) sink.new }
-    ensures leaves { LeavesKernel IsLoaded result kernel.old kernel.new }
+) -> Result<(Status, MemSink), NoMemory>
+    ensures ends { IfOk result (λ ended. Ends text.now store (sink_failing failing) (content_of kernel.new) ended.0 ended.1) }
+    ensures leaves { IfOk result (λ ended. LeavesKernel IsLoaded ended.0 kernel.old kernel.new) }
+    ensures err { OnErr result (kernel.new ≡ kernel.old) }
 {
-    let mut steps = Steps::<L>::new(blank);
-    cocorun(alloc, words, store, sink, kernel, &mut steps)
+    let words = words_of(alloc, text)?;
+    let mut store = store;
+    let mut sink = MemSink::new(alloc);
+    sink.fail_at(failing)?;
+    let status = cocorun(alloc, &words, &mut store, &mut sink, kernel);
+    Ok((status, sink))
 }
 
-/// The status of a row's command on this kernel, and what it put.
-fn outcome(
+/// The same of the words and the files of a row.
+fn row_ended(
     alloc: Global,
     row: &Row<'_>,
     kernel: &mut ListKernel,
 ) -> Result<(Status, MemSink), NoMemory>
-    ensures comes { IfOk result (λ ended. RowEnds row.now (content_of kernel.new) ended.0 ended.1) }
+    ensures ends { IfOk result (λ ended. Ends (part_at 2 row.now) (store_at row.now) (sink_failing (decimal_at 6 row.now)) (content_of kernel.new) ended.0 ended.1) }
     ensures leaves { IfOk result (λ ended. LeavesKernel IsLoaded ended.0 kernel.old kernel.new) }
+    ensures err { OnErr result (kernel.new ≡ kernel.old) }
 {
-    let words = words_of(alloc, row.part(2))?;
-    let mut store = store_of(alloc, row.part(3), row.part(4))?;
-    let mut sink = MemSink::new(alloc);
-    store.fail_at(row.number(5))?;
-    sink.fail_at(row.number(6))?;
-    let status = run::<Brand>(alloc, &words, &mut store, &mut sink, kernel, Blank::new(1));
-    Ok((status, sink))
+    let store = store_of(alloc, row)?;
+    ended(alloc, row.part(2), store, row.number(6), kernel)
 }
 
-/// The status of a command, and what it put.
+/// The status of a row's command, and what it put.
 pub fn command_text(alloc: Global, row: &Row<'_>) -> Result<String, NoMemory>
     ensures { IfOk result (λ text. ShowsCommand row.now (string_bytes text)) }
 {
     let mut kernel = ListKernel::new(alloc);
-    let (status, sink) = outcome(alloc, row, &mut kernel)?;
-    ended_text(alloc, status, sink.bytes())
+    let ended = row_ended(alloc, row, &mut kernel)?;
+    ended_text(alloc, ended.0, ended.1.bytes())
 }
 
 /// The same on a simulator that other commands had before, and its counts. After an Err nothing is said of the simulator.
 pub fn kept_text(alloc: Global, row: &Row<'_>, kernel: &mut ListKernel) -> Result<String, NoMemory>
     ensures { IfOk result (λ text. ShowsKept row.now kernel.old kernel.new (string_bytes text)) }
 {
-    let (status, sink) = outcome(alloc, row, kernel)?;
-    counted_text(alloc, status, kernel, sink.bytes())
+    let ended = row_ended(alloc, row, kernel)?;
+    counted_text(alloc, ended.0, kernel, ended.1.bytes())
 }
 
-/// So many bytes of a row's design, which is cut, or filled up with spaces.
-fn long_design(alloc: Global, row: &Row<'_>) -> Result<Vec<u8>, AllocError>
-    ensures { IfOk result (λ text. text.items ≡ of_length (decimal_at 2 row.now) (written (part_at 3 row.now))) }
-{
-    let mut text = row.text(alloc, 3)?;
-    text.resize(row.number(2) as usize, b' ')?;
-    Ok(text)
-}
-
-/// The files of a row whose design is cut or filled up.
-fn long_store(alloc: Global, row: &Row<'_>) -> Result<MemStore, NoMemory>
-    ensures { IfOk result (λ store. store ≡ long_store row.now) }
-{
-    let mut store = MemStore::new(alloc);
-    store.add("d.v", &long_design(alloc, row)?)?;
-    add_file(alloc, &mut store, "t.py", row.part(4))?;
-    Ok(store)
-}
-
-/// The status of the command on these files, and what it put.
+/// The status of the command on the two files of a row of that many bytes each, and what it put.
 pub fn long_text(alloc: Global, row: &Row<'_>) -> Result<String, NoMemory>
     ensures { IfOk result (λ text. ShowsLong row.now (string_bytes text)) }
 {
-    let words = words_of(alloc, b"d.v t.py")?;
-    let mut store = long_store(alloc, row)?;
-    let mut sink = MemSink::new(alloc);
+    let store = long_store(alloc, row)?;
     let mut kernel = ListKernel::new(alloc);
-    let status = run::<Brand>(
-        alloc,
-        &words,
-        &mut store,
-        &mut sink,
-        &mut kernel,
-        Blank::new(1),
-    );
-    ended_text(alloc, status, sink.bytes())
+    let ended = ended(alloc, b"d.v t.py", store, 0, &mut kernel)?;
+    ended_text(alloc, ended.0, ended.1.bytes())
 }

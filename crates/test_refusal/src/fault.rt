@@ -5,6 +5,8 @@ ghost use Rattle.py_syntax.specs.BlockTrees.{view_module};
 ghost use Rattle.test_rules.specs.File.{file_of};
 ghost use Rattle.test_rules.specs.Rules.{first_broken, has_tests, no_tests, refusal};
 ghost use Rattle.test_rules.specs.Uses.{file_lines};
+ghost use Rattle.test_scope.specs.Tables.{AreTables};
+ghost use Rattle.test_values.specs.Literals.{AreLiteralPlaces};
 ghost use Rattle.test_refusal.specs.Pass.{IsStepTo};
 ghost use Rattle.test_refusal.specs.Places.{file_of_whole};
 
@@ -49,6 +51,41 @@ fn no_tests(file: &Module, is_tested: bool) -> Option<Refusal>
     })
 }
 
+/// The first line that breaks a rule, and the first rule that it breaks; where no line does, NoTests at the last line that is no docstring, if
+/// the file has no test. None where the file is right. Only want of memory is an error.
+fn fault_of(alloc: Global, whole: &Whole<'_>) -> Result<Option<Refusal>, NoMemory>
+    ensures { IfOk result (λ fault. fault ≡ refusal (file_of_whole whole.now)) }
+{
+    let end = pass(alloc, whole)?;
+    match end {
+        Step::On(seen) => Ok(no_tests(whole.file, seen.has_tests)),
+        Step::Refused(refusal) => Ok(Some(refusal)),
+    }
+}
+
+/// The same of a file with these tables and these places of its constants' literals.
+fn fault_by_tables(
+    alloc: Global,
+    file: &Module,
+    tables: &Tables,
+    places: &Names,
+) -> Result<Option<Refusal>, NoMemory>
+    requires tables { AreTables (view_module file.now) tables.now }
+    requires places { AreLiteralPlaces (view_module file.now) places.now }
+    ensures { IfOk result (λ fault. fault ≡ refusal (file_of (view_module file.now))) }
+{
+    let made = made_names(alloc, &file.items)?;
+    let no_names = Names::new(alloc);
+    let whole = Whole {
+        file,
+        tables,
+        places,
+        made: &made,
+        no_names: &no_names,
+    };
+    fault_of(alloc, &whole)
+}
+
 /// The first line of a tests file that breaks a rule, and the first rule that it breaks; where no line does, NoTests at the last line that is no
 /// docstring, if the file has no test. None where the file is right. A module that no text has may be given too. Only want of memory is an error.
 pub fn first_fault(alloc: Global, file: &Module) -> Result<Option<Refusal>, NoMemory>
@@ -56,18 +93,5 @@ pub fn first_fault(alloc: Global, file: &Module) -> Result<Option<Refusal>, NoMe
 {
     let tables = Tables::of(alloc, file)?;
     let places = literal_places(alloc, &file.items)?;
-    let made = made_names(alloc, &file.items)?;
-    let no_names = Names::new(alloc);
-    let whole = Whole {
-        file,
-        tables: &tables,
-        places: &places,
-        made: &made,
-        no_names: &no_names,
-    };
-    let end = pass(alloc, &whole)?;
-    match end {
-        Step::On(seen) => Ok(no_tests(file, seen.has_tests)),
-        Step::Refused(refusal) => Ok(Some(refusal)),
-    }
+    fault_by_tables(alloc, file, &tables, &places)
 }

@@ -26,11 +26,11 @@ use Rattle.run_model.specs.Verdict.{reason_of, verdict_of}
 use Rattle.run_model.specs.declared.outcome.Outcome.{Outcome}
 use Rattle.run_parts.specs.Fits.{StandsFor}
 use Rattle.run_parts.specs.Steps.{FitSteps, anywhere, Short, Begins}
-use Rattle.run_times.proofs.Runs.{time_bounded}
+use Rattle.engine.proofs.Runs.{time_bounded}
 use Rattle.run_lines.specs.Tallies.{tally_of}
-use Rattle.run_turns.specs.Turns.{BeginsTo, Turning, TurnsTo, turn_fault}
-use Rattle.run_turns.specs.declared.turn.Turn.{Turn}
-use Rattle.run_turns.specs.declared.turn.Turn.TheVariants as turn
+use Rattle.engine.specs.Turns.{BeginsTo, Turning, TurnsTo, turn_fault}
+use Rattle.engine.specs.declared.turned.Turn.{Turn}
+use Rattle.engine.specs.declared.turned.Turn.TheVariants as turn
 use Rattle.test_runs.specs.Reached.{Reached, Pending, run_in}
 use Rattle.test_runs.specs.Runs.{EndsTo, PutsStart, RunsTo}
 use Rattle.test_runs.specs.Stages.{AfterEnd, IsPending, Judged, Judges, StepsTo, TestsTo, cases_from, cases_of, skip_lines, skips_of}

@@ -4,7 +4,7 @@ use Rattle.gpi.specs.Content.{Content}
 use Rattle.port_io.specs.declared.ports.NoMemory.{NoMemory}
 use Rattle.port_io.specs.declared.ports.SinkFault.{SinkFault}
 use Rattle.port_io.specs.declared.ports.SinkFault.TheVariants as fault
-use Rattle.running_test.specs.Parts.{Means}
+use Rattle.engine.specs.Parts.{Means}
 use Rattle.engine.specs.Engine.{rig_of, runs_test, setup_of}
 use Rattle.engine.specs.Fits.{FitsKernel, KeepsAll}
 use Rattle.engine.specs.declared.engine.Engine.{Engine}

@@ -14,7 +14,7 @@ use Rattle.test_body.specs.Sound.{most_cases}
 use Rattle.test_body.specs.Views.{view_case}
 use Rattle.test_body.specs.declared.file.TestCase.{TestCase}
 use Rattle.run_lines.specs.Tallies.{HasRoom, tally_of}
-use Rattle.run_events.proofs.PutLaws.{puts_no_more}
+use Rattle.engine.proofs.PutLaws.{puts_no_more}
 use Rattle.run_model.specs.Line.{skip_line, verdict_line}
 use Rattle.run_model.specs.Run.{skipped, unskipped}
 use Rattle.run_model.specs.Verdict.{verdict_of}

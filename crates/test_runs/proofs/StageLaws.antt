@@ -7,7 +7,7 @@ use Rattle.gpi.specs.Content.{Content}
 use Rattle.test_body.specs.BodyTrees.{Case}
 use Rattle.test_body.specs.declared.file.TestCase.{TestCase}
 use Rattle.run_model.specs.Rig.{Rig, Setup}
-use Rattle.run_turns.specs.declared.turn.Turn.{Turn}
+use Rattle.engine.specs.declared.turned.Turn.{Turn}
 use Rattle.test_runs.specs.Runs.{PutsStart, RunsTo, status_in}
 use Rattle.test_runs.specs.Stages.{IsPending, StagesTo, TestsTo, WaitTurns, cases_of}
 use Rattle.test_runs.specs.declared.progress.Progress.{Progress}

@@ -17,7 +17,7 @@ use Rattle.run_parts.specs.Queue.{queue_held}
 use Rattle.run_parts.specs.Steps.{SameRest, SameTasks, behind}
 use Rattle.run_queue.proofs.KeyLaws.{among_test, named_alike}
 use Rattle.run_queue.specs.Fits.{queue_of}
-use Rattle.running_test.specs.Parts.{Means}
+use Rattle.engine.specs.Parts.{Means}
 use Rattle.engine.specs.Engine.{rig_of, setup_of}
 use Rattle.engine.specs.Fits.{FitsKernel}
 use Rattle.engine.specs.declared.engine.Engine.{Engine}

@@ -8,8 +8,8 @@ use Rattle.test_body.specs.BodyTrees.{Case, Limit}
 use Rattle.run_model.specs.Case.{limit_steps, test_begun, values_of, with_deadline, with_limit, with_test}
 use Rattle.run_model.specs.Rig.{Rig, Setup}
 use Rattle.run_parts.specs.Steps.{FitSteps, anywhere}
-use Rattle.run_turns.specs.Turns.{Turning}
-use Rattle.run_turns.specs.declared.turn.Turn.{Turn}
+use Rattle.engine.specs.Turns.{Turning}
+use Rattle.engine.specs.declared.turned.Turn.{Turn}
 use Rattle.test_runs.specs.Stages.{IsEmpty}
 
 deadline_planned : (r : Answer ℕ) (c : Rig) → (with_deadline r c).planned ≡ c.planned

@@ -22,8 +22,8 @@ use Rattle.run_model.specs.Verdict.{is_fail, report_of}
 use Rattle.run_parts.specs.Fits.{StandsFor}
 use Rattle.run_parts.specs.Steps.{FitSteps, Moves, Short}
 use Rattle.run_parts.specs.Steps as parts
-use Rattle.run_turns.specs.Turns.{TurnsTo}
-use Rattle.run_turns.specs.declared.turn.Turn.TheVariants as turn
+use Rattle.engine.specs.Turns.{TurnsTo}
+use Rattle.engine.specs.declared.turned.Turn.TheVariants as turn
 use Rattle.test_runs.specs.Reached.{Reached, Pending, run_at}
 use Rattle.test_runs.specs.Runs.{EndsTo, PutsStart, RunsTo, verdict_status}
 use Rattle.test_runs.specs.Stages.{IsEmpty, IsEnded, IsPending, IsWaiting, Skips, SkipsOver, WaitTurns, cases_from, cases_of, is_planned, skip_lines, skips_of}

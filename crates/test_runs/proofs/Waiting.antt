@@ -6,14 +6,14 @@ use Rattle.port_io.specs.declared.ports.NoMemory.{NoMemory}
 use Rattle.run_model.specs.Rig.{Rig, Setup}
 use Rattle.run_model.specs.declared.outcome.Outcome.{Outcome}
 use Rattle.run_parts.specs.Steps.{FitSteps, TurnSteps, anywhere, Moves, Begins}
-use Rattle.run_turns.proofs.ManyTurns.{turning_anywhere}
+use Rattle.engine.proofs.ManyTurns.{turning_anywhere}
 use Rattle.engine.proofs.StepsLeft.{steps_fall, steps_left}
-use Rattle.run_turns.proofs.Between.{one_step}
-use Rattle.run_turns.proofs.TurnLaws.{turning_then}
-use Rattle.run_turns.proofs.Waits.{between, IsAfter, IsBetween, step_waits}
-use Rattle.run_turns.specs.Turns.{TurnsTo, Turning, has_gone}
-use Rattle.run_turns.specs.declared.turn.Turn.{Turn}
-use Rattle.run_turns.specs.declared.turn.Turn.TheVariants as turn
+use Rattle.engine.proofs.Between.{one_step}
+use Rattle.engine.proofs.TurnLaws.{turning_then}
+use Rattle.engine.proofs.TurnWaits.{between, IsAfter, IsBetween, step_waits}
+use Rattle.engine.specs.Turns.{TurnsTo, Turning, has_gone}
+use Rattle.engine.specs.declared.turned.Turn.{Turn}
+use Rattle.engine.specs.declared.turned.Turn.TheVariants as turn
 use Rattle.test_runs.specs.Stages.{IsEmpty, WaitTurns, WaitsTo, is_planned}
 use Rattle.test_runs.proofs.Stands.{empty_of}
 

@@ -3,7 +3,7 @@ use Rattle.std.specs.Prelude.{◌≡◌, ◌≢◌, Bool, true, false, []}
 use Rattle.gpi.specs.Content.{Content}
 use Rattle.wait_list.specs.Keys.{AreKeys}
 use Rattle.run_model.specs.Case.{emptied}
-use Rattle.running_test.specs.Parts.{Means}
+use Rattle.engine.specs.Parts.{Means}
 use Rattle.engine.specs.Engine.{rig_of, runs_test}
 use Rattle.engine.specs.Fits.{FitsKernel, KeepsAll}
 use Rattle.engine.specs.declared.engine.Engine.{Engine}

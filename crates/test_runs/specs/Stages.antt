@@ -19,9 +19,9 @@ use Rattle.run_model.specs.Verdict.{verdict_of}
 use Rattle.run_model.specs.declared.outcome.Verdict.{Verdict}
 use Rattle.run_model.specs.declared.outcome.Verdict.TheVariants.{Skip}
 use Rattle.run_parts.specs.Steps.{FitSteps, anywhere, Short, Begins}
-use Rattle.run_turns.specs.Turns.{Turning, turn_fault}
-use Rattle.run_turns.specs.declared.turn.Turn.{Turn}
-use Rattle.run_turns.specs.declared.turn.Turn.TheVariants as turn
+use Rattle.engine.specs.Turns.{Turning, turn_fault}
+use Rattle.engine.specs.declared.turned.Turn.{Turn}
+use Rattle.engine.specs.declared.turned.Turn.TheVariants as turn
 use Rattle.test_runs.specs.Reached.{Reached, Pending}
 use Rattle.test_runs.specs.Runs.{PutsStart, RunsTo}
 use Rattle.test_runs.specs.declared.progress.Progress.{Progress}

@@ -20,9 +20,9 @@ use Rattle.v_flat.specs.Expressions.{width, meaning}
 use Rattle.v_flat.specs.Targets.{target_checked, target_width, updates}
 use Rattle.v_flat.specs.Statements.{take_updates}
 use Rattle.v_flat.proofs.Holds.{holds_both}
-use Rattle.v_operator.specs.declared.checked.Checked.{Checked}
-use Rattle.v_operator.specs.Checked.{StandsFor, IsChecked}
-use Rattle.v_operator.proofs.Combined.{made_holds}
+use Rattle.v_constant.specs.declared.checked.Checked.{Checked}
+use Rattle.v_constant.specs.Checked.{StandsFor, IsChecked}
+use Rattle.v_constant.proofs.Combined.{made_holds}
 use Rattle.v_target.specs.declared.checked.CheckedTarget.{CheckedTarget}
 use Rattle.v_assign.specs.Targets.{GetsAs, IsProcedural}
 use Rattle.v_act.specs.Assignments.{MakesAssignment}

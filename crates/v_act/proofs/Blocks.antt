@@ -10,7 +10,7 @@ use Rattle.v_scope.specs.Found.{both}
 use Rattle.v_scope.specs.Scope.{Scope}
 use Rattle.v_flat.specs.Statements.{done, activation}
 use Rattle.v_flat.proofs.Holds.{holds_both}
-use Rattle.v_operator.proofs.Combined.{made_holds}
+use Rattle.v_constant.proofs.Combined.{made_holds}
 use Rattle.v_act.specs.declared.sequences.BlockParts.{BlockParts}
 use Rattle.v_act.specs.Made.{AreInOrder}
 use Rattle.v_act.specs.Sequences.{HasFirst, AreMoreStatements, MakesWhole, AreBlocks}

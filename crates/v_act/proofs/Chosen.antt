@@ -17,8 +17,8 @@ use Rattle.v_flat.specs.Checks.{checked}
 use Rattle.v_flat.specs.Expressions.{own_value}
 use Rattle.v_flat.specs.Statements.{activation}
 use Rattle.v_flat.proofs.Holds.{holds_both}
-use Rattle.v_operator.specs.declared.checked.Checked.{Checked}
-use Rattle.v_operator.proofs.Combined.{made_holds}
+use Rattle.v_constant.specs.declared.checked.Checked.{Checked}
+use Rattle.v_constant.proofs.Combined.{made_holds}
 use Rattle.v_names.specs.Selects.{StandsAlone, ChecksIndex}
 use Rattle.v_act.specs.Made.{AreChoices}
 use Rattle.v_act.specs.Statements.{DoesAs, ChecksNull, ChecksIf, ChecksIfElse}

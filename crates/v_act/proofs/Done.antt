@@ -1,5 +1,5 @@
 -- What is broken, through the ways of putting parts together.
-use Rattle.std.proofs.Common.{◌≡◌, refl, sym, ap, ◌∙◌}
+use Rattle.std.proofs.Common.{◌≡◌, Result, Ok, IfOk, OnOk, refl, sym, ap, ◌∙◌, subst}
 use Rattle.v_scope.specs.declared.rule.Broken.{Broken}
 use Rattle.v_scope.specs.declared.found.Found.{Found}
 use Rattle.v_scope.specs.declared.found.Found.TheVariants.{Sound, Noted, Lost}
@@ -52,3 +52,10 @@ done_made P (Noted x a) (Sound b) h = absurd h
 done_made P (Noted x a) (Lost y) h = absurd h
 done_made P (Lost x) (Sound b) h = absurd h
 done_made P (Lost x) (Noted y b) h = absurd h
+
+-- what a call promises of its answer holds of the value that it gave
+pub was_made : {A E : Type 0} (r : Result A E) (a : A) (P : A → Type 0) → r ≡ Ok a → IfOk r P → P a
+was_made {A} {E} r a P e h = subst (λ (s : Result A E). IfOk s P) e h
+
+pub was_done : {A E P : Type 0} (r : Result A E) (a : A) → r ≡ Ok a → OnOk r P → P
+was_done {A} {E} {P} r a e h = subst (λ (s : Result A E). OnOk s P) e h

@@ -1,3 +1,5 @@
+pub mod CaseItems
+pub mod CaseStatements
 pub mod Done
 pub mod Assigning
 pub mod Chosen

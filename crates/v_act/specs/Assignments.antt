@@ -8,7 +8,7 @@ use Rattle.gpi.specs.Activation.{MakesAct}
 use Rattle.v_syntax.specs.declared.statement.AssignmentKind.{AssignmentKind}
 use Rattle.v_context.specs.Contexts.{value_in, IsSound}
 use Rattle.v_flat.specs.Statements.{take_updates}
-use Rattle.v_operator.specs.declared.checked.Checked.{Checked}
+use Rattle.v_constant.specs.declared.checked.Checked.{Checked}
 use Rattle.v_target.specs.declared.checked.CheckedTarget.{CheckedTarget}
 
 -- both are sound, and have the widths that they tell; ws are the widths of the signals

@@ -1,3 +1,5 @@
+pub mod Cases
+pub mod MadeCases
 pub mod Statements
 pub mod Assignments
 pub mod Sequences

@@ -1,16 +1,24 @@
 -- A means of proof: what is made of parts, by their activations.
-use Rattle.std.specs.Prelude.{◌≡◌, ℕ, List}
+use Rattle.std.specs.Prelude.{◌≡◌, ℕ, max, List}
+use Rattle.four_value.specs.Vector.{resize}
 use Rattle.gpi.specs.declared.acts.Act.{Act}
 use Rattle.gpi.specs.declared.acts.Acts.{Acts}
 use Rattle.gpi.specs.declared.terms.Term.{Term}
+use Rattle.gpi.specs.Terms.{IsWidth}
+use Rattle.gpi.specs.Made.{Makes}
 use Rattle.gpi.specs.Activation.{Run, MakesIf, SoundList, acts_of, run_list}
 use Rattle.v_syntax.specs.declared.statement.AssignmentKind.{AssignmentKind}
 use Rattle.v_scope.specs.declared.found.Found.{Found}
 use Rattle.v_scope.specs.Found.{EachIs}
-use Rattle.v_operator.specs.declared.checked.Checked.{Checked}
+use Rattle.v_context.specs.Contexts.{value_in, IsSound}
+use Rattle.v_constant.specs.declared.checked.Checked.{Checked}
 use Rattle.v_target.specs.declared.checked.CheckedTarget.{CheckedTarget}
 use Rattle.v_act.specs.Assignments.{MakesAssignment}
 use Rattle.v_act.specs.Statements.{run_back}
+
+-- t is the value v at the greater one of w digits and its own width, and then cut to w digits
+abbrev pub IsCut : Checked → ℕ → Term → Type 0
+IsCut v w t = Makes t (λ m. resize (value_in v.form (max w v.width) m) w) w (λ ws. IsSound v.form ws × (IsWidth (max w v.width) × IsWidth w))
 
 abbrev pub AreAssignments : AssignmentKind → Found (CheckedTarget × Checked) → Found Act → Type 0
 AreAssignments k x f = EachIs (λ (p : CheckedTarget × Checked) (a : Act). MakesAssignment k p.0 p.1 a) x f

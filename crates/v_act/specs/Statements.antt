@@ -15,8 +15,8 @@ use Rattle.v_scope.specs.declared.meaning.Meaning.TheVariants.{Object}
 use Rattle.v_scope.specs.Scope.{Scope, find}
 use Rattle.v_flat.specs.Checks.{checked}
 use Rattle.v_flat.specs.Statements.{done, turn, turns, known_turns, loop_name, statement_checked, activation, activations}
-use Rattle.v_operator.specs.declared.checked.Checked.{Checked}
-use Rattle.v_operator.specs.Checked.{IsObjectOf, AreNamesOf, IsChecked}
+use Rattle.v_constant.specs.declared.checked.Checked.{Checked}
+use Rattle.v_constant.specs.Checked.{IsObjectOf, AreNamesOf, IsChecked}
 use Rattle.v_target.specs.declared.checked.CheckedTarget.{CheckedTarget}
 use Rattle.v_assign.specs.Targets.{TargetNamesOf, IsTarget}
 use Rattle.v_act.specs.declared.sequences.BlockParts.{BlockParts}

@@ -6,18 +6,27 @@ ghost use Rattle.v_syntax.specs.ExpressionTrees.{view, view_target};
 ghost use Rattle.v_syntax.specs.StatementTrees.{Assignment};
 ghost use Rattle.v_names.specs.Proper.{AreProper};
 ghost use Rattle.v_act.specs.Assignments.{MakesAssignment};
-ghost use Rattle.v_act.specs.Made.{AreAssignments};
+ghost use Rattle.v_act.specs.Made.{AreAssignments, IsCut};
 ghost use Rattle.v_act.specs.Statements.{ChecksAssignment, IsFoundStatement};
 
+use crate::waiting::beside;
 use gpi::{Act, Term};
 use port_io::NoMemory;
 use std::alloc::Global;
 use v_assign::target as checked_target;
 use v_check::check;
-use v_operator::Checked;
+use v_constant::Checked;
 use v_scope::{Found, Scope};
 use v_syntax::{AssignmentKind, Expression, Target};
 use v_target::CheckedTarget;
+
+/// A value at the greater one of this width and its own, and then cut to this width. Only want of memory is an error.
+fn cut(alloc: Global, value: Checked, width: u8) -> Result<Term, NoMemory>
+    ensures { IfOk result (IsCut value width) }
+{
+    let term = value.form.lower(alloc, width.max(value.width))?;
+    Term::resize(alloc, term, width)
+}
 
 /// `target = value` or `target <= value` of a target and a value in which no rule is broken, whatever scopes they were found in. The value
 /// is evaluated at the greater one of both widths, and then cut to the target's (IEEE 1364-2005, clause 5.4.1). Only want of memory is an
@@ -30,12 +39,10 @@ pub fn assign(
 ) -> Result<Act, NoMemory>
     ensures { IfOk result (MakesAssignment kind target value) }
 {
-    let width = target.width.max(value.width);
-    let term = value.form.lower(alloc, width)?;
-    let term = Term::resize(alloc, term, target.width)?;
+    let (term, target) = beside(cut(alloc, value, target.width), target.target)?;
     match kind {
-        AssignmentKind::Blocking => Ok(Act::Blocking(target.target, term)),
-        AssignmentKind::Nonblocking => Ok(Act::Nonblocking(target.target, term)),
+        AssignmentKind::Blocking => Ok(Act::Blocking(target, term)),
+        AssignmentKind::Nonblocking => Ok(Act::Nonblocking(target, term)),
     }
 }
 
@@ -81,6 +88,6 @@ pub fn assignment(
     ensures { IfOk result (IsFoundStatement (means scope.now) (Assignment kind (view_target target.now) (view value.now))) }
 {
     let target = checked_target(alloc, scope, target)?;
-    let value = check(alloc, scope, value)?;
+    let (value, target) = beside(check(alloc, scope, value), target)?;
     assigned(alloc, kind, target, value)
 }

@@ -4,11 +4,12 @@ ghost use Rattle.std.specs.Prelude.{IfOk};
 ghost use Rattle.v_act.specs.Made.{AreChoices};
 ghost use Rattle.v_act.specs.Statements.{ChecksIf, ChecksIfElse, ChecksNull};
 
+use crate::waiting::beside;
 use gpi::{Act, Term};
 use port_io::NoMemory;
 use std::alloc::Global;
+use v_constant::Checked;
 use v_names::by_itself;
-use v_operator::Checked;
 use v_scope::Found;
 
 /// A statement without effect: `;`, a system task, or a delay where it stands for no statement of its own.
@@ -40,8 +41,8 @@ pub fn if_else(
 ) -> Result<Found<Act>, NoMemory>
     ensures { IfOk result (ChecksIfElse condition yes no) }
 {
-    let test = by_itself(alloc, condition)?;
-    of_branches(alloc, test.both(yes.both(no)))
+    let (test, branches) = beside(by_itself(alloc, condition), yes.both(no))?;
+    of_branches(alloc, test.both(branches))
 }
 
 /// `if ( condition ) yes` (IEEE 1364-2005, clause 9.4), from what was found in its parts. Only want of memory is an error.

@@ -6,6 +6,7 @@ ghost use Rattle.v_act.specs.Made.{AreInOrder};
 ghost use Rattle.v_act.specs.Sequences.{AreBlocks, AreMoreStatements, HasFirst, MakesWhole};
 ghost use Rattle.v_act.specs.Statements.{ChecksBlock, ChecksMoreStatements, ChecksNoStatement};
 
+use crate::waiting::with_last;
 use gpi::{Act, Acts};
 use port_io::NoMemory;
 use std::alloc::Global;
@@ -23,9 +24,10 @@ pub struct BlockParts {
 fn with_first(first: Act, rest: BlockParts) -> Result<BlockParts, NoMemory>
     ensures { IfOk result (HasFirst first rest) }
 {
-    let BlockParts { mut acts } = rest;
-    acts.push(first)?;
-    Ok(BlockParts { acts })
+    let BlockParts { acts } = rest;
+    Ok(BlockParts {
+        acts: with_last(acts, first)?,
+    })
 }
 
 /// What is made of a statement and others. Only want of memory is an error.

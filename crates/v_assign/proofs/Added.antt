@@ -16,8 +16,8 @@ use Rattle.v_scope.proofs.Gathered.{both_each}
 use Rattle.v_flat.specs.Targets.{targets_width, updates, all_updates}
 use Rattle.v_flat.specs.Targets as flat
 use Rattle.v_flat.proofs.Holds.{holds_both}
-use Rattle.v_operator.proofs.Combined.{made_width, made_holds}
-use Rattle.v_operator.proofs.Operators.{counted_whole}
+use Rattle.v_constant.proofs.Combined.{made_width, made_holds}
+use Rattle.v_constant.proofs.Operators.{counted_whole}
 use Rattle.v_target.specs.declared.checked.CheckedTarget.{CheckedTarget}
 use Rattle.v_target.specs.Targets.{depth}
 use Rattle.v_assign.specs.declared.parts.TargetParts.{TargetParts}

@@ -18,7 +18,7 @@ use Rattle.v_flat.specs.Checks.{made, select_made, selects_made}
 use Rattle.v_flat.specs.declared.manner.Manner.TheVariants.{Continuous}
 use Rattle.v_flat.specs.Targets.{Drive, is_driven, once_more, net_driving, object_driving, name_driving, selected_drive, named_target, place_or}
 use Rattle.v_flat.proofs.Holds.{holds_lost}
-use Rattle.v_operator.specs.Checked.{SelectNamesOf, SelectsNamesOf}
+use Rattle.v_constant.specs.Checked.{SelectNamesOf, SelectsNamesOf}
 use Rattle.v_constant.proofs.Unsignalled.{names_none}
 use Rattle.v_drive.specs.declared.digits.DrivenDigits.{DrivenDigits}
 use Rattle.v_drive.specs.Digits.{Keeps}

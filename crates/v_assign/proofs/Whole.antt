@@ -14,7 +14,7 @@ use Rattle.v_scope.proofs.Gathered.{each_noted, each_needs, holds_so}
 use Rattle.v_flat.specs.Checks.{filled, sized}
 use Rattle.v_flat.specs.Targets.{targets_width}
 use Rattle.v_flat.proofs.Holds.{holds_noted}
-use Rattle.v_operator.proofs.Combined.{sized_counted}
+use Rattle.v_constant.proofs.Combined.{sized_counted}
 use Rattle.v_target.specs.declared.checked.CheckedTarget.{CheckedTarget}
 use Rattle.v_assign.specs.declared.parts.TargetParts.{TargetParts}
 use Rattle.v_assign.specs.Braces.{widths, deepest}

@@ -12,7 +12,7 @@ use Rattle.v_flat.specs.Targets.{Drive, is_driven}
 use Rattle.v_drive.specs.declared.digits.DrivenDigits.{DrivenDigits}
 use Rattle.v_drive.specs.Digits.{Keeps, KeepsSame}
 use Rattle.v_target.specs.Digits.{IsFixedTarget, digits_of}
-use Rattle.v_operator.specs.Made.{EachIs}
+use Rattle.v_constant.specs.Made.{EachIs}
 use Rattle.v_target.specs.declared.checked.CheckedTarget.{CheckedTarget}
 use Rattle.v_assign.specs.declared.parts.TargetParts.{TargetParts}
 use Rattle.v_assign.specs.Braces.{MakesAll}

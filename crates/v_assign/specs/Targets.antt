@@ -13,7 +13,7 @@ use Rattle.v_scope.specs.Limits.{counted_width}
 use Rattle.v_scope.specs.Scope.{Scope, find}
 use Rattle.v_flat.specs.Checks.{filled, sized}
 use Rattle.v_flat.specs.Targets.{target_width, targets_width, target_checked, targets_checked, updates, all_updates}
-use Rattle.v_operator.specs.Checked.{IsNameOf, SelectsNamesOf}
+use Rattle.v_constant.specs.Checked.{IsNameOf, SelectsNamesOf}
 use Rattle.v_target.specs.declared.checked.CheckedTarget.{CheckedTarget}
 use Rattle.v_target.specs.Targets.{depth}
 use Rattle.v_assign.specs.declared.parts.TargetParts.{TargetParts}

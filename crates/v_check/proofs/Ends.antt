@@ -11,8 +11,8 @@ use Rattle.v_scope.specs.Scope.{Scope}
 use Rattle.v_scope.specs.Limits.{counted_width}
 use Rattle.v_context.specs.Contexts.{IsLowered}
 use Rattle.v_flat.specs.Checks.{checked}
-use Rattle.v_operator.specs.declared.checked.Checked.{Checked}
-use Rattle.v_operator.specs.Checked.{StandsFor, IsChecked}
+use Rattle.v_constant.specs.declared.checked.Checked.{Checked}
+use Rattle.v_constant.specs.Checked.{StandsFor, IsChecked}
 use Rattle.v_constant.proofs.Values.{ended_sound, sound_is}
 use Rattle.v_check.specs.Terms.{HasTerm}
 

@@ -8,7 +8,7 @@ use Rattle.v_scope.specs.Found.{ended}
 use Rattle.v_scope.specs.Scope.{Scope}
 use Rattle.v_flat.specs.Expressions.{width, meaning}
 use Rattle.v_flat.specs.Checks.{checked}
-use Rattle.v_operator.specs.Checked.{AreNamesOf}
+use Rattle.v_constant.specs.Checked.{AreNamesOf}
 
 -- no rule is broken; and the term has the value on every map of the signals, and is sound wherever the names are signals of the
 -- design

@@ -20,8 +20,8 @@ use Rattle.v_flat.specs.Targets.{Drive, Driving, driving, as_target}
 use Rattle.v_flat.specs.Design.{Joint, Joints, joined, output_joined, value_checked}
 use Rattle.v_drive.specs.declared.digits.DrivenDigits.{DrivenDigits}
 use Rattle.v_drive.specs.Digits.{Keeps}
-use Rattle.v_operator.specs.declared.checked.Checked.{Checked}
-use Rattle.v_operator.specs.Checked.{IsChecked, StandsFor}
+use Rattle.v_constant.specs.declared.checked.Checked.{Checked}
+use Rattle.v_constant.specs.Checked.{IsChecked, StandsFor}
 use Rattle.v_target.specs.declared.checked.CheckedTarget.{CheckedTarget}
 use Rattle.v_assign.specs.Targets.{GetsAs}
 use Rattle.v_output.specs.Outputs.{IsOutput}

@@ -15,8 +15,8 @@ use Rattle.v_flat.specs.Targets.{Drive, as_target}
 use Rattle.v_flat.specs.Design.{Joint, Joints, ordered_joints, named_joints, joints_of}
 use Rattle.v_drive.specs.declared.digits.DrivenDigits.{DrivenDigits}
 use Rattle.v_drive.specs.Digits.{Keeps}
-use Rattle.v_operator.specs.declared.checked.Checked.{Checked}
-use Rattle.v_operator.specs.Checked.{StandsFor}
+use Rattle.v_constant.specs.declared.checked.Checked.{Checked}
+use Rattle.v_constant.specs.Checked.{StandsFor}
 use Rattle.v_target.specs.declared.checked.CheckedTarget.{CheckedTarget}
 use Rattle.v_assign.specs.Targets.{GetsAs}
 use Rattle.v_reads.specs.declared.span.Span as code_span

@@ -1,6 +1,6 @@
 //! Connected ports.
 
-use v_operator::Checked;
+use v_constant::Checked;
 use v_reads::Span;
 use v_target::CheckedTarget;
 

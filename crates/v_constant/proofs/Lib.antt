@@ -1,3 +1,5 @@
+pub mod Combined
+pub mod Operators
 pub mod Unsignalled
 pub mod Values
 pub mod Rows

@@ -10,7 +10,7 @@ use Rattle.v_scope.specs.declared.meaning.Meaning.TheVariants.{Constant, Object,
 use Rattle.v_scope.specs.Scope.{Scope, find}
 use Rattle.v_flat.specs.Expressions.{Values, no_signals, width, meaning, joined, named_value, one_value, select_base, select_width, number_or, lesser, of_one, of_two, unary_class, binary_class, operand_width, left_width, right_width}
 use Rattle.v_flat.specs.Checks.{is_constant, made, all_made, selects_made, select_made}
-use Rattle.v_operator.specs.Checked.{IsNameOf, AreNamesOf, AllNamesOf, SelectsNamesOf, SelectNamesOf}
+use Rattle.v_constant.specs.Checked.{IsNameOf, AreNamesOf, AllNamesOf, SelectsNamesOf, SelectNamesOf}
 
 first_of_both : (a b : Bool) → (a && b) ≡ true → a ≡ true
 first_of_both true b h = refl

@@ -15,8 +15,8 @@ use Rattle.v_scope.specs.Limits.{counted_width}
 use Rattle.v_context.specs.Contexts.{value_in, IsSound}
 use Rattle.v_flat.specs.Expressions.{no_signals, meaning}
 use Rattle.v_flat.specs.Checks.{made, checked, known, constant_in}
-use Rattle.v_operator.specs.declared.checked.Checked.{Checked}
-use Rattle.v_operator.specs.Checked.{StandsFor, IsChecked}
+use Rattle.v_constant.specs.declared.checked.Checked.{Checked}
+use Rattle.v_constant.specs.Checked.{StandsFor, IsChecked}
 use Rattle.v_constant.proofs.Unsignalled.{names_none, one_meaning}
 
 abbrev width_or : Found ℕ → ℕ

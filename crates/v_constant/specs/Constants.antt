@@ -4,7 +4,7 @@ use Rattle.v_syntax.specs.ExpressionTrees.{Tree}
 use Rattle.v_scope.specs.Scope.{Scope}
 use Rattle.v_flat.specs.Expressions.{Values, meaning}
 use Rattle.v_flat.specs.Checks.{made}
-use Rattle.v_operator.specs.Checked.{AreNamesOf}
+use Rattle.v_constant.specs.Checked.{AreNamesOf}
 
 -- what is made of constants names no signal
 abbrev pub Constants_name_no_signal : Type 0

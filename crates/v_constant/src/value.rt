@@ -10,13 +10,13 @@ ghost use Rattle.v_scope.specs.Limits.{counted_width, most_digits};
 ghost use Rattle.v_syntax.specs.ExpressionTrees.{view};
 ghost use Rattle.v_context.specs.Contexts.{IsSound, value_in};
 ghost use Rattle.v_flat.specs.Checks.{checked, constant_in, constant_of, counted, given_to, known};
-ghost use Rattle.v_operator.specs.Checked.{IsChecked};
+ghost use Rattle.v_constant.specs.Checked.{IsChecked};
 
+use crate::checked::Checked;
 use crate::is_made;
 use four_value::Bits;
 use port_io::NoMemory;
 use std::alloc::Global;
-use v_operator::Checked;
 use v_scope::{ElabRule, Found, Scope, TOO_WIDE};
 use v_syntax::{Expression, TokenNumber};
 

@@ -136,20 +136,20 @@ design_or : Design → Result Design Broken → Design
 design_or d (Ok e) = e
 design_or d (Err b) = d
 
-one_elaborated : (text : List ℕ) (r s : ElabRule) (p q : ℕ) → IsBroken text r p → IsBroken text s q → (r ≡ s) × (p ≡ q)
+one_elaborated : (top : Option (List ℕ)) (text : List ℕ) (r s : ElabRule) (p q : ℕ) → IsBroken top text r p → IsBroken top text s q → (r ≡ s) × (p ≡ q)
 unfolding broken_or
-one_elaborated text r s p q h k =
+one_elaborated top text r s p q h k =
     let same : h.source ≡ k.source = one_source_text text h.source k.source h.is_source k.is_source in
     let all : (let x : Result Design Broken = Err (at r p) in x) ≡ Err (at s q) =
-    sym h.is ∙ ap (λ (t : SourceText). flatten t None) same ∙ k.is in
+    sym h.is ∙ ap (λ (t : SourceText). flatten t top) same ∙ k.is in
     let e : at r p ≡ at s q = ap (λ (x : Result Design Broken). broken_or (at r p) x) all in
     (ap (λ (b : Broken). b.rule) e, ap (λ (b : Broken). b.place) e)
 
-pub one_design : (text : List ℕ) (a b : SourceText) (d e : Design) → Means text a d → Means text b e → (a ≡ b) × (d ≡ e)
+pub one_design : (top : Option (List ℕ)) (text : List ℕ) (a b : SourceText) (d e : Design) → Means top text a d → Means top text b e → (a ≡ b) × (d ≡ e)
 unfolding design_or
-one_design text a b d e h k =
+one_design top text a b d e h k =
     let same : a ≡ b = one_source_text text a b h.is_source k.is_source in
-    let all : (let x : Result Design Broken = Ok d in x) ≡ Ok e = sym h.is ∙ ap (λ (t : SourceText). flatten t None) same ∙ k.is in
+    let all : (let x : Result Design Broken = Ok d in x) ≡ Ok e = sym h.is ∙ ap (λ (t : SourceText). flatten t top) same ∙ k.is in
     (same, ap (λ (x : Result Design Broken). design_or d x) all)
 
 -- ---- all rules
@@ -161,72 +161,72 @@ rule_of lexical.UnclosedText = rule.UnclosedText
 rule_of lexical.Directive = rule.Directive
 
 -- a broken rule by its part: the bytes, the tokens, or the modules
-abbrev Cause : DesignRule → List ℕ → ℕ → Type 0
-Cause r text p =
+abbrev Cause : Option (List ℕ) → DesignRule → List ℕ → ℕ → Type 0
+Cause top r text p =
     ((l : LexRule) × (r ≡ rule_of l) × BreaksFirst text l p)
     ⊎ (((r ≡ rule.Syntax) × IsUnspelled IsSyntaxAt text p)
     ⊎ (((r ≡ rule.TooDeep) × IsUnspelled IsTooDeepAt text p)
-    ⊎ ((e : ElabRule) × (r ≡ rule.Elaboration e) × IsBroken text e p)))
+    ⊎ ((e : ElabRule) × (r ≡ rule.Elaboration e) × IsBroken top text e p)))
 
-cause : (r : DesignRule) (text : List ℕ) (p : ℕ) → BreaksAt r text p → Cause r text p
+cause : (top : Option (List ℕ)) (r : DesignRule) (text : List ℕ) (p : ℕ) → BreaksAt top r text p → Cause top r text p
 unfolding rule_of
-cause rule.BadByte text p h = inl (lexical.BadByte, refl, h)
-cause rule.BadNumber text p h = inl (lexical.BadNumber, refl, h)
-cause rule.UnclosedText text p h = inl (lexical.UnclosedText, refl, h)
-cause rule.Directive text p h = inl (lexical.Directive, refl, h)
-cause rule.Syntax text p h = inr (inl (refl, h))
-cause rule.TooDeep text p h = inr (inr (inl (refl, h)))
-cause (rule.Elaboration e) text p h = inr (inr (inr (e, refl, h)))
+cause top rule.BadByte text p h = inl (lexical.BadByte, refl, h)
+cause top rule.BadNumber text p h = inl (lexical.BadNumber, refl, h)
+cause top rule.UnclosedText text p h = inl (lexical.UnclosedText, refl, h)
+cause top rule.Directive text p h = inl (lexical.Directive, refl, h)
+cause top rule.Syntax text p h = inr (inl (refl, h))
+cause top rule.TooDeep text p h = inr (inr (inl (refl, h)))
+cause top (rule.Elaboration e) text p h = inr (inr (inr (e, refl, h)))
 
-one_cause : (text : List ℕ) (r s : DesignRule) (p q : ℕ) → Cause r text p → Cause s text q → (r ≡ s) × (p ≡ q)
-one_cause text r s p q (inl (l, e, h)) (inl (m, f, k)) =
+one_cause : (top : Option (List ℕ)) (text : List ℕ) (r s : DesignRule) (p q : ℕ) → Cause top r text p → Cause top s text q → (r ≡ s) × (p ≡ q)
+one_cause top text r s p q (inl (l, e, h)) (inl (m, f, k)) =
     let o : (l ≡ m) × (p ≡ q) = one_broken text l m p q h k in
     (e ∙ ap (λ (x : LexRule). rule_of x) o.0 ∙ sym f, o.1)
-one_cause text r s p q (inl (l, e, h)) (inr (inl (f, k))) = absurd (not_read text l p k.read h k.reads)
-one_cause text r s p q (inl (l, e, h)) (inr (inr (inl (f, k)))) = absurd (not_read text l p k.read h k.reads)
-one_cause text r s p q (inl (l, e, h)) (inr (inr (inr (x, f, k)))) = absurd (not_read text l p k.is_source.read h k.is_source.reads)
-one_cause text r s p q (inr (inl (e, h))) (inl (m, f, k)) = absurd (not_read text m q h.read k h.reads)
-one_cause text r s p q (inr (inl (e, h))) (inr (inl (f, k))) = (e ∙ sym f, one_byte syntax_least syntax_least text p q h k)
-one_cause text r s p q (inr (inl (e, h))) (inr (inr (inl (f, k)))) = absurd (not_deep text p q h k)
-one_cause text r s p q (inr (inl (e, h))) (inr (inr (inr (x, f, k)))) = absurd (not_spelled IsSyntaxAt text p k.source h k.is_source)
-one_cause text r s p q (inr (inr (inl (e, h)))) (inl (m, f, k)) = absurd (not_read text m q h.read k h.reads)
-one_cause text r s p q (inr (inr (inl (e, h)))) (inr (inl (f, k))) = absurd (not_deep text q p k h)
-one_cause text r s p q (inr (inr (inl (e, h)))) (inr (inr (inl (f, k)))) = (e ∙ sym f, one_byte deep_least deep_least text p q h k)
-one_cause text r s p q (inr (inr (inl (e, h)))) (inr (inr (inr (x, f, k)))) = absurd (not_spelled IsTooDeepAt text p k.source h k.is_source)
-one_cause text r s p q (inr (inr (inr (x, e, h)))) (inl (m, f, k)) = absurd (not_read text m q h.is_source.read k h.is_source.reads)
-one_cause text r s p q (inr (inr (inr (x, e, h)))) (inr (inl (f, k))) = absurd (not_spelled IsSyntaxAt text q h.source k h.is_source)
-one_cause text r s p q (inr (inr (inr (x, e, h)))) (inr (inr (inl (f, k)))) = absurd (not_spelled IsTooDeepAt text q h.source k h.is_source)
-one_cause text r s p q (inr (inr (inr (x, e, h)))) (inr (inr (inr (y, f, k)))) =
-    let o : (x ≡ y) × (p ≡ q) = one_elaborated text x y p q h k in
+one_cause top text r s p q (inl (l, e, h)) (inr (inl (f, k))) = absurd (not_read text l p k.read h k.reads)
+one_cause top text r s p q (inl (l, e, h)) (inr (inr (inl (f, k)))) = absurd (not_read text l p k.read h k.reads)
+one_cause top text r s p q (inl (l, e, h)) (inr (inr (inr (x, f, k)))) = absurd (not_read text l p k.is_source.read h k.is_source.reads)
+one_cause top text r s p q (inr (inl (e, h))) (inl (m, f, k)) = absurd (not_read text m q h.read k h.reads)
+one_cause top text r s p q (inr (inl (e, h))) (inr (inl (f, k))) = (e ∙ sym f, one_byte syntax_least syntax_least text p q h k)
+one_cause top text r s p q (inr (inl (e, h))) (inr (inr (inl (f, k)))) = absurd (not_deep text p q h k)
+one_cause top text r s p q (inr (inl (e, h))) (inr (inr (inr (x, f, k)))) = absurd (not_spelled IsSyntaxAt text p k.source h k.is_source)
+one_cause top text r s p q (inr (inr (inl (e, h)))) (inl (m, f, k)) = absurd (not_read text m q h.read k h.reads)
+one_cause top text r s p q (inr (inr (inl (e, h)))) (inr (inl (f, k))) = absurd (not_deep text q p k h)
+one_cause top text r s p q (inr (inr (inl (e, h)))) (inr (inr (inl (f, k)))) = (e ∙ sym f, one_byte deep_least deep_least text p q h k)
+one_cause top text r s p q (inr (inr (inl (e, h)))) (inr (inr (inr (x, f, k)))) = absurd (not_spelled IsTooDeepAt text p k.source h k.is_source)
+one_cause top text r s p q (inr (inr (inr (x, e, h)))) (inl (m, f, k)) = absurd (not_read text m q h.is_source.read k h.is_source.reads)
+one_cause top text r s p q (inr (inr (inr (x, e, h)))) (inr (inl (f, k))) = absurd (not_spelled IsSyntaxAt text q h.source k h.is_source)
+one_cause top text r s p q (inr (inr (inr (x, e, h)))) (inr (inr (inl (f, k)))) = absurd (not_spelled IsTooDeepAt text q h.source k h.is_source)
+one_cause top text r s p q (inr (inr (inr (x, e, h)))) (inr (inr (inr (y, f, k)))) =
+    let o : (x ≡ y) × (p ≡ q) = one_elaborated top text x y p q h k in
     (e ∙ ap (λ (z : ElabRule). rule.Elaboration z) o.0 ∙ sym f, o.1)
 
 -- ---- refusals
 
-pub one_refusal : (text : List ℕ) (a b : DesignRefusal) → IsRefused a text → IsRefused b text → a ≡ b
-one_refusal text refusal.TooLong refusal.TooLong h k = refl
-one_refusal text refusal.TooLong (refusal.Broken s o) h k = absurd (omega (arith, h, k.0))
-one_refusal text (refusal.Broken r n) refusal.TooLong h k = absurd (omega (arith, h.0, k))
-one_refusal text (refusal.Broken r n) (refusal.Broken s o) (_, p, h, i) (_, q, k, j) =
-    let same : (r ≡ s) × (p ≡ q) = one_cause text r s p q (cause r text p h) (cause s text q k) in
+pub one_refusal : (top : Option (List ℕ)) (text : List ℕ) (a b : DesignRefusal) → IsRefused top a text → IsRefused top b text → a ≡ b
+one_refusal top text refusal.TooLong refusal.TooLong h k = refl
+one_refusal top text refusal.TooLong (refusal.Broken s o) h k = absurd (omega (arith, h, k.0))
+one_refusal top text (refusal.Broken r n) refusal.TooLong h k = absurd (omega (arith, h.0, k))
+one_refusal top text (refusal.Broken r n) (refusal.Broken s o) (_, p, h, i) (_, q, k, j) =
+    let same : (r ≡ s) × (p ≡ q) = one_cause top text r s p q (cause top r text p h) (cause top s text q k) in
     ap (λ (x : DesignRule). refusal.Broken x n) same.0
     ∙ ap (λ (x : Pos). refusal.Broken s x) (i ∙ ap (λ (x : ℕ). pos_of text x) same.1 ∙ sym j)
 
-not_broken : (text : List ℕ) (source : SourceText) (design : Design) (r : DesignRule) (p : ℕ) → Means text source design → Cause r text p → ⊥
-not_broken text source design r p h (inl (l, e, k)) = not_read text l p h.is_source.read k h.is_source.reads
-not_broken text source design r p h (inr (inl (e, k))) = not_spelled IsSyntaxAt text p source k h.is_source
-not_broken text source design r p h (inr (inr (inl (e, k)))) = not_spelled IsTooDeepAt text p source k h.is_source
-not_broken text source design r p h (inr (inr (inr (x, e, k)))) =
+not_broken : (top : Option (List ℕ)) (text : List ℕ) (source : SourceText) (design : Design) (r : DesignRule) (p : ℕ) → Means top text source design → Cause top r text p → ⊥
+not_broken top text source design r p h (inl (l, e, k)) = not_read text l p h.is_source.read k h.is_source.reads
+not_broken top text source design r p h (inr (inl (e, k))) = not_spelled IsSyntaxAt text p source k h.is_source
+not_broken top text source design r p h (inr (inr (inl (e, k)))) = not_spelled IsTooDeepAt text p source k h.is_source
+not_broken top text source design r p h (inr (inr (inr (x, e, k)))) =
     let same : source ≡ k.source = one_source_text text source k.source h.is_source k.is_source in
-    let all : (let y : Result Design Broken = Ok design in y) ≡ Err (at x p) = sym h.is ∙ ap (λ (t : SourceText). flatten t None) same ∙ k.is in
+    let all : (let y : Result Design Broken = Ok design in y) ≡ Err (at x p) = sym h.is ∙ ap (λ (t : SourceText). flatten t top) same ∙ k.is in
     cc
 
-pub apart : (text : List ℕ) (source : SourceText) (design : Design) (b : DesignRefusal) → Means text source design → IsRefused b text → ⊥
-apart text source design refusal.TooLong h k = omega (arith, h.short, k)
-apart text source design (refusal.Broken r n) h (_, p, k, j) = not_broken text source design r p h (cause r text p k)
+pub apart : (top : Option (List ℕ)) (text : List ℕ) (source : SourceText) (design : Design) (b : DesignRefusal) → Means top text source design → IsRefused top b text → ⊥
+apart top text source design refusal.TooLong h k = omega (arith, h.short, k)
+apart top text source design (refusal.Broken r n) h (_, p, k, j) = not_broken top text source design r p h (cause top r text p k)
 
-pub alike : (text : List ℕ) (a b : Flat) → IsDesign text a → IsDesign text b → AreAlike a b
-alike text a b h k =
-    let same : (h.source ≡ k.source) × (h.design ≡ k.design) = one_design text h.source k.source h.design k.design h.means k.means in
+pub alike : (top : Option (List ℕ)) (text : List ℕ) (a b : Flat) → IsDesign top text a → IsDesign top text b → AreAlike a b
+alike top text a b h k =
+    let same : (h.source ≡ k.source) × (h.design ≡ k.design) = one_design top text h.source k.source h.design k.design h.means k.means in
     let d : h.design ≡ k.design = same.1 in
     record {
       signals = h.stands.signals ∙ ap (λ (x : Design). map signal_of x.signals) d ∙ sym k.stands.signals;

@@ -48,52 +48,52 @@ spelling tokens = go (source_of 63 tokens) refl
 
 -- ---- texts
 
-module _ (text : List ℕ) (short : length text ≤ most_bytes) where
+module _ (top : Option (List ℕ)) (text : List ℕ) (short : length text ≤ most_bytes) where
   module _ (read : Lexed) (reads : Reads text read) where
     unspelled : (A : List Token → ℕ → Type 0) (h : IsRefusedToken A read.tokens) → IsUnspelled A text (slice_index read.places h.1.0)
     unspelled A (none, (p, h)) = record { read = read; reads = reads; spells_none = none; token = p; refused = h; is = refl }
 
-    elaborated : (ms : List ModuleTree) → IsSource height_limit read.tokens ms → HasAnswer text
-    elaborated ms h = go (flatten (source_with ms read) None) refl
+    elaborated : (ms : List ModuleTree) → IsSource height_limit read.tokens ms → HasAnswer top text
+    elaborated ms h = go (flatten (source_with ms read) top) refl
       where
-        go : (r : Result Design Broken) → flatten (source_with ms read) None ≡ r → HasAnswer text
+        go : (r : Result Design Broken) → flatten (source_with ms read) top ≡ r → HasAnswer top text
         go (Ok d) e =
             inl (source_with ms read, d, record { short = short; is_source = record { read = read; reads = reads; modules = ms; spells = h; is = refl }; is = e })
         go (Err b) e =
             inr (refusal.Broken (rule.Elaboration b.rule) (pos_of text b.place), (short, b.place, record { source = source_with ms read; is_source = record { read = read; reads = reads; modules = ms; spells = h; is = refl }; is = e }, refl))
 
-    spelled : Spelling read.tokens → HasAnswer text
+    spelled : Spelling read.tokens → HasAnswer top text
     spelled (inl (ms, h)) = elaborated ms h
     spelled (inr (inl h)) =
         inr (refusal.Broken rule.Syntax (pos_of text (slice_index read.places h.1.0)), (short, slice_index read.places h.1.0, unspelled IsSyntaxAt h, refl))
     spelled (inr (inr h)) =
         inr (refusal.Broken rule.TooDeep (pos_of text (slice_index read.places h.1.0)), (short, slice_index read.places h.1.0, unspelled IsTooDeepAt h, refl))
 
-  broken : (l : LexRule) (p : ℕ) → BreaksFirst text l p → HasAnswer text
+  broken : (l : LexRule) (p : ℕ) → BreaksFirst text l p → HasAnswer top text
   broken lexical.BadByte p h = inr (refusal.Broken rule.BadByte (pos_of text p), (short, p, h, refl))
   broken lexical.BadNumber p h = inr (refusal.Broken rule.BadNumber (pos_of text p), (short, p, h, refl))
   broken lexical.UnclosedText p h = inr (refusal.Broken rule.UnclosedText (pos_of text p), (short, p, h, refl))
   broken lexical.Directive p h = inr (refusal.Broken rule.Directive (pos_of text p), (short, p, h, refl))
 
-  by_row : (row : List Part) → IsRowOf row text → HasAnswer text
+  by_row : (row : List Part) → IsRowOf row text → HasAnswer top text
   unfolding earliest
   by_row row is = go (told row).faults refl
     where
-      first : (f : BrokenRule) (fs : List BrokenRule) (o : Option BrokenRule) → (told row).faults ≡ f ∷ fs → earliest fs ≡ o → HasAnswer text
+      first : (f : BrokenRule) (fs : List BrokenRule) (o : Option BrokenRule) → (told row).faults ≡ f ∷ fs → earliest fs ≡ o → HasAnswer top text
       first f fs None e n = broken f.rule f.place (row, is, ap earliest e ∙ ap (earlier (Some f)) n)
       first f fs (Some g) e n = order (nat_le f.place g.place) refl
         where
-          order : (b : Bool) → nat_le f.place g.place ≡ b → HasAnswer text
+          order : (b : Bool) → nat_le f.place g.place ≡ b → HasAnswer top text
           order true o = broken f.rule f.place (row, is, ap earliest e ∙ ap (earlier (Some f)) n ∙ rw o refl)
           order false o = broken g.rule g.place (row, is, ap earliest e ∙ ap (earlier (Some f)) n ∙ rw o refl)
 
-      go : (fs : List BrokenRule) → (told row).faults ≡ fs → HasAnswer text
+      go : (fs : List BrokenRule) → (told row).faults ≡ fs → HasAnswer top text
       go [] e = spelled _ (row, is, e, refl) (spelling _)
       go (f ∷ fs) e = first f fs (earliest fs) e refl
 
-pub has_answer : (text : List ℕ) → HasAnswer text
-has_answer text = go (cases_lt most_bytes (length text))
+pub has_answer : (top : Option (List ℕ)) (text : List ℕ) → HasAnswer top text
+has_answer top text = go (cases_lt most_bytes (length text))
   where
-    go : (most_bytes < length text) ⊎ (length text ≤ most_bytes) → HasAnswer text
+    go : (most_bytes < length text) ⊎ (length text ≤ most_bytes) → HasAnswer top text
     go (inl l) = inr (refusal.TooLong, l)
-    go (inr l) = by_row text l (rows.row text).parts (rows.row text).is
+    go (inr l) = by_row top text l (rows.row text).parts (rows.row text).is

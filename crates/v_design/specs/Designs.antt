@@ -1,5 +1,5 @@
 -- Which texts are designs (IEEE 1364-2005), and by which rule, and where, another one is refused.
-use Rattle.std.specs.Prelude.{◌≡◌, ℕ, ◌≤◌, ◌<◌, List, length, None, Ok, Err, slice_index}
+use Rattle.std.specs.Prelude.{◌≡◌, ℕ, ◌≤◌, ◌<◌, List, length, Option, Ok, Err, slice_index}
 use Rattle.port_io.specs.Limits.{most_bytes}
 use Rattle.port_io.specs.Pos.{pos_of}
 use Rattle.gpi.specs.declared.design.Flat.{Flat}
@@ -41,40 +41,41 @@ pub record IsUnspelled (is_refused : List Token → ℕ → Type 0) (text : List
   pub refused : is_refused read.tokens token
   pub is : place ≡ slice_index read.places token
 
--- ---- designs
+-- ---- designs, each under a top: the name of one of the modules, or none, which leaves it to the text
 
--- The text's modules break no rule, and stand for this design under the only module that no module instantiates.
-pub record Means (text : List ℕ) (source : SourceText) (design : Design) : Type 0 where
+-- The text's modules break no rule, and stand for this design under the top of this name, or else under the only module that no module
+-- instantiates.
+pub record Means (top : Option (List ℕ)) (text : List ℕ) (source : SourceText) (design : Design) : Type 0 where
   pub short : length text ≤ most_bytes
   pub is_source : IsSourceOf text source
-  pub is : flatten source None ≡ Ok design
+  pub is : flatten source top ≡ Ok design
 
--- The text is a design, and this is the flat one that it stands for.
-pub record IsDesign (text : List ℕ) (flat : Flat) : Type 0 where
+-- The text is a design under that top, and this is the flat one that it stands for.
+pub record IsDesign (top : Option (List ℕ)) (text : List ℕ) (flat : Flat) : Type 0 where
   pub source : SourceText
   pub design : Design
-  pub means : Means text source design
+  pub means : Means top text source design
   pub stands : StandsFor flat design source.step_fs
 
 -- ---- refusals
 
--- The text's modules break this rule first, at this byte.
-pub record IsBroken (text : List ℕ) (r : ElabRule) (place : ℕ) : Type 0 where
+-- The text's modules break this rule first under that top, at this byte.
+pub record IsBroken (top : Option (List ℕ)) (text : List ℕ) (r : ElabRule) (place : ℕ) : Type 0 where
   pub source : SourceText
   pub is_source : IsSourceOf text source
-  pub is : flatten source None ≡ Err (at r place)
+  pub is : flatten source top ≡ Err (at r place)
 
--- The text breaks this rule first, at this byte.
-abbrev pub BreaksAt : DesignRule → List ℕ → ℕ → Type 0
-BreaksAt rule.BadByte text place = BreaksFirst text lexical.BadByte place
-BreaksAt rule.BadNumber text place = BreaksFirst text lexical.BadNumber place
-BreaksAt rule.UnclosedText text place = BreaksFirst text lexical.UnclosedText place
-BreaksAt rule.Directive text place = BreaksFirst text lexical.Directive place
-BreaksAt rule.Syntax text place = IsUnspelled IsSyntaxAt text place
-BreaksAt rule.TooDeep text place = IsUnspelled IsTooDeepAt text place
-BreaksAt (rule.Elaboration r) text place = IsBroken text r place
+-- The text breaks this rule first under that top, at this byte. Only the rules of elaboration ask for the top.
+abbrev pub BreaksAt : Option (List ℕ) → DesignRule → List ℕ → ℕ → Type 0
+BreaksAt top rule.BadByte text place = BreaksFirst text lexical.BadByte place
+BreaksAt top rule.BadNumber text place = BreaksFirst text lexical.BadNumber place
+BreaksAt top rule.UnclosedText text place = BreaksFirst text lexical.UnclosedText place
+BreaksAt top rule.Directive text place = BreaksFirst text lexical.Directive place
+BreaksAt top rule.Syntax text place = IsUnspelled IsSyntaxAt text place
+BreaksAt top rule.TooDeep text place = IsUnspelled IsTooDeepAt text place
+BreaksAt top (rule.Elaboration r) text place = IsBroken top text r place
 
--- The text is no design, for this reason.
-abbrev pub IsRefused : DesignRefusal → List ℕ → Type 0
-IsRefused refusal.TooLong text = most_bytes < length text
-IsRefused (refusal.Broken r pos) text = (length text ≤ most_bytes) × (place : ℕ) × BreaksAt r text place × (pos ≡ pos_of text place)
+-- The text is no design under that top, for this reason.
+abbrev pub IsRefused : Option (List ℕ) → DesignRefusal → List ℕ → Type 0
+IsRefused top refusal.TooLong text = most_bytes < length text
+IsRefused top (refusal.Broken r pos) text = (length text ≤ most_bytes) × (place : ℕ) × BreaksAt top r text place × (pos ≡ pos_of text place)

@@ -1,6 +1,6 @@
 //! Laws of the definition of designs.
 
-ghost use Rattle.std.specs.Prelude.{◌≡◌, ◌≤◌, List, ℕ};
+ghost use Rattle.std.specs.Prelude.{◌≡◌, ◌≤◌, List, Option, ℕ};
 ghost use Rattle.gpi.specs.declared.design.Flat.{Flat};
 ghost use Rattle.v_lex.specs.Lexing.{Lexed};
 ghost use Rattle.v_lex.specs.Row.{Reads};
@@ -13,11 +13,11 @@ pub fn step_is_positive()
     ensures { (text : List ℕ) (read : Lexed) → Reads text read → 1 ≤ read.step }
 {}
 
-/// A text has one answer: it stands for a design or is refused (`some`) and not both (`apart`), two refusals of it are one (`refusal`),
+/// Under each top a text has one answer: it stands for a design or is refused (`some`) and not both (`apart`), two refusals of it are one (`refusal`),
 /// and two flat designs that it stands for are alike (`design`).
 pub fn one_answer()
-    ensures some { (text : List ℕ) → HasAnswer text }
-    ensures refusal { (text : List ℕ) (a b : DesignRefusal) → IsRefused a text → IsRefused b text → a ≡ b }
-    ensures design { (text : List ℕ) (a b : Flat) → IsDesign text a → IsDesign text b → AreAlike a b }
-    ensures apart { (text : List ℕ) (flat : Flat) (refusal : DesignRefusal) → IsDesign text flat → IsRefused refusal text → ⊥ }
+    ensures some { (top : Option (List ℕ)) (text : List ℕ) → HasAnswer top text }
+    ensures refusal { (top : Option (List ℕ)) (text : List ℕ) (a b : DesignRefusal) → IsRefused top a text → IsRefused top b text → a ≡ b }
+    ensures design { (top : Option (List ℕ)) (text : List ℕ) (a b : Flat) → IsDesign top text a → IsDesign top text b → AreAlike a b }
+    ensures apart { (top : Option (List ℕ)) (text : List ℕ) (flat : Flat) (refusal : DesignRefusal) → IsDesign top text flat → IsRefused top refusal text → ⊥ }
 {}

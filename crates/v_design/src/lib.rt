@@ -1,7 +1,7 @@
-//! The text of a design: its flat design, or the rule by which it is refused, with its line and column.
+//! The text of a design: its flat design under a top, or the rule by which it is refused, with its line and column.
 //!
 //! Begin with [`read_design`]. A text is a design where it has tokens (`v_lex`), modules spell them (`v_parse`), and these break no
-//! rule of elaboration (`v_elab`). Otherwise a [`DesignRefusal`] tells the [`DesignRule`] that is broken first, and where.
+//! rule of elaboration (`v_elab`) under the top. Otherwise a [`DesignRefusal`] tells the [`DesignRule`] that is broken first, and where.
 #![tactic(auto)]
 
 mod fault;

@@ -1,6 +1,6 @@
 //! Reading a design.
 
-ghost use Rattle.std.specs.Prelude.{◌≡◌, ◌≤◌, List, length, IfOk, IfErr};
+ghost use Rattle.std.specs.Prelude.{◌≡◌, ◌≤◌, ℕ, List, Option, length, IfOk, IfErr, option_copied};
 ghost use Rattle.port_io.specs.Limits.{most_bytes};
 ghost use Rattle.port_io.specs.Pos.{pos_of};
 ghost use Rattle.gpi.specs.Soundness.{IsSoundFlat};
@@ -31,11 +31,10 @@ fn pos_in(text: &[u8], place: u32) -> Pos
     line_of(text, text.len().min(place as usize))
 }
 
-/// The fault of a text that breaks this rule first, at this byte.
+/// The fault of a text that breaks this rule first, at this byte, under whichever top that is.
 fn broken(text: &[u8], rule: DesignRule, place: u32) -> DesignFault
-    requires short { length text.now ≤ most_bytes }
-    requires breaks { BreaksAt rule text.now place }
-    ensures { IsFault result text.now }
+    requires { length text.now ≤ most_bytes }
+    ensures { (top : Option (List ℕ)) → BreaksAt top rule text.now place → IsFault top result text.now }
 {
     let pos = pos_in(text, place);
     DesignFault::Refused(DesignRefusal::Broken(rule, pos))
@@ -45,7 +44,7 @@ fn broken(text: &[u8], rule: DesignRule, place: u32) -> DesignFault
 fn lexical_fault(text: &[u8], fault: LexFault) -> DesignFault
     requires short { length text.now ≤ most_bytes }
     requires refused { lexical.IsFault fault text.now }
-    ensures { IsFault result text.now }
+    ensures { (top : Option (List ℕ)) → IsFault top result text.now }
 {
     match fault {
         LexFault::BadByte(place) => broken(text, DesignRule::BadByte, place),
@@ -62,7 +61,7 @@ fn syntax_fault(text: &[u8], tokens: &Tokens, fault: ParseFault) -> DesignFault
     requires reads { Reads text.now tokens.now }
     requires only { (ms : List ModuleTree) → IsSource height_limit tokens.now.tokens ms → fault ≡ parsed.OutOfMemory }
     requires refused { syntax.IsFault tokens.now.tokens fault }
-    ensures { IsFault result text.now }
+    ensures { (top : Option (List ℕ)) → IsFault top result text.now }
 {
     match fault {
         ParseFault::Syntax(token) => {
@@ -80,7 +79,7 @@ fn modules_of(alloc: Global, text: &[u8], tokens: &Tokens) -> Result<Source, Des
     requires short { length text.now ≤ most_bytes }
     requires reads { Reads text.now tokens.now }
     ensures is { IfOk result (λ source. IsSourceOf text.now (text_of source)) }
-    ensures refused { IfErr result (λ fault. IsFault fault text.now) }
+    ensures refused { (top : Option (List ℕ)) → IfErr result (λ fault. IsFault top fault text.now) }
 {
     match parse(alloc, tokens) {
         Ok(source) => Ok(source),
@@ -92,7 +91,7 @@ fn modules_of(alloc: Global, text: &[u8], tokens: &Tokens) -> Result<Source, Des
 fn source_of(alloc: Global, text: &[u8]) -> Result<Source, DesignFault>
     requires { length text.now ≤ most_bytes }
     ensures is { IfOk result (λ source. IsSourceOf text.now (text_of source)) }
-    ensures refused { IfErr result (λ fault. IsFault fault text.now) }
+    ensures refused { (top : Option (List ℕ)) → IfErr result (λ fault. IsFault top fault text.now) }
 {
     match lex(alloc, text) {
         Ok(tokens) => modules_of(alloc, text, &tokens),
@@ -100,15 +99,20 @@ fn source_of(alloc: Global, text: &[u8]) -> Result<Source, DesignFault>
     }
 }
 
-/// The flat design of the modules of a text.
-fn flat_of(alloc: Global, text: &[u8], source: &Source) -> Result<Flat, DesignFault>
+/// The flat design of the modules of a text, under this top.
+fn flat_of(
+    alloc: Global,
+    text: &[u8],
+    source: &Source,
+    top: Option<&str>,
+) -> Result<Flat, DesignFault>
     requires short { length text.now ≤ most_bytes }
     requires source { IsSourceOf text.now (text_of source.now) }
-    ensures found { IfOk result (λ flat. IsDesign text.now flat) }
+    ensures found { IfOk result (λ flat. IsDesign (option_copied top.entry) text.now flat) }
     ensures sound { IfOk result IsSoundFlat }
-    ensures refused { IfErr result (λ fault. IsFault fault text.now) }
+    ensures refused { IfErr result (λ fault. IsFault (option_copied top.entry) fault text.now) }
 {
-    match elaborate(alloc, source, None) {
+    match elaborate(alloc, source, top) {
         Ok(flat) => Ok(flat),
         Err(ElabFault::Rule(rule, place)) => {
             Err(broken(text, DesignRule::Elaboration(rule), place))
@@ -117,22 +121,22 @@ fn flat_of(alloc: Global, text: &[u8], source: &Source) -> Result<Flat, DesignFa
     }
 }
 
-/// The flat design that a text stands for, under the only module that no module instantiates (IEEE 1364-2005, clause 12.1.1); or the rule
-/// that it breaks first, with the line and the column: first those of its bytes, then the grammar, then those of elaboration. A text of
-/// more than 1,048,576 bytes is too long, whatever it holds. `OutOfMemory` says nothing of the text.
-pub fn read_design(alloc: Global, text: &[u8]) -> Result<Flat, DesignFault>
-    // The text is a design, and this is what it stands for.
-    ensures found { IfOk result (λ flat. IsDesign text.now flat) }
+/// The flat design that a text stands for, under the top of this name, or else under the only module that no module instantiates (IEEE
+/// 1364-2005, clause 12.1.1); or the rule that it breaks first, with the line and the column: first those of its bytes, then the grammar,
+/// then those of elaboration. A text of more than 1,048,576 bytes is too long, whatever it holds. `OutOfMemory` says nothing of the text.
+pub fn read_design(alloc: Global, text: &[u8], top: Option<&str>) -> Result<Flat, DesignFault>
+    // The text is a design under that top, and this is what it stands for.
+    ensures found { IfOk result (λ flat. IsDesign (option_copied top.entry) text.now flat) }
     // It can be simulated.
     ensures sound { IfOk result IsSoundFlat }
     // Otherwise it is refused so.
-    ensures refused { IfErr result (λ fault. IsFault fault text.now) }
+    ensures refused { IfErr result (λ fault. IsFault (option_copied top.entry) fault text.now) }
 {
     if text.len() > MOST_BYTES {
         return Err(DesignFault::Refused(DesignRefusal::TooLong));
     }
     match source_of(alloc, text) {
-        Ok(source) => flat_of(alloc, text, &source),
+        Ok(source) => flat_of(alloc, text, &source, top),
         Err(fault) => Err(fault),
     }
 }

@@ -12,8 +12,8 @@ use Rattle.v_flat.specs.Design.{Design, SourceText, StandsFor, byte_of, flat_des
 use Rattle.v_build.specs.declared.parts.Parts.{Parts}
 use Rattle.v_build.specs.Parts.{IsFlatOf, IsSoFar}
 use Rattle.v_build.proofs.Whole.{built_sound}
-use Rattle.v_items.specs.States.{EndsAs}
-use Rattle.v_begin.proofs.Ends.{ends_err, ends_ok}
+use Rattle.v_elab.specs.States.{EndsAs}
+use Rattle.v_elab.proofs.BeginEnds.{ends_err, ends_ok}
 use Rattle.v_elab.specs.declared.fault.ElabFault.{ElabFault}
 use Rattle.v_elab.specs.declared.fault.ElabFault.TheVariants.{Rule, OutOfMemory}
 use Rattle.v_elab.specs.Elaborates.{Elaborates}

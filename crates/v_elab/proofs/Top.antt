@@ -19,14 +19,14 @@ use Rattle.v_connect.specs.Joints.{AreJoints}
 use Rattle.v_build.specs.declared.parts.Parts.{Parts}
 use Rattle.v_build.specs.Parts.{IsSoFar}
 use Rattle.v_layout.specs.Texts.{HasText}
-use Rattle.v_items.specs.States.{EndsAs}
+use Rattle.v_elab.specs.States.{EndsAs}
 use Rattle.v_top.specs.Found.{module_in, modules_of}
 use Rattle.v_top.specs.Modules.{ChecksModules}
-use Rattle.v_begin.specs.declared.outside.Outside as code
-use Rattle.v_begin.specs.Begins.{IsOutside}
-use Rattle.v_inner.specs.declared.level.Level.{Level}
-use Rattle.v_inner.specs.Enters.{HaveTheSame}
-use Rattle.v_walk.specs.Walks.{Walks}
+use Rattle.v_elab.specs.declared.outside.Outside as code
+use Rattle.v_elab.specs.Begins.{IsOutside}
+use Rattle.v_elab.specs.declared.level.Level.{Level}
+use Rattle.v_elab.specs.Enters.{HaveTheSame}
+use Rattle.v_elab.specs.Walks.{Walks}
 use Rattle.v_elab.specs.Steps.{IsDesign, IsFromTop}
 
 abbrev nothing_given : Outside

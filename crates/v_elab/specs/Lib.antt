@@ -1,2 +1,15 @@
+pub mod States
+pub mod ItemsSteps
+pub mod Ports
+pub mod PortsSteps
+pub mod Opens
+pub mod Begins
+pub mod BeginSteps
+pub mod Instances
+pub mod Enters
+pub mod InnerSteps
+pub mod Walks
+pub mod WalkSteps
+pub mod Closes
 pub mod Elaborates
 pub mod Steps

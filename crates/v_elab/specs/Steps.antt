@@ -5,7 +5,7 @@ use Rattle.v_scope.specs.declared.rule.Broken.{Broken}
 use Rattle.v_flat.specs.Design.{flat_design, from_top, top_of}
 use Rattle.v_build.specs.declared.parts.Parts.{Parts}
 use Rattle.v_build.specs.Parts.{IsSoFar}
-use Rattle.v_items.specs.States.{EndsAs}
+use Rattle.v_elab.specs.States.{EndsAs}
 
 -- r is what is built of the design of modules of which no two have one name
 abbrev pub IsFromTop : List ModuleTree → Option (List ℕ) → Result Parts Broken → Type 0

@@ -5,18 +5,18 @@ ghost use Rattle.v_syntax.specs.SourceTrees.{view_module};
 ghost use Rattle.v_top.specs.Found.{modules_of};
 ghost use Rattle.v_elab.specs.Steps.{IsDesign, IsFromTop};
 
+use crate::level::Level;
+use crate::outside::Outside;
+use crate::walk::instance;
 use port_io::NoMemory;
 use std::alloc::Global;
-use v_begin::Outside;
 use v_build::Parts;
 use v_connect::Joints;
-use v_inner::Level;
 use v_loop::Unrolled;
 use v_parameter::Given;
 use v_scope::{Broken, ElabRule};
 use v_syntax::{Module, TokenNumber};
 use v_top::{Modules, module_numbers};
-use v_walk::instance;
 
 /// The most levels of instances below the top.
 const MOST_LEVELS: usize = 64;

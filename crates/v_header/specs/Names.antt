@@ -2,7 +2,8 @@
 use Rattle.std.specs.Prelude.{ℕ, List, [], ◌∷◌, map}
 use Rattle.std.specs.Borrow.{Bor}
 use Rattle.v_syntax.specs.SourceTrees.{HeaderPortTree, HeaderPortOf, ItemTree}
-use Rattle.v_flat.specs.Headers.{HeadedPort, Parameter, names_in}
+use Rattle.v_scope.specs.Scope.{Scope, before}
+use Rattle.v_flat.specs.Headers.{HeadedPort, Parameter, later, names_in}
 
 -- the bytes of names that the code refers to
 abbrev pub texts : List (Bor (List ℕ)) → List (List ℕ)
@@ -23,3 +24,7 @@ parameter_name p = p.name.name
 -- what one item declares, but for parameters
 abbrev pub item_names : ItemTree → List (List ℕ)
 item_names i = names_in (i ∷ [])
+
+-- these names are declared further on, and any other means what it meant
+unfoldable pub and_later : List (List ℕ) → Scope → Scope
+and_later ns s = before (later ns) s

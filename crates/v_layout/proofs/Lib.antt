@@ -1,8 +1,16 @@
+pub mod Tables
+pub mod Counts
+pub mod Changes
+pub mod Loops
+pub mod Places
+pub mod Steps
+pub mod DeclareTurns
+pub mod Ends
 pub mod Fitting
 pub mod Scopes
 pub mod Stay
 pub mod ByText
 pub mod PathTexts
 pub mod Adding
-pub mod Lines
+pub mod InOrder
 pub mod Turns

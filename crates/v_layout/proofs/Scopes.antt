@@ -18,7 +18,7 @@ use Rattle.v_flat.specs.Declarations.{Declared, Entries}
 use Rattle.v_flat.specs.Paths.{Path, SignalAt, below, signal_of}
 use Rattle.v_flat.specs.Design.{word_signals, signals_of, all_signals, object_of, start_of, entries}
 use Rattle.v_names.specs.Proper.{IsProper, AreProper}
-use Rattle.v_operator.specs.Checked.{IsNameOf, IsObjectOf}
+use Rattle.v_constant.specs.Checked.{IsNameOf, IsObjectOf}
 use Rattle.v_parameter.specs.declared.constants.Constant as code
 use Rattle.v_parameter.specs.declared.constants.Constants.{Constants}
 use Rattle.v_parameter.specs.Constants.{AreConstants, entries_of}

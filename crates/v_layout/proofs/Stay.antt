@@ -8,7 +8,7 @@ use Rattle.v_scope.specs.declared.meaning.Meaning.{Meaning}
 use Rattle.v_scope.specs.declared.meaning.Meaning.TheVariants.{Constant, Object, Later}
 use Rattle.v_scope.specs.Scope.{Scope, find, width_of}
 use Rattle.v_flat.specs.Objects.{words_of}
-use Rattle.v_operator.specs.Checked.{IsNameOf, IsObjectOf}
+use Rattle.v_constant.specs.Checked.{IsNameOf, IsObjectOf}
 use Rattle.v_flat.specs.Paths.{SignalAt}
 use Rattle.v_layout.specs.Named.{AreSignals}
 use Rattle.v_layout.proofs.Scopes.{widths_at, widths_both}

@@ -12,14 +12,14 @@ use Rattle.v_flat.specs.Objects.{count_of}
 use Rattle.v_flat.specs.Declarations.{Declared, Entries, signals_in}
 use Rattle.v_flat.specs.Paths.{word_text}
 use Rattle.v_flat.specs.Design.{children, spot_of, object_of, entries}
-use Rattle.v_declare.specs.declared.details.Line.{Line}
-use Rattle.v_declare.specs.Order.{line_in, lines_in}
-use Rattle.v_declare.proofs.Turns.{here}
+use Rattle.v_layout.specs.declared.details.Line.{Line}
+use Rattle.v_layout.specs.Order.{line_in, lines_in}
+use Rattle.v_layout.proofs.DeclareTurns.{here}
 use Rattle.v_parameter.specs.declared.constants.Constant.{Constant}
 use Rattle.v_parameter.specs.Constants.{entries_of}
 use Rattle.v_parameter.specs.Values.{meaning_of}
 use Rattle.v_layout.specs.Steps.{words_at, signals_at, signals_below, dotted}
-use Rattle.v_layout.proofs.Lines.{line_here}
+use Rattle.v_layout.proofs.InOrder.{line_here}
 
 -- ---- numbers
 

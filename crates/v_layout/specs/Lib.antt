@@ -1,3 +1,8 @@
+pub mod Kept
+pub mod Counted
+pub mod Place
+pub mod DeclareSteps
+pub mod Order
 pub mod Fits
 pub mod Texts
 pub mod Adds

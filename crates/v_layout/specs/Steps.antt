@@ -7,8 +7,8 @@ use Rattle.v_scope.specs.Scope.{low_of, width_of}
 use Rattle.v_flat.specs.Declarations.{Declared, kind_of}
 use Rattle.v_flat.specs.Paths.{signal_of}
 use Rattle.v_flat.specs.Design.{word_signals, signals_of, object_of, start_of}
-use Rattle.v_declare.specs.declared.details.Declared as code
-use Rattle.v_declare.specs.Kept.{sort_in}
+use Rattle.v_layout.specs.declared.details.Declared as code
+use Rattle.v_layout.specs.Kept.{sort_in}
 
 -- a name behind a path
 abbrev pub dotted : List ℕ → List ℕ → List ℕ

@@ -3,14 +3,14 @@
 ghost use Rattle.std.specs.Prelude.{◌≡◌, ◌++◌, IfOk};
 ghost use Rattle.v_scope.specs.Scope.{means};
 ghost use Rattle.v_flat.specs.Design.{entries};
-ghost use Rattle.v_declare.specs.Order.{lines_in};
+ghost use Rattle.v_layout.specs.Order.{lines_in};
 ghost use Rattle.v_parameter.specs.Constants.{entries_of};
 ghost use Rattle.v_layout.specs.Fits.{Fit};
 
+use crate::details::Line;
 use crate::numbers::{end_of, object, signal_count};
 use port_io::NoMemory;
 use std::alloc::Global;
-use v_declare::Line;
 use v_parameter::Constant;
 use v_scope::{Meaning, Scope};
 

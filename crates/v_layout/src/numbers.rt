@@ -5,11 +5,11 @@ ghost use Rattle.v_names.specs.Proper.{HasFewWords};
 ghost use Rattle.v_flat.specs.Objects.{count_of};
 ghost use Rattle.v_flat.specs.Declarations.{signals_in};
 ghost use Rattle.v_flat.specs.Design.{object_of};
-ghost use Rattle.v_declare.specs.Kept.{named_declared};
-ghost use Rattle.v_declare.specs.Order.{lines_in};
+ghost use Rattle.v_layout.specs.Kept.{named_declared};
+ghost use Rattle.v_layout.specs.Order.{lines_in};
 ghost use Rattle.v_layout.specs.Fits.{Fit};
 
-use v_declare::{Declared, Line};
+use crate::details::{Declared, Line};
 use v_names::word_count;
 use v_scope::DataObject;
 

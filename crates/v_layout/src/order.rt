@@ -5,11 +5,12 @@
 ghost use Rattle.std.specs.Prelude.{◌≡◌, ◌++◌, ◌∷◌, [], Some, map, option_map, slice_get, IfOk, OnOk};
 ghost use Rattle.v_flat.specs.Headers.{Port, port_name};
 ghost use Rattle.v_flat.specs.Declarations.{Declared, find_declared, in_order, listed, other_lines, port_lines};
-ghost use Rattle.v_declare.specs.Order.{line_in, lines_in};
+ghost use Rattle.v_layout.specs.Order.{line_in, lines_in};
 
+use crate::details::Line;
+use crate::so_far::DeclaredNames;
 use port_io::NoMemory;
 use std::alloc::Global;
-use v_declare::{DeclaredNames, Line};
 use v_header::Ports;
 
 /// What is declared of the port at a place in the header; none where nothing is.

@@ -6,19 +6,19 @@ ghost use Rattle.gpi.specs.Terms.{IsWidth};
 ghost use Rattle.v_scope.specs.Scope.{width_of};
 ghost use Rattle.v_flat.specs.Paths.{Path, signal_of};
 ghost use Rattle.v_flat.specs.Design.{all_signals, start_of};
-ghost use Rattle.v_declare.specs.Kept.{named_declared};
-ghost use Rattle.v_declare.specs.Order.{line_in, lines_in};
+ghost use Rattle.v_layout.specs.Kept.{named_declared};
+ghost use Rattle.v_layout.specs.Order.{line_in, lines_in};
 ghost use Rattle.v_layout.specs.Adds.{AddsSome};
 ghost use Rattle.v_layout.specs.Fits.{IsProperDeclared};
 ghost use Rattle.v_layout.specs.Steps.{memory_at, signals_at, signals_below, vector_at};
 ghost use Rattle.v_layout.specs.Texts.{HasText};
 
+use crate::details::{Declared, Line};
 use crate::paths::{dotted, word_path};
 use four_value::Digit;
 use gpi::Signal;
 use port_io::{Name, NoMemory, Sequence};
 use std::alloc::Global;
-use v_declare::{Declared, Line};
 use v_names::width;
 use v_scope::{Bounds, DataKind};
 

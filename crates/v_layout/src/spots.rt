@@ -3,15 +3,15 @@
 ghost use Rattle.std.specs.Prelude.{◌≡◌, ℕ, List, IfOk};
 ghost use Rattle.v_names.specs.Proper.{HasFewWords};
 ghost use Rattle.v_flat.specs.Design.{children, object_of, spot_of};
-ghost use Rattle.v_declare.specs.Kept.{named_declared};
-ghost use Rattle.v_declare.specs.Order.{lines_in};
+ghost use Rattle.v_layout.specs.Kept.{named_declared};
+ghost use Rattle.v_layout.specs.Order.{lines_in};
 ghost use Rattle.v_layout.specs.Fits.{Fit};
 
+use crate::details::{Declared, Line};
 use crate::numbers::signal_count;
 use gpi::{SigId, Spot};
 use port_io::{Name, NoMemory, Sequence};
 use std::alloc::Global;
-use v_declare::{Declared, Line};
 use v_names::words;
 
 /// The signal of what is declared, or the words of a memory, from the number of its first signal on.

@@ -11,8 +11,8 @@ use Rattle.v_scope.specs.Limits.{counted_width}
 use Rattle.v_scope.proofs.Gathered.{each_needs}
 use Rattle.v_flat.specs.Checks.{checked, made}
 use Rattle.v_flat.specs.Statements.{done, step_checked}
-use Rattle.v_operator.specs.declared.checked.Checked.{Checked}
-use Rattle.v_operator.specs.Checked.{IsChecked}
+use Rattle.v_constant.specs.declared.checked.Checked.{Checked}
+use Rattle.v_constant.specs.Checked.{IsChecked}
 use Rattle.v_constant.proofs.Values.{asked, lost_is, noted_is}
 
 same_rule : (f : Found Checked) (x : Found ℕ) (b : Broken) → each (λ (c : Checked). c.width) f ≡ each counted_width x → ended f ≡ Err b → settled x ≡ Lost b

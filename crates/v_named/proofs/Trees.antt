@@ -8,7 +8,7 @@ use Rattle.v_scope.specs.declared.meaning.Meaning.{Meaning}
 use Rattle.v_scope.specs.declared.meaning.Meaning.TheVariants.{Constant, Object, Later}
 use Rattle.v_scope.specs.Scope.{Scope, find}
 use Rattle.v_flat.specs.Statements.{turn, turns, known_turns, loop_name}
-use Rattle.v_operator.specs.Checked.{IsNameOf, IsObjectOf, AreNamesOf, AllNamesOf, SelectsNamesOf, SelectNamesOf}
+use Rattle.v_constant.specs.Checked.{IsNameOf, IsObjectOf, AreNamesOf, AllNamesOf, SelectsNamesOf, SelectNamesOf}
 use Rattle.v_assign.specs.Targets.{TargetNamesOf, TargetsNamesOf}
 use Rattle.v_act.specs.Statements.{LabelsNamesOf, OfCounter, InTurns, StatementNamesOf, StatementsNamesOf, CaseNamesOf, CasesNamesOf}
 use Rattle.v_layout.specs.Named.{AreSignals}

@@ -4,7 +4,7 @@ ghost use Rattle.std.specs.Prelude.{ℕ, List};
 ghost use Rattle.v_syntax.specs.ExpressionTrees.{TargetTree, Tree};
 ghost use Rattle.v_syntax.specs.StatementTrees.{StatementTree};
 ghost use Rattle.v_scope.specs.Scope.{Scope};
-ghost use Rattle.v_operator.specs.Checked.{AreNamesOf};
+ghost use Rattle.v_constant.specs.Checked.{AreNamesOf};
 ghost use Rattle.v_assign.specs.Targets.{TargetNamesOf};
 ghost use Rattle.v_act.specs.Statements.{StatementNamesOf};
 ghost use Rattle.v_layout.specs.Named.{AreSignals};

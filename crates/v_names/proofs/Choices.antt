@@ -18,7 +18,7 @@ use Rattle.v_scope.specs.Limits.{counted_width}
 use Rattle.v_scope.proofs.CutWidths.{fits_cut}
 use Rattle.v_flat.specs.Expressions.{number_or, own_number, own_value, no_signals, width, lesser, select_base}
 use Rattle.v_flat.specs.Checks.{checked, index, constant_of, counted, narrow, part_width, go_with}
-use Rattle.v_operator.specs.Checked.{IsCount}
+use Rattle.v_constant.specs.Checked.{IsCount}
 use Rattle.v_flat.proofs.Holds.{holds_both, holds_followed, holds_each, holds_then, holds_needs}
 use Rattle.v_flat.proofs.Widths.{count_found}
 use Rattle.v_constant.proofs.Unsignalled.{one_meaning}

@@ -24,9 +24,9 @@ use Rattle.v_flat.specs.Objects.{Nature, nature_of_object, range_of, words_of}
 use Rattle.v_flat.specs.Expressions.{own_value, select_base, select_width, object_width, object_part}
 use Rattle.v_flat.specs.Checks.{checked, index, part, by_nature, of_vector, of_memory, select_at}
 use Rattle.v_flat.proofs.Holds.{holds_then, holds_any, holds_followed}
-use Rattle.v_operator.specs.declared.checked.Checked.{Checked}
-use Rattle.v_operator.specs.Checked.{StandsFor, IsChecked, IsObjectOf}
-use Rattle.v_operator.proofs.Combined.{made_width, made_holds}
+use Rattle.v_constant.specs.declared.checked.Checked.{Checked}
+use Rattle.v_constant.specs.Checked.{StandsFor, IsChecked, IsObjectOf}
+use Rattle.v_constant.proofs.Combined.{made_width, made_holds}
 use Rattle.v_names.specs.declared.choice.Choice.{Choice}
 use Rattle.v_names.specs.declared.selects.CheckedSelect.{CheckedSelect}
 use Rattle.v_names.specs.declared.selects.CheckedSelect.TheVariants as code

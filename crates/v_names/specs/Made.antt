@@ -25,9 +25,9 @@ use Rattle.v_context.specs.Contexts.{value_in, IsSound, IsLowered}
 use Rattle.v_flat.specs.Objects.{Vector, Memory, nature_of, range_of}
 use Rattle.v_flat.specs.Expressions.{whole_width, whole_value, one_width, one_value, part_of_word, named_width, named_value, number_or}
 use Rattle.v_flat.specs.Checks.{by_nature, of_vector, of_memory, narrow, go_with}
-use Rattle.v_operator.specs.declared.checked.Checked.{Checked}
-use Rattle.v_operator.specs.Checked.{IsNameOf, SelectsNamesOf}
-use Rattle.v_operator.specs.Made.{Makes, EachIs}
+use Rattle.v_constant.specs.declared.checked.Checked.{Checked}
+use Rattle.v_constant.specs.Checked.{IsNameOf, SelectsNamesOf}
+use Rattle.v_constant.specs.Made.{Makes, EachIs}
 use Rattle.v_names.specs.declared.selects.CheckedSelect.{CheckedSelect}
 use Rattle.v_names.specs.declared.selects.CheckedSelect.TheVariants as code
 use Rattle.v_names.specs.declared.selects.CheckedSelects.{CheckedSelects}

@@ -13,8 +13,8 @@ use Rattle.v_scope.specs.Limits.{counted_width}
 use Rattle.v_scope.specs.Scope.{Scope}
 use Rattle.v_flat.specs.Expressions.{own_value, select_base, select_width}
 use Rattle.v_flat.specs.Checks.{checked, index, constant_of, part}
-use Rattle.v_operator.specs.declared.checked.Checked.{Checked}
-use Rattle.v_operator.specs.Checked.{AreNamesOf, SelectNamesOf, IsChecked, IsCount}
+use Rattle.v_constant.specs.declared.checked.Checked.{Checked}
+use Rattle.v_constant.specs.Checked.{AreNamesOf, SelectNamesOf, IsChecked, IsCount}
 use Rattle.v_names.specs.declared.choice.Choice.{Choice}
 use Rattle.v_names.specs.declared.selects.CheckedSelect.{CheckedSelect}
 use Rattle.v_names.specs.declared.selects.CheckedSelect.TheVariants as code

@@ -9,6 +9,7 @@ mod bounds;
 mod choice;
 mod name;
 mod selects;
+mod waiting;
 
 pub use bounds::{range, range_size, width, word_count, words};
 pub use choice::{Choice, chosen};

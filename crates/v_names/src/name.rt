@@ -10,12 +10,13 @@ ghost use Rattle.v_names.specs.Selects.{ChecksName, twice_at};
 
 use crate::bounds::{range, width, words};
 use crate::choice::{Choice, chosen};
+use crate::waiting::beside;
 use crate::{CheckedSelect, CheckedSelects};
 use gpi::{Range, SigId, Term, Words};
 use port_io::NoMemory;
 use std::alloc::Global;
+use v_constant::Checked;
 use v_context::Contextual;
-use v_operator::Checked;
 use v_scope::{Bounds, DataObject, ElabRule, Found, Meaning, Scope};
 use v_syntax::TokenNumber;
 
@@ -50,7 +51,10 @@ fn chosen_from_vector(
             fault,
             chosen_digits(alloc, from, range, choice)?,
         )),
-        Found::Lost(fault) => Ok(Found::Lost(fault)),
+        Found::Lost(fault) => {
+            drop(from);
+            Ok(Found::Lost(fault))
+        }
     }
 }
 
@@ -84,7 +88,11 @@ fn vector(
         CheckedSelects::One(select) => {
             Ok(chosen_from_vector(alloc, from, range(bounds), chosen(place, bounds, select))?)
         }
-        CheckedSelects::OfWord(word, select) => Ok(second_select(word, select.place())),
+        CheckedSelects::OfWord(word, select) => {
+            let found = second_select(word, select.place());
+            drop((from, select));
+            Ok(found)
+        }
     }
 }
 
@@ -128,7 +136,11 @@ fn word_select(
 {
     match select {
         CheckedSelect::Bit { index, .. } => Ok(found_word(alloc, words, width, index)?),
-        other => Ok(Found::broken(ElabRule::BadRange, other.place())),
+        other => {
+            let place = other.place();
+            drop(other);
+            Ok(Found::broken(ElabRule::BadRange, place))
+        }
     }
 }
 
@@ -143,7 +155,7 @@ fn digits_of_word(
     ensures { IfOk result (MakesWordPart words width bounds found) }
 {
     let (index, choice) = found;
-    let word = Term::word(alloc, words, index, width)?;
+    let (word, choice) = beside(Term::word(alloc, words, index, width), choice)?;
     chosen_digits(alloc, word, range(bounds), choice)
 }
 
@@ -224,8 +236,14 @@ pub fn named(
     ensures { IfOk result (ChecksName (means scope.now) name.now place selects) }
 {
     match scope.find(name) {
-        None => Ok(Found::broken(ElabRule::UnknownName, place)),
-        Some(Meaning::Later) => Ok(Found::broken(ElabRule::NotConstant, place)),
+        None => {
+            drop(selects);
+            Ok(Found::broken(ElabRule::UnknownName, place))
+        }
+        Some(Meaning::Later) => {
+            drop(selects);
+            Ok(Found::broken(ElabRule::NotConstant, place))
+        }
         Some(Meaning::Constant(value, bounds)) => {
             let width = value.width();
             Ok(vector(alloc, place, Term::Const(*value), width, *bounds, selects)?)

@@ -10,7 +10,7 @@ use four_value::Bits;
 use gpi::Term;
 use port_io::NoMemory;
 use std::alloc::Global;
-use v_operator::Checked;
+use v_constant::Checked;
 use v_scope::Found;
 use v_syntax::TokenNumber;
 

@@ -15,10 +15,10 @@ use Rattle.v_context.specs.Concatenations as term
 use Rattle.v_flat.specs.Expressions.{meaning, joined}
 use Rattle.v_flat.specs.Checks.{checked, all_checked}
 use Rattle.v_flat.proofs.Holds.{holds_both}
-use Rattle.v_operator.specs.declared.checked.Checked.{Checked}
-use Rattle.v_operator.specs.Checked.{StandsFor, IsChecked}
-use Rattle.v_operator.proofs.Combined.{made_width, made_holds}
-use Rattle.v_operator.proofs.Operators.{counted_whole}
+use Rattle.v_constant.specs.declared.checked.Checked.{Checked}
+use Rattle.v_constant.specs.Checked.{StandsFor, IsChecked}
+use Rattle.v_constant.proofs.Combined.{made_width, made_holds}
+use Rattle.v_constant.proofs.Operators.{counted_whole}
 use Rattle.v_parts.specs.declared.parts.Parts.{Parts}
 use Rattle.v_parts.specs.Made.{MakesMore, AreMore}
 use Rattle.std.proofs.Common.{Result, Ok, Err, IfOk}

@@ -18,10 +18,10 @@ use Rattle.v_flat.specs.Expressions.{own_number, widths, joined}
 use Rattle.v_flat.specs.Checks.{all_checked, constant_of, counted, filled, sized}
 use Rattle.v_flat.proofs.Holds.{holds_noted, holds_both, holds_each}
 use Rattle.v_flat.proofs.Widths.{count_found}
-use Rattle.v_operator.specs.declared.checked.Checked.{Checked}
-use Rattle.v_operator.specs.Checked.{StandsFor, IsChecked, IsCount, sized_at}
-use Rattle.v_operator.proofs.Combined.{sized_width, sized_counted, made_width, made_holds, sized_holds}
-use Rattle.v_operator.proofs.Operators.{whole_width}
+use Rattle.v_constant.specs.declared.checked.Checked.{Checked}
+use Rattle.v_constant.specs.Checked.{StandsFor, IsChecked, IsCount, sized_at}
+use Rattle.v_constant.proofs.Combined.{sized_width, sized_counted, made_width, made_holds, sized_holds}
+use Rattle.v_constant.proofs.Operators.{whole_width}
 use Rattle.v_parts.specs.declared.parts.Parts.{Parts}
 use Rattle.v_parts.specs.Made.{MakesOnce, AreOnce, MakesCopies, AreCopies, filled_at}
 use Rattle.v_parts.specs.Parts.{StandFor, AreChecked}

@@ -10,8 +10,8 @@ use Rattle.v_scope.specs.Found.{and_then, needs}
 use Rattle.v_scope.specs.Limits.{counted_width, most_digits}
 use Rattle.v_context.specs.Contexts.{IsLowered}
 use Rattle.v_context.specs.Concatenations.{values, widths, AreSound, MakesConcatenation}
-use Rattle.v_operator.specs.declared.checked.Checked.{Checked}
-use Rattle.v_operator.specs.Made.{Makes, EachIs}
+use Rattle.v_constant.specs.declared.checked.Checked.{Checked}
+use Rattle.v_constant.specs.Made.{Makes, EachIs}
 use Rattle.v_parts.specs.declared.parts.Parts.{Parts}
 
 -- y is x with the part a above it

@@ -10,8 +10,8 @@ use Rattle.v_context.specs.Concatenations.{AreSound}
 use Rattle.v_context.specs.Concatenations as term
 use Rattle.v_flat.specs.Expressions.{widths, joined}
 use Rattle.v_flat.specs.Checks.{all_checked}
-use Rattle.v_operator.specs.declared.checked.Checked.{Checked}
-use Rattle.v_operator.specs.Checked.{AllNamesOf, IsChecked, IsCount}
+use Rattle.v_constant.specs.declared.checked.Checked.{Checked}
+use Rattle.v_constant.specs.Checked.{AllNamesOf, IsChecked, IsCount}
 use Rattle.v_parts.specs.declared.parts.Parts.{Parts}
 
 -- together they have the digits of these expressions, on every map of the signals; and they are sound wherever the names are

@@ -10,8 +10,8 @@ use four_value::{Bits, Digit};
 use gpi::Term;
 use port_io::NoMemory;
 use std::alloc::Global;
+use v_constant::{Checked, sized};
 use v_context::Contextual;
-use v_operator::{Checked, sized};
 use v_scope::{ElabRule, Found, TOO_WIDE};
 use v_syntax::TokenNumber;
 

@@ -8,7 +8,7 @@ ghost use Rattle.v_parts.specs.Parts.{ChecksMore, ChecksNone};
 use gpi::Term;
 use port_io::NoMemory;
 use std::alloc::Global;
-use v_operator::Checked;
+use v_constant::Checked;
 use v_scope::{Found, TOO_WIDE};
 
 /// Parts of braces that were checked (IEEE 1364-2005, clause 5.1.14). Where no rule is broken in them, they have the digits of

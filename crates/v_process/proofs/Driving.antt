@@ -14,8 +14,8 @@ use Rattle.v_flat.specs.Checks.{checked}
 use Rattle.v_flat.specs.Targets.{driving}
 use Rattle.v_flat.specs.Statements.{done}
 use Rattle.v_drive.specs.declared.digits.DrivenDigits.{DrivenDigits}
-use Rattle.v_operator.specs.declared.checked.Checked.{Checked}
-use Rattle.v_operator.specs.Checked.{IsChecked}
+use Rattle.v_constant.specs.declared.checked.Checked.{Checked}
+use Rattle.v_constant.specs.Checked.{IsChecked}
 use Rattle.v_target.specs.declared.checked.CheckedTarget.{CheckedTarget}
 use Rattle.v_assign.specs.Continuous.{IsContinuous, KeepsOrGrows}
 use Rattle.v_assign.proofs.Grown.{on_err, target_grown}

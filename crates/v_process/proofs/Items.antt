@@ -21,8 +21,8 @@ use Rattle.v_flat.specs.Statements.{done, reads, statement_reads, statement_chec
 use Rattle.v_flat.specs.Design.{Design, State, adding, always, always_item, assigning, beginning, driver, events_of, initial_item, input_joint, net, output_target, register, running, wakes_of, whole_of, with_process}
 use Rattle.v_drive.specs.declared.digits.DrivenDigits.{DrivenDigits}
 use Rattle.v_drive.specs.Digits.{Keeps}
-use Rattle.v_operator.specs.declared.checked.Checked.{Checked}
-use Rattle.v_operator.specs.Checked.{StandsFor}
+use Rattle.v_constant.specs.declared.checked.Checked.{Checked}
+use Rattle.v_constant.specs.Checked.{StandsFor}
 use Rattle.v_target.specs.declared.checked.CheckedTarget.{CheckedTarget}
 use Rattle.v_assign.specs.Targets.{GetsAs}
 use Rattle.v_act.proofs.Done.{done_each, done_unit}

@@ -1,3 +1,8 @@
+pub mod Rows
+pub mod Ended
+pub mod Forms
+pub mod Behind
+pub mod Looping
 pub mod Run
 pub mod Driving
 pub mod Opened

@@ -23,8 +23,8 @@ use Rattle.v_flat.specs.Checks.{checked}
 use Rattle.v_flat.specs.Targets.{name_update, object_update, target_width}
 use Rattle.v_flat.specs.Statements.{done, values_of, assigned_value}
 use Rattle.v_flat.specs.Design.{whole_of}
-use Rattle.v_operator.specs.declared.checked.Checked.{Checked}
-use Rattle.v_operator.specs.Checked.{IsNameOf, IsObjectOf, IsChecked}
+use Rattle.v_constant.specs.declared.checked.Checked.{Checked}
+use Rattle.v_constant.specs.Checked.{IsNameOf, IsObjectOf, IsChecked}
 use Rattle.v_names.specs.Proper.{IsProper}
 use Rattle.v_assign.specs.Targets.{GetsAs, IsTarget}
 use Rattle.v_act.specs.Statements.{DoesAs, IsStatement}

@@ -1,3 +1,5 @@
+pub mod Lists
+pub mod Turns
 pub mod Processes
 pub mod Ports
 pub mod Items

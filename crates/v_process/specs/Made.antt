@@ -20,8 +20,8 @@ use Rattle.v_scope.specs.declared.meaning.Meaning.TheVariants.{Constant, Object,
 use Rattle.v_scope.specs.Scope.{Scope, width_of}
 use Rattle.v_flat.specs.Checks.{checked}
 use Rattle.v_flat.specs.Statements.{done}
-use Rattle.v_operator.specs.declared.checked.Checked.{Checked}
-use Rattle.v_operator.specs.Checked.{IsChecked}
+use Rattle.v_constant.specs.declared.checked.Checked.{Checked}
+use Rattle.v_constant.specs.Checked.{IsChecked}
 use Rattle.v_target.specs.declared.checked.CheckedTarget.{CheckedTarget}
 use Rattle.v_assign.specs.Targets.{IsTarget}
 use Rattle.v_act.specs.Statements.{ChecksAssignment}

@@ -7,8 +7,8 @@ use Rattle.v_syntax.specs.ExpressionTrees.{Tree, TargetTree}
 use Rattle.v_scope.specs.declared.meaning.DataObject.{DataObject}
 use Rattle.v_scope.specs.Scope.{Scope}
 use Rattle.v_flat.specs.Design.{any_change, input_run, output_run}
-use Rattle.v_operator.specs.declared.checked.Checked.{Checked}
-use Rattle.v_operator.specs.Checked.{IsObjectOf, AreNamesOf, StandsFor}
+use Rattle.v_constant.specs.declared.checked.Checked.{Checked}
+use Rattle.v_constant.specs.Checked.{IsObjectOf, AreNamesOf, StandsFor}
 use Rattle.v_target.specs.declared.checked.CheckedTarget.{CheckedTarget}
 use Rattle.v_assign.specs.Targets.{TargetNamesOf, GetsAs}
 use Rattle.v_process.specs.Processes.{IsProcess}

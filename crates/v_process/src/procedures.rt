@@ -11,11 +11,11 @@ ghost use Rattle.v_process.specs.Made.{waiting};
 ghost use Rattle.v_process.specs.Processes.{IsAlways, IsFoundProcess};
 
 use crate::drivers::of_kind;
+use crate::walk::statement as found_in;
 use gpi::{Act, Kind, Process, Wake};
 use port_io::{NoMemory, Sequence};
 use std::alloc::Global;
 use v_loop::Unrolled;
-use v_procedure::statement as found_in;
 use v_scope::{Found, Scope};
 use v_syntax::Statement;
 

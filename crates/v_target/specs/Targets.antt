@@ -15,7 +15,7 @@ use Rattle.v_scope.specs.Scope.{Scope, find}
 use Rattle.v_flat.specs.Expressions.{named_width}
 use Rattle.v_flat.specs.declared.manner.Manner.{Manner}
 use Rattle.v_flat.specs.Targets.{named_target, name_update, is_fixed}
-use Rattle.v_operator.specs.Checked.{IsNameOf, SelectsNamesOf}
+use Rattle.v_constant.specs.Checked.{IsNameOf, SelectsNamesOf}
 use Rattle.v_names.specs.declared.selects.CheckedSelects.{CheckedSelects}
 use Rattle.v_names.specs.Selects.{AreSelects}
 use Rattle.v_target.specs.declared.checked.CheckedTarget.{CheckedTarget}

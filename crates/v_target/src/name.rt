@@ -1,6 +1,7 @@
 //! What is found in a name with selects, where it is assigned to.
 
 ghost use Rattle.std.specs.Prelude.{◌≡◌, Some};
+ghost use Rattle.gpi.specs.declared.targets.Object.TheVariants.{Signal};
 ghost use Rattle.v_scope.specs.Scope.{means};
 ghost use Rattle.v_scope.specs.declared.meaning.Meaning.TheVariants as meant;
 ghost use Rattle.v_flat.specs.Objects.{range_of};
@@ -35,21 +36,28 @@ fn digits(object: Object, bounds: Bounds, choice: Choice) -> CheckedTarget
     }
 }
 
-/// A vector with selects, where `place` is the number of its name.
+/// A vector of `width` digits with selects, where `place` is the number of its name.
 fn vector(
     place: TokenNumber,
-    object: Object,
+    signal: SigId,
+    width: u8,
     bounds: Bounds,
     selects: CheckedSelects,
 ) -> Found<CheckedTarget>
-    ensures { VectorMade place object bounds selects result }
+    ensures { VectorMade place (Signal signal width) bounds selects result }
 {
     match selects {
-        CheckedSelects::Whole => Found::Sound(whole(object)),
+        CheckedSelects::Whole => Found::Sound(whole(Object::Signal(signal, width))),
         CheckedSelects::One(select) => {
-            chosen(place, bounds, select).each(|choice| digits(object, bounds, choice))
+            chosen(place, bounds, select).each(|choice| {
+                digits(Object::Signal(signal, width), bounds, choice)
+            })
         }
-        CheckedSelects::OfWord(word, select) => second_select(word, select.place()),
+        CheckedSelects::OfWord(word, select) => {
+            let found = second_select(word, select.place());
+            drop(select);
+            found
+        }
     }
 }
 
@@ -61,7 +69,11 @@ fn word_select(words: Words, width: u8, select: CheckedSelect) -> Found<CheckedT
         CheckedSelect::Bit { index, .. } => {
             index.each(|index| whole(Object::Word(words, index, width)))
         }
-        other => Found::broken(ElabRule::BadRange, other.place()),
+        other => {
+            let place = other.place();
+            drop(other);
+            Found::broken(ElabRule::BadRange, place)
+        }
     }
 }
 
@@ -94,12 +106,7 @@ fn object(place: TokenNumber, object: DataObject, selects: CheckedSelects) -> Fo
     let bounds = object.bounds;
     let width = width(bounds);
     match object.words {
-        None => vector(
-            place,
-            Object::Signal(SigId(object.first), width),
-            bounds,
-            selects,
-        ),
+        None => vector(place, SigId(object.first), width, bounds, selects),
         Some(range) => memory(place, words(object.first, range), width, bounds, selects),
     }
 }
@@ -118,11 +125,17 @@ pub fn named(
     ensures { ChecksTargetName manner (means scope.now) name.now place selects result }
 {
     match scope.find(name) {
-        None => Found::broken(ElabRule::UnknownName, place),
-        Some(Meaning::Later) => Found::broken(ElabRule::NotConstant, place),
+        None => {
+            drop(selects);
+            Found::broken(ElabRule::UnknownName, place)
+        }
+        Some(Meaning::Later) => {
+            drop(selects);
+            Found::broken(ElabRule::NotConstant, place)
+        }
         Some(Meaning::Constant(value, bounds)) => {
             let width = value.width();
-            let found = vector(place, Object::Signal(SigId(0), width), *bounds, selects);
+            let found = vector(place, SigId(0), width, *bounds, selects);
             found.needs(false, ElabRule::BadTarget, place)
         }
         Some(Meaning::Object(declared)) => {

@@ -1,53 +1,49 @@
-use Rattle.std.proofs.Common.{◌∙◌, map, inl}
+use Rattle.std.proofs.Common.{map, sym, subst, inl, List, ℕ}
 use Rattle.std.specs.Prelude.{string_bytes}
 use Rattle.port_io.specs.Means.{store_means, sink_means}
-use Rattle.command.specs.Reading.{Reads, refused, reading_of}
-use Rattle.command.proofs.Words.{reads_usage, reads_two, reads_told, both_refusal}
-use Rattle.command.proofs.AnswerLaws.{answered, write_raised, read_raised}
-use Rattle.regression.specs.declared.status.Status.TheVariants.{Usage}
-use Rattle.command.specs.Answer.{default_budget}
+use Rattle.command_words.specs.Forms.{form_of}
+use Rattle.command.specs.declared.options.RunOptions.{RunOptions}
+use Rattle.command.specs.Reading.{Reads, reading_of, refused, usage_line}
+use Rattle.command.proofs.Words.{any_options, reads_none, reads_asked, reads_told}
+use Rattle.command.proofs.AnswerLaws.{answered, words_answered, words_write, write_raised}
+use Rattle.test_runs.specs.declared.status.Status.TheVariants.{Usage}
 use Rattle.command.proofs.top.cocorun.Goals as goal
 
-pub returns-then-words-ne2-clause-answer : goal.returns-then-words-ne2-clause-answer
-returns-then-words-ne2-clause-answer g c =
-    let reads : Reads (store_means g.S.Store) (map string_bytes c.args.words.now) c.args.store.now (refused Usage c.as_slice.result.now) c.args.store.now
-    = reads_usage (store_means g.S.Store) string_bytes c.args.words.now c.args.store.now c.as_slice.result.now c.if-words-ne2.true (c.as_slice.ensures.value ∙ c.in-Ok.ensures) in
+-- ---- words without a reading
+
+pub returns-in-Err-Usage-clause-answer : goal.returns-in-Err-Usage-clause-answer
+returns-in-Err-Usage-clause-answer g c =
+    let said : List (List ℕ) = map string_bytes c.args.words.now in
+    let reads : Reads (store_means g.S.Store) said c.args.store.now any_options (refused Usage usage_line) c.args.store.now =
+    reads_none (store_means g.S.Store) said c.args.store.now any_options (c.in-Err-Usage.ensures c.in-Err-Usage.field-0-is) in
+    words_answered (sink_means g.O.Sink) g.met.O.Sink.takes_told g.met.O.Sink.breaks_told g.O.Sink.faults g.met.O.Sink.takes_count g.met.O.Sink.breaks_count
+    (store_means g.S.Store) said any_options c.refuse_words.result c.args.store.now (g.K.Gpi.content c.args.kernel.now) c.args.out.now c.refuse_words.new.out
+    reads (reads_told (store_means g.S.Store) g.met.S.Store.gives_file g.met.S.Store.gives_same said c.args.store.now any_options (refused Usage usage_line) c.args.store.now reads)
+    c.refuse_words.ensures
+
+pub returns-in-Err-Usage-clause-write_fault : goal.returns-in-Err-Usage-clause-write_fault
+returns-in-Err-Usage-clause-write_fault g c =
+    words_write (sink_means g.O.Sink) g.met.O.Sink.takes_told g.met.O.Sink.breaks_told g.O.Sink.faults g.met.O.Sink.takes_count g.met.O.Sink.breaks_count
+    c.refuse_words.result c.args.out.now c.refuse_words.new.out c.refuse_words.ensures
+
+-- ---- words that ask for a run
+
+pub returns-in-Ok-decide_work-clause-answer : goal.returns-in-Ok-decide_work-clause-answer
+returns-in-Ok-decide_work-clause-answer g c =
+    let said : List (List ℕ) = map string_bytes c.args.words.now in
+    let options : RunOptions = c.options_of.result in
+    let reads : Reads (store_means g.S.Store) said c.args.store.now options (reading_of c.in-Ok-decide_work.decision) c.decide_work.new.store =
+    subst (λ (o : RunOptions). Reads (store_means g.S.Store) said c.args.store.now o (reading_of c.in-Ok-decide_work.decision) c.decide_work.new.store) (sym c.options_of.ensures)
+    (reads_asked (store_means g.S.Store) said c.args.store.now (form_of c.in-Ok.reading) (reading_of c.in-Ok-decide_work.decision) c.decide_work.new.store
+    c.in-Ok.ensures c.in-Ok-decide_work.ensures.reads) in
     inl (
-    answered (sink_means g.O.Sink) g.met.O.Sink.takes_told g.met.O.Sink.breaks_told g.O.Sink.faults g.met.O.Sink.takes_count g.met.O.Sink.breaks_count default_budget
-    (store_means g.S.Store) (map string_bytes c.args.words.now) (refused Usage c.as_slice.result.now) c.refuse.result c.args.store.now c.args.store.now (g.K.Gpi.content c.args.kernel.now) c.args.out.now c.refuse.new.out
-    reads (reads_told (store_means g.S.Store) g.met.S.Store.gives_file g.met.S.Store.gives_same (map string_bytes c.args.words.now) c.args.store.now (refused Usage c.as_slice.result.now) c.args.store.now reads)
-    c.refuse.ensures
+    answered (sink_means g.O.Sink) g.met.O.Sink.takes_told g.met.O.Sink.breaks_told g.O.Sink.faults g.met.O.Sink.takes_count g.met.O.Sink.breaks_count options
+    (store_means g.S.Store) said (reading_of c.in-Ok-decide_work.decision) c.answer.result c.args.store.now c.decide_work.new.store (g.K.Gpi.content c.answer.new.kernel) c.args.out.now c.answer.new.out
+    reads (reads_told (store_means g.S.Store) g.met.S.Store.gives_file g.met.S.Store.gives_same said c.args.store.now options (reading_of c.in-Ok-decide_work.decision) c.decide_work.new.store reads)
+    c.answer.ensures.answers
     )
 
--- the status of the usage line is neither for a put nor for memory
-pub returns-then-words-ne2-clause-write_fault : goal.returns-then-words-ne2-clause-write_fault
-returns-then-words-ne2-clause-write_fault g c =
-    write_raised (sink_means g.O.Sink) g.met.O.Sink.takes_told g.met.O.Sink.breaks_told g.O.Sink.faults g.met.O.Sink.takes_count g.met.O.Sink.breaks_count default_budget
-    0 0 (refused Usage c.as_slice.result.now) c.refuse.result (g.K.Gpi.content c.args.kernel.now) c.args.out.now c.refuse.new.out
-    (λ x. cc, λ x. cc, λ x. cc) c.refuse.ensures
-
-pub returns-in-Ok-decide-clause-answer : goal.returns-in-Ok-decide-clause-answer
-returns-in-Ok-decide-clause-answer g c =
-    let reads : Reads (store_means g.S.Store) (map string_bytes c.args.words.now) c.args.store.now (reading_of c.in-Ok-decide.decision) c.decide.new.store
-    = reads_two (store_means g.S.Store) string_bytes c.args.words.now c.args.store.now (reading_of c.in-Ok-decide.decision) c.decide.new.store c.index-words-0.result c.index-words-1.result
-    c.as_str.result.now c.as_str-2.result.now c.if-words-ne2.false c.index-words-0.is c.index-words-1.is c.as_str.ensures.value c.as_str-2.ensures.value c.in-Ok-decide.ensures.reads in
-    inl (
-    answered (sink_means g.O.Sink) g.met.O.Sink.takes_told g.met.O.Sink.breaks_told g.O.Sink.faults g.met.O.Sink.takes_count g.met.O.Sink.breaks_count default_budget
-    (store_means g.S.Store) (map string_bytes c.args.words.now) (reading_of c.in-Ok-decide.decision) c.answer.result c.args.store.now c.decide.new.store (g.K.Gpi.content c.answer.new.kernel) c.args.out.now c.answer.new.out
-    reads (reads_told (store_means g.S.Store) g.met.S.Store.gives_file g.met.S.Store.gives_same (map string_bytes c.args.words.now) c.args.store.now (reading_of c.in-Ok-decide.decision) c.decide.new.store reads)
-    c.answer.ensures.answers
-    )
-
-pub returns-in-Ok-decide-clause-write_fault : goal.returns-in-Ok-decide-clause-write_fault
-returns-in-Ok-decide-clause-write_fault g c =
-    write_raised (sink_means g.O.Sink) g.met.O.Sink.takes_told g.met.O.Sink.breaks_told g.O.Sink.faults g.met.O.Sink.takes_count g.met.O.Sink.breaks_count default_budget
-    _ _ (reading_of c.in-Ok-decide.decision) c.answer.result (g.K.Gpi.content c.answer.new.kernel) c.args.out.now c.answer.new.out
-    (both_refusal (store_means g.S.Store) g.S.Store.faults g.met.S.Store.gives_count g.met.S.Store.misses_count c.as_str.result.now c.as_str-2.result.now c.args.store.now (reading_of c.in-Ok-decide.decision) c.decide.new.store c.in-Ok-decide.ensures.reads)
-    c.answer.ensures.answers
-
-pub returns-in-Ok-decide-clause-read_fault : goal.returns-in-Ok-decide-clause-read_fault
-returns-in-Ok-decide-clause-read_fault g c =
-    read_raised (sink_means g.O.Sink) g.met.O.Sink.takes_told g.met.O.Sink.breaks_told g.O.Sink.faults g.met.O.Sink.takes_count g.met.O.Sink.breaks_count default_budget
-    _ _ (reading_of c.in-Ok-decide.decision) c.answer.result (g.K.Gpi.content c.answer.new.kernel) c.args.out.now c.answer.new.out
-    (both_refusal (store_means g.S.Store) g.S.Store.faults g.met.S.Store.gives_count g.met.S.Store.misses_count c.as_str.result.now c.as_str-2.result.now c.args.store.now (reading_of c.in-Ok-decide.decision) c.decide.new.store c.in-Ok-decide.ensures.reads)
-    c.answer.ensures.answers
+pub returns-in-Ok-decide_work-clause-write_fault : goal.returns-in-Ok-decide_work-clause-write_fault
+returns-in-Ok-decide_work-clause-write_fault g c =
+    write_raised (sink_means g.O.Sink) g.met.O.Sink.takes_told g.met.O.Sink.breaks_told g.O.Sink.faults g.met.O.Sink.takes_count g.met.O.Sink.breaks_count c.options_of.result
+    c.in-Ok-decide_work.decision c.answer.result (g.K.Gpi.content c.answer.new.kernel) c.args.out.now c.answer.new.out c.in-Ok-decide_work.ensures.can_run c.answer.ensures.answers

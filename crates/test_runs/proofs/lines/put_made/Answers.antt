@@ -1,7 +1,7 @@
 use Rattle.std.proofs.Common.{◌∙◌, ℕ, List, [], ◌∷◌, subst}
 use Rattle.std.specs.Result.{result_err}
 use Rattle.port_io.specs.Means.{PutsTo, sink_means}
-use Rattle.run_events.proofs.PutLaws.{put_done}
+use Rattle.engine.proofs.PutLaws.{put_done}
 use Rattle.test_runs.proofs.Puts.{made_line}
 use Rattle.test_runs.proofs.lines.put_made.Goals as goal
 

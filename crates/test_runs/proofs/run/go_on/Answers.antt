@@ -1,7 +1,7 @@
 use Rattle.std.proofs.Common.{Result, subst, ◌≤◌}
 use Rattle.port_io.specs.Means.{sink_means}
 use Rattle.run_model.specs.Rig.{Rig, Setup}
-use Rattle.running_test.specs.Parts.{means}
+use Rattle.engine.specs.Parts.{means}
 use Rattle.engine.specs.Engine.{rig_of, setup_of}
 use Rattle.std.specs.Prelude.{IfOk}
 use Rattle.port_io.specs.declared.ports.SinkFault.{SinkFault}

@@ -1,15 +1,15 @@
 use Rattle.std.proofs.Common.{◌≡◌, ◌+◌, ◌<◌, ◌∙◌, ℕ, Ok, ap, refl, subst, sym}
 use Rattle.port_io.specs.Means.{sink_means}
 use Rattle.run_model.specs.Rig.{Rig, Setup}
-use Rattle.running_test.specs.Parts.{means}
+use Rattle.engine.specs.Parts.{means}
 use Rattle.engine.specs.Engine.{rig_of, setup_of}
 use Rattle.gpi.specs.Limits.{latest_time}
 use Rattle.test_body.specs.Sound.{is_sound_case}
 use Rattle.test_body.specs.Views.{view_case}
 use Rattle.run_model.specs.Verdict.{reason_of}
-use Rattle.run_turns.specs.Turns.{turn_fault}
-use Rattle.run_turns.specs.declared.turn.Turn.{Turn}
-use Rattle.run_turns.specs.declared.turn.Turn.TheVariants as turn
+use Rattle.engine.specs.Turns.{turn_fault}
+use Rattle.engine.specs.declared.turned.Turn.{Turn}
+use Rattle.engine.specs.declared.turned.Turn.TheVariants as turn
 use Rattle.test_runs.specs.Stages.{AfterEnd, Judges, StagesTo}
 use Rattle.test_runs.proofs.CaseRuns.{behind_least, case_broken, case_cut, case_early, case_over, case_short}
 use Rattle.test_runs.proofs.LeaveLaws.{leaves_amid, leaves_broken, leaves_on, short_verdict, stage_short}

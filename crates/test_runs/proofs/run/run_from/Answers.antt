@@ -1,7 +1,7 @@
 use Rattle.std.proofs.Common.{◌+◌, ◌≤◌, ◌∙◌, length, rules, arith, refl}
 use Rattle.port_io.specs.Means.{sink_means}
 use Rattle.run_model.specs.Rig.{Rig, Setup}
-use Rattle.running_test.specs.Parts.{means}
+use Rattle.engine.specs.Parts.{means}
 use Rattle.engine.specs.Engine.{rig_of, setup_of}
 use Rattle.test_runs.specs.declared.progress.Stage.TheVariants.{Goes, Stops}
 use Rattle.test_runs.specs.declared.status.Status.TheVariants.{NoMemory, Passed}

@@ -1,6 +1,6 @@
 use Rattle.std.proofs.Common.{◌≡◌, ◌-◌, ℕ, false, length}
 use Rattle.port_io.specs.Means.{sink_means}
-use Rattle.running_test.specs.Parts.{means}
+use Rattle.engine.specs.Parts.{means}
 use Rattle.engine.specs.Engine.{rig_of, runs_test, setup_of}
 use Rattle.engine.specs.Fits.{FitsKernel}
 use Rattle.test_runs.specs.Stages.{HasCome, IsEmpty, IsPending}

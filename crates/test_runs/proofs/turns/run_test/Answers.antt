@@ -2,7 +2,7 @@ use Rattle.std.proofs.Common.{◌∙◌, ap, Ok, inl}
 use Rattle.port_io.specs.Means.{sink_means}
 use Rattle.test_body.specs.Views.{view_case}
 use Rattle.run_model.specs.Rig.{Rig, Setup}
-use Rattle.running_test.specs.Parts.{means}
+use Rattle.engine.specs.Parts.{means}
 use Rattle.engine.specs.Engine.{rig_of, setup_of}
 use Rattle.test_runs.proofs.CaseRuns.{begins_only, begins_short, begins_went, tests_turns}
 use Rattle.test_runs.proofs.TestBegins.{begun_planned, turning_under}

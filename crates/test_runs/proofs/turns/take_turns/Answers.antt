@@ -1,8 +1,8 @@
 use Rattle.std.proofs.Common.{◌∙◌, ap, Ok, refl}
 use Rattle.port_io.specs.Means.{sink_means}
-use Rattle.run_turns.proofs.ManyTurns.{turning_anywhere, turning_err, went_then}
-use Rattle.run_turns.specs.Turns.{turn_fault}
-use Rattle.running_test.specs.Parts.{means}
+use Rattle.engine.proofs.ManyTurns.{turning_anywhere, turning_err, went_then}
+use Rattle.engine.specs.Turns.{turn_fault}
+use Rattle.engine.specs.Parts.{means}
 use Rattle.engine.specs.Engine.{rig_of, setup_of}
 use Rattle.test_runs.proofs.LeaveLaws.{keeps_on}
 use Rattle.test_runs.proofs.Waiting.{alone, between_ready, between_still, not_gone, place_still, turns_fall, waits_end, waits_err, waits_then}

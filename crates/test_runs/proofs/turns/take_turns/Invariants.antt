@@ -3,10 +3,10 @@ use Rattle.port_io.specs.Means.{sink_means}
 use Rattle.port_io.specs.declared.ports.NoMemory.{NoMemory}
 use Rattle.run_model.specs.Rig.{Rig}
 use Rattle.run_parts.specs.Steps.{FitSteps, anywhere}
-use Rattle.run_turns.specs.Turns.{Turning}
-use Rattle.run_turns.specs.declared.turn.Turn.{Turn}
-use Rattle.run_turns.proofs.Waits.{IsBetween}
-use Rattle.running_test.specs.Parts.{means}
+use Rattle.engine.specs.Turns.{Turning}
+use Rattle.engine.specs.declared.turned.Turn.{Turn}
+use Rattle.engine.proofs.TurnWaits.{IsBetween}
+use Rattle.engine.specs.Parts.{means}
 use Rattle.engine.specs.Engine.{rig_of, setup_of}
 use Rattle.engine.specs.Fits.{FitsKernel}
 use Rattle.engine.proofs.StepsLeft.{steps_left}

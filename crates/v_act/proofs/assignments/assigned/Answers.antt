@@ -1,7 +1,7 @@
 -- An assignment from what was found in its target and in its value.
 use Rattle.std.proofs.Common.{IfOk, subst}
 use Rattle.v_scope.specs.declared.found.Found.{Found}
-use Rattle.v_operator.specs.declared.checked.Checked.{Checked}
+use Rattle.v_constant.specs.declared.checked.Checked.{Checked}
 use Rattle.v_target.specs.declared.checked.CheckedTarget.{CheckedTarget}
 use Rattle.v_act.specs.Made.{AreAssignments}
 use Rattle.v_act.proofs.Assigning.{assignment_result}

@@ -4,12 +4,16 @@ use Rattle.gpi.specs.declared.acts.Act.{Act}
 use Rattle.gpi.specs.declared.terms.Term.{Term}
 use Rattle.v_scope.specs.declared.found.Found.{Found}
 use Rattle.v_scope.specs.Found.{both}
+use Rattle.v_names.specs.Selects.{ChecksIndex}
 use Rattle.v_act.specs.Made.{AreChoices}
 use Rattle.v_act.proofs.Chosen.{choice_result}
+use Rattle.v_act.proofs.Done.{was_made}
 use Rattle.v_act.proofs.choices.if_else.Goals as goal
 
 pub returns : goal.returns
 returns c =
-    choice_result c.args.condition c.in_ok-test.test c.args.yes c.args.no c.of_branches.result c.in_ok-test.ensures
+    let made = c.in_ok-test.ensures.made in
+    choice_result c.args.condition c.in_ok-test.test c.args.yes c.args.no c.of_branches.result
+    (was_made c.by_itself.result c.in_ok-test.test (λ (t : Found Term). ChecksIndex c.args.condition t) made.0 c.by_itself.ensures)
     (subst (λ (x : Found (Term × (Act × Act))). IfOk c.of_branches.result (AreChoices x))
-    (c.both-2.ensures ∙ ap (λ (y : Found (Act × Act)). both c.in_ok-test.test y) c.both.ensures) c.of_branches.ensures)
+    (c.both-2.ensures ∙ ap (λ (y : Found (Act × Act)). both c.in_ok-test.test y) (made.1 ∙ c.both.ensures)) c.of_branches.ensures)

@@ -7,5 +7,5 @@ returns c = record {
   some = has_answer;
   refusal = one_refusal;
   design = alike;
-  apart = λ text flat refusal d. apart text d.source d.design refusal d.means;
+  apart = λ top text flat refusal d. apart top text d.source d.design refusal d.means;
 }

@@ -3,9 +3,9 @@ use Rattle.std.proofs.Common.{◌≡◌, ℕ, ◌+◌, ◌-◌, ◌<◌, List, l
 use Rattle.v_scope.specs.Scope.{means}
 use Rattle.v_flat.specs.Declarations.{signals_in}
 use Rattle.v_flat.specs.Design.{entries}
-use Rattle.v_declare.specs.declared.details.Line.{Line}
-use Rattle.v_declare.specs.Order.{lines_in}
-use Rattle.v_layout.proofs.Lines.{no_line, line_proper}
+use Rattle.v_layout.specs.declared.details.Line.{Line}
+use Rattle.v_layout.specs.Order.{lines_in}
+use Rattle.v_layout.proofs.InOrder.{no_line, line_proper}
 use Rattle.v_layout.proofs.Turns.{one_name, signals_here, signals_left}
 use Rattle.v_layout.proofs.meanings.declared_scope.Goals as goal
 

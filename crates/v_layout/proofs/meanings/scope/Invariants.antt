@@ -3,7 +3,7 @@ use Rattle.std.proofs.Common.{◌≡◌, ◌++◌, drop}
 use Rattle.v_scope.specs.Scope.{means}
 use Rattle.v_flat.specs.Design.{entries}
 use Rattle.v_parameter.specs.Constants.{entries_of}
-use Rattle.v_declare.specs.Order.{lines_in}
+use Rattle.v_layout.specs.Order.{lines_in}
 use Rattle.v_layout.proofs.meanings.scope.Given as goal
 
 abbrev pub invariant-loop-at : goal.invariant-loop-at

@@ -2,8 +2,8 @@
 use Rattle.std.proofs.Common.{rules, ◌≡◌, ℕ, ◌++◌, List, drop, map, Option, option_map, arith}
 use Rattle.v_flat.specs.Headers.{port_name}
 use Rattle.v_flat.specs.Declarations.{Declared, listed, other_lines}
-use Rattle.v_declare.specs.Order.{line_in, lines_in}
-use Rattle.v_layout.proofs.Lines.{other_step, more_lines, pushed, not_pushed}
+use Rattle.v_layout.specs.Order.{line_in, lines_in}
+use Rattle.v_layout.proofs.InOrder.{other_step, more_lines, pushed, not_pushed}
 use Rattle.v_layout.proofs.order.add_others.Goals as goal
 use Rattle.v_layout.proofs.order.add_others.Goals.{in-Some+in_ok-push, in_default}
 

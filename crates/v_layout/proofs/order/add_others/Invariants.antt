@@ -2,7 +2,7 @@
 use Rattle.std.proofs.Common.{◌≡◌, ◌++◌, drop, map}
 use Rattle.v_flat.specs.Headers.{port_name}
 use Rattle.v_flat.specs.Declarations.{other_lines}
-use Rattle.v_declare.specs.Order.{lines_in}
+use Rattle.v_layout.specs.Order.{lines_in}
 use Rattle.v_layout.proofs.order.add_others.Given as goal
 
 abbrev pub invariant-loop-index : goal.invariant-loop-index

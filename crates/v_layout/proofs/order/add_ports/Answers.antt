@@ -1,8 +1,8 @@
 -- The next port, if it is declared.
 use Rattle.std.proofs.Common.{rules, ◌≡◌, ◌++◌, drop, Option, option_map, arith}
 use Rattle.v_flat.specs.Declarations.{Declared, listed, port_lines}
-use Rattle.v_declare.specs.Order.{line_in, lines_in}
-use Rattle.v_layout.proofs.Lines.{port_step, more_lines, pushed, not_pushed}
+use Rattle.v_layout.specs.Order.{line_in, lines_in}
+use Rattle.v_layout.proofs.InOrder.{port_step, more_lines, pushed, not_pushed}
 use Rattle.v_layout.proofs.order.add_ports.Goals as goal
 use Rattle.v_layout.proofs.order.add_ports.Goals.{in-Some+in_ok-push, in_default}
 

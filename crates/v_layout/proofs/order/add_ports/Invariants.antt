@@ -1,7 +1,7 @@
 -- The lines so far, and the ports that are left.
 use Rattle.std.proofs.Common.{◌≡◌, ◌++◌, drop}
 use Rattle.v_flat.specs.Declarations.{port_lines}
-use Rattle.v_declare.specs.Order.{lines_in}
+use Rattle.v_layout.specs.Order.{lines_in}
 use Rattle.v_layout.proofs.order.add_ports.Given as goal
 
 abbrev pub invariant-loop-index : goal.invariant-loop-index

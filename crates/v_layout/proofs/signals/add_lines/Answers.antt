@@ -1,9 +1,9 @@
 -- The signals of one name more, or some of them.
 use Rattle.std.proofs.Common.{drop}
-use Rattle.v_declare.specs.Order.{lines_in}
+use Rattle.v_layout.specs.Order.{lines_in}
 use Rattle.v_layout.specs.Steps.{signals_below}
 use Rattle.v_layout.proofs.Adding.{stopped, err_so}
-use Rattle.v_layout.proofs.Lines.{no_line, line_proper}
+use Rattle.v_layout.proofs.InOrder.{no_line, line_proper}
 use Rattle.v_layout.proofs.Turns.{line_signals}
 use Rattle.v_layout.proofs.signals.add_lines.Goals as goal
 

@@ -1,6 +1,6 @@
 -- The signals of the names that are left.
 use Rattle.std.proofs.Common.{drop}
-use Rattle.v_declare.specs.Order.{lines_in}
+use Rattle.v_layout.specs.Order.{lines_in}
 use Rattle.v_layout.specs.Steps.{signals_below}
 use Rattle.v_layout.proofs.Adding.{IsLeft}
 use Rattle.v_layout.proofs.signals.add_lines.Given as goal

@@ -1,6 +1,6 @@
 -- The signals by any path that has the text.
 use Rattle.std.proofs.lemmas.Result.{on_ok_weaker}
-use Rattle.v_declare.specs.Order.{lines_in}
+use Rattle.v_layout.specs.Order.{lines_in}
 use Rattle.v_layout.proofs.ByText.{added_all}
 use Rattle.v_layout.proofs.signals.add_signals.Goals as goal
 

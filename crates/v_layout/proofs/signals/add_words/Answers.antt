@@ -6,7 +6,7 @@ use Rattle.v_scope.specs.Scope.{width_of}
 use Rattle.v_flat.specs.Declarations.{kind_of}
 use Rattle.v_flat.specs.Paths.{word_text}
 use Rattle.v_flat.specs.Design.{start_of}
-use Rattle.v_declare.specs.Kept.{sort_in}
+use Rattle.v_layout.specs.Kept.{sort_in}
 use Rattle.v_layout.specs.Steps.{vector_at, words_at}
 use Rattle.v_layout.proofs.Adding.{added}
 use Rattle.v_layout.proofs.Turns.{word_here}

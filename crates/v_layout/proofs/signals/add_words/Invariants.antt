@@ -3,7 +3,7 @@ use Rattle.std.proofs.Common.{◌+◌, ◌-◌, option_map}
 use Rattle.v_scope.specs.Scope.{width_of}
 use Rattle.v_flat.specs.Declarations.{kind_of}
 use Rattle.v_flat.specs.Design.{start_of}
-use Rattle.v_declare.specs.Kept.{sort_in}
+use Rattle.v_layout.specs.Kept.{sort_in}
 use Rattle.v_layout.specs.Steps.{memory_at, words_at}
 use Rattle.v_layout.proofs.Adding.{IsLeft}
 use Rattle.v_layout.proofs.signals.add_words.Given as goal

@@ -1,9 +1,9 @@
 -- One child more.
 use Rattle.std.proofs.Common.{◌≡◌, ℕ, ◌+◌, ◌++◌, List, drop, get_or, sym, subst, arith}
 use Rattle.v_flat.specs.Design.{children}
-use Rattle.v_declare.specs.Order.{lines_in}
-use Rattle.v_declare.specs.declared.details.Line.{Line}
-use Rattle.v_layout.proofs.Lines.{no_line}
+use Rattle.v_layout.specs.Order.{lines_in}
+use Rattle.v_layout.specs.declared.details.Line.{Line}
+use Rattle.v_layout.proofs.InOrder.{no_line}
 use Rattle.v_layout.proofs.Turns.{one_child, signals_here}
 use Rattle.v_layout.proofs.spots.children.Goals as goal
 

@@ -2,7 +2,7 @@
 use Rattle.std.proofs.Common.{◌≡◌, ◌+◌, ◌++◌, drop}
 use Rattle.v_flat.specs.Declarations.{signals_in}
 use Rattle.v_flat.specs.Design.{children}
-use Rattle.v_declare.specs.Order.{lines_in}
+use Rattle.v_layout.specs.Order.{lines_in}
 use Rattle.v_layout.proofs.spots.children.Given as goal
 
 abbrev pub invariant-loop-line : goal.invariant-loop-line

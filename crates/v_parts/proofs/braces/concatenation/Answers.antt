@@ -2,8 +2,8 @@
 use Rattle.std.proofs.Common.{subst, sym}
 use Rattle.v_scope.specs.declared.found.Found.{Found}
 use Rattle.v_syntax.specs.ExpressionTrees.{Concatenation}
-use Rattle.v_operator.specs.declared.checked.Checked.{Checked}
-use Rattle.v_operator.specs.Checked.{IsChecked}
+use Rattle.v_constant.specs.declared.checked.Checked.{Checked}
+use Rattle.v_constant.specs.Checked.{IsChecked}
 use Rattle.v_parts.specs.declared.parts.Parts.{Parts}
 use Rattle.v_parts.specs.Made.{AreOnce}
 use Rattle.v_parts.proofs.Whole.{concatenation_checked}

@@ -3,8 +3,8 @@ use Rattle.std.proofs.Common.{ℕ, subst, sym, ap, ◌∙◌}
 use Rattle.v_scope.specs.declared.found.Found.{Found}
 use Rattle.v_scope.specs.Found.{both}
 use Rattle.v_syntax.specs.ExpressionTrees.{Replication}
-use Rattle.v_operator.specs.declared.checked.Checked.{Checked}
-use Rattle.v_operator.specs.Checked.{IsChecked}
+use Rattle.v_constant.specs.declared.checked.Checked.{Checked}
+use Rattle.v_constant.specs.Checked.{IsChecked}
 use Rattle.v_parts.specs.declared.parts.Parts.{Parts}
 use Rattle.v_parts.specs.Made.{AreCopies}
 use Rattle.v_parts.proofs.Whole.{replication_checked}

@@ -1,5 +1,6 @@
 -- Digits of a vector.
 use Rattle.std.proofs.Common.{rules, sym, subst}
+use Rattle.gpi.specs.declared.targets.Object.TheVariants.{Signal}
 use Rattle.v_scope.proofs.Gathered.{made_each}
 use Rattle.v_flat.specs.Objects.{range_of}
 use Rattle.v_names.specs.declared.choice.Choice.{Choice}
@@ -10,7 +11,7 @@ use Rattle.v_target.proofs.name.vector.Goals as goal
 pub returns-in-One : goal.returns-in-One
 returns-in-One c =
     let p = c.args.place in
-    let o = c.args.object in
+    let o = Signal c.args.signal c.args.width in
     let b = c.args.bounds in
     let f = c.each.result in
     subst (λ (x : CheckedSelects). VectorMade p o b x f) (sym c.in-One.is) (

@@ -1,7 +1,7 @@
 use Rattle.std.specs.Prelude.{is_some, ◌&&◌, not}
 use Rattle.std.proofs.Common.{Bool, refl, ap, subst, ◌∙◌, arith, true, false}
 use Rattle.port_io.specs.Means.{sink_means}
-use Rattle.running_test.specs.Parts.{means}
+use Rattle.engine.specs.Parts.{means}
 use Rattle.engine.specs.Engine.{rig_of, setup_of}
 use Rattle.engine.specs.Events.{IsEventTurn}
 use Rattle.engine.proofs.EventTurns.{event_turning, same_idle, short_turning, spent_turning, stalled_turning}

@@ -1,5 +1,5 @@
 use Rattle.std.proofs.Common.{false}
-use Rattle.running_test.specs.Parts.{means}
+use Rattle.engine.specs.Parts.{means}
 use Rattle.engine.proofs.Fitting.{cleared_fits, cleared_is}
 use Rattle.engine.proofs.engine.Engine.end_test.Goals as goal
 

@@ -5,7 +5,7 @@ use Rattle.random_stream.specs.Generator.{seeded}
 use Rattle.task_model.specs.Known.{AreSoundFunctions}
 use Rattle.run_parts.specs.Queue.{Queue}
 use Rattle.run_queue.specs.Fits.{queue_of}
-use Rattle.running_test.specs.Parts.{Parts, means, rig_by}
+use Rattle.engine.specs.Parts.{Parts, means, rig_by}
 use Rattle.engine.proofs.Fitting.{bare_fits, opening_bare}
 use Rattle.engine.proofs.engine.Engine.new.Goals as goal
 

@@ -1,7 +1,7 @@
 use Rattle.std.specs.Prelude.{◌+◌, ◌≤◌, ℕ}
 use Rattle.std.proofs.Common.{ap, arith}
 use Rattle.gpi.specs.Limits.{latest_time}
-use Rattle.running_test.specs.Parts.{means}
+use Rattle.engine.specs.Parts.{means}
 use Rattle.engine.proofs.Begins.{by_answer, on_err, on_ok, planned_fits, planned_is, unplanned_fits, unplanned_is}
 use Rattle.engine.proofs.engine.Engine.plan_start.Goals as goal
 

@@ -1,6 +1,6 @@
 use Rattle.port_io.specs.Means.{sink_means}
-use Rattle.running_test.specs.Parts.{means}
-use Rattle.run_turns.proofs.TurnLaws.{turning_short_of_memory}
+use Rattle.engine.specs.Parts.{means}
+use Rattle.engine.proofs.TurnLaws.{turning_short_of_memory}
 use Rattle.engine.specs.Engine.{rig_of, setup_of}
 use Rattle.engine.proofs.Running.{cut_comes, ends_comes, ends_fits, goes_comes, goes_fits, goes_less, next_known, next_planned, no_fault, same_setup, spent_comes, spent_fits, turn_fits, wish_known}
 use Rattle.std.proofs.Common.{refl}

@@ -5,9 +5,9 @@ use Rattle.task_model.specs.Known.{KnowsGiven}
 use Rattle.run_model.specs.Effect.{goes_on}
 use Rattle.run_model.specs.Rig.{Rig, view_of}
 use Rattle.run_parts.specs.Steps.{FitSteps, in_turn}
-use Rattle.run_turns.specs.Turns.{Turning}
-use Rattle.run_turns.specs.declared.turn.Turn.{Turn}
-use Rattle.running_test.specs.Parts.{means}
+use Rattle.engine.specs.Turns.{Turning}
+use Rattle.engine.specs.declared.turned.Turn.{Turn}
+use Rattle.engine.specs.Parts.{means}
 use Rattle.engine.specs.Engine.{rig_of, setup_of}
 use Rattle.engine.specs.Fits.{FitsAt}
 use Rattle.engine.proofs.StepsLeft.{steps_left}

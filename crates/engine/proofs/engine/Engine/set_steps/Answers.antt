@@ -2,7 +2,7 @@ use Rattle.std.specs.Prelude.{◌≡◌, ◌+◌, ◌≤◌}
 use Rattle.std.proofs.Common.{sym}
 use Rattle.await_tree.specs.Check.{last_time}
 use Rattle.run_queue.specs.Fits.{queue_of}
-use Rattle.running_test.specs.Parts.{means, parts_of}
+use Rattle.engine.specs.Parts.{means, parts_of}
 use Rattle.engine.proofs.Begins.{deadline_fits, due_is, on_ok, some_deadline}
 use Rattle.engine.proofs.engine.Engine.set_steps.Goals as goal
 

@@ -1,7 +1,7 @@
 use Rattle.std.specs.Prelude.{option_map}
 use Rattle.std.proofs.Common.{ap}
 use Rattle.test_body.specs.Views.{view_limit}
-use Rattle.running_test.specs.Parts.{means}
+use Rattle.engine.specs.Parts.{means}
 use Rattle.engine.proofs.Begins.{if_ok, own_awaits, own_begins, own_deadline, own_fits, own_limited}
 use Rattle.engine.proofs.engine.Engine.start_with.Goals as goal
 

@@ -1,5 +1,5 @@
 use Rattle.port_io.specs.Means.{sink_means}
-use Rattle.running_test.specs.Parts.{means}
+use Rattle.engine.specs.Parts.{means}
 use Rattle.engine.proofs.EventTurns.{short_turning}
 use Rattle.engine.proofs.Fitting.{taken_known, taken_turning}
 use Rattle.std.proofs.Common.{refl}

@@ -5,4 +5,4 @@ use Rattle.gpi.specs.declared.types.Key.{Key}
 use Rattle.kernel_tests.proofs.booked.Book.take_out.Goals as goal
 
 pub returns-clause-keys : goal.returns-clause-keys
-returns-clause-keys c = filter_same _ (λ (own : Key). not (same_key c.args.key own)) _ (λ x b f h. search rules) _ _ c.retain.ensures.filtered
+returns-clause-keys c = filter_same _ (λ (own : Key). not (same_key own c.args.key)) _ (λ x b f h. search rules) _ _ c.retain.ensures.filtered

@@ -1,7 +1,7 @@
 -- A part before others.
 use Rattle.std.proofs.Common.{IfOk, subst}
 use Rattle.v_scope.specs.declared.found.Found.{Found}
-use Rattle.v_operator.specs.declared.checked.Checked.{Checked}
+use Rattle.v_constant.specs.declared.checked.Checked.{Checked}
 use Rattle.v_parts.specs.declared.parts.Parts.{Parts}
 use Rattle.v_parts.specs.Made.{AreMore}
 use Rattle.v_parts.proofs.Added.{more_result}

@@ -1,0 +1,10 @@
+//! A sink that keeps the last line.
+//!
+//! [`LastLine`] takes the lines of a run and keeps the one that was put last, for a caller that shows that line alone.
+#![tactic(auto)]
+
+mod laws;
+mod line;
+
+pub use laws::last_is_kept;
+pub use line::LastLine;

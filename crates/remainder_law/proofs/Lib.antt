@@ -1,0 +1,4 @@
+pub mod Walk
+pub mod Tasks
+pub mod Rigs
+pub mod Runs

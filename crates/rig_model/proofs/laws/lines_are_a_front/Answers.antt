@@ -1,5 +1,0 @@
-use Rattle.rig_model.proofs.Whole.{start_is_front}
-use Rattle.rig_model.proofs.laws.lines_are_a_front.Goals as goal
-
-pub returns : goal.returns
-returns c = start_is_front

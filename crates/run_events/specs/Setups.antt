@@ -1,9 +1,0 @@
--- What all of a run shares, by who tells its changes.
-use Rattle.std.specs.Prelude.{List}
-use Rattle.test_body.specs.BodyTrees.{Function}
-use Rattle.run_model.specs.Rig.{Setup}
-use Rattle.run_events.specs.declared.teller.Teller.{Teller}
-
--- the design and the choice of trace are the teller's; the functions of the tests file may be any
-abbrev pub setup_of : List Function → Teller → Setup
-setup_of functions t = record { functions = functions; flat = t.flat.now; trace = t.trace }

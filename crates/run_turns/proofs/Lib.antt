@@ -1,9 +1,0 @@
-pub mod StepLaws
-pub mod PollSteps
-pub mod KnownSteps
-pub mod Falling
-pub mod Planned
-pub mod Between
-pub mod Waits
-pub mod TurnLaws
-pub mod ManyTurns

@@ -1,0 +1,55 @@
+//! What tests are read as.
+ghost use Rattle.std.specs.Prelude.{◌≡◌, IfOk, string_bytes};
+ghost use Rattle.table_rows.specs.Rows.{part_at, written};
+ghost use Rattle.table_rows.specs.Shown.{latin};
+ghost use Rattle.test_text.specs.Words.{refusal_word};
+ghost use Rattle.runner_tests.specs.Tests.{ShowsTests, file_word, numbers_word};
+
+use crate::words::latin_text;
+use port_io::NoMemory;
+use std::alloc::{AllocError, Global};
+use table_rows::Row;
+use test_body::TestFile;
+use test_text::{TestsFault, TestsRefusal, read_tests};
+
+/// How many functions there are, and how many tests. Only want of memory is an error, here and below.
+fn numbers_shown(alloc: Global, functions: usize, tests: usize) -> Result<String, AllocError>
+    ensures { IfOk result (λ text. string_bytes text ≡ numbers_word functions tests) }
+{
+    format!(in alloc; "{functions} functions, {tests} tests")
+}
+
+/// How many functions a file has, `Clock.start` among them, and how many tests.
+fn file_shown(alloc: Global, file: &TestFile) -> Result<String, NoMemory>
+    ensures { IfOk result (λ text. string_bytes text ≡ file_word file.now) }
+{
+    let shown = numbers_shown(alloc, file.functions.len(), file.cases.len())?;
+    Ok(shown)
+}
+
+/// Why a text is no tests file.
+fn refusal_shown(alloc: Global, why: TestsRefusal) -> Result<String, NoMemory>
+    ensures { IfOk result (λ text. string_bytes text ≡ latin (refusal_word why)) }
+{
+    let reason = why.text(alloc)?;
+    Ok(latin_text(alloc, &reason)?)
+}
+
+/// What a text is read as: the numbers of its functions and tests, or why it is refused.
+fn text_shown(alloc: Global, text: &[u8]) -> Result<String, NoMemory>
+    ensures { IfOk result (λ shown. ShowsTests text.now (string_bytes shown)) }
+{
+    match read_tests(alloc, text) {
+        Ok(file) => file_shown(alloc, &file),
+        Err(TestsFault::Refused(why)) => refusal_shown(alloc, why),
+        Err(TestsFault::OutOfMemory) => Err(NoMemory),
+    }
+}
+
+/// The same of a row's tests.
+pub fn tests_text(alloc: Global, row: &Row<'_>) -> Result<String, NoMemory>
+    ensures { IfOk result (λ text. ShowsTests (written (part_at 2 row.now)) (string_bytes text)) }
+{
+    let text = row.text(alloc, 2)?;
+    text_shown(alloc, &text)
+}

@@ -1,4 +1,0 @@
-pub mod Nexts
-pub mod Leading
-pub mod Waiting
-pub mod Quiet

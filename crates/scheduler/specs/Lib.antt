@@ -1,9 +1,0 @@
-pub mod Tasks
-pub mod Places
-pub mod Meanings
-pub mod Parts
-pub mod Puts
-pub mod Serves
-pub mod Engine
-pub mod Fits
-pub mod Turns

@@ -1,0 +1,14 @@
+pub mod Reached
+pub mod Needed
+pub mod Values
+pub mod Activations
+pub mod States
+pub mod Known
+pub mod Counts
+pub mod Leaves
+pub mod Waits
+pub mod Unmet
+pub mod Stands
+pub mod Places
+pub mod Ended
+pub mod Joins

@@ -1,0 +1,18 @@
+-- Configurations that runs reach.
+use Rattle.std.specs.Prelude.{◌≡◌, ℕ, List}
+use Rattle.gpi.specs.Soundness.{IsSoundFlat}
+use Rattle.test_body.specs.BodyTrees.{Case}
+use Rattle.task_model.specs.Known.{AreSoundFunctions}
+use Rattle.run_model.specs.Rig.{Setup}
+use Rattle.run_model.specs.Run.{Run, steps, opening}
+
+-- After so many steps a run of these tests under this budget stands so.
+pub record IsReached (setup : Setup) (seed : ℕ) (cases : List Case) (run : Run) : Type 0 where
+  pub budget : ℕ
+  pub count : ℕ
+  pub is : run ≡ steps setup budget count (opening setup seed cases)
+
+-- The design is sound, and so is each call in the functions of the file.
+pub record IsSoundSetup (setup : Setup) : Type 0 where
+  pub design : IsSoundFlat setup.flat
+  pub functions : AreSoundFunctions setup.functions

@@ -1,4 +1,0 @@
-pub mod TopNames
-pub mod TestsForm
-pub mod Front
-pub mod TestsReading

@@ -1,5 +1,0 @@
-pub mod Ends
-pub mod Grown
-pub mod Later
-pub mod Opened
-pub mod Declared

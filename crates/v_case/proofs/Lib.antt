@@ -1,2 +1,0 @@
-pub mod CaseItems
-pub mod CaseStatements

@@ -1,7 +1,0 @@
-pub mod Founds
-pub mod Fresh
-pub mod Known
-pub mod Checks
-pub mod Made
-pub mod Left
-pub mod Among

@@ -1,5 +1,0 @@
-mod Table
-mod Matches
-mod Joins
-mod Loop
-pub mod Names

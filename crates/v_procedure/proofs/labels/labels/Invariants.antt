@@ -1,9 +1,0 @@
--- The labels behind.
-use Rattle.std.proofs.Common.{drop, map}
-use Rattle.v_scope.specs.Scope.{means}
-use Rattle.v_syntax.specs.ExpressionTrees.{view}
-use Rattle.v_case.specs.Cases.{AreLabels}
-use Rattle.v_procedure.proofs.labels.labels.Given as goal
-
-abbrev pub invariant-loop-at : goal.invariant-loop-at
-invariant-loop-at l = AreLabels (means l.scope) (map view (drop l.at l.expressions)) l.found

@@ -1,3 +1,0 @@
-pub mod Walks
-pub mod Steps
-pub mod Closes

@@ -1,0 +1,129 @@
+#!/usr/bin/env python3
+"""Measures the built command: tools/bench.py PROGRAM [NAME ..]
+
+PROGRAM is `crates/cocorun/out/cocorun`, as `rt ci` or `./cocorun` built it. Each measurement runs it once in a folder of its own on texts that are
+made here, and prints its name, the status, the seconds of the processor, the most memory in MB, and the last line of its output. With names, only
+measurements whose name begins with one of them run. Those of `counter` also run Icarus Verilog (`iverilog`, `vvp`) on the same design with its clock
+in Verilog, where it is installed, and print how many times as long the command took.
+
+What is measured stands in docs/PERFORMANCE.md.
+"""
+import os
+import shutil
+import subprocess
+import sys
+import tempfile
+import time
+from pathlib import Path
+
+MEBIBYTE = 1_048_576
+HEAD = "import cocotb\nfrom cocotb.triggers import ClockCycles, Combine, Edge, Event, First, Lock, ReadOnly, RisingEdge, Timer\nfrom cocotb.clock import Clock\n\n"
+TEST = "@cocotb.test()\nasync def t(dut):\n"
+DESIGN = "module top(input clk, input [7:0] a, output reg [7:0] q);\n  always @(posedge clk) q <= a;\nendmodule\n"
+COUNTER = "module counter(input clk, output reg [7:0] q);\n  initial q = 0;\n  always @(posedge clk) q <= q + 1;\nendmodule\n"
+CYCLES = 1_000_000
+
+
+def filled(size, line, front="", behind=""):
+    """A text of about this many bytes: the front, as many lines as fit, and what stands behind them. A line is made from its number."""
+    parts, left, number = [front], size - len(front) - len(behind), 0
+    while True:
+        part = line(number)
+        left -= len(part)
+        if left < 0:
+            return "".join(parts) + behind
+        parts.append(part)
+        number += 1
+
+
+def texts_of_size(size):
+    """Tests files of about this many bytes, of each shape, that a reader has to go through; the test itself is short."""
+    run = "    pass\n"
+    unread = "async def f(dut):\n    if False:\n"
+    yield "one long function", filled(size, lambda n: f"    x = x + {n % 10}\n", HEAD + TEST + run + "async def f(dut):\n    x = 0\n")
+    yield "many functions", filled(size, lambda n: f"async def f{n}(dut):\n    pass\n", HEAD + TEST + run)
+    yield "many calls", filled(size, lambda n: "    await g(dut, 1, b=2)\n", HEAD + "async def g(dut, a, b=0):\n    pass\n" + TEST + run + "async def f(dut):\n")
+    yield "many module constants", filled(size, lambda n: f"C{n} = {n}\n", HEAD, TEST + run)
+    yield "many options", filled(size, lambda n: f", p{n}=0", HEAD + "from cocotb.regression import TestFactory\n" + TEST + run + "async def f(dut", "):\n    pass\n")
+    deep = "".join("    " * level + "if True:\n" for level in range(1, 32)) + "    " * 32 + "pass\n"
+    yield "deep blocks", filled(size, lambda n: deep, HEAD + TEST + run + "async def f(dut):\n")
+    yield "many imports", filled(size, lambda n: "from cocotb.triggers import (Edge,)\n" if n == 0 else "\n", "import cocotb\n", TEST + run)
+    yield "one huge list", filled(size, lambda n: f"{n % 10}, ", HEAD + TEST + run + unread + "        for i in [", "0]:\n            pass\n")
+    yield "deep expressions", filled(size, lambda n: "    x = " + "(" * 60 + "1" + ")" * 60 + "\n", HEAD + TEST + run + "async def f(dut):\n")
+    yield "many tests", filled(size, lambda n: f"@cocotb.test(skip=True)\nasync def t{n}(dut):\n    pass\n" if n < 65_000 else "\n", HEAD)
+
+
+def measurements():
+    """Name, words, design and tests of each measurement."""
+    words = ["--budget", "1000000000000"]
+    for size, told in ((MEBIBYTE // 2, "512 KiB"), (MEBIBYTE - 1, "1 MiB")):
+        for name, text in texts_of_size(size):
+            yield f"text of {told}: {name}", words, DESIGN, text
+    for number in (5_000, 10_000):
+        lines = "    dut.a.value = 1\n" * number
+        yield f"control: {number} statements before and behind 100,000 turns", words, DESIGN, HEAD + TEST + lines + "    for i in range(100000):\n        x = i\n" + lines
+    yield "control: 1,000 frames, 1,000 times", words, DESIGN, HEAD + "async def r(dut, n):\n    if n:\n        await r(dut, n - 1)\n\n" + TEST + "    for i in range(1000):\n        await r(dut, 998)\n"
+    for turns in (100_000, 1_000_000):
+        yield f"control: a loop of {turns} turns", words, DESIGN, HEAD + TEST + f"    x = 0\n    while x < {turns}:\n        x += 1\n"
+        yield f"control: {turns} turns with a fault caught in each", words, DESIGN, HEAD + TEST + f"    for i in range({turns}):\n        try:\n            x = 1 // 0\n        except ZeroDivisionError as e:\n            pass\n"
+    wait = "async def w(dut):\n    for i in range({}):\n        await {}\n\n"
+    start = "    cocotb.start_soon(Clock(dut.clk, 10, 'step').start())\n    for i in range({}):\n        cocotb.start_soon(w(dut))\n    await ClockCycles(dut.clk, {})\n".replace("'", '"')
+    for tasks in (100, 200, 400):
+        yield f"waiting: {tasks} tasks on one edge, 100 cycles", words, DESIGN, HEAD + wait.format(101, "RisingEdge(dut.clk)") + TEST + start.format(tasks, 100)
+        yield f"waiting: {tasks} tasks each on a time of its own, 100 edges of another", words, DESIGN, HEAD + "async def w(dut, k):\n    await Timer(1000000 + k, \"step\")\n\n" + TEST + start.format(tasks, 100).replace("w(dut)", "w(dut, i)")
+    leaves = ", ".join(["RisingEdge(dut.clk)"] + [f'Timer({n + 1000000}, "step")' for n in range(63)])
+    for tasks in (10, 20, 40):
+        yield f"waiting: {tasks} tasks on a First of 64 leaves, 10 cycles", words, DESIGN, HEAD + wait.format(11, f"First({leaves})") + TEST + start.format(tasks, 10)
+    for number in (17, 255):
+        yield f"made {number}", ["--made", str(number)], None, None
+
+
+def run(program, words, folder):
+    """Status, processor seconds, most memory in MB, and the last line."""
+    with open(f"{folder}/out", "w+b") as out:
+        started = subprocess.Popen([program, *words], cwd=folder, stdout=out, stdin=subprocess.DEVNULL)
+        _, status, usage = os.wait4(started.pid, 0)
+        started.returncode = os.waitstatus_to_exitcode(status)
+        out.seek(0)
+        lines = out.read().decode().splitlines()
+    return started.returncode, usage.ru_utime + usage.ru_stime, usage.ru_maxrss / 1024, lines[-1] if lines else ""
+
+
+def measured(program, name, words, design, tests):
+    with tempfile.TemporaryDirectory() as folder:
+        if design is not None:
+            Path(folder, "d.v").write_text(design)
+            Path(folder, "t.py").write_text(tests)
+            words = [*words, "d.v", "t.py"]
+        status, seconds, memory, last = run(program, words, folder)
+    print(f"{name:70} {status:3} {seconds:8.2f} s {memory:7.0f} MB  {last}", flush=True)
+    return seconds
+
+
+def counter(program):
+    """The command on a counter whose clock a test drives, and Icarus Verilog on it with a clock of its own."""
+    tests = HEAD + TEST + f'    cocotb.start_soon(Clock(dut.clk, 10, "step").start())\n    await ClockCycles(dut.clk, {CYCLES})\n'
+    ours = measured(program, f"counter: {CYCLES} cycles", ["--budget", "1000000000000"], COUNTER, tests)
+    if not shutil.which("iverilog"):
+        print("counter: Icarus Verilog isn't installed")
+        return
+    with tempfile.TemporaryDirectory() as folder:
+        bench = f"module bench; reg clk; wire [7:0] q; counter c(clk, q); initial begin clk = 0; repeat ({2 * CYCLES}) #5 clk = ~clk; end endmodule\n"
+        Path(folder, "b.v").write_text(COUNTER + bench)
+        subprocess.run(["iverilog", "-g2005", "-o", "b", "b.v"], cwd=folder, check=True)
+        begin = time.monotonic()
+        _, theirs, memory, _ = run(shutil.which("vvp"), ["-n", "b"], folder)
+        print(f"{'counter: Icarus Verilog, its clock in Verilog':70}     {theirs:8.2f} s {memory:7.0f} MB  {time.monotonic() - begin:.2f} s by the clock; the command took {ours / max(theirs, 0.01):.1f} times as long")
+
+
+def main():
+    program, wanted = os.path.realpath(sys.argv[1]), sys.argv[2:]
+    for name, words, design, tests in measurements():
+        if not wanted or any(name.startswith(it) for it in wanted):
+            measured(program, name, words, design, tests)
+    if not wanted or any("counter".startswith(it) for it in wanted):
+        counter(program)
+
+
+if __name__ == "__main__":
+    main()
