@@ -53,12 +53,33 @@ def texts_of_size(size):
     yield "many tests", filled(size, lambda n: f"@cocotb.test(skip=True)\nasync def t{n}(dut):\n    pass\n" if n < 65_000 else "\n", HEAD)
 
 
+def designs_of_size(size):
+    """Designs of about this many bytes, of each shape, that a reader has to go through; the limits of the profile end some of them before."""
+    top, end = "module top(input clk, input a);\n", "endmodule\n"
+    yield "registers", filled(size, lambda n: f"reg [7:0] r{n};\n" if n < 65_000 else "\n", top, end)
+    yield "wires with values", filled(size, lambda n: f"wire w{n} = a ^ clk;\n" if n < 65_000 else "\n", top, end)
+    yield "always processes", filled(size, lambda n: "always @(posedge clk) q <= a;\n" if n < 65_000 else "\n", top + "reg q;\n", end)
+    yield "instances with a connected port", filled(size, lambda n: f"s u{n}(.a(a));\n" if n < 32_000 else "\n", "module s(input a);\nendmodule\n" + top, end)
+    yield "one module in as many instances as may be", filled(size, lambda n: f"s u{n}();\n" if n < 65_535 else "\n", "module s;\nendmodule\n" + top, end)
+    deep = "".join(f"module m{n}(input a);\n  m{n + 1} u(.a(a));\nendmodule\n" for n in range(63))
+    yield "64 instances inside one another", filled(size, lambda n: "wire w;\n" if n == 0 else f"wire w{n} = a;\n" if n < 30_000 else "\n", deep + "module m63(input a);\n", end + "module top(input clk, input a);\n  m0 u(.a(a));\nendmodule\n")
+    braces = "{" + ", ".join(["a"] * 128) + "}"
+    yield "assignments of braces of 128 parts", filled(size, lambda n: f"wire [127:0] w{n} = {braces};\n", top, end)
+    yield "parameters of 128 digits", filled(size, lambda n: f"parameter [127:0] P{n} = 128'h{n:032x};\n", top, end)
+    yield "one block of statements", filled(size, lambda n: "r = r + 1;\n", top + "reg [7:0] r;\ninitial begin\n", "end\n" + end)
+    yield "one case", filled(size, lambda n: f"{n % 256}: ;\n", top + "reg [7:0] r;\ninitial case (r)\n", "endcase\n" + end)
+    loop = "for (i = 0; i < 8; i = i + 1) r[i] = a;\n"
+    yield "loops of eight turns", filled(size, lambda n: loop, top + "reg [7:0] r;\ninteger i;\ninitial begin\n", "end\n" + end)
+
+
 def measurements():
     """Name, words, design and tests of each measurement."""
     words = ["--budget", "1000000000000"]
     for size, told in ((MEBIBYTE // 2, "512 KiB"), (MEBIBYTE - 1, "1 MiB")):
         for name, text in texts_of_size(size):
             yield f"text of {told}: {name}", words, DESIGN, text
+        for name, text in designs_of_size(size):
+            yield f"design of {told}: {name}", [*words, "--top", "top"], text, HEAD + TEST + "    pass\n"
     for number in (5_000, 10_000):
         lines = "    dut.a.value = 1\n" * number
         yield f"control: {number} statements before and behind 100,000 turns", words, DESIGN, HEAD + TEST + lines + "    for i in range(100000):\n        x = i\n" + lines
@@ -68,11 +89,12 @@ def measurements():
         yield f"control: {turns} turns with a fault caught in each", words, DESIGN, HEAD + TEST + f"    for i in range({turns}):\n        try:\n            x = 1 // 0\n        except ZeroDivisionError as e:\n            pass\n"
     wait = "async def w(dut):\n    for i in range({}):\n        await {}\n\n"
     start = "    cocotb.start_soon(Clock(dut.clk, 10, 'step').start())\n    for i in range({}):\n        cocotb.start_soon(w(dut))\n    await ClockCycles(dut.clk, {})\n".replace("'", '"')
-    for tasks in (100, 200, 400):
+    for tasks in (100, 1_000, 10_000):
         yield f"waiting: {tasks} tasks on one edge, 100 cycles", words, DESIGN, HEAD + wait.format(101, "RisingEdge(dut.clk)") + TEST + start.format(tasks, 100)
+    for tasks in (100, 200, 400):
         yield f"waiting: {tasks} tasks each on a time of its own, 100 edges of another", words, DESIGN, HEAD + "async def w(dut, k):\n    await Timer(1000000 + k, \"step\")\n\n" + TEST + start.format(tasks, 100).replace("w(dut)", "w(dut, i)")
     leaves = ", ".join(["RisingEdge(dut.clk)"] + [f'Timer({n + 1000000}, "step")' for n in range(63)])
-    for tasks in (10, 20, 40):
+    for tasks in (10, 100, 1_000):
         yield f"waiting: {tasks} tasks on a First of 64 leaves, 10 cycles", words, DESIGN, HEAD + wait.format(11, f"First({leaves})") + TEST + start.format(tasks, 10)
     for number in (17, 255):
         yield f"made {number}", ["--made", str(number)], None, None

@@ -22,6 +22,8 @@ LIMITS = [
         function("f(dut)", "pass")),
     row("a text of 65,536 bytes, and one more", LONGEST + 'x = f"{t}a"', failing(0, "OverflowError", "0 INFO made")),
     row("the text of a log line is one too", LONGEST + 'dut._log.info("%s%s", t, "a")', failing(0, "OverflowError", "0 INFO made")),
+    Row("a deadline at the latest time", HEADER + test("e = Event(); await e.wait()", options='timeout_time=4611686018427387904, timeout_unit="step"'),
+        failing(4611686018427387904, "SimTimeoutError"), (1, 0, 1), design=SMALL),
     row("a thousand open calls in each of two tasks", "k = cocotb.start_soon(r(dut, 999)); await k; await r(dut, 998); " + shown("both"), passing(0, "0 INFO both"),
         function("r(dut, n)", "if n: { await r(dut, n - 1) }")),
 ]

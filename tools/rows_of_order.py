@@ -134,4 +134,26 @@ JOINS = [
     row("await of what is no trigger", "", "await 5", failing(0, "TypeError")),
 ]
 
-ORDER = [*EVENTS, *LOCKS, *HELD, *JOINS]
+LATER = function("y(dut)", 'await Timer(3, "step"); dut._log.info("timer")')
+BOTH_SOON = "cocotb.start_soon(x(dut)); cocotb.start_soon(y(dut)); "
+TURNS = [
+    row("a task whose Combine was served in part keeps its place", function("x(dut)", 'await Combine(Timer(1, "step"), Timer(3, "step")); dut._log.info("both")') + LATER,
+        BOTH_SOON + 'await Timer(4, "step")', passing(4, "3 INFO both", "3 INFO timer"), (3, 0, 3)),
+    row("a task whose Combine got a lock keeps its place", function("x(dut, l)", 'await Combine(l.acquire(), Timer(3, "step")); dut._log.info("both")') + LATER,
+        'l = Lock(); await l.acquire(); cocotb.start_soon(x(dut, l)); cocotb.start_soon(y(dut)); await Timer(1, "step"); l.release(); await Timer(4, "step")',
+        passing(5, "3 INFO both", "3 INFO timer"), (3, 0, 3)),
+    row("a rise wakes before a change, whoever waited first", function("x(dut)", 'await Edge(dut.clk); dut._log.info("edge")') + function(
+        "y(dut)", 'await RisingEdge(dut.clk); dut._log.info("rise")'), BOTH_SOON + 'await Timer(1, "step"); dut.clk.setimmediatevalue(1); await Timer(1, "step")',
+        passing(2, "1 INFO rise", "1 INFO edge"), (4, 0, 4)),
+    row("the first of two staged writes wakes first, whoever waited first", function("x(dut)", 'await Edge(dut.a); dut._log.info("a")') + function(
+        "y(dut)", 'await Edge(dut.clk); dut._log.info("clk")'), BOTH_SOON + 'await Timer(1, "step"); dut.clk.value = 1; dut.a.value = 1; await Timer(1, "step")',
+        passing(2, "1 INFO clk", "1 INFO a"), (5, 0, 5)),
+    row("a join that nobody waits for any more takes no fault", function("b(dut)", 'await Timer(5, "step"); raise ValueError("b")'),
+        'j = cocotb.start_soon(b(dut)); await First(j, Timer(1, "step")); await Timer(9, "step")', failing(5, "ValueError: b"), (3, 1, 2)),
+    row("of two faults of a Combine the leftmost counts", function("b(dut, n)", 'await Timer(1, "step"); raise ValueError(n)') + function(
+        "c(dut, j)", "try: { await j } except ValueError: { pass }"), 'j = cocotb.start_soon(b(dut, "1")); k = cocotb.start_soon(b(dut, "2")); '
+        'cocotb.start_soon(c(dut, j)); cocotb.start_soon(c(dut, k)); await Timer(2, "step"); try: { await Combine(Timer(5, "step"), j, k) } '
+        'except ValueError as e: { dut._log.info(f"{e}") }', passing(2, "2 INFO 1"), (2, 0, 2)),
+]
+
+ORDER = [*EVENTS, *LOCKS, *HELD, *JOINS, *TURNS]

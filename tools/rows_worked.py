@@ -89,6 +89,67 @@ ORDERED_TEST = (
     'cocotb.start_soon(f(dut)); dut._log.info("one"); await cocotb.start(g(dut)); dut._log.info("two"); await Timer(1, "step"); dut._log.info("end")'
 )
 ORDERED_LINES = ["0 INFO one", "0 INFO f", "0 INFO g", "0 INFO two", "1 INFO late"]
+# the same tasks in other spellings
+REMARKED = '''"""Tests of the order
+  of tasks."""
+import cocotb  # the library
+
+from cocotb.triggers import Timer
+
+
+# the first of them
+async def f(dut):
+    """Says its name."""
+
+    dut._log.info("f")  # once
+        # a line of a remark alone may stand anywhere
+
+
+async def g(dut):
+    dut._log.info("g")
+
+    await Timer(1, units="step")
+    dut._log.info("late")
+@cocotb.test()  # no option
+async def t(dut):
+    'Starts both.'
+    cocotb.start_soon(f(dut))
+    dut._log.info("one")
+    await cocotb.start(g(dut))
+
+    dut._log.info("two")
+    await Timer(1, units="step")
+    dut._log.info("end")  # and nothing more'''
+BRACKETED = '''import cocotb
+from cocotb.triggers import (
+    Edge,
+    Timer,
+)
+async def f(dut):
+ dut._log.info(
+"f"
+ )
+async def g(dut):
+        dut . _log . info( 'g' )
+        await Timer( 0x1 ,
+            "step" )
+        dut._log.info('late')
+@cocotb.test(
+)
+async def t(dut):
+   cocotb.start_soon(f(
+       dut  # the top
+   ))
+   dut._log.info( 'one')
+   await cocotb.start( g(dut) )
+   dut._log.info('two' )
+   await Timer(
+       0b0_1, 'step')
+   dut._log.info("end")
+'''
+RENAMED = HEADER + function("first_task(top)", 'top._log.info("f")') + function("g2(_x)", '_x._log.info("g"); await Timer(0o1, "step"); _x._log.info("late")') + test(
+    'cocotb.start_soon(first_task(dut)); dut._log.info("one"); await cocotb.start(g2(dut)); dut._log.info("two"); await Timer(1_0 // 10, "step"); dut._log.info("end")',
+    "the_order_of_tasks")
 
 WORKED = [
     Row("a flip-flop and random numbers", FLIP_FLOP_TESTS, ["0 TEST dff_simple_test", "115000 PASS dff_simple_test", report(1, 1, 0, 0, 115000)],
@@ -155,6 +216,10 @@ WORKED = [
     Row("a write, a Timer and an assertion", HEADER + test('dut.a.value = 5; await Timer(2, "step"); assert dut.a.value == 5'), passing(2), (2, 0, 2), 5, PORT),
     Row("an assertion behind a write that hasn't gone out", HEADER + test("dut.a.value = 5; assert dut.a.value == 5"), failing(0, "ValueError"), design=PORT),
     Row("tasks in their order", HEADER + ORDERED + test(ORDERED_TEST), passing(1, *ORDERED_LINES, "1 INFO end"), cost=11, design=PORT),
+    Row("tasks in their order, with remarks and docstrings", REMARKED, passing(1, *ORDERED_LINES, "1 INFO end"), cost=11, design=PORT),
+    Row("tasks in their order, with brackets over lines and other numbers", BRACKETED, passing(1, *ORDERED_LINES, "1 INFO end"), cost=11, design=PORT),
+    Row("tasks in their order, under other names", RENAMED, ["0 TEST the_order_of_tasks", *ORDERED_LINES, "1 INFO end", "1 PASS the_order_of_tasks",
+        report(1, 1, 0, 0, 1)], cost=11, design=PORT),
     Row("tasks in their order, with the budget of their cost", HEADER + ORDERED + test(ORDERED_TEST), passing(1, *ORDERED_LINES, "1 INFO end"), cost=11, design=PORT,
         budget=11),
     Row("tasks in their order, with one less", HEADER + ORDERED + test(ORDERED_TEST), ["0 TEST t", *ORDERED_LINES, "BUDGET 10"], cost=10, design=PORT, budget=10),

@@ -7,7 +7,7 @@
 
 Each row of the tables tools/data/TABLE_rows.txt (`tools/row_texts.py` tells their form) becomes a row `kept`, whose words name its budget, and `--trace` where the
 changes of signals are told. Behind these stand what refusals leave, and the rows of words, tops, refusals, faults and cuts (`tools/command_rows.py` tells their
-form), of designs (tools/data/design_rows.txt) and of tests. The first word of a row says what is asked; crates/runner_tests/src/main.rt tells which parts follow.
+form), of designs (tools/data/design_rows.txt), of tests, and of kills turn by turn. The first word of a row says what is asked; crates/runner_tests/src/main.rt tells which parts follow.
 No answer comes from the program: they were worked out by hand, or come from CPython or from the model of `tools/run_model.py`.
 """
 import sys
@@ -23,7 +23,7 @@ from rows_of_words import WORDS
 PROGRAM = Path(__file__).resolve().parent.parent / "crates" / "runner_tests"
 TABLES = ["worked", "control", "trigger", "pair", "order", "kill", "verdict", "signal", "budget", "key", "trace", "limit", "example"]
 # the program takes no more bytes
-MOST = 1_048_576
+MOST = 2 * 1_048_576
 
 
 def stored(table):
@@ -39,10 +39,18 @@ def run(row):
     return Asked("kept", rule, [f"--budget {budget}{trace} d.v t.py", design, tests], answer)
 
 
+def turns(row):
+    """A run of the table of kills, turn by turn: the numbers of the keys that are awaited after each turn but the last."""
+    _, rule, _, design, tests, _, _, keys = row
+    numbers = [0 if turn == "-" else len(turn.split()) for turn in keys.split("|")]
+    return Asked("turns", f"{rule}, turn by turn", [design, tests], "".join(f" {number}" for number in numbers))
+
+
 def all_rows():
     runs = [run(row) for table in TABLES for row in stored(table)]
     designs = [Asked("design", rule, [text], answer) for rule, text, answer in stored("design")]
-    return [*runs, *KEPT, *WORDS, *TOPS, *REFUSALS, *FAULTS, *designs, *READ]
+    turned = [turns(row) for row in stored("kill")]
+    return [*runs, *KEPT, *WORDS, *TOPS, *REFUSALS, *FAULTS, *designs, *READ, *turned]
 
 
 def main(words):

@@ -24,10 +24,10 @@ use Rattle.command.specs.Answer.{Answers, Answered, IsAnswer, RunsShown, TellsLi
 use Rattle.command.specs.declared.decision.Decision.{Decision}
 use Rattle.command.specs.declared.decision.Decision.TheVariants.{Refused, Runs}
 use Rattle.command.specs.Reading.{CanRun, IsRefusalStatus, IsTold, Reading, Reads, reading_of, refused, runs, usage_line}
-use Rattle.test_runs.specs.Runs.{EndsTo, RunsTo, Whole, PutsStart, status_of, stopped_status}
-use Rattle.test_runs.specs.Status.{put_status}
-use Rattle.test_runs.specs.declared.status.Status.{Status}
-use Rattle.test_runs.specs.declared.status.Status.TheVariants as status
+use Rattle.regression.specs.Runs.{EndsTo, RunsTo, Whole, PutsStart, status_of, stopped_status}
+use Rattle.regression.specs.Status.{put_status}
+use Rattle.regression.specs.declared.status.Status.{Status}
+use Rattle.regression.specs.declared.status.Status.TheVariants as status
 
 -- known bytes grew by a front of these, and so by a front of more
 longer_part : (old new : Option (List ℕ)) (xs more ys : List (List ℕ)) → ys ≡ xs ++ more → AppendsPart old new (joined xs) → AppendsPart old new (joined ys)

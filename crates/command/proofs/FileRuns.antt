@@ -21,9 +21,9 @@ use Rattle.task_model.specs.Known.{AreSoundFunctions}
 use Rattle.run_model.specs.Case.{emptied}
 use Rattle.run_model.specs.Rig.{Rig, Setup}
 use Rattle.run_model.specs.Run.{IsStart, opening, opening_sim, steps, written}
-use Rattle.test_runs.specs.Runs.{RunsTo, status_in}
-use Rattle.test_runs.specs.Stages.{cases_of}
-use Rattle.test_runs.specs.declared.status.Status.{Status}
+use Rattle.regression.specs.Runs.{RunsTo, status_in}
+use Rattle.regression.specs.Stages.{cases_of}
+use Rattle.regression.specs.declared.status.Status.{Status}
 use Rattle.command.specs.declared.options.RunOptions.{RunOptions}
 use Rattle.command.specs.Answer.{RunsFile, setup_with}
 
@@ -70,7 +70,7 @@ maker_sound file lent are sound = subst (λ (fs : List Function). AreSoundFuncti
 
 module _ (options : RunOptions) (flat : Flat) (file : TestFile) (lent : List Function) (setup : Setup)
     (lent_are : lent ≡ file.functions) (setup_is : setup ≡ lent_setup options.trace flat lent) where
-  setup_same : setup ≡ setup_with options.trace flat (view_file file)
+  pub setup_same : setup ≡ setup_with options.trace flat (view_file file)
   setup_same = setup_is ∙ ap (lent_setup options.trace flat) lent_are
 
   -- an engine stands in the opening configuration of its design

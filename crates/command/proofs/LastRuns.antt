@@ -12,9 +12,9 @@ use Rattle.run_parts.specs.Fits.{StandsFor}
 use Rattle.last_line.specs.Keeping.{last_means}
 use Rattle.last_line.specs.Last.{last_of}
 use Rattle.last_line.proofs.KeepingLaws.{keeps_last_of, none_fails}
-use Rattle.test_runs.specs.Runs.{EndsTo, RunsTo, Whole, status_in, status_of}
-use Rattle.test_runs.specs.declared.status.Status.{Status}
-use Rattle.test_runs.specs.declared.status.Status.TheVariants as status
+use Rattle.regression.specs.Runs.{EndsTo, RunsTo, Whole, status_in, status_of}
+use Rattle.regression.specs.declared.status.Status.{Status}
+use Rattle.regression.specs.declared.status.Status.TheVariants as status
 use Rattle.command.specs.declared.options.RunOptions.{RunOptions}
 use Rattle.command.specs.declared.options.Shown.TheVariants.{LastLine}
 use Rattle.command.specs.Answer.{RunsFile, RunsLast, lines_shown, setup_with}

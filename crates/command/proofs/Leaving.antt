@@ -9,10 +9,10 @@ use Rattle.gpi.specs.declared.design.Flat.{Flat}
 use Rattle.test_body.specs.BodyTrees.{TestFile}
 use Rattle.run_model.specs.Run.{is_over}
 use Rattle.run_model.specs.Verdict.{is_fail}
-use Rattle.test_runs.specs.Runs.{stopped_status}
-use Rattle.test_runs.specs.Status.{put_status}
-use Rattle.test_runs.specs.declared.status.Status.{Status}
-use Rattle.test_runs.specs.declared.status.Status.TheVariants as status
+use Rattle.regression.specs.Runs.{stopped_status}
+use Rattle.regression.specs.Status.{put_status}
+use Rattle.regression.specs.declared.status.Status.{Status}
+use Rattle.regression.specs.declared.status.Status.TheVariants as status
 use Rattle.command.specs.declared.options.RunOptions.{RunOptions}
 use Rattle.command.specs.declared.options.Shown.{Shown}
 use Rattle.command.specs.declared.options.Shown.TheVariants.{AllLines, LastLine}

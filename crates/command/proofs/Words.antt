@@ -8,7 +8,7 @@ use Rattle.command_words.specs.Forms.{Asked, Form}
 use Rattle.command.specs.declared.options.RunOptions.{RunOptions}
 use Rattle.command.specs.declared.options.Shown.TheVariants.{AllLines}
 use Rattle.command.specs.Reading.{Reading, refused, Reads, ReadsAsked, ReadsBoth, ReadsTests, IsTold, TextOfDesign, told_means, usage_line, options_in, most}
-use Rattle.test_runs.specs.declared.status.Status.TheVariants as status
+use Rattle.regression.specs.declared.status.Status.TheVariants as status
 
 -- any options, which words without a reading may be said to have
 pub any_options : RunOptions

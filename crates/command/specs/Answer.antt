@@ -11,9 +11,9 @@ use Rattle.run_model.specs.Rig.{Rig, Setup}
 use Rattle.run_model.specs.Run.{Run, IsRun, written}
 use Rattle.run_parts.specs.Fits.{StandsFor}
 use Rattle.last_line.specs.Last.{last_of}
-use Rattle.test_runs.specs.Runs.{RunsTo, EndsTo, status_of}
-use Rattle.test_runs.specs.declared.status.Status.{Status}
-use Rattle.test_runs.specs.declared.status.Status.TheVariants as status
+use Rattle.regression.specs.Runs.{RunsTo, EndsTo, status_of}
+use Rattle.regression.specs.declared.status.Status.{Status}
+use Rattle.regression.specs.declared.status.Status.TheVariants as status
 use Rattle.command.specs.declared.options.RunOptions.{RunOptions}
 use Rattle.command.specs.declared.options.Shown.{Shown}
 use Rattle.command.specs.declared.options.Shown.TheVariants.{AllLines, LastLine}

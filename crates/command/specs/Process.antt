@@ -2,8 +2,8 @@
 use Rattle.std.specs.Prelude.{◌≡◌}
 use Rattle.std.specs.Process.{exit_status}
 use Rattle.std.specs.declared.process.ExitCode.{ExitCode}
-use Rattle.test_runs.specs.Status.{code_of}
-use Rattle.test_runs.specs.declared.status.Status.{Status}
+use Rattle.regression.specs.Status.{code_of}
+use Rattle.regression.specs.declared.status.Status.{Status}
 use Rattle.command.specs.Answer.{LeavesKernel}
 
 -- The process ends with the number of a status, and its simulator is as the command leaves it with that status.

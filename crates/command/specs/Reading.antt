@@ -16,8 +16,8 @@ use Rattle.test_text.specs.declared.fault.TestsRefusal.{TestsRefusal}
 use Rattle.test_text.specs.Tests as tests_text
 use Rattle.test_text.specs.Words as tests_words
 use Rattle.made_texts.specs.Texts as made
-use Rattle.test_runs.specs.declared.status.Status.{Status}
-use Rattle.test_runs.specs.declared.status.Status.TheVariants as status
+use Rattle.regression.specs.declared.status.Status.{Status}
+use Rattle.regression.specs.declared.status.Status.TheVariants as status
 use Rattle.command.specs.declared.options.RunOptions.{RunOptions}
 use Rattle.command.specs.declared.options.Shown.{Shown}
 use Rattle.command.specs.declared.options.Shown.TheVariants.{AllLines, LastLine}

@@ -1,7 +1,7 @@
 //! What the words and the files come to.
 use gpi::Flat;
+use regression::Status;
 use test_body::TestFile;
-use test_runs::Status;
 
 /// What is to be done.
 #[derive(Drop)]

@@ -6,8 +6,8 @@ ghost use Rattle.command.specs.Reading.{read_line, reading_of, refused, refused_
 
 use crate::decision::Decision;
 use port_io::NoMemory;
+use regression::Status;
 use std::alloc::Global;
-use test_runs::Status;
 use test_text::TestsRefusal;
 use v_design::DesignRefusal;
 

@@ -17,7 +17,8 @@ pub enum Shown {
 /// How tests are run.
 #[derive(Clone, Copy, Debug)]
 pub struct RunOptions {
-    /// What the run may cost: one for each statement that begins, each condition and question of a loop, and each event of the simulator.
+    /// What the run may cost: one for each statement that begins, an `async with` among them, each condition and question of a loop, and each
+    /// event of the simulator.
     pub budget: u64,
     /// The seed of the random numbers.
     pub seed: u64,

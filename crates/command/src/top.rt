@@ -4,7 +4,7 @@ ghost use Rattle.port_io.specs.Means.{sink_means, store_means};
 ghost use Rattle.gpi.specs.Soundness.{IsSoundFlat};
 ghost use Rattle.test_body.specs.Sound.{is_sound};
 ghost use Rattle.test_body.specs.Views.{view_file};
-ghost use Rattle.test_runs.specs.Runs.{EndsTo, status_in};
+ghost use Rattle.regression.specs.Runs.{EndsTo, status_in};
 ghost use Rattle.command.specs.Answer.{Answered, Answers, LeavesKernel, Quit, RaisedAt, RefusesWords, RunsFile, RunsLast, RunsShown};
 ghost use Rattle.command.specs.Reading.{CanRun, reading_of};
 
@@ -18,10 +18,12 @@ use gpi::{Flat, Gpi};
 use last_line::LastLine;
 use plain_waits::WaitList;
 use port_io::{NoMemory, Sink, Store};
+use regression::{Status, run_all};
 use std::alloc::Global;
+use std::sync::ledger::Ledger;
 use test_body::TestFile;
-use test_runs::{Status, run_all};
 use tree_flow::TreeMaker;
+use wait_list::Steps;
 
 /// Puts the one line of an answer, which has this status where it is taken.
 fn put_line<O: Sink>(alloc: Global, own: Status, line: &[u8], out: &mut O) -> Status
@@ -42,13 +44,14 @@ fn refuse_words<O: Sink>(alloc: Global, out: &mut O) -> Status
 }
 
 /// Runs the tests of the file on a design, and puts all lines of the run. Only want of memory is an error.
-fn run_file<O: Sink, K: Gpi>(
+fn run_file<O: Sink, K: Gpi, L: Ledger>(
     alloc: Global,
     flat: &Flat,
     file: &TestFile,
     options: RunOptions,
     kernel: &mut K,
     out: &mut O,
+    steps: &mut Steps<L>,
 ) -> Result<Status, NoMemory>
     requires flat { IsSoundFlat flat.now }
     requires file { is_sound (view_file file.now) ≡ true }
@@ -59,17 +62,18 @@ fn run_file<O: Sink, K: Gpi>(
     let maker = TreeMaker::new(file);
     let awaits = WaitList::new(alloc);
     let mut engine = Engine::new(alloc, maker, awaits, flat, options.seed, options.trace)?;
-    Ok(run_all(alloc, &file.cases, &mut engine, kernel, out, options.budget))
+    Ok(run_all(alloc, file, &mut engine, kernel, out, options.budget, steps))
 }
 
 /// Runs the tests of the file on a design, and puts the last line of the run alone. Only want of memory is an error, and then nothing was put.
-fn run_last<O: Sink, K: Gpi>(
+fn run_last<O: Sink, K: Gpi, L: Ledger>(
     alloc: Global,
     flat: &Flat,
     file: &TestFile,
     options: RunOptions,
     kernel: &mut K,
     out: &mut O,
+    steps: &mut Steps<L>,
 ) -> Result<Status, NoMemory>
     requires flat { IsSoundFlat flat.now }
     requires file { is_sound (view_file file.now) ≡ true }
@@ -77,20 +81,21 @@ fn run_last<O: Sink, K: Gpi>(
     ensures loaded { OnOk result (K.is_loaded kernel.new) }
 {
     let mut last = LastLine::new(alloc);
-    match run_file(alloc, flat, file, options, kernel, &mut last)? {
+    match run_file(alloc, flat, file, options, kernel, &mut last, steps)? {
         Status::NoMemory => Err(NoMemory),
         own => Ok(put_line(alloc, own, last.bytes(), out)),
     }
 }
 
 /// Runs the tests of the file on a design, and puts the lines that the options ask for. Only want of memory is an error.
-fn run_shown<O: Sink, K: Gpi>(
+fn run_shown<O: Sink, K: Gpi, L: Ledger>(
     alloc: Global,
     flat: &Flat,
     file: &TestFile,
     options: RunOptions,
     kernel: &mut K,
     out: &mut O,
+    steps: &mut Steps<L>,
 ) -> Result<Status, NoMemory>
     requires flat { IsSoundFlat flat.now }
     requires file { is_sound (view_file file.now) ≡ true }
@@ -98,18 +103,19 @@ fn run_shown<O: Sink, K: Gpi>(
     ensures loaded { OnOk result (K.is_loaded kernel.new) }
 {
     match options.shown {
-        Shown::AllLines => run_file(alloc, flat, file, options, kernel, out),
-        Shown::LastLine => run_last(alloc, flat, file, options, kernel, out),
+        Shown::AllLines => run_file(alloc, flat, file, options, kernel, out, steps),
+        Shown::LastLine => run_last(alloc, flat, file, options, kernel, out, steps),
     }
 }
 
 /// Does what was decided.
-fn answer<O: Sink, K: Gpi>(
+fn answer<O: Sink, K: Gpi, L: Ledger>(
     alloc: Global,
     decision: &Decision,
     options: RunOptions,
     kernel: &mut K,
     out: &mut O,
+    steps: &mut Steps<L>,
 ) -> Status
     requires { CanRun decision.now }
     ensures answers { Answers (sink_means O.Sink) options (reading_of decision.now) result (K.content kernel.new) out.old out.new }
@@ -118,7 +124,7 @@ fn answer<O: Sink, K: Gpi>(
     match decision {
         Decision::Refused(own, line) => put_line(alloc, *own, line.as_slice(), out),
         Decision::Runs(flat, file) => {
-            match run_shown(alloc, flat, file, options, kernel, out) {
+            match run_shown(alloc, flat, file, options, kernel, out, steps) {
                 Ok(status) => status,
                 Err(NoMemory) => Status::NoMemory,
             }
@@ -155,13 +161,14 @@ fn answer<O: Sink, K: Gpi>(
 /// `Passed`, `Failed` and `Budget` it stands for the run's last configuration: it holds that configuration's state, its awaited keys are
 /// the registered ones, and its counts are those of the run. After `Usage`, `DesignRefused`,
 /// `TestsRefused` and `ReadFault` it is as it was handed in. After `WriteFault` it holds a design, or it is as it was handed in. After
-/// `NoMemory` nothing is said of it.
-pub fn cocorun<S: Store, O: Sink, K: Gpi>(
+/// `NoMemory` nothing is said of it. `steps` counts the steps of work of the keeper of waiting tasks, if that keeper counts them.
+pub fn cocorun<S: Store, O: Sink, K: Gpi, L: Ledger>(
     alloc: Global,
     words: &[String],
     store: &mut S,
     out: &mut O,
     kernel: &mut K,
+    steps: &mut Steps<L>,
 ) -> Status
     ensures answer { Answered (store_means S.Store) (sink_means O.Sink) (map string_bytes words.now) result store.old store.new (K.content kernel.new) out.old out.new ⊎ Quit result out.old out.new }
     ensures kernel { LeavesKernel K.is_loaded result kernel.old kernel.new }
@@ -174,7 +181,7 @@ pub fn cocorun<S: Store, O: Sink, K: Gpi>(
         Err(WordsFault::OutOfMemory) => return Status::NoMemory,
     };
     match decide_work(alloc, reading.work, store) {
-        Ok(decision) => answer(alloc, &decision, options_of(reading), kernel, out),
+        Ok(decision) => answer(alloc, &decision, options_of(reading), kernel, out, steps),
         Err(NoMemory) => Status::NoMemory,
     }
 }

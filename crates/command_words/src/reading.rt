@@ -21,7 +21,8 @@ pub enum Work<'a> {
 pub struct Reading<'a> {
     /// What is to be run.
     pub work: Work<'a>,
-    /// What the run may cost, from 1 to 2^40: one for each statement that begins, and one for each event of the simulator.
+    /// What the run may cost, from 1 to 2^40: one for each statement that begins, each condition, each question of a loop and each event of the
+    /// simulator.
     pub budget: u64,
     /// The seed of the random numbers.
     pub seed: u64,

@@ -17,8 +17,9 @@ use port_io::{NoMemory, Sink};
 use py_value::TaskNo;
 use signal_port::Staged;
 use std::alloc::Global;
+use std::sync::ledger::Ledger;
 use task_model::{FlowMaker, Turned};
-use wait_list::Awaits;
+use wait_list::{Awaits, Steps};
 
 impl<M: FlowMaker + Drop, W: Awaits> RunningTest<M, W> {
     ghost use Rattle.engine.specs.TestFits.{FitsAt, FitsNext, Kept};
@@ -26,7 +27,7 @@ impl<M: FlowMaker + Drop, W: Awaits> RunningTest<M, W> {
 
     /// What the task wants that has its turn is done, once the turn is taken from it. What tasks see must know what it wants. The task goes on and is given
     /// something, or its turn ends. After a failed put and after `NoMemory` only `clear` is called.
-    pub fn apply<O: Sink, K: Gpi>(
+    pub fn apply<O: Sink, K: Gpi, L: Ledger>(
         &mut self,
         alloc: Global,
         kernel: &mut K,
@@ -34,6 +35,7 @@ impl<M: FlowMaker + Drop, W: Awaits> RunningTest<M, W> {
         task: TaskNo,
         turned: Turned,
         out: &mut O,
+        steps: &mut Steps<L>,
     ) -> Result<Next, NoMemory>
         requires loaded { K.is_loaded kernel.old }
         requires fits { FitsAt (Some task) teller.now.flat.now (means M.functions M.Flow.functions M.Flow.meaning W.waiting W.held) self.old (K.content kernel.old) }
@@ -46,30 +48,31 @@ impl<M: FlowMaker + Drop, W: Awaits> RunningTest<M, W> {
         ensures kept { Kept (means M.functions M.Flow.functions M.Flow.meaning W.waiting W.held) K.is_loaded K.content self.old self.new kernel.new }
     {
         match turned {
-            Turned::Await(trig) => self.wait(alloc, kernel, task, trig),
-            Turned::Stage { sig, bits } => self.stage_write(kernel, sig, bits),
+            Turned::Await(trig) => self.wait(alloc, kernel, task, trig, steps),
+            Turned::Stage { sig, bits } => self.stage_write(kernel, sig, bits, steps),
             Turned::Put { sig, bits } => self.put_write(
                 alloc,
                 kernel,
                 teller,
                 Staged { sig, bits },
                 out,
+                steps,
             ),
             Turned::Start {
                 func,
                 args,
                 give_way,
             } => self.start_task(alloc, task, func, args, give_way),
-            Turned::Kill(other) => Ok(self.kill(kernel, task, other)),
+            Turned::Kill(other) => Ok(self.kill(kernel, task, other, steps)),
             Turned::NewEvent => self.new_event(),
-            Turned::SetEvent(event) => Ok(self.set_event(kernel, task, event)),
+            Turned::SetEvent(event) => Ok(self.set_event(kernel, task, event, steps)),
             Turned::ClearEvent(event) => Ok(self.clear_event(event)),
             Turned::NewLock => self.new_lock(),
-            Turned::Release(lock) => Ok(self.release(kernel, task, lock)),
+            Turned::Release(lock) => Ok(self.release(kernel, task, lock, steps)),
             Turned::Draw { low, span } => Ok(self.draw(low, span)),
             Turned::Log { level, text } => write_log(alloc, kernel.now(), level, &text, out),
-            Turned::Done(value) => Ok(self.finish(kernel, task, value)),
-            Turned::Raised(fault) => self.fail(alloc, kernel, task, fault),
+            Turned::Done(value) => Ok(self.finish(kernel, task, value, steps)),
+            Turned::Raised(fault) => self.fail(alloc, kernel, task, fault, steps),
             Turned::Spent => unreachable!(),
         }
     }

@@ -26,9 +26,10 @@ use py_value::{Fault, Value};
 use run_lines::test_line;
 use run_model::Outcome;
 use std::alloc::Global;
+use std::sync::ledger::Ledger;
 use task_model::FlowMaker;
 use test_body::TestCase;
-use wait_list::Awaits;
+use wait_list::{Awaits, Steps};
 
 /// How a test has begun: it runs, or it has ended with a fault of that kind before its first statement.
 fn begun(fault: Option<FaultKind>) -> Turn
@@ -45,30 +46,36 @@ impl<'a, M: FlowMaker + Drop, W: Awaits> Engine<'a, M, W> {
     ghost use Rattle.engine.specs.Fits.{FitsKernel, KeepsAll};
 
     /// Sets the deadline of a test whose own task is ready, so many steps from now; where that time can't come there is none.
-    fn set_steps<K: Gpi>(&mut self, kernel: &mut K, steps: u64) -> Result<(), NoMemory>
+    fn set_steps<K: Gpi, L: Ledger>(
+        &mut self,
+        kernel: &mut K,
+        after: u64,
+        steps: &mut Steps<L>,
+    ) -> Result<(), NoMemory>
         requires loaded { K.is_loaded kernel.old }
         requires fits { FitsKernel (means M.functions M.Flow.functions M.Flow.meaning W.waiting W.held) self.old (K.content kernel.old) }
         requires none { awaited (rig_of (means M.functions M.Flow.functions M.Flow.meaning W.waiting W.held) self.old (K.content kernel.old)) ≡ [] }
         requires new { self.old.test.queue.deadline ≡ None }
-        requires some { 1 ≤ steps }
+        requires some { 1 ≤ after }
         ensures limited { OnOk result (rig_of (means M.functions M.Flow.functions M.Flow.meaning W.waiting W.held) self.new (K.content kernel.new)
-            ≡ counted [] (rig_of (means M.functions M.Flow.functions M.Flow.meaning W.waiting W.held) self.old (K.content kernel.old)) (with_deadline (Ok steps) (rig_of (means M.functions M.Flow.functions M.Flow.meaning W.waiting W.held) self.old (K.content kernel.old)))) }
+            ≡ counted [] (rig_of (means M.functions M.Flow.functions M.Flow.meaning W.waiting W.held) self.old (K.content kernel.old)) (with_deadline (Ok after) (rig_of (means M.functions M.Flow.functions M.Flow.meaning W.waiting W.held) self.old (K.content kernel.old)))) }
         ensures fits { OnOk result (FitsKernel (means M.functions M.Flow.functions M.Flow.meaning W.waiting W.held) self.new (K.content kernel.new)) }
         ensures keeps { KeepsAll (means M.functions M.Flow.functions M.Flow.meaning W.waiting W.held) K.is_loaded K.content self.old self.new kernel.new }
         ensures runs { self.new.runs_test ≡ self.old.runs_test }
     {
-        match deadline_at(kernel.now(), steps) {
+        match deadline_at(kernel.now(), after) {
             None => Ok(()),
-            Some(due) => self.test.queue.set_deadline(kernel, due),
+            Some(due) => self.test.queue.set_deadline(kernel, due, steps),
         }
     }
 
     /// Sets the deadline of a test whose own task is ready, or tells the fault of its time.
-    fn set_limit<K: Gpi>(
+    fn set_limit<K: Gpi, L: Ledger>(
         &mut self,
         alloc: Global,
         kernel: &mut K,
         limit: &(Const, Const),
+        steps: &mut Steps<L>,
     ) -> Result<Option<FaultKind>, NoMemory>
         requires loaded { K.is_loaded kernel.old }
         requires fits { FitsKernel (means M.functions M.Flow.functions M.Flow.meaning W.waiting W.held) self.old (K.content kernel.old) }
@@ -82,8 +89,8 @@ impl<'a, M: FlowMaker + Drop, W: Awaits> Engine<'a, M, W> {
         ensures runs { self.new.runs_test ≡ self.old.runs_test }
     {
         match limit_steps(alloc, self.teller.flat.step_fs, limit) {
-            Ok(steps) => {
-                self.set_steps(kernel, steps)?;
+            Ok(after) => {
+                self.set_steps(kernel, after, steps)?;
                 Ok(None)
             }
             Err(OperationFault::Raised(kind)) => Ok(Some(kind)),
@@ -92,12 +99,13 @@ impl<'a, M: FlowMaker + Drop, W: Awaits> Engine<'a, M, W> {
     }
 
     /// The test's own task is ready, with these values behind the top of the design, and its deadline is set; or tells the fault of its time.
-    fn start_with<K: Gpi>(
+    fn start_with<K: Gpi, L: Ledger>(
         &mut self,
         alloc: Global,
         kernel: &mut K,
         case: &TestCase,
         values: Sequence<Value>,
+        steps: &mut Steps<L>,
     ) -> Result<Option<FaultKind>, NoMemory>
         requires loaded { K.is_loaded kernel.old }
         requires fits { FitsKernel (means M.functions M.Flow.functions M.Flow.meaning W.waiting W.held) self.old (K.content kernel.old) }
@@ -115,16 +123,17 @@ impl<'a, M: FlowMaker + Drop, W: Awaits> Engine<'a, M, W> {
         self.test.begin(alloc, case.func, values)?;
         match &case.time {
             None => Ok(None),
-            Some(limit) => self.set_limit(alloc, kernel, limit),
+            Some(limit) => self.set_limit(alloc, kernel, limit, steps),
         }
     }
 
     /// The test's own task is ready, and its deadline is set; or tells the fault of an argument or of its time.
-    fn start_case<K: Gpi>(
+    fn start_case<K: Gpi, L: Ledger>(
         &mut self,
         alloc: Global,
         kernel: &mut K,
         case: &TestCase,
+        steps: &mut Steps<L>,
     ) -> Result<Option<FaultKind>, NoMemory>
         requires loaded { K.is_loaded kernel.old }
         requires fits { FitsKernel (means M.functions M.Flow.functions M.Flow.meaning W.waiting W.held) self.old (K.content kernel.old) }
@@ -138,7 +147,7 @@ impl<'a, M: FlowMaker + Drop, W: Awaits> Engine<'a, M, W> {
         ensures runs { self.new.runs_test ≡ self.old.runs_test }
     {
         match task_arguments(alloc, &case.args) {
-            Ok(values) => self.start_with(alloc, kernel, case, values),
+            Ok(values) => self.start_with(alloc, kernel, case, values, steps),
             Err(OperationFault::Raised(kind)) => Ok(Some(kind)),
             Err(OperationFault::OutOfMemory) => Err(NoMemory),
         }
@@ -147,12 +156,13 @@ impl<'a, M: FlowMaker + Drop, W: Awaits> Engine<'a, M, W> {
     /// Begins a test: its own task is ready, its deadline is set, and its line is put. Before, no test runs and no start is planned. `Went` where that was
     /// done, `Over` where an argument has no value or the time of the test is refused, `WriteFault` where the put failed, and `NoMemory` where memory is
     /// short: after all but `Went` only `end_test` is called.
-    pub fn begin_test<O: Sink, K: Gpi>(
+    pub fn begin_test<O: Sink, K: Gpi, L: Ledger>(
         &mut self,
         alloc: Global,
         kernel: &mut K,
         case: &TestCase,
         out: &mut O,
+        steps: &mut Steps<L>,
     ) -> Result<Turn, NoMemory>
         requires loaded { K.is_loaded kernel.old }
         requires fits { FitsKernel (means M.functions M.Flow.functions M.Flow.meaning W.waiting W.held) self.old (K.content kernel.old) }
@@ -168,7 +178,7 @@ impl<'a, M: FlowMaker + Drop, W: Awaits> Engine<'a, M, W> {
     {
         self.runs_test = false;
         let line = test_line(alloc, kernel.now(), case.name.bytes())?;
-        let fault = self.start_case(alloc, kernel, case)?;
+        let fault = self.start_case(alloc, kernel, case, steps)?;
         match out.put(alloc, line.as_slice()) {
             Ok(()) => {
                 self.runs_test = fault.is_none();

@@ -17,8 +17,9 @@ use py_syntax::FaultKind;
 use py_value::{Fault, TaskNo, Value};
 use run_model::Outcome;
 use std::alloc::Global;
+use std::sync::ledger::Ledger;
 use task_model::FlowMaker;
-use wait_list::Awaits;
+use wait_list::{Awaits, Steps};
 
 /// A copy of a fault. Only want of memory is an error.
 fn copy_fault(alloc: Global, fault: &Fault) -> Result<Fault, NoMemory>
@@ -36,7 +37,13 @@ impl<M: FlowMaker + Drop, W: Awaits> RunningTest<M, W> {
 
     /// A task kills another (cocotb 1.8, `Task.kill`), which leaves the ready tasks and those that wait; those who join it are served. One that has ended
     /// stays as it is, and a task that would kill itself is given a RuntimeError. It takes no memory.
-    pub(crate) fn kill<K: Gpi>(&mut self, kernel: &mut K, task: TaskNo, other: TaskNo) -> Next
+    pub(crate) fn kill<K: Gpi, L: Ledger>(
+        &mut self,
+        kernel: &mut K,
+        task: TaskNo,
+        other: TaskNo,
+        steps: &mut Steps<L>,
+    ) -> Next
         requires loaded { K.is_loaded kernel.old }
         requires keeps { Keeps W.waiting W.held self.old.queue (K.content kernel.old) }
         requires room { HasRoom (means M.functions M.Flow.functions M.Flow.meaning W.waiting W.held) self.old }
@@ -55,12 +62,18 @@ impl<M: FlowMaker + Drop, W: Awaits> RunningTest<M, W> {
             return Next::GoesOn(Given::Value(Value::Absent));
         }
         self.tasks.end(other, Ending::Killed);
-        self.queue.kill(kernel, other);
+        self.queue.kill(kernel, other, steps);
         Next::GoesOn(Given::Value(Value::Absent))
     }
 
     /// A task has returned a value, and those who join it are served. Where it is the test's own the test has ended. It takes no memory.
-    pub(crate) fn finish<K: Gpi>(&mut self, kernel: &mut K, task: TaskNo, value: Value) -> Next
+    pub(crate) fn finish<K: Gpi, L: Ledger>(
+        &mut self,
+        kernel: &mut K,
+        task: TaskNo,
+        value: Value,
+        steps: &mut Steps<L>,
+    ) -> Next
         requires loaded { K.is_loaded kernel.old }
         requires keeps { Keeps W.waiting W.held self.old.queue (K.content kernel.old) }
         requires room { HasRoom (means M.functions M.Flow.functions M.Flow.meaning W.waiting W.held) self.old }
@@ -76,7 +89,7 @@ impl<M: FlowMaker + Drop, W: Awaits> RunningTest<M, W> {
             task,
             failed: false,
         };
-        self.queue.wake(kernel, ended);
+        self.queue.wake(kernel, ended, steps);
         if task.0 == 0 {
             Next::Ends(Turn::Over(Outcome::Normal))
         } else {
@@ -85,12 +98,13 @@ impl<M: FlowMaker + Drop, W: Awaits> RunningTest<M, W> {
     }
 
     /// A fault of a task was not caught: it is that of those who join the task, and where none does it ends the test.
-    pub(crate) fn fail<K: Gpi>(
+    pub(crate) fn fail<K: Gpi, L: Ledger>(
         &mut self,
         alloc: Global,
         kernel: &mut K,
         task: TaskNo,
         fault: Fault,
+        steps: &mut Steps<L>,
     ) -> Result<Next, NoMemory>
         requires loaded { K.is_loaded kernel.old }
         requires keeps { Keeps W.waiting W.held self.old.queue (K.content kernel.old) }
@@ -106,7 +120,7 @@ impl<M: FlowMaker + Drop, W: Awaits> RunningTest<M, W> {
         let own = copy_fault(alloc, &fault)?;
         self.tasks.end(task, Ending::Failed(own));
         let ended = Cause::Ended { task, failed: true };
-        if self.queue.wake(kernel, ended) {
+        if self.queue.wake(kernel, ended, steps) {
             Ok(Next::Ends(Turn::Went))
         } else {
             Ok(Next::Ends(Turn::Over(Outcome::Raised(fault))))

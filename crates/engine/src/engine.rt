@@ -15,10 +15,11 @@ use crate::teller::Teller;
 use crate::test::RunningTest;
 use design_names::DesignNames;
 use gpi::{Flat, Gpi, SigId};
-use port_io::NoMemory;
+use port_io::{Name, NoMemory};
 use std::alloc::Global;
+use std::sync::ledger::Ledger;
 use task_model::FlowMaker;
-use wait_list::Awaits;
+use wait_list::{Awaits, Steps};
 
 /// Runs tests on a design, one at a time: the tasks of a test (cocotb 1.8, "Coroutines and Tasks"), and the events of a simulator of the design, which is
 /// handed to each call. As in the loop of IEEE 1364-2005, 11.4, the simulator goes on only where no task is ready.
@@ -68,11 +69,11 @@ impl<'a, M: FlowMaker + Drop, W: Awaits> Engine<'a, M, W> {
     }
 
     /// The path of a signal of the design, as `top.a` (IEEE 1364-2005, 12.5). It takes no memory.
-    pub fn path(&self, sig: SigId) -> &[u8]
+    pub fn path(&self, sig: SigId) -> &Name
         requires { sig.0 < length self.now.teller.flat.now.signals }
         ensures { result.now ≡ path_of self.now.teller.flat.now sig }
     {
-        run_lines::path_of(self.teller.flat, sig)
+        &self.teller.flat.signals.get(sig.0 as usize).path
     }
 
     /// The design that its tests run on.
@@ -84,7 +85,7 @@ impl<'a, M: FlowMaker + Drop, W: Awaits> Engine<'a, M, W> {
 
     /// Drops all of the test, whether it has an outcome or not, and a planned start. No key is registered any more. What else the simulator holds stays but
     /// for the counts, which are those of the drop where engine and simulator fitted. It takes no memory.
-    pub fn end_test<K: Gpi>(&mut self, kernel: &mut K)
+    pub fn end_test<K: Gpi, L: Ledger>(&mut self, kernel: &mut K, steps: &mut Steps<L>)
         requires loaded { K.is_loaded kernel.old }
         requires keys { Keeps W.waiting W.held self.old.test.queue (K.content kernel.old) }
         ensures ended { rig_of (means M.functions M.Flow.functions M.Flow.meaning W.waiting W.held) self.new (K.content kernel.new)
@@ -96,12 +97,16 @@ impl<'a, M: FlowMaker + Drop, W: Awaits> Engine<'a, M, W> {
         ensures runs { runs_test self.new ≡ false }
     {
         self.runs_test = false;
-        self.test.clear(kernel);
+        self.test.clear(kernel, steps);
     }
 
     /// The next test is to begin in the next time step. No test runs, no start is planned, and now is below 2^63. Only want of memory is an error, and then
     /// all is as it was but for the counts.
-    pub fn plan_start<K: Gpi>(&mut self, kernel: &mut K) -> Result<(), NoMemory>
+    pub fn plan_start<K: Gpi, L: Ledger>(
+        &mut self,
+        kernel: &mut K,
+        steps: &mut Steps<L>,
+    ) -> Result<(), NoMemory>
         requires loaded { K.is_loaded kernel.old }
         requires fits { FitsKernel (means M.functions M.Flow.functions M.Flow.meaning W.waiting W.held) self.old (K.content kernel.old) }
         requires new { self.old.test.queue.planned ≡ None }
@@ -115,6 +120,6 @@ impl<'a, M: FlowMaker + Drop, W: Awaits> Engine<'a, M, W> {
         ensures runs { runs_test self.new ≡ runs_test self.old }
     {
         let due = kernel.now() + 1;
-        self.test.queue.plan_start(kernel, due)
+        self.test.queue.plan_start(kernel, due, steps)
     }
 }

@@ -15,8 +15,9 @@ use py_syntax::FaultKind;
 use py_value::Fault;
 use run_model::Outcome;
 use std::alloc::Global;
+use std::sync::ledger::Ledger;
 use task_model::FlowMaker;
-use wait_list::Awaits;
+use wait_list::{Awaits, Steps};
 
 /// What a turn comes to that was an event whose lines were taken.
 fn gone_turn(is_late: bool, is_due: bool) -> Turn
@@ -47,12 +48,13 @@ impl<'a, M: FlowMaker + Drop, W: Awaits> Engine<'a, M, W> {
     ghost use Rattle.engine.specs.Fits.{FitsKernel, KeepsAll};
 
     /// The simulator does an event, where no task is ready. Where nothing is left that could happen the test has stalled.
-    pub(crate) fn advance<O: Sink, K: Gpi>(
+    pub(crate) fn advance<O: Sink, K: Gpi, L: Ledger>(
         &mut self,
         alloc: Global,
         kernel: &mut K,
         out: &mut O,
         fuel: &mut u64,
+        steps: &mut Steps<L>,
     ) -> Result<Turn, NoMemory>
         requires loaded { K.is_loaded kernel.old }
         requires fits { FitsKernel (means M.functions M.Flow.functions M.Flow.meaning W.waiting W.held) self.old (K.content kernel.old) }
@@ -77,7 +79,7 @@ impl<'a, M: FlowMaker + Drop, W: Awaits> Engine<'a, M, W> {
         let was_planned = self.test.queue.planned.is_some();
         let evented = self
             .teller
-            .do_event(alloc, &mut self.test.queue, kernel, out)?;
+            .do_event(alloc, &mut self.test.queue, kernel, out, steps)?;
         turn_of(evented, was_planned, self.test.queue.planned.is_some())
     }
 }

@@ -20,7 +20,8 @@ use port_io::{NoMemory, Sink, SinkFault};
 use run_queue::RunQueue;
 use signal_port::Staged;
 use std::alloc::Global;
-use wait_list::Awaits;
+use std::sync::ledger::Ledger;
+use wait_list::{Awaits, Steps};
 
 /// What an event came to.
 #[derive(Clone, Copy, Debug)]
@@ -90,13 +91,14 @@ impl<'a> Teller<'a> {
     ghost use Rattle.engine.specs.Setups.{setup_of};
 
     /// The staged writes go out, the oldest first.
-    fn flush<W: Awaits, K: Gpi, O: Sink>(
+    fn flush<W: Awaits, K: Gpi, L: Ledger, O: Sink>(
         &self,
         alloc: Global,
         queue: &mut RunQueue<W>,
         kernel: &mut K,
         out: &mut O,
         fault: Option<SinkFault>,
+        steps: &mut Steps<L>,
     ) -> Option<SinkFault>
         requires loaded { K.is_loaded kernel.old }
         requires amid { IsAmid self.now.flat.now queue.old.ready.room (ReadWrite ∷ []) (W.held queue.old.awaits) (queue_of W.waiting queue.old) (K.content kernel.old) }
@@ -115,13 +117,13 @@ impl<'a> Teller<'a> {
         let mut fault = fault;
         'writes: while let Some(first) = queue.staged.take_first() {
             let write = staged_of(first);
-            fault = self.put_out(alloc, queue, kernel, write, out, fault);
+            fault = self.put_out(alloc, queue, kernel, write, out, fault, steps);
         }
         fault
     }
 
     /// The staged writes go out where the read-write phase is among the keys that fired.
-    fn flush_if<W: Awaits, K: Gpi, O: Sink>(
+    fn flush_if<W: Awaits, K: Gpi, L: Ledger, O: Sink>(
         &self,
         alloc: Global,
         queue: &mut RunQueue<W>,
@@ -129,6 +131,7 @@ impl<'a> Teller<'a> {
         keys: Fired,
         out: &mut O,
         fault: Option<SinkFault>,
+        steps: &mut Steps<L>,
     ) -> Option<SinkFault>
         requires loaded { K.is_loaded kernel.old }
         requires amid { IsAmid self.now.flat.now queue.old.ready.room (fired_keys keys) (W.held queue.old.awaits) (queue_of W.waiting queue.old) (K.content kernel.old) }
@@ -146,7 +149,7 @@ impl<'a> Teller<'a> {
         ensures planned { queue.new.planned ≡ queue.old.planned }
     {
         if settles(keys) {
-            self.flush(alloc, queue, kernel, out, fault)
+            self.flush(alloc, queue, kernel, out, fault, steps)
         } else {
             fault
         }
@@ -155,12 +158,13 @@ impl<'a> Teller<'a> {
     /// The simulator does its next event (IEEE 1364-2005, clause 11), of which there is one: its change is told, the staged writes go out if it is the read-write
     /// phase, and the keys are served that it fires. Whether the running test's time is over, and why a put failed, if one did. After `NoMemory` nothing has
     /// changed.
-    pub fn do_event<W: Awaits, K: Gpi, O: Sink>(
+    pub fn do_event<W: Awaits, K: Gpi, L: Ledger, O: Sink>(
         &self,
         alloc: Global,
         queue: &mut RunQueue<W>,
         kernel: &mut K,
         out: &mut O,
+        steps: &mut Steps<L>,
     ) -> Result<Evented, NoMemory>
         requires loaded { K.is_loaded kernel.old }
         requires fits { Fits self.now.flat.now W.waiting W.held queue.old (K.content kernel.old) }
@@ -182,8 +186,10 @@ impl<'a> Teller<'a> {
         let told = self.tell(alloc, time, moved.change, out, None);
         let is_late = take_due(&mut queue.deadline, moved.fired);
         take_due(&mut queue.planned, moved.fired);
-        let fault = self.flush_if(alloc, queue, kernel, moved.fired, out, told);
-        queue.awaits.fire(kernel, moved.fired, &mut queue.ready);
+        let fault = self.flush_if(alloc, queue, kernel, moved.fired, out, told, steps);
+        queue
+            .awaits
+            .fire(kernel, moved.fired, &mut queue.ready, steps);
         Ok(Evented { is_late, fault })
     }
 }

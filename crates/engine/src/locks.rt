@@ -16,8 +16,9 @@ use gpi::Gpi;
 use port_io::NoMemory;
 use py_syntax::FaultKind;
 use py_value::{EventNo, Fault, LockNo, TaskNo, Value};
+use std::sync::ledger::Ledger;
 use task_model::FlowMaker;
-use wait_list::Awaits;
+use wait_list::{Awaits, Steps};
 
 /// How many events may be made in a test.
 const EVENT_LIMIT: u32 = 65_536;
@@ -67,7 +68,13 @@ impl<M: FlowMaker + Drop, W: Awaits> RunningTest<M, W> {
     }
 
     /// A task sets an event, and those who wait for it are served. It takes no memory.
-    pub(crate) fn set_event<K: Gpi>(&mut self, kernel: &mut K, task: TaskNo, event: EventNo) -> Next
+    pub(crate) fn set_event<K: Gpi, L: Ledger>(
+        &mut self,
+        kernel: &mut K,
+        task: TaskNo,
+        event: EventNo,
+        steps: &mut Steps<L>,
+    ) -> Next
         requires loaded { K.is_loaded kernel.old }
         requires keeps { Keeps W.waiting W.held self.old.queue (K.content kernel.old) }
         requires room { HasRoom (means M.functions M.Flow.functions M.Flow.meaning W.waiting W.held) self.old }
@@ -80,7 +87,7 @@ impl<M: FlowMaker + Drop, W: Awaits> RunningTest<M, W> {
         ensures kept { Kept (means M.functions M.Flow.functions M.Flow.meaning W.waiting W.held) K.is_loaded K.content self.old self.new kernel.new }
     {
         self.objects.set_event(event);
-        self.queue.wake(kernel, Cause::Event(event));
+        self.queue.wake(kernel, Cause::Event(event), steps);
         Next::GoesOn(Given::Value(Value::Absent))
     }
 
@@ -99,7 +106,13 @@ impl<M: FlowMaker + Drop, W: Awaits> RunningTest<M, W> {
 
     /// A task releases a lock, which goes to the first task that waits for it, or is free. Where it isn't held the task is given a TriggerException. It
     /// takes no memory.
-    pub(crate) fn release<K: Gpi>(&mut self, kernel: &mut K, task: TaskNo, lock: LockNo) -> Next
+    pub(crate) fn release<K: Gpi, L: Ledger>(
+        &mut self,
+        kernel: &mut K,
+        task: TaskNo,
+        lock: LockNo,
+        steps: &mut Steps<L>,
+    ) -> Next
         requires loaded { K.is_loaded kernel.old }
         requires keeps { Keeps W.waiting W.held self.old.queue (K.content kernel.old) }
         requires room { HasRoom (means M.functions M.Flow.functions M.Flow.meaning W.waiting W.held) self.old }
@@ -114,7 +127,7 @@ impl<M: FlowMaker + Drop, W: Awaits> RunningTest<M, W> {
         if !self.objects.is_locked(lock) {
             return refused(FaultKind::TriggerException);
         }
-        if self.queue.grant(kernel, lock) {
+        if self.queue.grant(kernel, lock, steps) {
             return Next::GoesOn(Given::Value(Value::Absent));
         }
         self.objects.free(lock);

@@ -17,7 +17,8 @@ use port_io::{Sink, SinkFault};
 use run_queue::RunQueue;
 use signal_port::Staged;
 use std::alloc::Global;
-use wait_list::Awaits;
+use std::sync::ledger::Ledger;
+use wait_list::{Awaits, Steps};
 
 impl<'a> Teller<'a> {
     ghost use Rattle.engine.specs.Amid.{IsAmidHeld, Serves, StandsAmid};
@@ -25,7 +26,7 @@ impl<'a> Teller<'a> {
     ghost use Rattle.engine.specs.Setups.{setup_of};
 
     /// A signal is written, its change is told, and the tasks are woken that wait for it. Amid an event fired keys may be left to be served.
-    pub(crate) fn put_out<W: Awaits, K: Gpi, O: Sink>(
+    pub(crate) fn put_out<W: Awaits, K: Gpi, L: Ledger, O: Sink>(
         &self,
         alloc: Global,
         queue: &mut RunQueue<W>,
@@ -33,6 +34,7 @@ impl<'a> Teller<'a> {
         write: Staged,
         out: &mut O,
         fault: Option<SinkFault>,
+        steps: &mut Steps<L>,
     ) -> Option<SinkFault>
         requires loaded { K.is_loaded kernel.old }
         requires amid { IsAmidHeld self.now.flat.now queue.old.ready.room (W.held queue.old.awaits) (queue_of W.waiting queue.old) (K.content kernel.old) }
@@ -55,19 +57,20 @@ impl<'a> Teller<'a> {
         let fired = kernel.deposit(write.sig, write.bits);
         let change = change_of(write.sig, old, write.bits);
         let fault = self.tell(alloc, time, change, out, fault);
-        queue.awaits.fire(kernel, fired, &mut queue.ready);
+        queue.awaits.fire(kernel, fired, &mut queue.ready, steps);
         fault
     }
 
     /// A signal is written at once (cocotb 1.8, "Writing values"), outside of an event and of the read-only phase: its change is told, and the tasks are woken that
     /// wait for it. Tells why the put of its line failed, if it did; all is served then too. It takes memory for the line alone.
-    pub fn put_now<W: Awaits, K: Gpi, O: Sink>(
+    pub fn put_now<W: Awaits, K: Gpi, L: Ledger, O: Sink>(
         &self,
         alloc: Global,
         queue: &mut RunQueue<W>,
         kernel: &mut K,
         write: Staged,
         out: &mut O,
+        steps: &mut Steps<L>,
     ) -> Option<SinkFault>
         requires loaded { K.is_loaded kernel.old }
         requires fits { Fits self.now.flat.now W.waiting W.held queue.old (K.content kernel.old) }
@@ -79,6 +82,6 @@ impl<'a> Teller<'a> {
             (queue_of W.waiting queue.new) (K.content kernel.new) out.old result out.new }
         ensures room { queue.new.ready.room ≡ queue.old.ready.room }
     {
-        self.put_out(alloc, queue, kernel, write, out, None)
+        self.put_out(alloc, queue, kernel, write, out, None, steps)
     }
 }

@@ -24,10 +24,11 @@ use py_value::TaskNo;
 use random_stream::RandomStream;
 use run_queue::RunQueue;
 use std::alloc::Global;
+use std::sync::ledger::Ledger;
 use sync_objects::Objects;
 use task_model::{FlowMaker, Turned};
 use test_tasks::TestTasks;
-use wait_list::Awaits;
+use wait_list::{Awaits, Steps};
 
 /// A test that runs, or none: its tasks, what is ready, waits and is awaited, its events and locks, and the random numbers of the run. Contracts see it,
 /// together with a simulator, as the configuration `rig_of` of `specs/Parts.antt`.
@@ -104,7 +105,7 @@ impl<M: FlowMaker + Drop, W: Awaits> RunningTest<M, W> {
 
     /// Drops all of the test: its tasks, its events and locks, and all that is queued; no key is registered any more. The random numbers go on where they
     /// are. It takes no memory.
-    pub fn clear<K: Gpi>(&mut self, kernel: &mut K)
+    pub fn clear<K: Gpi, L: Ledger>(&mut self, kernel: &mut K, steps: &mut Steps<L>)
         requires loaded { K.is_loaded kernel.old }
         requires keeps { Keeps W.waiting W.held self.old.queue (K.content kernel.old) }
         ensures parts { parts_of (means M.functions M.Flow.functions M.Flow.meaning W.waiting W.held) self.new ≡ record { tasks = []; endings = []; objects = none; random = self.old.random } }
@@ -118,7 +119,7 @@ impl<M: FlowMaker + Drop, W: Awaits> RunningTest<M, W> {
         ensures room { HasRoom (means M.functions M.Flow.functions M.Flow.meaning W.waiting W.held) self.new }
         ensures maker { self.new.tasks.maker ≡ self.old.tasks.maker }
     {
-        self.queue.clear(kernel);
+        self.queue.clear(kernel, steps);
         self.tasks.clear();
         self.objects.clear();
     }

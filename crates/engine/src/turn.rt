@@ -15,15 +15,16 @@ use gpi::Gpi;
 use port_io::{NoMemory, Sink};
 use py_value::TaskNo;
 use std::alloc::Global;
+use std::sync::ledger::Ledger;
 use task_model::{FlowMaker, Turned};
-use wait_list::Awaits;
+use wait_list::{Awaits, Steps};
 
 impl<'a, M: FlowMaker + Drop, W: Awaits> Engine<'a, M, W> {
     ghost use Rattle.engine.specs.Engine.{rig_of, runs_test, setup_of};
     ghost use Rattle.engine.specs.Fits.{FitsAt, FitsKernel, KeepsAll};
 
     /// The task runs until its turn ends.
-    fn run_task<O: Sink, K: Gpi>(
+    fn run_task<O: Sink, K: Gpi, L: Ledger>(
         &mut self,
         alloc: Global,
         kernel: &mut K,
@@ -31,6 +32,7 @@ impl<'a, M: FlowMaker + Drop, W: Awaits> Engine<'a, M, W> {
         given: Given,
         out: &mut O,
         fuel: &mut u64,
+        steps: &mut Steps<L>,
     ) -> Result<Turn, NoMemory>
         requires loaded { K.is_loaded kernel.old }
         requires fits { FitsAt (Some task) (means M.functions M.Flow.functions M.Flow.meaning W.waiting W.held) self.old (K.content kernel.old) }
@@ -61,7 +63,7 @@ impl<'a, M: FlowMaker + Drop, W: Awaits> Engine<'a, M, W> {
             }
             match self
                 .test
-                .apply(alloc, kernel, &self.teller, task, turned, out)?
+                .apply(alloc, kernel, &self.teller, task, turned, out, steps)?
             {
                 Next::GoesOn(next) => given = next,
                 Next::Ends(turn) => return Ok(turn),
@@ -70,12 +72,13 @@ impl<'a, M: FlowMaker + Drop, W: Awaits> Engine<'a, M, W> {
     }
 
     /// Does one turn, whether or not a test runs.
-    fn take_turn<O: Sink, K: Gpi>(
+    fn take_turn<O: Sink, K: Gpi, L: Ledger>(
         &mut self,
         alloc: Global,
         kernel: &mut K,
         out: &mut O,
         fuel: &mut u64,
+        steps: &mut Steps<L>,
     ) -> Result<Turn, NoMemory>
         requires loaded { K.is_loaded kernel.old }
         requires fits { FitsKernel (means M.functions M.Flow.functions M.Flow.meaning W.waiting W.held) self.old (K.content kernel.old) }
@@ -94,9 +97,9 @@ impl<'a, M: FlowMaker + Drop, W: Awaits> Engine<'a, M, W> {
         match self.test.queue.first() {
             Some((task, given)) => {
                 let given = self.test.told(alloc, given)?;
-                self.run_task(alloc, kernel, task, given, out, fuel)
+                self.run_task(alloc, kernel, task, given, out, fuel, steps)
             }
-            None => self.advance(alloc, kernel, out, fuel),
+            None => self.advance(alloc, kernel, out, fuel, steps),
         }
     }
 
@@ -110,12 +113,13 @@ impl<'a, M: FlowMaker + Drop, W: Awaits> Engine<'a, M, W> {
     /// lost then; where none is ready, nothing has changed. `Over` comes where the test gets its outcome, with its parts left in place until `end_test`;
     /// `WriteFault` where the put of the next line fails, and nothing is put after it.
     /// A test runs, or a start is planned. After `Over`, `Due`, `Spent`, `WriteFault` or `NoMemory` no turn follows.
-    pub fn turn<O: Sink, K: Gpi>(
+    pub fn turn<O: Sink, K: Gpi, L: Ledger>(
         &mut self,
         alloc: Global,
         kernel: &mut K,
         out: &mut O,
         fuel: &mut u64,
+        steps: &mut Steps<L>,
     ) -> Result<Turn, NoMemory>
         requires loaded { K.is_loaded kernel.old }
         requires fits { FitsKernel (means M.functions M.Flow.functions M.Flow.meaning W.waiting W.held) self.old (K.content kernel.old) }
@@ -131,7 +135,7 @@ impl<'a, M: FlowMaker + Drop, W: Awaits> Engine<'a, M, W> {
             ≡ rig_of (means M.functions M.Flow.functions M.Flow.meaning W.waiting W.held) self.old (K.content kernel.old) }
         ensures runs { runs_test self.new ≡ (runs_test self.old && has_gone result) }
     {
-        let turn = self.take_turn(alloc, kernel, out, fuel);
+        let turn = self.take_turn(alloc, kernel, out, fuel, steps);
         self.runs_test = self.runs_test && has_gone(&turn);
         turn
     }

@@ -15,8 +15,9 @@ use port_io::NoMemory;
 use py_value::{TaskNo, Trig};
 use run_view::begin_tree;
 use std::alloc::Global;
+use std::sync::ledger::Ledger;
 use task_model::FlowMaker;
-use wait_list::Awaits;
+use wait_list::{Awaits, Steps};
 
 impl<M: FlowMaker + Drop, W: Awaits> RunningTest<M, W> {
     ghost use Rattle.engine.specs.TestFits.{HasRoom, Kept, StaysFit};
@@ -25,12 +26,13 @@ impl<M: FlowMaker + Drop, W: Awaits> RunningTest<M, W> {
 
     /// The task waits for the trigger (cocotb 1.8, "Triggers"), or goes on at once: with the fault of a leaf that may not begin, or with the result of a
     /// trigger that is done.
-    pub(crate) fn wait<K: Gpi>(
+    pub(crate) fn wait<K: Gpi, L: Ledger>(
         &mut self,
         alloc: Global,
         kernel: &mut K,
         task: TaskNo,
         trig: Trig,
+        steps: &mut Steps<L>,
     ) -> Result<Next, NoMemory>
         requires loaded { K.is_loaded kernel.old }
         requires keeps { Keeps W.waiting W.held self.old.queue (K.content kernel.old) }
@@ -52,7 +54,7 @@ impl<M: FlowMaker + Drop, W: Awaits> RunningTest<M, W> {
         match begin_tree(alloc, &mut tree, &mut self.objects, self.tasks.ended()) {
             Step::Done(given) => Ok(Next::GoesOn(self.tasks.told(alloc, given)?)),
             Step::Still => {
-                self.queue.wait(kernel, task, tree)?;
+                self.queue.wait(kernel, task, tree, steps)?;
                 Ok(Next::Ends(Turn::Went))
             }
         }

@@ -26,8 +26,9 @@ use run_lines::log_line;
 use run_model::Outcome;
 use signal_port::Staged;
 use std::alloc::Global;
+use std::sync::ledger::Ledger;
 use task_model::FlowMaker;
-use wait_list::Awaits;
+use wait_list::{Awaits, Steps};
 
 /// A put was done: the task goes on with `None`, the put broke, or memory was wanting.
 fn after_put(fault: Option<SinkFault>) -> Result<Next, NoMemory>
@@ -72,11 +73,12 @@ impl<M: FlowMaker + Drop, W: Awaits> RunningTest<M, W> {
 
     /// A task stages a write (cocotb 1.8, "Writing values to signals"). In the read-only phase no signal may be written: such a write ends the test, and
     /// nothing is staged.
-    pub(crate) fn stage_write<K: Gpi>(
+    pub(crate) fn stage_write<K: Gpi, L: Ledger>(
         &mut self,
         kernel: &mut K,
         sig: SigId,
         bits: Bits,
+        steps: &mut Steps<L>,
     ) -> Result<Next, NoMemory>
         requires loaded { K.is_loaded kernel.old }
         requires keeps { Keeps W.waiting W.held self.old.queue (K.content kernel.old) }
@@ -91,18 +93,19 @@ impl<M: FlowMaker + Drop, W: Awaits> RunningTest<M, W> {
         if kernel.region() == Region::End {
             return Ok(Next::Ends(Turn::Over(Outcome::ReadOnlyWrite(sig))));
         }
-        self.queue.stage(kernel, sig, bits)?;
+        self.queue.stage(kernel, sig, bits, steps)?;
         Ok(Next::GoesOn(Given::Value(Value::Absent)))
     }
 
     /// A task writes a signal at once. In the read-only phase such a write ends the test, and nothing is written.
-    pub(crate) fn put_write<O: Sink, K: Gpi>(
+    pub(crate) fn put_write<O: Sink, K: Gpi, L: Ledger>(
         &mut self,
         alloc: Global,
         kernel: &mut K,
         teller: &Teller<'_>,
         write: Staged,
         out: &mut O,
+        steps: &mut Steps<L>,
     ) -> Result<Next, NoMemory>
         requires loaded { K.is_loaded kernel.old }
         requires fits { Fits teller.now.flat.now W.waiting W.held self.old.queue (K.content kernel.old) }
@@ -119,6 +122,6 @@ impl<M: FlowMaker + Drop, W: Awaits> RunningTest<M, W> {
         if kernel.region() == Region::End {
             return Ok(Next::Ends(Turn::Over(Outcome::ReadOnlyWrite(write.sig))));
         }
-        after_put(teller.put_now(alloc, &mut self.queue, kernel, write, out))
+        after_put(teller.put_now(alloc, &mut self.queue, kernel, write, out, steps))
     }
 }

@@ -26,7 +26,7 @@ use Rattle.plain_waits.specs.Kept.{waiting_of}
 use Rattle.plain_waits.specs.Parts.{AreWithin, Passes, left_after, left_by, woken_after, woken_by}
 use Rattle.plain_waits.specs.declared.waiter.Waiter.{Waiter}
 use Rattle.plain_waits.proofs.Edges.{left_within}
-use Rattle.plain_waits.proofs.Members.{among_append, keys_of_append, or_false_left, or_left, or_no, or_right}
+use Rattle.plain_waits.proofs.Members.{among_append, among_right, keys_of_append, or_false_left, or_left, or_no, or_right}
 
 -- ---- one task of the list
 
@@ -166,6 +166,13 @@ waited_back k items at later x has found on h e l o p q =
     ∙ ap (λ (b : Bool). among k (tree_keys (tree_in x.tree)) || b) (q ∙ ap (λ (i : ℕ). among k (keys_of (drop i (map waiting_of items)))) l)
     ∙ sym (among_append k (tree_keys (tree_in x.tree)) (keys_of (drop (at + 1) (map waiting_of items))))
     ∙ ap (λ (ws : List Waiting). among k (keys_of ws)) (sym (item_front items at x h e))
+
+-- one of the tasks from a place on is one of all
+pub waited_from : (k : Key) (at : ℕ) (ws : List Waiting) → among k (keys_of (drop at ws)) ≡ true → among k (keys_of ws) ≡ true
+waited_from k zero [] h = h
+waited_from k zero (w ∷ ws) h = h
+waited_from k (suc at) [] h = h
+waited_from k (suc at) (w ∷ ws) h = among_right k (tree_keys w.tree) (keys_of ws) (waited_from k at ws h)
 
 -- ---- the keys that a task named
 

@@ -10,7 +10,8 @@ use gpi::{Fired, Gpi, Key};
 use port_io::NoMemory;
 use py_value::{LockNo, TaskNo};
 use std::alloc::Global;
-use wait_list::{Awaits, Ready};
+use std::sync::ledger::Ledger;
+use wait_list::{Awaits, Ready, Steps};
 
 impl WaitList {
     /// Nothing waits, and no key is held. It takes no memory.
@@ -30,7 +31,13 @@ impl Awaits for WaitList {
 
     ghost held = { λ list. list.held.items };
 
-    fn begin<K: Gpi>(&mut self, kernel: &mut K, task: TaskNo, tree: Tree) -> Result<(), NoMemory> {
+    fn begin<K: Gpi, L: Ledger>(
+        &mut self,
+        kernel: &mut K,
+        task: TaskNo,
+        tree: Tree,
+        _steps: &mut Steps<L>,
+    ) -> Result<(), NoMemory> {
         let leaves = tree.leaves();
         match self.prepare(kernel, leaves.as_slice()) {
             Ok(()) => {
@@ -44,13 +51,25 @@ impl Awaits for WaitList {
         }
     }
 
-    fn fire<K: Gpi>(&mut self, kernel: &mut K, fired: Fired, ready: &mut Ready) {
+    fn fire<K: Gpi, L: Ledger>(
+        &mut self,
+        kernel: &mut K,
+        fired: Fired,
+        ready: &mut Ready,
+        _steps: &mut Steps<L>,
+    ) {
         self.take_out_all(fired);
         self.serve_all(kernel, fired, ready);
         self.register_fired(kernel, fired);
     }
 
-    fn wake<K: Gpi>(&mut self, kernel: &mut K, cause: Cause, ready: &mut Ready) -> u32 {
+    fn wake<K: Gpi, L: Ledger>(
+        &mut self,
+        kernel: &mut K,
+        cause: Cause,
+        ready: &mut Ready,
+        _steps: &mut Steps<L>,
+    ) -> u32 {
         let reached = self.reached(cause.reach());
         let none = Fired {
             first: None,
@@ -60,7 +79,13 @@ impl Awaits for WaitList {
         reached
     }
 
-    fn grant<K: Gpi>(&mut self, kernel: &mut K, lock: LockNo, ready: &mut Ready) -> bool {
+    fn grant<K: Gpi, L: Ledger>(
+        &mut self,
+        kernel: &mut K,
+        lock: LockNo,
+        ready: &mut Ready,
+        _steps: &mut Steps<L>,
+    ) -> bool {
         let at = self.first_on(Awaited::Lock(lock));
         if at == self.waiting.len() {
             return false;
@@ -69,11 +94,21 @@ impl Awaits for WaitList {
         true
     }
 
-    fn drop_task<K: Gpi>(&mut self, kernel: &mut K, task: TaskNo) {
+    fn drop_task<K: Gpi, L: Ledger>(
+        &mut self,
+        kernel: &mut K,
+        task: TaskNo,
+        _steps: &mut Steps<L>,
+    ) {
         self.drop_all_of(kernel, task);
     }
 
-    fn hold<K: Gpi>(&mut self, kernel: &mut K, key: Key) -> Result<(), NoMemory> {
+    fn hold<K: Gpi, L: Ledger>(
+        &mut self,
+        kernel: &mut K,
+        key: Key,
+        _steps: &mut Steps<L>,
+    ) -> Result<(), NoMemory> {
         self.held.reserve(1)?;
         let waited = self.is_waited(key);
         register_unless(kernel, waited, key)?;
@@ -81,14 +116,14 @@ impl Awaits for WaitList {
         Ok(())
     }
 
-    fn release<K: Gpi>(&mut self, kernel: &mut K, key: Key) {
+    fn release<K: Gpi, L: Ledger>(&mut self, kernel: &mut K, key: Key, _steps: &mut Steps<L>) {
         self.take_out(key);
         if !self.is_waited(key) {
             kernel.remove(key);
         }
     }
 
-    fn clear<K: Gpi>(&mut self, kernel: &mut K) {
+    fn clear<K: Gpi, L: Ledger>(&mut self, kernel: &mut K, _steps: &mut Steps<L>) {
         self.drop_all(kernel);
     }
 }

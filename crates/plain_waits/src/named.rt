@@ -74,17 +74,18 @@ pub(crate) fn is_fired(fired: Fired, key: Key) -> bool
 }
 
 impl WaitList {
-    /// Whether a task waits for the key.
+    /// Whether a task waits for the key. The last one is asked first: tasks that began to wait one after the other often wait for one key.
     pub(crate) fn is_waited(&self, key: Key) -> bool
         ensures { result ≡ among key (keys_of (waiting_in self.now)) }
     {
-        let mut found = false;
         let mut at = self.waiting.len();
         'back: while at > 0 {
             at -= 1;
-            found = has_key(self.waiting[at].tree.leaves().as_slice(), key) || found;
+            if has_key(self.waiting[at].tree.leaves().as_slice(), key) {
+                return true;
+            }
         }
-        found
+        false
     }
 
     /// Whether the runner holds the key.

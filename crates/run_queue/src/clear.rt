@@ -10,11 +10,12 @@ ghost use Rattle.wait_list.specs.Waiting.{named};
 
 use crate::RunQueue;
 use gpi::{Gpi, Key};
-use wait_list::Awaits;
+use std::sync::ledger::Ledger;
+use wait_list::{Awaits, Steps};
 
 impl<W: Awaits> RunQueue<W> {
     /// No write is staged any more, and the read-write phase isn't held.
-    fn clear_writes<K: Gpi>(&mut self, kernel: &mut K)
+    fn clear_writes<K: Gpi, L: Ledger>(&mut self, kernel: &mut K, steps: &mut Steps<L>)
         requires loaded { K.is_loaded kernel.old }
         requires keeps { Keeps W.waiting W.held self.old (K.content kernel.old) }
         ensures is { queue_of W.waiting self.new ≡ record (queue_of W.waiting self.old) { staged = [] } }
@@ -28,11 +29,11 @@ impl<W: Awaits> RunQueue<W> {
             return;
         }
         self.staged.clear();
-        self.awaits.release(kernel, Key::ReadWrite);
+        self.awaits.release(kernel, Key::ReadWrite, steps);
     }
 
     /// The test has no deadline any more.
-    fn clear_deadline<K: Gpi>(&mut self, kernel: &mut K)
+    fn clear_deadline<K: Gpi, L: Ledger>(&mut self, kernel: &mut K, steps: &mut Steps<L>)
         requires loaded { K.is_loaded kernel.old }
         requires keeps { Keeps W.waiting W.held self.old (K.content kernel.old) }
         ensures is { queue_of W.waiting self.new ≡ record (queue_of W.waiting self.old) { deadline = None } }
@@ -47,12 +48,12 @@ impl<W: Awaits> RunQueue<W> {
             if self.holds_time(due) {
                 return;
             }
-            self.awaits.release(kernel, Key::At(due));
+            self.awaits.release(kernel, Key::At(due), steps);
         }
     }
 
     /// No start is planned any more.
-    fn clear_planned<K: Gpi>(&mut self, kernel: &mut K)
+    fn clear_planned<K: Gpi, L: Ledger>(&mut self, kernel: &mut K, steps: &mut Steps<L>)
         requires loaded { K.is_loaded kernel.old }
         requires keeps { Keeps W.waiting W.held self.old (K.content kernel.old) }
         ensures is { queue_of W.waiting self.new ≡ record (queue_of W.waiting self.old) { planned = None } }
@@ -67,13 +68,13 @@ impl<W: Awaits> RunQueue<W> {
             if self.holds_time(due) {
                 return;
             }
-            self.awaits.release(kernel, Key::At(due));
+            self.awaits.release(kernel, Key::At(due), steps);
         }
     }
 
     /// Drops all, as one effect: nothing is ready, waits or is staged, there is no deadline and no planned start, and no key is registered any more. It takes
     /// no memory.
-    pub fn clear<K: Gpi>(&mut self, kernel: &mut K)
+    pub fn clear<K: Gpi, L: Ledger>(&mut self, kernel: &mut K, steps: &mut Steps<L>)
         requires loaded { K.is_loaded kernel.old }
         requires keeps { Keeps W.waiting W.held self.old (K.content kernel.old) }
         ensures is { queue_of W.waiting self.new ≡ nothing_queued }
@@ -86,9 +87,9 @@ impl<W: Awaits> RunQueue<W> {
         ensures room { self.new.ready.room ≡ self.old.ready.room }
     {
         self.ready.clear();
-        self.awaits.clear(kernel);
-        self.clear_writes(kernel);
-        self.clear_deadline(kernel);
-        self.clear_planned(kernel);
+        self.awaits.clear(kernel, steps);
+        self.clear_writes(kernel, steps);
+        self.clear_deadline(kernel, steps);
+        self.clear_planned(kernel, steps);
     }
 }

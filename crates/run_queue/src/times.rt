@@ -13,7 +13,8 @@ ghost use Rattle.wait_list.specs.Waiting.{named};
 use crate::RunQueue;
 use gpi::{Gpi, Key};
 use port_io::NoMemory;
-use wait_list::Awaits;
+use std::sync::ledger::Ledger;
+use wait_list::{Awaits, Steps};
 
 impl<W: Awaits> RunQueue<W> {
     /// Whether the runner awaits this time.
@@ -24,7 +25,12 @@ impl<W: Awaits> RunQueue<W> {
     }
 
     /// The runner holds the time from now on, whether or not it does already.
-    fn hold_time<K: Gpi>(&mut self, kernel: &mut K, due: u64) -> Result<(), NoMemory>
+    fn hold_time<K: Gpi, L: Ledger>(
+        &mut self,
+        kernel: &mut K,
+        due: u64,
+        steps: &mut Steps<L>,
+    ) -> Result<(), NoMemory>
         requires loaded { K.is_loaded kernel.old }
         requires keeps { Keeps W.waiting W.held self.old (K.content kernel.old) }
         requires later { (K.content kernel.old).state.time < due }
@@ -41,13 +47,18 @@ impl<W: Awaits> RunQueue<W> {
         if self.holds_time(due) {
             return Ok(());
         }
-        self.awaits.hold(kernel, Key::At(due))?;
+        self.awaits.hold(kernel, Key::At(due), steps)?;
         Ok(())
     }
 
     /// The test is to be given up then (cocotb 1.8, `cocotb.test`, `timeout_time`). It has no deadline yet. The time, in steps, is later than now, and at
     /// most 2^63.
-    pub fn set_deadline<K: Gpi>(&mut self, kernel: &mut K, due: u64) -> Result<(), NoMemory>
+    pub fn set_deadline<K: Gpi, L: Ledger>(
+        &mut self,
+        kernel: &mut K,
+        due: u64,
+        steps: &mut Steps<L>,
+    ) -> Result<(), NoMemory>
         requires loaded { K.is_loaded kernel.old }
         requires keeps { Keeps W.waiting W.held self.old (K.content kernel.old) }
         requires new { self.old.deadline ≡ None }
@@ -62,13 +73,18 @@ impl<W: Awaits> RunQueue<W> {
         ensures fits { (flat : Flat) → Fits flat W.waiting W.held self.old (K.content kernel.old) → Fits flat W.waiting W.held self.new (K.content kernel.new) }
         ensures room { self.new.ready.room ≡ self.old.ready.room }
     {
-        self.hold_time(kernel, due)?;
+        self.hold_time(kernel, due, steps)?;
         self.deadline = Some(due);
         Ok(())
     }
 
     /// The next test is to begin then. No start is planned yet. The time, in steps, is later than now, and at most 2^63.
-    pub fn plan_start<K: Gpi>(&mut self, kernel: &mut K, due: u64) -> Result<(), NoMemory>
+    pub fn plan_start<K: Gpi, L: Ledger>(
+        &mut self,
+        kernel: &mut K,
+        due: u64,
+        steps: &mut Steps<L>,
+    ) -> Result<(), NoMemory>
         requires loaded { K.is_loaded kernel.old }
         requires keeps { Keeps W.waiting W.held self.old (K.content kernel.old) }
         requires new { self.old.planned ≡ None }
@@ -83,7 +99,7 @@ impl<W: Awaits> RunQueue<W> {
         ensures fits { (flat : Flat) → Fits flat W.waiting W.held self.old (K.content kernel.old) → Fits flat W.waiting W.held self.new (K.content kernel.new) }
         ensures room { self.new.ready.room ≡ self.old.ready.room }
     {
-        self.hold_time(kernel, due)?;
+        self.hold_time(kernel, due, steps)?;
         self.planned = Some(due);
         Ok(())
     }

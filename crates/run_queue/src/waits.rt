@@ -17,12 +17,19 @@ use await_tree::{Cause, Tree};
 use gpi::Gpi;
 use port_io::NoMemory;
 use py_value::{LockNo, TaskNo};
-use wait_list::Awaits;
+use std::sync::ledger::Ledger;
+use wait_list::{Awaits, Steps};
 
 impl<W: Awaits> RunQueue<W> {
     /// The task begins to wait, as the last (cocotb 1.8, "Triggers"). It doesn't wait yet, fewer than 65,536 tasks wait, the tree was begun and isn't done,
     /// its keys may be registered, and there is room for one task more.
-    pub fn wait<K: Gpi>(&mut self, kernel: &mut K, task: TaskNo, tree: Tree) -> Result<(), NoMemory>
+    pub fn wait<K: Gpi, L: Ledger>(
+        &mut self,
+        kernel: &mut K,
+        task: TaskNo,
+        tree: Tree,
+        steps: &mut Steps<L>,
+    ) -> Result<(), NoMemory>
         requires loaded { K.is_loaded kernel.old }
         requires keeps { Keeps W.waiting W.held self.old (K.content kernel.old) }
         requires room { length self.old.ready.entries + length (W.waiting self.old.awaits) < self.old.ready.room }
@@ -39,13 +46,18 @@ impl<W: Awaits> RunQueue<W> {
         ensures fits { (flat : Flat) → Fits flat W.waiting W.held self.old (K.content kernel.old) → Fits flat W.waiting W.held self.new (K.content kernel.new) }
         ensures room { self.new.ready.room ≡ self.old.ready.room }
     {
-        self.awaits.begin(kernel, task, tree)?;
+        self.awaits.begin(kernel, task, tree, steps)?;
         Ok(())
     }
 
     /// An event was set or a task has ended: all leaves on it are reached, and whom that wakes is ready, in the order in which they began to wait. Tells
     /// whether a waiting task has such a leaf; where none has, nothing has changed. It takes no memory.
-    pub fn wake<K: Gpi>(&mut self, kernel: &mut K, cause: Cause) -> bool
+    pub fn wake<K: Gpi, L: Ledger>(
+        &mut self,
+        kernel: &mut K,
+        cause: Cause,
+        steps: &mut Steps<L>,
+    ) -> bool
         requires loaded { K.is_loaded kernel.old }
         requires keeps { Keeps W.waiting W.held self.old (K.content kernel.old) }
         requires room { length self.old.ready.entries + length (W.waiting self.old.awaits) ≤ self.old.ready.room }
@@ -60,11 +72,16 @@ impl<W: Awaits> RunQueue<W> {
         ensures fits { (flat : Flat) → Fits flat W.waiting W.held self.old (K.content kernel.old) → Fits flat W.waiting W.held self.new (K.content kernel.new) }
         ensures room { self.new.ready.room ≡ self.old.ready.room }
     {
-        self.awaits.wake(kernel, cause, &mut self.ready) > 0
+        self.awaits.wake(kernel, cause, &mut self.ready, steps) > 0
     }
 
     /// Hands a lock to the first waiting task that wants it. False exactly where none does, and then nothing has changed. It takes no memory.
-    pub fn grant<K: Gpi>(&mut self, kernel: &mut K, lock: LockNo) -> bool
+    pub fn grant<K: Gpi, L: Ledger>(
+        &mut self,
+        kernel: &mut K,
+        lock: LockNo,
+        steps: &mut Steps<L>,
+    ) -> bool
         requires loaded { K.is_loaded kernel.old }
         requires keeps { Keeps W.waiting W.held self.old (K.content kernel.old) }
         requires room { length self.old.ready.entries + length (W.waiting self.old.awaits) ≤ self.old.ready.room }
@@ -78,11 +95,11 @@ impl<W: Awaits> RunQueue<W> {
         ensures fits { (flat : Flat) → Fits flat W.waiting W.held self.old (K.content kernel.old) → Fits flat W.waiting W.held self.new (K.content kernel.new) }
         ensures room { self.new.ready.room ≡ self.old.ready.room }
     {
-        self.awaits.grant(kernel, lock, &mut self.ready)
+        self.awaits.grant(kernel, lock, &mut self.ready, steps)
     }
 
     /// The task leaves the ready tasks and those that wait, and those who join it are served, as one effect. It takes no memory.
-    pub fn kill<K: Gpi>(&mut self, kernel: &mut K, task: TaskNo)
+    pub fn kill<K: Gpi, L: Ledger>(&mut self, kernel: &mut K, task: TaskNo, steps: &mut Steps<L>)
         requires loaded { K.is_loaded kernel.old }
         requires keeps { Keeps W.waiting W.held self.old (K.content kernel.old) }
         requires room { length self.old.ready.entries + length (W.waiting self.old.awaits) ≤ self.old.ready.room }
@@ -94,11 +111,11 @@ impl<W: Awaits> RunQueue<W> {
         ensures room { self.new.ready.room ≡ self.old.ready.room }
     {
         self.ready.take_out(task);
-        self.awaits.drop_task(kernel, task);
+        self.awaits.drop_task(kernel, task, steps);
         let ended = Cause::Ended {
             task,
             failed: false,
         };
-        self.awaits.wake(kernel, ended, &mut self.ready);
+        self.awaits.wake(kernel, ended, &mut self.ready, steps);
     }
 }

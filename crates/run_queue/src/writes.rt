@@ -11,15 +11,17 @@ use crate::RunQueue;
 use four_value::Bits;
 use gpi::{Gpi, Key, SigId};
 use port_io::NoMemory;
-use wait_list::Awaits;
+use std::sync::ledger::Ledger;
+use wait_list::{Awaits, Steps};
 
 impl<W: Awaits> RunQueue<W> {
     /// Stages a write where none is staged: the read-write phase is held from now on.
-    fn stage_first<K: Gpi>(
+    fn stage_first<K: Gpi, L: Ledger>(
         &mut self,
         kernel: &mut K,
         sig: SigId,
         bits: Bits,
+        steps: &mut Steps<L>,
     ) -> Result<(), NoMemory>
         requires loaded { K.is_loaded kernel.old }
         requires keeps { Keeps W.waiting W.held self.old (K.content kernel.old) }
@@ -35,18 +37,24 @@ impl<W: Awaits> RunQueue<W> {
             → Fits flat W.waiting W.held self.old (K.content kernel.old) → Fits flat W.waiting W.held self.new (K.content kernel.new) }
         ensures room { self.new.ready.room ≡ self.old.ready.room }
     {
-        self.awaits.hold(kernel, Key::ReadWrite)?;
+        self.awaits.hold(kernel, Key::ReadWrite, steps)?;
         match self.staged.stage(sig, bits) {
             Ok(()) => Ok(()),
             Err(NoMemory) => {
-                self.awaits.release(kernel, Key::ReadWrite);
+                self.awaits.release(kernel, Key::ReadWrite, steps);
                 Err(NoMemory)
             }
         }
     }
 
     /// Stages a write, as the last one (cocotb 1.8, "Writing values to signals"). It isn't the read-only phase.
-    pub fn stage<K: Gpi>(&mut self, kernel: &mut K, sig: SigId, bits: Bits) -> Result<(), NoMemory>
+    pub fn stage<K: Gpi, L: Ledger>(
+        &mut self,
+        kernel: &mut K,
+        sig: SigId,
+        bits: Bits,
+        steps: &mut Steps<L>,
+    ) -> Result<(), NoMemory>
         requires loaded { K.is_loaded kernel.old }
         requires keeps { Keeps W.waiting W.held self.old (K.content kernel.old) }
         requires open { is_end (K.content kernel.old).state.region ≡ false }
@@ -61,7 +69,7 @@ impl<W: Awaits> RunQueue<W> {
         ensures room { self.new.ready.room ≡ self.old.ready.room }
     {
         if self.staged.is_empty() {
-            self.stage_first(kernel, sig, bits)?;
+            self.stage_first(kernel, sig, bits, steps)?;
         } else {
             self.staged.stage(sig, bits)?;
         }

@@ -4,15 +4,12 @@ use Rattle.std.specs.Prelude.{codes}
 use Rattle.port_io.specs.Memory.{Lines}
 use Rattle.port_io.specs.declared.ports.NoMemory.{NoMemory}
 use Rattle.gpi.specs.Content.{Content}
-use Rattle.test_body.specs.declared.file.TestFile.{TestFile}
-use Rattle.test_text.specs.declared.fault.TestsRefusal.{TestsRefusal}
-use Rattle.test_runs.specs.declared.status.Status.{Status}
+use Rattle.regression.specs.declared.status.Status.{Status}
 use Rattle.command.specs.Answer.{LeavesKernel}
 use Rattle.list_kernel.specs.Kernel.{IsLoaded, content_of}
 use Rattle.list_kernel.specs.declared.kernel.ListKernel.{ListKernel}
 use Rattle.runner_tests.specs.Commands.{Ends, RowEnds, ShowsCommand, ShowsKept, ShowsLong}
 use Rattle.runner_tests.specs.Files.{long_store, sink_failing}
-use Rattle.runner_tests.specs.Tests.{AreRead, ShowsTests, tests_word}
 use Rattle.runner_tests.specs.Words.{counted_word, ended_word}
 
 -- a command without its counts
@@ -54,9 +51,3 @@ long_shown bytes row content own out lines ends same (Ok text) shows = record {
   ends = ends;
   shows = shows ∙ ap (ended_word own) same;
 }
-
--- tests, by what they are read as
-pub tests_shown : {T : Type 0} (bytes : T → List ℕ) (source : List ℕ) (found : Result TestFile TestsRefusal) → AreRead source found
-    → (r : Result T NoMemory) → IfOk r (λ text. bytes text ≡ tests_word found) → IfOk r (λ text. ShowsTests source (bytes text))
-tests_shown bytes source found are_read (Err no_memory) shows = tt
-tests_shown bytes source found are_read (Ok text) shows = record { found = found; are_read = are_read; shows = shows }

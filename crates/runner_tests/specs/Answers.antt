@@ -9,6 +9,7 @@ use Rattle.runner_tests.specs.declared.answer.Asked.TheVariants as asked
 use Rattle.runner_tests.specs.Commands.{ShowsCommand, ShowsKept, ShowsLong}
 use Rattle.runner_tests.specs.Designs.{ShowsDesign}
 use Rattle.runner_tests.specs.Tests.{ShowsTests}
+use Rattle.runner_tests.specs.Turns.{ShowsTurns}
 
 -- what a word asks, if anything
 abbrev pub asked_by : List ℕ → Option Asked
@@ -17,7 +18,8 @@ asked_by word =
     else (if bytes_eq word (codes "kept") then Some asked.Kept
     else (if bytes_eq word (codes "long") then Some asked.Long
     else (if bytes_eq word (codes "design") then Some asked.Design
-    else (if bytes_eq word (codes "tests") then Some asked.Tests else None))))
+    else (if bytes_eq word (codes "tests") then Some asked.Tests
+    else (if bytes_eq word (codes "turns") then Some asked.Turns else None)))))
 
 -- What is shown of a row. The simulator of the `kept` rows was the first one and is the second one then.
 abbrev pub ShowsAsked : Asked → List ℕ → ListKernel → ListKernel → List ℕ → Type 0
@@ -26,6 +28,7 @@ ShowsAsked asked.Kept row before after text = ShowsKept row before after text
 ShowsAsked asked.Long row before after text = ShowsLong row text
 ShowsAsked asked.Design row before after text = ShowsDesign (written (part_at 2 row)) text
 ShowsAsked asked.Tests row before after text = ShowsTests (written (part_at 2 row)) text
+ShowsAsked asked.Turns row before after text = ShowsTurns (written (part_at 2 row)) (written (part_at 3 row)) text
 
 -- A row whose word asks nothing shows that it doesn't.
 abbrev pub ShowsWord : Option Asked → List ℕ → ListKernel → ListKernel → List ℕ → Type 0

@@ -6,6 +6,7 @@ ghost use Rattle.runner_tests.specs.Answers.{LeavesKept, ShowsAsked, ShowsRow, S
 use crate::commands::{command_text, kept_text, long_text};
 use crate::designs::design_text;
 use crate::texts::tests_text;
+use crate::turns::turns_text;
 use list_kernel::ListKernel;
 use port_io::NoMemory;
 use std::alloc::Global;
@@ -24,6 +25,8 @@ enum Asked {
     Design,
     /// What tests are read as.
     Tests,
+    /// How many keys are registered after each turn of a test.
+    Turns,
 }
 
 /// What a word asks, if anything.
@@ -40,6 +43,8 @@ fn asked_by(word: &[u8]) -> Option<Asked>
         Some(Asked::Design)
     } else if word == b"tests".as_slice() {
         Some(Asked::Tests)
+    } else if word == b"turns".as_slice() {
+        Some(Asked::Turns)
     } else {
         None
     }
@@ -62,6 +67,7 @@ fn asked_text(
         Asked::Long => long_text(alloc, row),
         Asked::Design => design_text(alloc, row),
         Asked::Tests => tests_text(alloc, row),
+        Asked::Turns => turns_text(alloc, row),
     }
 }
 

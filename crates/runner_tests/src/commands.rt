@@ -1,10 +1,10 @@
 //! The command with its words, over files and lines in memory.
-ghost use Rattle.std.specs.Prelude.{◌≡◌, ◌++◌, IfOk, OnErr, OnOk, codes, map, string_bytes};
+ghost use Rattle.std.specs.Prelude.{◌≡◌, ◌⊎◌, ◌<◌, ◌++◌, IfOk, OnErr, OnOk, codes, map, string_bytes};
 ghost use Rattle.std.specs.List.{slice_split};
-ghost use Rattle.command.specs.Answer.{LeavesKernel};
+ghost use Rattle.command.specs.Answer.{Answered, LeavesKernel, Quit};
 ghost use Rattle.list_kernel.specs.Kernel.{IsLoaded, content_of};
 ghost use Rattle.table_rows.specs.Rows.{is_byte, part_at};
-ghost use Rattle.runner_tests.specs.Files.{decimal_at, sink_failing, store_at};
+ghost use Rattle.runner_tests.specs.Files.{decimal_at, file_means, line_means, sink_failing, store_at};
 ghost use Rattle.runner_tests.specs.Commands.{Ends, ShowsCommand, ShowsKept, ShowsLong, word_in, words_of};
 
 use crate::files::{long_store, store_of};
@@ -12,9 +12,12 @@ use crate::words::{counted_text, ended_text, latin_text};
 use command::cocorun;
 use list_kernel::ListKernel;
 use port_io::{MemSink, MemStore, NoMemory};
+use regression::Status;
 use std::alloc::{AllocError, Global};
+use std::marker::Brand;
+use std::sync::ledger::{Blank, Ledger};
 use table_rows::Row;
-use test_runs::Status;
+use wait_list::Steps;
 
 /// What stands between the spaces of a text. Only want of memory is an error, here and below.
 fn parts_of(alloc: Global, text: &[u8]) -> Result<Vec<&[u8]>, AllocError>
@@ -46,6 +49,25 @@ fn words_of(alloc: Global, text: &[u8]) -> Result<Vec<String>, AllocError>
     Ok(words)
 }
 
+/// The status of a command. The blank is for the counter of steps of work.
+fn run<L: Ledger>(
+    alloc: Global,
+    words: &[String],
+    store: &mut MemStore,
+    sink: &mut MemSink,
+    kernel: &mut ListKernel,
+    blank: Blank,
+) -> Status
+    requires name { blank.name ≡ L.name }
+    requires parts { blank.parts ≡ L.parts }
+    requires some { 0 < blank.parts }
+    ensures answer { Answered file_means line_means (map string_bytes words.now) result store.old store.new (content_of kernel.new) sink.old sink.new ⊎ Quit result sink.old sink.new }
+    ensures leaves { LeavesKernel IsLoaded result kernel.old kernel.new }
+{
+    let mut steps = Steps::<L>::new(blank);
+    cocorun(alloc, words, store, sink, kernel, &mut steps)
+}
+
 /// The status of a command with words between spaces, over a store and on a kernel, and what it put into a sink of which that put fails.
 /// After an Err the kernel is as it was.
 fn ended(
@@ -63,7 +85,7 @@ fn ended(
     let mut store = store;
     let mut sink = MemSink::new(alloc);
     sink.fail_at(failing)?;
-    let status = cocorun(alloc, &words, &mut store, &mut sink, kernel);
+    let status = run::<Brand>(alloc, &words, &mut store, &mut sink, kernel, Blank::new(1));
     Ok((status, sink))
 }
 

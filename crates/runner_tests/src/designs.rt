@@ -1,6 +1,7 @@
 //! What designs are read as.
 ghost use Rattle.std.specs.Prelude.{◌≡◌, IfOk, string_bytes};
 ghost use Rattle.std.specs.List.{flat_map};
+ghost use Rattle.gpi.specs.Soundness.{IsSoundFlat};
 ghost use Rattle.table_rows.specs.Rows.{part_at, written};
 ghost use Rattle.table_rows.specs.Shown.{latin};
 ghost use Rattle.v_design.specs.Words.{refusal_word};
@@ -14,8 +15,9 @@ use table_rows::Row;
 use v_design::{DesignFault, DesignRefusal, read_design};
 
 /// The design that a text is, with no top named, or why it is none. Only want of memory is an error, here and below.
-fn design_of(alloc: Global, text: &[u8]) -> Result<Result<Flat, DesignRefusal>, NoMemory>
-    ensures { IfOk result (λ found. IsRead text.now found) }
+pub fn design_of(alloc: Global, text: &[u8]) -> Result<Result<Flat, DesignRefusal>, NoMemory>
+    ensures is { IfOk result (λ found. IsRead text.now found) }
+    ensures sound { IfOk result (λ found. IfOk found IsSoundFlat) }
 {
     match read_design(alloc, text, None) {
         Ok(flat) => Ok(Ok(flat)),

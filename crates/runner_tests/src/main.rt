@@ -9,7 +9,8 @@
 //! - `kept`: the same, where all these rows have one simulator, with the counts of its keys;
 //! - `long`: the command with the words `d.v t.py`, of a number of bytes, a design, tests and a number of bytes: each text is cut, or
 //!   filled up with spaces, to its number of bytes;
-//! - `design`: what a design is read as; `tests`: what tests are read as.
+//! - `design`: what a design is read as; `tests`: what tests are read as;
+//! - `turns`: a design and tests: how many keys are registered after each turn of the first test, but the one in which it ends.
 //!
 //! Where it is another word, the answer is `not asked`.
 //! The gate compares what is printed with `stdout`.
@@ -20,6 +21,7 @@ mod commands;
 mod designs;
 mod files;
 mod texts;
+mod turns;
 mod words;
 
 use answer::answer;
@@ -31,7 +33,7 @@ use std::io::Read;
 fn main(rt: HostRuntime) -> Result<()> {
     let mut rows = Vec::new(rt.alloc());
     rt.reader().read_to_end(&mut rows)?;
-    ensure!(rows.len() <= MOST_BYTES, "the rows are too long");
+    ensure!(rows.len() <= 2 * MOST_BYTES, "the rows are too long");
     let mut kernel = ListKernel::new(rt.alloc());
     for line in rows.split(|byte| *byte == b'\n') {
         if !line.is_empty() {

@@ -1,9 +1,11 @@
 //! What tests are read as.
-ghost use Rattle.std.specs.Prelude.{◌≡◌, IfOk, string_bytes};
+ghost use Rattle.std.specs.Prelude.{◌≡◌, IfOk, string_bytes, true};
+ghost use Rattle.test_body.specs.Sound.{is_sound};
+ghost use Rattle.test_body.specs.Views.{view_file};
 ghost use Rattle.table_rows.specs.Rows.{part_at, written};
 ghost use Rattle.table_rows.specs.Shown.{latin};
 ghost use Rattle.test_text.specs.Words.{refusal_word};
-ghost use Rattle.runner_tests.specs.Tests.{ShowsTests, file_word, numbers_word};
+ghost use Rattle.runner_tests.specs.Tests.{AreRead, ShowsTests, file_word, numbers_word};
 
 use crate::words::latin_text;
 use port_io::NoMemory;
@@ -35,14 +37,25 @@ fn refusal_shown(alloc: Global, why: TestsRefusal) -> Result<String, NoMemory>
     Ok(latin_text(alloc, &reason)?)
 }
 
+/// The tests file that a text is, or why it is none.
+pub fn tests_of(alloc: Global, text: &[u8]) -> Result<Result<TestFile, TestsRefusal>, NoMemory>
+    ensures are { IfOk result (λ found. AreRead text.now found) }
+    ensures sound { IfOk result (λ found. IfOk found (λ file. is_sound (view_file file) ≡ true)) }
+{
+    match read_tests(alloc, text) {
+        Ok(file) => Ok(Ok(file)),
+        Err(TestsFault::Refused(why)) => Ok(Err(why)),
+        Err(TestsFault::OutOfMemory) => Err(NoMemory),
+    }
+}
+
 /// What a text is read as: the numbers of its functions and tests, or why it is refused.
 fn text_shown(alloc: Global, text: &[u8]) -> Result<String, NoMemory>
     ensures { IfOk result (λ shown. ShowsTests text.now (string_bytes shown)) }
 {
-    match read_tests(alloc, text) {
+    match tests_of(alloc, text)? {
         Ok(file) => file_shown(alloc, &file),
-        Err(TestsFault::Refused(why)) => refusal_shown(alloc, why),
-        Err(TestsFault::OutOfMemory) => Err(NoMemory),
+        Err(why) => refusal_shown(alloc, why),
     }
 }
 

@@ -6,9 +6,9 @@ ghost use Rattle.runner_tests.specs.Words.{counted_word, counts_word, digit_word
 use four_value::Digit;
 use gpi::Gpi;
 use port_io::NoMemory;
+use regression::Status;
 use std::alloc::{AllocError, Global};
 use table_rows::{push_bytes, quoted};
-use test_runs::Status;
 
 /// Bytes as characters. Only want of memory is an error, here and below.
 pub fn latin_text(alloc: Global, bytes: &[u8]) -> Result<String, AllocError>

@@ -6,7 +6,7 @@ use Rattle.command.specs.declared.options.RunOptions.{RunOptions}
 use Rattle.command.specs.Reading.{Reads, reading_of, refused, usage_line}
 use Rattle.command.proofs.Words.{any_options, reads_none, reads_asked, reads_told}
 use Rattle.command.proofs.AnswerLaws.{answered, words_answered, words_write, write_raised}
-use Rattle.test_runs.specs.declared.status.Status.TheVariants.{Usage}
+use Rattle.regression.specs.declared.status.Status.TheVariants.{Usage}
 use Rattle.command.proofs.top.cocorun.Goals as goal
 
 -- ---- words without a reading

@@ -2,7 +2,7 @@ use Rattle.std.specs.Prelude.{ℕ, List, [], ◌∷◌}
 use Rattle.std.proofs.Common.{subst}
 use Rattle.port_io.specs.Means.{sink_means}
 use Rattle.test_body.specs.Views.{view_file}
-use Rattle.test_runs.specs.Runs.{EndsTo}
+use Rattle.regression.specs.Runs.{EndsTo}
 use Rattle.command.proofs.LastRuns.{last_put}
 use Rattle.command.proofs.top.run_last.Goals as goal
 

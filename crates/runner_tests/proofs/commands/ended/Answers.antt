@@ -2,7 +2,7 @@ use Rattle.std.proofs.Common.{◌≡◌, ◌⊎◌, ℕ, List, [], ◌∷◌, �
 use Rattle.std.specs.Prelude.{string_bytes}
 use Rattle.port_io.specs.Memory.{Files, Lines}
 use Rattle.gpi.specs.Content.{Content}
-use Rattle.test_runs.specs.declared.status.Status.{Status}
+use Rattle.regression.specs.declared.status.Status.{Status}
 use Rattle.command.specs.Answer.{Answered, Quit}
 use Rattle.runner_tests.specs.Commands.{Ends, words_of}
 use Rattle.runner_tests.specs.Files.{file_means, line_means, sink_failing}
@@ -27,7 +27,7 @@ sink_is call sink failing e is_sink = e ∙ ap (with_failing_put call) is_sink
 
 pub returns-clause-ends : goal.returns-clause-ends
 returns-clause-ends c =
-    ends c.args.text.now (map string_bytes c.deref.result.now) c.args.store c.cocorun-status.new.store c.args.failing c.fail_at.new.self
-    c.cocorun-status.new.out c.cocorun-status.result _ c.cocorun-status.ensures.answer
+    ends c.args.text.now (map string_bytes c.deref.result.now) c.args.store c.run-status.new.store c.args.failing c.fail_at.new.self
+    c.run-status.new.sink c.run-status.result _ c.run-status.ensures.answer
     (ap (map string_bytes) c.deref.ensures.value ∙ c.in_ok-words.ensures)
     (sink_is c.args.failing c.new-sink.result c.fail_at.new.self c.in_ok-fail_at.ensures.ok c.new-sink.ensures)

@@ -1,4 +1,4 @@
-use Rattle.std.proofs.Common.{◌≡◌, ◌≤◌, length, drop}
+use Rattle.std.proofs.Common.{◌≡◌, ◌≤◌, false, length, drop}
 use Rattle.gpi.specs.Keys.{among}
 use Rattle.wait_list.specs.Waiting.{keys_of}
 use Rattle.plain_waits.specs.Kept.{waiting_in}
@@ -7,7 +7,7 @@ use Rattle.plain_waits.proofs.keeper.WaitList.is_waited.Given as goal
 abbrev pub invariant-back : goal.invariant-back
 invariant-back l = record {
   inside : l.at ≤ length l.self.waiting.items;
-  found : l.found ≡ among l.key (keys_of (drop l.at (waiting_in l.self)));
+  none : among l.key (keys_of (drop l.at (waiting_in l.self))) ≡ false;
 }
 
 abbrev pub decreases-back : goal.decreases-back
