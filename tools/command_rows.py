@@ -10,6 +10,8 @@ from run_model import model
 
 # kind: the row's first word; parts: what stands behind the rule; answer: what is shown
 Asked = namedtuple("Asked", "kind rule parts answer")
+# the statuses, by their numbers
+STATUSES = ["Passed", "Failed", "Usage", "DesignRefused", "TestsRefused", "ReadFault", "WriteFault", "NoMemory", "Budget"]
 # what was put, where the row says so with the status
 USAGE = "usage: cocorun [--top NAME] [--budget N] [--seed N] [--trace] DESIGN TESTS"
 
@@ -28,9 +30,14 @@ def parts_of(words, design, tests, read, put):
     return [words, part(design), part(tests), *failing]
 
 
+def numbered(status):
+    """The number of a status, and its name."""
+    return f"{STATUSES.index(status)} {status}"
+
+
 def command(rule, words, design, tests, status, lines, read=0, put=0):
     """A command over the texts `d.v` and `t.py` (None where there is no such file), of which that read and that put fail (0: none)."""
-    return Asked("command", rule, parts_of(words, design, tests, read, put), f"{status} {quoted(lines)}")
+    return Asked("command", rule, parts_of(words, design, tests, read, put), f"{numbered(status)} {quoted(lines)}")
 
 
 def kept(rule, words, design, tests, status, counts, lines, read=0, put=0):

@@ -5,7 +5,7 @@ By hand, but for the tests among the rows of crates/check_tests and crates/pytho
 import re
 from pathlib import Path
 
-from command_rows import USAGE, Asked, command, kept, quoted
+from command_rows import USAGE, Asked, command, kept, numbered, quoted
 from row_texts import HEADER, SMALL, escaped, passing, test
 
 CRATES = Path(__file__).resolve().parent.parent / "crates"
@@ -127,7 +127,7 @@ MOST = 1_048_576
 
 def long(rule, designs, tests, status, lines):
     """The least run with so many bytes of the design and of the tests."""
-    return Asked("long", rule, [str(designs), escaped(SMALL), escaped(PASSES), str(tests)], f"{status} {quoted(lines)}")
+    return Asked("long", rule, [str(designs), escaped(SMALL), escaped(PASSES), str(tests)], f"{numbered(status)} {quoted(lines)}")
 
 
 LONG = [

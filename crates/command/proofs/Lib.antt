@@ -4,3 +4,5 @@ pub mod LastRuns
 pub mod Leaving
 pub mod Words
 pub mod AnswerLaws
+pub mod AlikeRuns
+pub mod OneReading

@@ -4,6 +4,7 @@
 
 mod decision;
 mod files;
+mod laws;
 mod lines;
 mod options;
 mod process;
@@ -11,6 +12,7 @@ mod top;
 
 pub use decision::Decision;
 pub use files::decide;
+pub use laws::{alike_designs_run_alike, one_answer};
 pub use options::{RunOptions, Shown};
 pub use process::run_process;
 pub use top::cocorun;

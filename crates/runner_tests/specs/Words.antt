@@ -4,6 +4,7 @@ use Rattle.std.specs.Fmt.{decimal}
 use Rattle.four_value.specs.declared.Digit.{Digit}
 use Rattle.four_value.specs.declared.Digit.TheVariants as digit
 use Rattle.gpi.specs.declared.types.Counts.{Counts}
+use Rattle.regression.specs.Status.{code_of}
 use Rattle.regression.specs.declared.status.Status.{Status}
 use Rattle.regression.specs.declared.status.Status.TheVariants as status
 use Rattle.table_rows.specs.Shown.{in_quotes}
@@ -32,9 +33,9 @@ abbrev pub counts_word : Counts → List ℕ
 counts_word counts =
     codes "primed=" ++ decimal counts.primed ++ codes " removed=" ++ decimal counts.removed ++ codes " fired=" ++ decimal counts.fired
 
--- a status, and the lines that were put
+-- a status by its number and its name, and the lines that were put
 abbrev pub ended_word : Status → List ℕ → List ℕ
-ended_word own lines = status_word own ++ codes " " ++ in_quotes lines
+ended_word own lines = decimal (code_of own) ++ (codes " " ++ (status_word own ++ (codes " " ++ in_quotes lines)))
 
 -- a status, counts, and the lines that were put
 abbrev pub counted_word : Status → Counts → List ℕ → List ℕ

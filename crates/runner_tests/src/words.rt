@@ -59,13 +59,13 @@ pub fn counts_text<K: Gpi>(alloc: Global, kernel: &K) -> Result<String, NoMemory
     )?)
 }
 
-/// A status, and the lines that were put.
+/// A status by its number and its name, and the lines that were put.
 pub fn ended_text(alloc: Global, status: Status, lines: &[u8]) -> Result<String, NoMemory>
     ensures { IfOk result (λ text. string_bytes text ≡ ended_word status lines.now) }
 {
     let lines = quoted(alloc, lines)?;
     let name = status_name(status);
-    Ok(format!(in alloc; "{name} {lines}")?)
+    Ok(format!(in alloc; "{} {name} {lines}", status.code())?)
 }
 
 /// Three texts between spaces.

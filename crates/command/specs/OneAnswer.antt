@@ -1,0 +1,35 @@
+-- What the laws of an answer say.
+use Rattle.std.specs.Prelude.{◌≡◌, ℕ, Bool, List, Option, Some}
+use Rattle.gpi.specs.declared.design.Flat.{Flat}
+use Rattle.test_body.specs.BodyTrees.{Case, Function}
+use Rattle.run_model.specs.Rig.{Setup}
+use Rattle.run_model.specs.Run.{IsRun, Run, written}
+use Rattle.v_design.specs.Answers.{AreAlike}
+use Rattle.regression.specs.declared.status.Status.{Status}
+use Rattle.regression.specs.declared.status.Status.TheVariants as status
+use Rattle.command.specs.declared.options.RunOptions.{RunOptions}
+use Rattle.command.specs.Answer.{IsAnswer}
+use Rattle.command.specs.Reading.{IsTold, Reading, refused}
+
+-- A run on a design stops where it does on each other one that is like it, and has written the same.
+pub record RunsAlike (setup other : Setup) (seed : ℕ) (cases : List Case) (budget : ℕ) (run : Run) : Type 0 where
+  pub is_run : IsRun other seed cases budget run
+  pub writes : written setup budget run ≡ written other budget run
+
+-- Designs that are alike have the same runs.
+abbrev pub AlikeDesignsRunAlike : Type 0
+AlikeDesignsRunAlike =
+    (functions : List Function) (trace : Bool) (a b : Flat) → AreAlike a b → (seed : ℕ) (cases : List Case) (budget : ℕ) (run : Run)
+    → IsRun (record { functions = functions; flat = a; trace = trace }) seed cases budget run
+    → RunsAlike (record { functions = functions; flat = a; trace = trace }) (record { functions = functions; flat = b; trace = trace }) seed cases budget run
+
+-- a file couldn't be read
+abbrev pub IsUnread : Reading → Type 0
+IsUnread r = (line : List ℕ) × (r ≡ refused status.ReadFault line)
+
+-- Where the files are told, the same words have the same lines and the same status, unless a read failed.
+abbrev pub WordsHaveOneAnswer : Type 0
+WordsHaveOneAnswer =
+    (files : List ℕ → Option (List ℕ)) (said : List (List ℕ)) (options others : RunOptions) (r t : Reading) (lines more : List (List ℕ)) (own other : Status)
+    → IsTold (Some files) said options r → IsTold (Some files) said others t → (IsUnread r → ⊥) → (IsUnread t → ⊥)
+    → IsAnswer options r lines own → IsAnswer others t more other → (lines ≡ more) × (own ≡ other)
