@@ -121,4 +121,34 @@ RANDOM = [
     row("kinds in a draw", caught('x = random.randint("a", 2)', "TypeError") + "x = random.randint(dut.a.value, 2)", failing(0, "ValueError", "0 INFO TypeError")),
     row("a draw of one number", 'x = random.randint(7, 7); dut._log.info(f"{x}")', passing(0, "0 INFO 7")),
 ]
-SIGNALS = [*VALUES, *HIERARCHY, *TIMES, *RANDOM]
+# a clock that a process lets rise and fall in one activation
+PULSE = """module top(input go, output reg clk, output reg n);
+  initial n = 1;
+  always @(posedge go) begin clk {0} 1; clk {0} 0; end
+  always @(posedge clk) n <= clk;
+endmodule
+"""
+PULSED = 'dut.go.value = 0; await Timer(1, "step"); dut.go.value = 1; await Timer(1, "step"); dut._log.info(f"{dut.n.value} {dut.clk.value}")'
+PULSES = [
+    Row("a pulse within one activation wakes nobody", IMPORTS + test(PULSED), passing(2, "2 INFO 1 0"), design=PULSE.format("=")),
+    Row("a pulse of two updates wakes once, and what runs then sees its end", IMPORTS + test(PULSED), passing(2, "2 INFO 0 0"), design=PULSE.format("<=")),
+]
+
+NAMES = "module top(input _log, input value);\nendmodule\n"
+SLOW = "`timescale 100s / 100s\nmodule top(input a);\nendmodule\n"
+CORNERS = [
+    row("operands of range", caught('for i in range(dut.a.value, "a"): { pass }', "TypeError") + caught("for i in range(dut.a.value): { pass }", "ValueError")
+        + caught("for i in range(0, 3, False): { pass }", "ValueError") + "dut.a.value = 5; await ReadOnly(); "
+        'for i in range(True, dut.a.value, 2): { dut._log.info(f"{i}") }', passing(0, "0 INFO TypeError", "0 INFO ValueError", "0 INFO ValueError", "0 INFO 1", "0 INFO 3")),
+    row("bounds of a draw that no value holds", "dut.a.value = 255; await ReadOnly(); w = dut.wide.value; " + caught("y = random.randint(w, w)", "OverflowError")
+        + caught("y = random.randint(w, 0)", "ValueError"), passing(0, "0 INFO OverflowError", "0 INFO ValueError")),
+    row("cycles of a clock that are no count", 'c = Clock(dut.clk, 10, "step"); j = cocotb.start_soon(c.start(cycles="a")); ' + caught("await j", "TypeError")
+        + "j = cocotb.start_soon(c.start(cycles=dut.a.value)); " + caught("await j", "ValueError")
+        + 'j = cocotb.start_soon(c.start(cycles=-1)); r = await j; dut._log.info(f"{r}")', passing(0, "0 INFO TypeError", "0 INFO ValueError", "0 INFO None")),
+    Row("signals that are named as attributes", IMPORTS + test('dut.value.value = 1; await ReadOnly(); dut._log.info(f"{dut.value.value} {dut._log.value}")'),
+        passing(0, "0 INFO 1 z"), design=NAMES),
+    Row("a step of more than a second", IMPORTS + test(caught('await Timer(1, "sec")', "ValueError") + 'await Timer(3, "step"); x = get_sim_time("sec"); dut._log.info(f"{x}")'),
+        passing(3, "0 INFO ValueError", "3 INFO 300"), design=SLOW),
+]
+
+SIGNALS = [*VALUES, *HIERARCHY, *TIMES, *RANDOM, *PULSES, *CORNERS]
