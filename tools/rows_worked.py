@@ -1,32 +1,13 @@
 """Runs that were worked out before there was a model, with their lines, counts and costs. `tools/run_rows.py` tells what they are for."""
 import itertools
+from pathlib import Path
 
 from made_texts import DESIGN as MADE_DESIGN, tests_of
 from row_texts import HEADER, MORE, SMALL, Row, failing, function, passing, report, test
 
-FLIP_FLOP = "`timescale 1us/1ns\nmodule dff(input clk, d, output reg q);\n  always @(posedge clk) q <= d;\nendmodule\n"
-FLIP_FLOP_TESTS = '''import random
-import cocotb
-from cocotb.clock import Clock
-from cocotb.triggers import RisingEdge
-
-@cocotb.test()
-async def dff_simple_test(dut):
-    """Test that d propagates to q"""
-    dut.d.value = 0
-    clock = Clock(dut.clk, 10, units="us")  # 10 us period
-    cocotb.start_soon(clock.start(start_high=False))
-    await RisingEdge(dut.clk)
-    expected_val = 0
-    for i in range(10):
-        val = random.randint(0, 1)
-        dut.d.value = val
-        await RisingEdge(dut.clk)
-        assert dut.q.value == expected_val, f"output q was incorrect on the {i}th cycle"
-        expected_val = val
-    await RisingEdge(dut.clk)
-    assert dut.q.value == expected_val, "output q was incorrect on the last cycle"
-'''
+RUN_FILES = Path(__file__).resolve().parent.parent / "crates" / "cocorun" / "data"
+FLIP_FLOP = (RUN_FILES / "d.v").read_text()
+FLIP_FLOP_TESTS = (RUN_FILES / "t.py").read_text()
 PORT = "module top(input [7:0] a);\nendmodule\n"
 OSCILLATOR = "module top(input en, output y); assign y = en & ~y; endmodule\n"
 OPERATORS = """module top(input [3:0] a, output [3:0] s, output e, output c);
