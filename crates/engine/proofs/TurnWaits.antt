@@ -12,21 +12,9 @@ use Rattle.run_model.specs.Rig.{Rig, Setup, event_of, procs, awaited}
 use Rattle.run_model.specs.Counts.{counted}
 use Rattle.run_model.specs.Serve.{serve, serve_keys, flushed_if, not_due}
 use Rattle.run_model.specs.Step.{Stepped, rig_step, after_event}
-use Rattle.run_model.specs.Case.{emptied}
+use Rattle.engine.specs.BetweenTests.{between, IsBetween}
 
--- nothing but the planned start is left
-abbrev pub between : State → Generator → Counts → Option ℕ → List Key → Rig
-between sim random counts planned fired = record (emptied sim random counts) { planned = planned; fired = fired }
-
--- the configuration is such a one, with a start that is planned
-pub record IsBetween (c : Rig) : Type 0 where
-  pub sim : State
-  pub random : Generator
-  pub counts : Counts
-  pub time : ℕ
-  pub is : c ≡ between sim random counts (Some time) []
-
--- the configuration is such a one, with or without a start that is planned
+-- the configuration is one between two tests, with or without a start that is planned
 pub record IsAfter (c : Rig) : Type 0 where
   pub sim : State
   pub random : Generator

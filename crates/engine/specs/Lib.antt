@@ -1,5 +1,6 @@
 pub mod Timely
 pub mod Turns
+pub mod BetweenTests
 pub mod Amid
 pub mod Evented
 pub mod Fires

@@ -6,7 +6,7 @@
 
 use anyhow::{Result, ensure};
 use made_texts::{made_design, made_tests};
-use port_io::NoMemory;
+use port_io::{MOST_BYTES, NoMemory};
 use std::alloc::Global;
 use std::io::Read;
 use table_rows::{Row, push_bytes};
@@ -34,7 +34,7 @@ fn main(rt: HostRuntime) -> Result<()> {
     let alloc = rt.alloc();
     let mut rows = Vec::new(alloc);
     rt.reader().read_to_end(&mut rows)?;
-    ensure!(rows.len() <= 1_048_576, "the rows are too long");
+    ensure!(rows.len() <= MOST_BYTES, "the rows are too long");
     let design = design_text(alloc)?;
     print!(rt; "{design}")?;
     for line in rows.split(|byte| *byte == b'\n') {

@@ -12,7 +12,7 @@ use Rattle.run_model.specs.declared.outcome.Verdict.{Verdict}
 use Rattle.run_model.proofs.Whole.{steps_one}
 use Rattle.run_parts.specs.Steps.{FitSteps, anywhere}
 use Rattle.regression.specs.Reached.{Reached, Pending, run_at, run_in}
-use Rattle.regression.specs.Stages.{is_planned}
+use Rattle.run_parts.specs.Runs.{is_planned}
 
 le_true : (a b : ℕ) → a ≤ b → nat_le a b ≡ true
 le_true a b h = search rules

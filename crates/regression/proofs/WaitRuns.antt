@@ -20,13 +20,14 @@ use Rattle.run_model.specs.Rig.{Rig, Setup}
 use Rattle.run_model.specs.Run.{Run, Place, Begins, Waits, IsRun, begun, closed, opening, opening_sim, place_by, planned, skipped, unskipped, with_skips, written}
 use Rattle.run_model.specs.Verdict.{is_fail, report_of}
 use Rattle.run_parts.specs.Fits.{StandsFor}
+use Rattle.run_parts.specs.Runs.{is_planned}
 use Rattle.run_parts.specs.Steps.{FitSteps, Moves, Short}
 use Rattle.run_parts.specs.Steps as parts
 use Rattle.engine.specs.Turns.{TurnsTo}
 use Rattle.engine.specs.declared.turned.Turn.TheVariants as turn
 use Rattle.regression.specs.Reached.{Reached, Pending, run_at}
 use Rattle.regression.specs.Runs.{EndsTo, PutsStart, RunsTo, verdict_status}
-use Rattle.regression.specs.Stages.{IsEmpty, IsEnded, IsPending, IsWaiting, Skips, SkipsOver, WaitTurns, cases_from, cases_of, is_planned, skip_lines, skips_of}
+use Rattle.regression.specs.Stages.{IsEmpty, IsEnded, IsPending, IsWaiting, Skips, SkipsOver, WaitTurns, cases_from, cases_of, skip_lines, skips_of}
 use Rattle.regression.specs.declared.progress.Progress.{Progress}
 use Rattle.regression.specs.declared.status.Status.{Status}
 use Rattle.regression.specs.declared.status.Status.TheVariants as status

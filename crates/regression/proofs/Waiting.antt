@@ -5,16 +5,18 @@ use Rattle.port_io.specs.Means.{SinkMeans}
 use Rattle.port_io.specs.declared.ports.NoMemory.{NoMemory}
 use Rattle.run_model.specs.Rig.{Rig, Setup}
 use Rattle.run_model.specs.declared.outcome.Outcome.{Outcome}
+use Rattle.run_parts.specs.Runs.{is_planned}
 use Rattle.run_parts.specs.Steps.{FitSteps, TurnSteps, anywhere, Moves, Begins}
 use Rattle.engine.proofs.ManyTurns.{turning_anywhere}
 use Rattle.engine.proofs.StepsLeft.{steps_fall, steps_left}
 use Rattle.engine.proofs.Between.{one_step}
 use Rattle.engine.proofs.TurnLaws.{turning_then}
-use Rattle.engine.proofs.TurnWaits.{between, IsAfter, IsBetween, step_waits}
+use Rattle.engine.proofs.TurnWaits.{IsAfter, step_waits}
+use Rattle.engine.specs.BetweenTests.{between, IsBetween}
 use Rattle.engine.specs.Turns.{TurnsTo, Turning, has_gone}
 use Rattle.engine.specs.declared.turned.Turn.{Turn}
 use Rattle.engine.specs.declared.turned.Turn.TheVariants as turn
-use Rattle.regression.specs.Stages.{IsEmpty, WaitTurns, WaitsTo, is_planned}
+use Rattle.regression.specs.Stages.{IsEmpty, WaitTurns, WaitsTo}
 use Rattle.regression.proofs.Stands.{empty_of}
 
 -- ---- what is left between two tests

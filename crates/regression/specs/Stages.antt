@@ -1,5 +1,5 @@
 -- A means of proof: how far a run over tests has come between two of them, and what leads on from there. It says nothing that a reader must trust.
-use Rattle.std.specs.Prelude.{◌≡◌, ℕ, ◌+◌, ◌≤◌, Bool, true, false, List, [], ◌∷◌, ◌++◌, length, map, drop, Option, Some, Result, Ok, Err, IfOk, is_some}
+use Rattle.std.specs.Prelude.{◌≡◌, ℕ, ◌+◌, ◌≤◌, Bool, true, false, List, [], ◌∷◌, ◌++◌, length, map, drop, Option, Some, Result, Ok, Err, IfOk}
 use Rattle.std.specs.Result.{result_err}
 use Rattle.port_io.specs.Ports.{TakesAll}
 use Rattle.port_io.specs.Means.{SinkMeans, PutsTo}
@@ -18,6 +18,7 @@ use Rattle.run_model.specs.Run.{Run, Waits, planned, skipped, unskipped}
 use Rattle.run_model.specs.Verdict.{verdict_of}
 use Rattle.run_model.specs.declared.outcome.Verdict.{Verdict}
 use Rattle.run_model.specs.declared.outcome.Verdict.TheVariants.{Skip}
+use Rattle.run_parts.specs.Runs.{is_planned}
 use Rattle.run_parts.specs.Steps.{FitSteps, anywhere, Short, Begins}
 use Rattle.engine.specs.Turns.{Turning, turn_fault}
 use Rattle.engine.specs.declared.turned.Turn.{Turn}
@@ -37,10 +38,6 @@ cases_of cases = map view_case cases
 -- those from a place on
 abbrev pub cases_from : List TestCase → ℕ → List Case
 cases_from cases at = cases_of (drop at cases)
-
--- a start is planned
-abbrev pub is_planned : Rig → Bool
-is_planned c = is_some c.planned
 
 -- ---- places and verdicts
 

@@ -11,7 +11,7 @@ ghost use Rattle.test_body.specs.declared.file.TestCase.{TestCase as declared_ca
 ghost use Rattle.run_model.specs.Case.{emptied, ended};
 ghost use Rattle.run_model.specs.Run.{opening_sim};
 ghost use Rattle.run_model.specs.Verdict as meaning;
-ghost use Rattle.engine.proofs.TurnWaits.{IsBetween};
+ghost use Rattle.engine.specs.BetweenTests.{IsBetween};
 ghost use Rattle.engine.specs.Parts.{means};
 ghost use Rattle.engine.specs.Engine.{rig_of, runs_test, setup_of};
 ghost use Rattle.engine.specs.Fits.{FitsKernel, KeepsAll};

@@ -5,7 +5,7 @@ ghost use Rattle.test_body.specs.Sound.{is_sound_case};
 ghost use Rattle.test_body.specs.Views.{view_case};
 ghost use Rattle.run_parts.specs.Steps.{FitSteps, anywhere};
 ghost use Rattle.engine.specs.Turns.{Turning, turn_fault};
-ghost use Rattle.engine.proofs.TurnWaits.{IsBetween};
+ghost use Rattle.engine.specs.BetweenTests.{IsBetween};
 ghost use Rattle.engine.specs.Parts.{means};
 ghost use Rattle.engine.specs.Engine.{rig_of, runs_test, setup_of};
 ghost use Rattle.engine.specs.Fits.{FitsKernel, KeepsAll};

@@ -6,7 +6,7 @@ use Rattle.engine.specs.declared.turned.Turn.{Turn}
 use Rattle.engine.specs.declared.turned.Turn.TheVariants as turn
 use Rattle.engine.specs.Parts.{means}
 use Rattle.engine.specs.Engine.{rig_of, setup_of}
-use Rattle.regression.specs.Stages.{is_planned}
+use Rattle.run_parts.specs.Runs.{is_planned}
 use Rattle.regression.proofs.StageLaws.{stages_err, waits_as}
 use Rattle.regression.proofs.Stands.{fits_stands, stands_as}
 use Rattle.regression.proofs.WaitRuns.{wait_broken, wait_cut, wait_due, wait_spent}

@@ -5,7 +5,7 @@ use Rattle.run_model.specs.Rig.{Rig}
 use Rattle.run_parts.specs.Steps.{FitSteps, anywhere}
 use Rattle.engine.specs.Turns.{Turning}
 use Rattle.engine.specs.declared.turned.Turn.{Turn}
-use Rattle.engine.proofs.TurnWaits.{IsBetween}
+use Rattle.engine.specs.BetweenTests.{IsBetween}
 use Rattle.engine.specs.Parts.{means}
 use Rattle.engine.specs.Engine.{rig_of, setup_of}
 use Rattle.engine.specs.Fits.{FitsKernel}

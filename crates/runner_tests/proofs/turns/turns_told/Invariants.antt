@@ -6,7 +6,7 @@ use Rattle.engine.specs.Parts.{means}
 use Rattle.engine.specs.Engine.{rig_of, setup_of}
 use Rattle.engine.specs.Fits.{FitsKernel}
 use Rattle.engine.proofs.StepsLeft.{steps_left}
-use Rattle.engine.proofs.TurnWaits.{IsBetween}
+use Rattle.engine.specs.BetweenTests.{IsBetween}
 use Rattle.runner_tests.specs.Turns.{TellsTurns, turns_budget}
 use Rattle.runner_tests.proofs.turns.turns_told.Given as goal
 
