@@ -5,3 +5,4 @@ pub mod Turning
 pub mod Scopes
 pub mod Widths
 pub mod Whole
+pub mod Rows

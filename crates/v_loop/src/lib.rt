@@ -2,11 +2,13 @@
 //!
 //! A loop is unrolled while its text is elaborated (IEEE 1364-2005, clause 9.6): [`counter`] finds the register that it counts in, and
 //! [`turns`] the values that the register has in its turns, and the last one. In a turn the register's name is that of a constant:
-//! [`enter_turn`] and [`leave_turn`] put it there and take it away, with no memory. [`Unrolled`] counts the statements and turns of a design.
+//! [`enter_turn`] and [`leave_turn`] put it there and take it away, with no memory. [`Unrolled`] counts the nodes of a design's statements, and
+//! the turns.
 #![tactic(auto)]
 
 mod in_turn;
 mod loop_turns;
+mod nodes;
 mod register;
 mod step;
 mod unroll;

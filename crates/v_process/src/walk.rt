@@ -38,7 +38,7 @@ pub fn statement(
     ensures found { IfOk result (IsFoundStatement (means scope.old) (view_statement tree.now)) }
     ensures scope { means scope.new ≡ means scope.old }
 {
-    unrolled.count()?;
+    unrolled.count_statement(tree)?;
     match tree {
         Statement::Null => Ok(without_effect()),
         Statement::Block { statements, .. } => {

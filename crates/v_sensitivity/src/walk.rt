@@ -42,7 +42,7 @@ fn add(
     ensures added { Adds spans.old.items spans.new.items (statement_reads (means scope.old) (view_statement tree.now)) result }
     ensures scope { means scope.new ≡ means scope.old }
 {
-    unrolled.count()?;
+    unrolled.count_statement(tree)?;
     match tree {
         Statement::Null => Ok(()),
         Statement::Block { statements, .. } => add_all(alloc, spans, scope, unrolled, statements),

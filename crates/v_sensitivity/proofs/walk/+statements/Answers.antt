@@ -9,7 +9,7 @@ use Rattle.v_scope.specs.declared.meaning.DataObject.{DataObject}
 use Rattle.v_scope.specs.Scope.{find, means}
 use Rattle.v_flat.specs.Statements.{Span, Turns, cases_read, known_turns, read_in_turns, reads, statement_reads, turn, turns, with_counter}
 use Rattle.v_reads.specs.Reads.{Adds}
-use Rattle.v_sensitivity.proofs.Rows.{row_cases, row_statements}
+use Rattle.v_loop.proofs.Rows.{row_cases, row_statements}
 use Rattle.v_sensitivity.proofs.Looping.{adds_then, counted_read, object_read}
 use Rattle.v_sensitivity.proofs.walk.+statements.Goals as goal
 

@@ -1,0 +1,11 @@
+-- The parts of braces.
+use Rattle.std.proofs.Common.{rules}
+use Rattle.v_syntax.specs.declared.expression.Expression.TheViews.{the_lemmas}
+use Rattle.v_constant.proofs.Rows.{row_views}
+use Rattle.v_loop.proofs.nodes.+counting.Goals as goal
+
+pub count_expression-returns-in-Concatenation : goal.count_expression-returns-in-Concatenation
+count_expression-returns-in-Concatenation t c = search (rules, the_lemmas, row_views)
+
+pub count_expression-returns-in_ok-count_expression-in-Replication : goal.count_expression-returns-in_ok-count_expression-in-Replication
+count_expression-returns-in_ok-count_expression-in-Replication t c = search (rules, the_lemmas, row_views)
