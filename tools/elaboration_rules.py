@@ -115,6 +115,12 @@ def duplicate_name():
               "parameters are walked before declarations, so the wire is the second one")
     yield row(rule, "a_parameter_twice", "module m; parameter P = 1, §P = 2; endmodule", "one name, two parameters")
     yield row(rule, "a_port_twice", "module m(input a, input §a); endmodule", "a header that declares its ports declares each once")
+    yield row(rule, "a_port_twice_before_an_output", "module m; wire w; s u(1, 1, w); endmodule module s(input a, input §a, output b); endmodule",
+              "connections in order go to the ports of the header one by one (12.3.5), so `w` is the output's")
+    yield row(rule, "a_port_twice_beside_a_driver", "module m; wire w; assign w = 1; s u(w, w); endmodule module s(input a, input §a, output b); endmodule",
+              "both connections are those of inputs, which drive nothing")
+    yield row(rule, "a_port_twice_and_as_many_connections", "module m; wire x, y; s u(x, y); endmodule module s(input a, input §a); endmodule",
+              "the header has two ports, so the second connection isn't too many")
     yield row(rule, "a_port_with_other_bounds", "module m(q); output [1:0] q; reg [0:1] §q; endmodule",
               "a port's two declarations have one range (12.3.3)")
     yield row(rule, "a_port_whose_kind_stands_twice", "module m(q); output wire q; wire §q; endmodule",
@@ -172,6 +178,11 @@ def bad_port():
               "a direction stands for a name of the header (12.3.3)", silent)
     yield row(rule, "a_header_name_twice", "module m(a, §a); input a; endmodule",
               "an instance couldn't tell the two ports apart", "the standard lets one net stand behind two ports (12.3.2)")
+    yield row(rule, "a_header_name_twice_before_an_output", "module m; wire w; s u(w, w, w); endmodule module s(a, §a, b); input a; output b; endmodule",
+              "connections in order go to the names of the header one by one (12.3.5), and the instance's module is walked behind them",
+              "the standard lets one net stand behind two ports (12.3.2)")
+    yield row(rule, "a_connection_too_many_for_a_port_twice", "module m; s u(1, 1, §1); endmodule module s(input a, input a); endmodule",
+              "there are two ports, and the instance is checked before its module is walked", second=["DuplicateName"])
     yield row(rule, "an_input_register_in_the_header", "module m(input reg §a); endmodule", "an input is a net (12.3.3)")
     yield row(rule, "an_input_that_becomes_a_register", "module m(a); input a; reg §a; endmodule", "an input is a net (12.3.3)")
     yield row(rule, "a_value_for_a_local_parameter", "module m; s #(.§B(2)) u(); endmodule module s; localparam B = 2; endmodule",
@@ -340,6 +351,8 @@ def bad_target():
     yield row(rule, "an_output_connected_to_a_number", f"module m; s u(§.o(1'b1));{sub}",
               "the first token of a connection by name is its `.`")
     yield row(rule, "an_output_connected_to_a_register", f"module m; reg r; s u(.o(§r));{sub}", "an output drives nets; the name is told")
+    yield row(rule, "an_output_with_the_name_of_an_input", "module m; s u(1, §1); endmodule module s(input a, output a); endmodule",
+              "the second port is an output, whatever its name is, and the instance is checked before its module is walked", second=["DuplicateName"])
     yield row(rule, "a_net_in_a_procedure_and_an_unknown_name", "module m(output y); initial §y = zz; endmodule",
               "the target stands before the value", second=["UnknownName"])
 

@@ -8,10 +8,11 @@ use Rattle.v_scope.specs.declared.rule.Broken.{Broken}
 use Rattle.v_scope.specs.Found.{HoldsOk, next}
 use Rattle.v_scope.specs.Limits.{most_parts}
 use Rattle.v_scope.specs.Scope.{Scope, before, means}
-use Rattle.v_flat.specs.Headers.{Parameter, Port, all_names, later, parameters_of, ports_of}
+use Rattle.v_flat.specs.Headers.{Parameter, Port, all_names, later, parameters_of, port_name, ports_of}
 use Rattle.v_flat.specs.Declarations.{Declared, Entries, Given, Place, declarations, in_order, parameters}
 use Rattle.v_flat.specs.Paths.{Path, signal_of}
 use Rattle.v_flat.specs.Design.{Design, Outside, State, entries, place_of}
+use Rattle.v_shape.proofs.Ports.{ports_apart}
 use Rattle.v_parameter.specs.declared.constants.Constants.{Constants}
 use Rattle.v_parameter.specs.Constants.{AreParameters, HaveValues, entries_of}
 use Rattle.v_parameter.specs.Given.{GiveTheSame}
@@ -25,11 +26,13 @@ use Rattle.v_layout.specs.Named.{StaySignals}
 use Rattle.v_layout.specs.Texts.{HasText}
 use Rattle.v_layout.proofs.Fitting.{declarations_fit}
 use Rattle.v_elab.specs.declared.state.State as code_state
+use Rattle.v_elab.specs.Ports.{Differ}
 use Rattle.v_elab.specs.States.{EndsAs, IsState}
 use Rattle.v_elab.specs.declared.outside.Outside as code
 use Rattle.v_elab.specs.Begins.{Begins, IsBegun, IsOutside, beginning, first_state}
 use Rattle.v_elab.specs.BeginSteps.{Declares, HaveConstants, OpensWith, declared_state}
 use Rattle.v_elab.proofs.BeginEnds.{of_ok}
+use Rattle.v_elab.proofs.Names.{differ}
 
 -- parameters by the scope in which they are read
 pub constants_as : (m : ModuleTree) (others : Scope) (ps : List Parameter) (gs : List Given) (r : Result (Result Constants Broken) NoMemory) → others ≡ later (all_names m)
@@ -60,6 +63,15 @@ pub names_fit : (m : ModuleTree) (c : Constants) (ps : List Port) (n k : ℕ) (r
 names_fit m c ps n k r ds f s e same few is =
     subst (λ (i : ℕ). Fit i (in_order ps ds)) same (subst (λ (qs : List Port). Fit n (in_order qs ds)) (sym e)
     (of_ok (λ (xs : List Declared). Fit n (in_order (ports_of m) xs)) (declarations w m) ds (declarations_fit w m (subst (λ (i : ℕ). i ≤ most_parts) (sym same) few)) (sym (f (later (all_names m)) s) ∙ is)))
+  where
+    w : Place
+    w = record { constants = entries_of c.list.items; others = later (all_names m); ports = ps; first = n }
+
+-- and the names of the ports differ
+pub names_differ : (m : ModuleTree) (c : Constants) (ps : List Port) (n : ℕ) (r : Result (List Declared) Broken) (ds : List Declared) → Finds m c ps n r → HasScope m c → ps ≡ ports_of m
+    → r ≡ Ok ds → Differ (map port_name ps)
+names_differ m c ps n r ds f s e is =
+    subst (λ (qs : List Port). Differ (map port_name qs)) (sym e) (differ (map port_name (ports_of m)) (ports_apart w m ds (sym (f (later (all_names m)) s) ∙ is)))
   where
     w : Place
     w = record { constants = entries_of c.list.items; others = later (all_names m); ports = ps; first = n }

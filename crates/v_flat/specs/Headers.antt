@@ -59,9 +59,9 @@ declared_direction n (ItemAt p k ∷ rest) = declared_direction n rest
 abbrev pub headed_port : HeadedPort → Port
 headed_port p = record { name = p.name.name; direction = Some (direction_of p.head) }
 
-abbrev pub all_ports : HeaderPortsTree → List ItemTree → List Port
-all_ports (NamedPorts ns) is = map (λ i. record { name = i.name; direction = declared_direction i.name is }) ns
-all_ports (DeclaredPorts ps) is = map headed_port (headed first_head ps)
+abbrev pub header_ports : HeaderPortsTree → List ItemTree → List Port
+header_ports (NamedPorts ns) is = map (λ i. record { name = i.name; direction = declared_direction i.name is }) ns
+header_ports (DeclaredPorts ps) is = map headed_port (headed first_head ps)
 
 abbrev pub find_port : List ℕ → List Port → Option Port
 find_port n [] = None
@@ -70,13 +70,9 @@ find_port n (p ∷ ps) = if bytes_eq p.name n then Some p else find_port n ps
 abbrev pub port_name : Port → List ℕ
 port_name p = p.name
 
--- each name once
-abbrev pub distinct : List (List ℕ) → List Port → List Port
-distinct seen [] = []
-distinct seen (p ∷ ps) = if list_any (bytes_eq p.name) seen then distinct seen ps else p ∷ distinct (p.name ∷ seen) ps
-
+-- those of the header, in its order; a name that stands there twice is two ports, and breaks a rule in the declarations
 abbrev pub ports_of : ModuleTree → List Port
-ports_of m = distinct [] (all_ports (ports_in m) (items_in m))
+ports_of m = header_ports (ports_in m) (items_in m)
 
 -- ---- parameters, in their order
 

@@ -846,6 +846,27 @@ text_of_a_target_of_129_digits = ((ModuleOf (id 1 (codes "m")) ([]) (NamedPorts 
 abbrev pub Is_a_target_of_129_digits : Type 0
 Is_a_target_of_129_digits = flat_design (text_of_a_target_of_129_digits) None ≡ Err (at rule.TooWide 15)
 
+-- module m; wire w; s u(1, 1, w); endmodule module s(input a, input a, output b); endmodule
+abbrev text_of_a_port_twice_before_another : List ModuleTree
+text_of_a_port_twice_before_another = ((ModuleOf (id 1 (codes "m")) ([]) (NamedPorts ([])) ((ItemAt 3 (Nets None ((NetOf (id 4 (codes "w")) None) ∷ []))) ∷ (ItemAt 6 (Instance (id 6 (codes "s")) None (id 7 (codes "u")) (Some (Ordered ((num 9 32 1) ∷ (num 11 32 1) ∷ (nm 13 (codes "w")) ∷ []))))) ∷ [])) ∷ (ModuleOf (id 18 (codes "s")) ([]) (DeclaredPorts ((HeaderPortOf (Some (Head direction.Input None None)) (id 21 (codes "a"))) ∷ (HeaderPortOf (Some (Head direction.Input None None)) (id 24 (codes "a"))) ∷ (HeaderPortOf (Some (Head direction.Output None None)) (id 27 (codes "b"))) ∷ [])) ([])) ∷ [])
+
+abbrev pub Is_a_port_twice_before_another : Type 0
+Is_a_port_twice_before_another = flat_design (text_of_a_port_twice_before_another) None ≡ Err (at rule.DuplicateName 24)
+
+-- module m; s u(1, 1); endmodule module s(input a, output a); endmodule
+abbrev text_of_a_port_twice_with_two_directions : List ModuleTree
+text_of_a_port_twice_with_two_directions = ((ModuleOf (id 1 (codes "m")) ([]) (NamedPorts ([])) ((ItemAt 3 (Instance (id 3 (codes "s")) None (id 4 (codes "u")) (Some (Ordered ((num 6 32 1) ∷ (num 8 32 1) ∷ []))))) ∷ [])) ∷ (ModuleOf (id 13 (codes "s")) ([]) (DeclaredPorts ((HeaderPortOf (Some (Head direction.Input None None)) (id 16 (codes "a"))) ∷ (HeaderPortOf (Some (Head direction.Output None None)) (id 19 (codes "a"))) ∷ [])) ([])) ∷ [])
+
+abbrev pub Is_a_port_twice_with_two_directions : Type 0
+Is_a_port_twice_with_two_directions = flat_design (text_of_a_port_twice_with_two_directions) None ≡ Err (at rule.BadTarget 8)
+
+-- module m; wire w; s u(w, w, w); endmodule module s(a, a, b); input a; output b; endmodule
+abbrev text_of_a_header_name_twice_before_another : List ModuleTree
+text_of_a_header_name_twice_before_another = ((ModuleOf (id 1 (codes "m")) ([]) (NamedPorts ([])) ((ItemAt 3 (Nets None ((NetOf (id 4 (codes "w")) None) ∷ []))) ∷ (ItemAt 6 (Instance (id 6 (codes "s")) None (id 7 (codes "u")) (Some (Ordered ((nm 9 (codes "w")) ∷ (nm 11 (codes "w")) ∷ (nm 13 (codes "w")) ∷ []))))) ∷ [])) ∷ (ModuleOf (id 18 (codes "s")) ([]) (NamedPorts ((id 20 (codes "a")) ∷ (id 22 (codes "a")) ∷ (id 24 (codes "b")) ∷ [])) ((ItemAt 27 (Ports (Head direction.Input None None) ((id 28 (codes "a")) ∷ []))) ∷ (ItemAt 30 (Ports (Head direction.Output None None) ((id 31 (codes "b")) ∷ []))) ∷ [])) ∷ [])
+
+abbrev pub Is_a_header_name_twice_before_another : Type 0
+Is_a_header_name_twice_before_another = flat_design (text_of_a_header_name_twice_before_another) None ≡ Err (at rule.BadPort 22)
+
 -- module a0; a1 u(); endmodule module a1; a2 u(); endmodule .. module a65; endmodule: from module n on, so many that hold one more
 abbrev chain : ℕ → ℕ → List ModuleTree
 chain n zero = ModuleOf (id (9 * n + 1) (97 ∷ decimal n)) [] (NamedPorts []) [] ∷ []
@@ -863,4 +884,4 @@ Is_an_instance_65_below_the_top = flat_design (chain 0 65) None ≡ Err (at rule
 
 -- all of them
 abbrev pub All_rows : Type 0
-All_rows = Is_a_memory_and_an_instance × Is_widths_of_operators × Is_a_rising_range × Is_words_of_a_memory × Is_a_braced_target_with_an_index × Is_nonblocking_updates × Is_casez_with_a_default_in_front × Is_case_of_unknown_digits × Is_loops_inside_loops × Is_contexts_of_sums × Is_values_of_parameters × Is_an_override_before_the_parameters × Is_an_unknown_condition × Is_a_port_in_two_declarations × Is_events_and_labels × Is_casex_and_all_that_is_read × Is_loops_over_words × Is_selects_of_words × Is_overrides_and_parts_of_ports × Is_parameters_of_a_header × Is_the_order_of_ports × Is_drives_side_by_side × Is_statements_of_every_form × Is_two_modules_that_nobody_instantiates × Is_modules_that_instantiate_one_another × Is_only_a_module_inside_itself × Is_a_top_that_is_not_there × Is_an_instance_of_no_module × Is_an_instance_of_no_module_in_a_child × Is_no_module_before_what_it_is_given × Is_a_module_inside_itself × Is_a_module_inside_itself_through_another × Is_a_module_inside_itself_before_its_ports × Is_two_modules_of_a_name × Is_a_parameter_of_a_nets_name × Is_a_port_declared_again_with_other_bounds × Is_a_port_declared_again_as_a_memory × Is_a_subtree_is_walked_at_its_item × Is_an_undeclared_name × Is_an_undeclared_second_name_of_a_for × Is_declarations_before_items × Is_a_lost_width_asks_nothing × Is_the_word_of_an_undeclared_index × Is_the_digit_of_an_undeclared_index × Is_a_port_without_direction × Is_an_input_that_is_a_register × Is_a_port_connected_twice × Is_an_override_of_a_localparam × Is_a_range_of_a_net × Is_a_parameter_with_an_unknown_digit × Is_a_driven_digit_at_an_index × Is_a_parameter_before_its_declaration × Is_a_part_against_a_rising_range × Is_a_part_of_a_memory × Is_two_selects_of_a_vector × Is_a_replication_of_nothing × Is_an_event_on_a_memory × Is_a_port_of_129_digits × Is_a_wide_part_of_a_comparison × Is_the_whole_is_too_wide_before_its_part × Is_a_part_of_201_digits × Is_a_part_of_200_digits_from_an_unknown_index × Is_a_part_of_200_digits_of_an_unknown_word × Is_two_assignments_of_a_net × Is_digits_driven_twice × Is_a_net_twice_in_a_braced_target × Is_an_assignment_of_an_input × Is_an_output_joined_to_a_driven_net × Is_a_net_in_a_procedure × Is_a_register_in_an_assignment × Is_the_variable_of_a_loop_as_a_target × Is_a_for_of_two_names × Is_an_output_joined_to_a_sum × Is_a_loop_of_4097_turns × Is_a_loop_of_4096_turns × Is_a_loop_that_cant_end × Is_a_long_loop_before_what_it_holds × Is_one_signal_too_many × Is_a_memory_of_all_indices × Is_one_signal_too_many_in_a_child × Is_contexts_of_comparisons × Is_contexts_of_shifts × Is_contexts_of_conditions × Is_operands_of_their_own_width × Is_unknown_operands × Is_conditions_of_unknown_digits × Is_indices_of_targets_and_reads × Is_labels_of_other_widths × Is_cases_of_x_and_z × Is_connections_in_another_order × Is_a_grandchild_before_a_sibling × Is_a_parameters_own_width × Is_a_register_in_braces_of_a_connection × Is_a_register_in_braces_of_an_ordered_connection × Is_an_input_at_an_index_that_is_a_signal × Is_an_input_at_an_undeclared_index × Is_an_input_with_two_selects × Is_an_output_joined_to_an_input × Is_an_output_joined_to_a_net_and_an_input × Is_a_driven_net_behind_an_undeclared_part × Is_a_net_twice_around_an_undeclared_part × Is_an_undeclared_part_before_a_net × Is_a_memory_of_a_registers_name × Is_a_memory_of_a_parameters_name × Is_a_memory_of_undeclared_words × Is_an_undeclared_step_without_a_turn × Is_a_net_in_a_step_without_a_turn × Is_a_memory_as_a_second_name_of_a_for × Is_a_net_as_a_second_name_of_a_for × Is_a_digit_at_an_index_that_is_too_wide × Is_a_word_at_an_index_that_is_too_wide × Is_a_register_in_wide_braces × Is_a_net_in_wide_braces_of_a_procedure × Is_a_driven_net_in_wide_braces × Is_an_input_in_wide_braces × Is_a_target_of_129_digits × Is_an_instance_64_below_the_top × Is_an_instance_65_below_the_top
+All_rows = Is_a_memory_and_an_instance × Is_widths_of_operators × Is_a_rising_range × Is_words_of_a_memory × Is_a_braced_target_with_an_index × Is_nonblocking_updates × Is_casez_with_a_default_in_front × Is_case_of_unknown_digits × Is_loops_inside_loops × Is_contexts_of_sums × Is_values_of_parameters × Is_an_override_before_the_parameters × Is_an_unknown_condition × Is_a_port_in_two_declarations × Is_events_and_labels × Is_casex_and_all_that_is_read × Is_loops_over_words × Is_selects_of_words × Is_overrides_and_parts_of_ports × Is_parameters_of_a_header × Is_the_order_of_ports × Is_drives_side_by_side × Is_statements_of_every_form × Is_two_modules_that_nobody_instantiates × Is_modules_that_instantiate_one_another × Is_only_a_module_inside_itself × Is_a_top_that_is_not_there × Is_an_instance_of_no_module × Is_an_instance_of_no_module_in_a_child × Is_no_module_before_what_it_is_given × Is_a_module_inside_itself × Is_a_module_inside_itself_through_another × Is_a_module_inside_itself_before_its_ports × Is_two_modules_of_a_name × Is_a_parameter_of_a_nets_name × Is_a_port_declared_again_with_other_bounds × Is_a_port_declared_again_as_a_memory × Is_a_subtree_is_walked_at_its_item × Is_an_undeclared_name × Is_an_undeclared_second_name_of_a_for × Is_declarations_before_items × Is_a_lost_width_asks_nothing × Is_the_word_of_an_undeclared_index × Is_the_digit_of_an_undeclared_index × Is_a_port_without_direction × Is_an_input_that_is_a_register × Is_a_port_connected_twice × Is_an_override_of_a_localparam × Is_a_range_of_a_net × Is_a_parameter_with_an_unknown_digit × Is_a_driven_digit_at_an_index × Is_a_parameter_before_its_declaration × Is_a_part_against_a_rising_range × Is_a_part_of_a_memory × Is_two_selects_of_a_vector × Is_a_replication_of_nothing × Is_an_event_on_a_memory × Is_a_port_of_129_digits × Is_a_wide_part_of_a_comparison × Is_the_whole_is_too_wide_before_its_part × Is_a_part_of_201_digits × Is_a_part_of_200_digits_from_an_unknown_index × Is_a_part_of_200_digits_of_an_unknown_word × Is_two_assignments_of_a_net × Is_digits_driven_twice × Is_a_net_twice_in_a_braced_target × Is_an_assignment_of_an_input × Is_an_output_joined_to_a_driven_net × Is_a_net_in_a_procedure × Is_a_register_in_an_assignment × Is_the_variable_of_a_loop_as_a_target × Is_a_for_of_two_names × Is_an_output_joined_to_a_sum × Is_a_loop_of_4097_turns × Is_a_loop_of_4096_turns × Is_a_loop_that_cant_end × Is_a_long_loop_before_what_it_holds × Is_one_signal_too_many × Is_a_memory_of_all_indices × Is_one_signal_too_many_in_a_child × Is_contexts_of_comparisons × Is_contexts_of_shifts × Is_contexts_of_conditions × Is_operands_of_their_own_width × Is_unknown_operands × Is_conditions_of_unknown_digits × Is_indices_of_targets_and_reads × Is_labels_of_other_widths × Is_cases_of_x_and_z × Is_connections_in_another_order × Is_a_grandchild_before_a_sibling × Is_a_parameters_own_width × Is_a_register_in_braces_of_a_connection × Is_a_register_in_braces_of_an_ordered_connection × Is_an_input_at_an_index_that_is_a_signal × Is_an_input_at_an_undeclared_index × Is_an_input_with_two_selects × Is_an_output_joined_to_an_input × Is_an_output_joined_to_a_net_and_an_input × Is_a_driven_net_behind_an_undeclared_part × Is_a_net_twice_around_an_undeclared_part × Is_an_undeclared_part_before_a_net × Is_a_memory_of_a_registers_name × Is_a_memory_of_a_parameters_name × Is_a_memory_of_undeclared_words × Is_an_undeclared_step_without_a_turn × Is_a_net_in_a_step_without_a_turn × Is_a_memory_as_a_second_name_of_a_for × Is_a_net_as_a_second_name_of_a_for × Is_a_digit_at_an_index_that_is_too_wide × Is_a_word_at_an_index_that_is_too_wide × Is_a_register_in_wide_braces × Is_a_net_in_wide_braces_of_a_procedure × Is_a_driven_net_in_wide_braces × Is_an_input_in_wide_braces × Is_a_target_of_129_digits × Is_a_port_twice_before_another × Is_a_port_twice_with_two_directions × Is_a_header_name_twice_before_another × Is_an_instance_64_below_the_top × Is_an_instance_65_below_the_top

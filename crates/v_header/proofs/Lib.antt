@@ -1,5 +1,4 @@
-pub mod Noted
-pub mod Stored
+pub mod Places
 pub mod Directions
 pub mod LaterNames
 pub mod ParameterLaws

@@ -1,5 +1,4 @@
 pub mod Names
 pub mod Parameters
 pub mod Heads
-pub mod Kept
 pub mod Ports

@@ -1,10 +1,10 @@
--- The ports that the code tells, as the definition has them, and lists of ports to which more are added.
-use Rattle.std.specs.Prelude.{ℕ, List, [], ◌∷◌, ◌++◌, map, Option, Some}
+-- The ports that the code tells, as the definition has them, and their places.
+use Rattle.std.specs.Prelude.{ℕ, suc, List, [], ◌∷◌, ◌++◌, map, Option, None, Some, option_map, bytes_eq, if◌then◌else◌}
 use Rattle.std.specs.Option.{option_and_then}
 use Rattle.v_syntax.specs.declared.statement.Identifier.{Identifier}
 use Rattle.v_syntax.specs.declared.item.Direction.{Direction}
 use Rattle.v_syntax.specs.SourceTrees.{Ports, ItemTree, ItemAt}
-use Rattle.v_flat.specs.Headers.{Port, direction_of, distinct, find_port, port_name}
+use Rattle.v_flat.specs.Headers.{Port, direction_of, find_port}
 use Rattle.v_header.specs.declared.ports.Port as code
 
 -- a port of this name with this direction, if any
@@ -15,9 +15,14 @@ port_of n d = record { name = n; direction = d }
 abbrev pub port_in : code.Port → Port
 port_in p = port_of p.name.now p.direction
 
--- behind ports those others whose names are new, each name once
-unfoldable pub with_ports : List Port → List Port → List Port
-with_ports ps qs = ps ++ distinct (map port_name ps) qs
+-- all of them, in order
+abbrev pub ports_in : List code.Port → List Port
+ports_in ps = map port_in ps
+
+-- how many ports stand before the first of a name
+abbrev pub place_of : List ℕ → List Port → Option ℕ
+place_of n [] = None
+place_of n (p ∷ ps) = if bytes_eq p.name n then Some 0 else option_map suc (place_of n ps)
 
 -- a port of an item that gives its ports a direction
 abbrev pub line_port : Direction → Identifier → Port

@@ -1,5 +1,5 @@
 -- What holds along the walk over the instances of a design, where what an instance is given is known behind it too.
-use Rattle.std.proofs.Common.{inl, inr, ◌≡◌, ℕ, zero, suc, Bool, true, false, ◌&&◌, not, List, [], ◌∷◌, length, nat_lt, Option, Some, None, Result, Ok, Err, cond, refl, if◌then◌else◌}
+use Rattle.std.proofs.Common.{inl, inr, ◌≡◌, ℕ, zero, suc, Bool, true, false, ◌&&◌, not, List, [], ◌∷◌, length, map, nat_lt, Option, Some, None, Result, Ok, Err, cond, refl, if◌then◌else◌}
 use Rattle.std.specs.List.{filter, list_any}
 use Rattle.std.specs.Prelude.{bytes_eq}
 use Rattle.v_syntax.specs.declared.statement.Identifier.{Identifier}
@@ -10,18 +10,24 @@ use Rattle.v_scope.specs.Limits.{most_parts}
 use Rattle.v_scope.specs.Found.{Holds, HoldsOk, ended, needs, next}
 use Rattle.v_scope.specs.declared.found.Found.TheVariants.{Sound}
 use Rattle.v_scope.specs.Scope.{nothing}
-use Rattle.v_flat.specs.Headers.{all_names, items_in, later, module_name, parameters_of, ports_of}
+use Rattle.v_flat.specs.Headers.{all_names, items_in, later, module_name, parameters_of, port_name, ports_of}
 use Rattle.v_flat.specs.Declarations.{Declared, Entries, Given, declarations, in_order, parameters}
 use Rattle.v_flat.specs.Paths.{Path, below}
 use Rattle.v_flat.specs.Design.{Design, Joints, Outside, State, Sub, closed, find_module, flat_design, from_top, instance, instance_checked, instance_item, item, items, module_there, modules_checked, no_design, only, place_of, plain_item, top_of, unused, used_modules, walk, walk_items, with_child}
 use Rattle.v_flat.proofs.Holds.{holds_ended, holds_next}
 use Rattle.v_shape.proofs.Ends.{ended_sound, holds_next_so, needs_sound}
 use Rattle.v_laws.proofs.Members.{Member}
+use Rattle.v_shape.proofs.Names.{Differ}
+use Rattle.v_shape.proofs.Ports.{ports_apart}
 use Rattle.v_shape.proofs.Walk.{opening, scope_of}
 
 -- what is given to an instance among the items, where no rule is broken in it
 abbrev pub outside_of : State → List Given × Joints → Outside
 outside_of s x = record { given = x.0; scope = s.scope; joints = x.1.list }
+
+-- the ports of a module have different names, as they have where no rule is broken in its declarations
+abbrev pub PortsDiffer : ModuleTree → Type 0
+PortsDiffer m = Differ (map port_name (ports_of m))
 
 -- in a text of the modules ms, P is known of what an instance begins with, I of the design before and behind it, and J of the state between two of its items, with what it was
 -- given, the design before it and what it declares
@@ -33,9 +39,9 @@ pub record Steps (ms : List ModuleTree) (P : ModuleTree → Outside → Design �
   pub plain : (m : ModuleTree) (out : Outside) (d : Design) (ds : List Declared) (p : ℕ) (k : KindTree) (s : State) → Member (ItemAt p k) (items_in m) → J m out d ds s
       → Holds (J m out d ds) (plain_item p k s)
   pub given : (m : ModuleTree) (out : Outside) (d : Design) (ds : List Declared) (p : ℕ) (v : Option ConnectionsTree) (i : Identifier) (c : Option ConnectionsTree) (s : State)
-      (n : ModuleTree) (x : List Given × Joints) → J m out d ds s → Member n ms → instance_checked p v i c s n ≡ Sound x → P n (outside_of s x) s.design
+      (n : ModuleTree) (x : List Given × Joints) → J m out d ds s → Member n ms → instance_checked p v i c s n ≡ Sound x → PortsDiffer n → P n (outside_of s x) s.design
   pub inner : (m : ModuleTree) (out : Outside) (d : Design) (ds : List Declared) (p : ℕ) (v : Option ConnectionsTree) (i : Identifier) (c : Option ConnectionsTree) (s : State)
-      (n : ModuleTree) (x : List Given × Joints) (e : Design) → J m out d ds s → instance_checked p v i c s n ≡ Sound x → I n (outside_of s x) s.design e
+      (n : ModuleTree) (x : List Given × Joints) (e : Design) → J m out d ds s → instance_checked p v i c s n ≡ Sound x → PortsDiffer n → I n (outside_of s x) s.design e
       → J m out d ds (with_child i.name (length s.design.nodes) x.1.driven s e)
   pub closes : (m : ModuleTree) (path : Path) (out : Outside) (d : Design) (ds : List Declared) (t : State) → J m out d ds t → I m out d (closed path (length d.nodes) t)
 
@@ -89,9 +95,13 @@ top_member ms None m e =
     filtered_member (λ k. not (list_any (bytes_eq (module_name k).name) (used_modules ms))) m ms (only_member (unused (used_modules ms) ms) m e)
 
 module _ (ms : List ModuleTree) (P : ModuleTree → Outside → Design → Type 0) (I : ModuleTree → Outside → Design → Design → Type 0) (J : ModuleTree → Outside → Design → List Declared → State → Type 0) (steps : Steps ms P I J) where
+  abbrev Walked : ModuleTree → Outside → Design → Design → Type 0
+  Walked m out d e = PortsDiffer m × I m out d e
+
   -- what is known of the walk over an instance
   abbrev Good : Sub → ℕ → Type 0
-  Good sub room = nat_lt 0 room ≡ true → (above : List (List ℕ)) (m : ModuleTree) (path : Path) (out : Outside) (d : Design) → P m out d → HoldsOk (I m out d) (sub above m path out d)
+  Good sub room = nat_lt 0 room ≡ true → (above : List (List ℕ)) (m : ModuleTree) (path : Path) (out : Outside) (d : Design) → (PortsDiffer m → P m out d)
+      → HoldsOk (Walked m out d) (sub above m path out d)
 
   module _ (sub : Sub) (room : ℕ) (good : Good sub room) (above : List (List ℕ)) (path : Path) (own : ModuleTree) (out : Outside) (d : Design) (ds : List Declared) where
     instance_holds : (p : ℕ) (m : Identifier) (v : Option ConnectionsTree) (i : Identifier) (c : Option ConnectionsTree) (s : State) → J own out d ds s
@@ -104,13 +114,13 @@ module _ (ms : List ModuleTree) (P : ModuleTree → Outside → Design → Type 
         (λ inner is. holds_next_so (J own out d ds) (ended (instance_checked p v i c s inner)) (λ x.
         next (sub (m.name ∷ above) inner (below path i.name) (record { given = x.0; scope = s.scope; joints = x.1.list }) s.design) (λ e.
         Ok (with_child i.name (length s.design.nodes) x.1.driven s e)))
-        (λ x checks. holds_next (I inner (outside_of s x) s.design) (J own out d ds)
+        (λ x checks. holds_next (Walked inner (outside_of s x) s.design) (J own out d ds)
         (sub (m.name ∷ above) inner (below path i.name) (record { given = x.0; scope = s.scope; joints = x.1.list }) s.design)
         (λ e. Ok (with_child i.name (length s.design.nodes) x.1.driven s e))
         (good (room_there m room above s.design (find_module m.name ms) inner is) (m.name ∷ above) inner (below path i.name) (outside_of s x) s.design
-        (steps.given own out d ds p v i c s inner x h
-        (module_found m.name ms inner (module_is m room above s.design (find_module m.name ms) inner is)) (ended_sound (instance_checked p v i c s inner) x checks)))
-        (λ e k. steps.inner own out d ds p v i c s inner x e h (ended_sound (instance_checked p v i c s inner) x checks) k)))
+        (λ apart. steps.given own out d ds p v i c s inner x h
+        (module_found m.name ms inner (module_is m room above s.design (find_module m.name ms) inner is)) (ended_sound (instance_checked p v i c s inner) x checks) apart))
+        (λ e k. steps.inner own out d ds p v i c s inner x e h (ended_sound (instance_checked p v i c s inner) x checks) k.0 k.1)))
 
     plain_holds : (p : ℕ) (k : KindTree) (s : State) → Member (ItemAt p k) (items_in own) → J own out d ds s → HoldsOk (J own out d ds) (ended (plain_item p k s))
     plain_holds p k s here h = holds_ended (J own out d ds) (plain_item p k s) (steps.plain own out d ds p k s here h)
@@ -131,23 +141,23 @@ module _ (ms : List ModuleTree) (P : ModuleTree → Outside → Design → Type 
     items_hold (i ∷ is) s among h =
         holds_next (J own out d ds) (J own out d ds) (item sub room ms above path i s) (items sub room ms above path is) (item_holds i s (among i (inl refl)) h) (λ t k. items_hold is t (λ j m. among j (inr m)) k)
 
-  instance_walk : (sub : Sub) (room : ℕ) → Good sub room → (above : List (List ℕ)) (m : ModuleTree) (path : Path) (out : Outside) (d : Design) → P m out d
-      → HoldsOk (I m out d) (instance sub room ms above m path out d)
+  instance_walk : (sub : Sub) (room : ℕ) → Good sub room → (above : List (List ℕ)) (m : ModuleTree) (path : Path) (out : Outside) (d : Design) → (PortsDiffer m → P m out d)
+      → HoldsOk (Walked m out d) (instance sub room ms above m path out d)
   instance_walk sub room good above m path out d h =
-      holds_next_so (I m out d) (parameters (parameters_of m) out.given (later (all_names m)) []) (λ constants.
+      holds_next_so (Walked m out d) (parameters (parameters_of m) out.given (later (all_names m)) []) (λ constants.
       next (declarations (place_of m constants d) m) (λ ds.
       walk_items sub room ms above m path out d (scope_of constants d (in_order (ports_of m) ds)) (in_order (ports_of m) ds)))
-      (λ constants e. holds_next_so (I m out d) (declarations (place_of m constants d) m) (λ ds.
+      (λ constants e. holds_next_so (Walked m out d) (declarations (place_of m constants d) m) (λ ds.
       walk_items sub room ms above m path out d (scope_of constants d (in_order (ports_of m) ds)) (in_order (ports_of m) ds))
-      (λ ds is. holds_next (J m out d (in_order (ports_of m) ds)) (I m out d)
+      (λ ds is. holds_next (J m out d (in_order (ports_of m) ds)) (Walked m out d)
       (items sub room ms above path (items_in m) (opening m path out d (scope_of constants d (in_order (ports_of m) ds)) (in_order (ports_of m) ds)))
       (λ t. Ok (closed path (length d.nodes) t))
       (items_hold sub room good above path m out d (in_order (ports_of m) ds) (items_in m) (opening m path out d (scope_of constants d (in_order (ports_of m) ds)) (in_order (ports_of m) ds))
-      (λ i here. here) (steps.opens m path out d constants ds h e is))
-      (λ t k. steps.closes m path out d (in_order (ports_of m) ds) t k)))
+      (λ i here. here) (steps.opens m path out d constants ds (h (ports_apart (place_of m constants d) m ds is)) e is))
+      (λ t k. (ports_apart (place_of m constants d) m ds is, steps.closes m path out d (in_order (ports_of m) ds) t k))))
 
-  walk_holds : (room : ℕ) (above : List (List ℕ)) (m : ModuleTree) (path : Path) (out : Outside) (d : Design) → P m out d
-      → HoldsOk (I m out d) (walk ms room above m path out d)
+  walk_holds : (room : ℕ) (above : List (List ℕ)) (m : ModuleTree) (path : Path) (out : Outside) (d : Design) → (PortsDiffer m → P m out d)
+      → HoldsOk (Walked m out d) (walk ms room above m path out d)
   unfolding walk
   walk_holds zero above m path out d h = instance_walk (λ a n q o e. Ok e) 0 (λ t. cc) above m path out d h
   walk_holds (suc room) above m path out d h =
@@ -157,9 +167,9 @@ module _ (ms : List ModuleTree) (P : ModuleTree → Outside → Design → Type 
       → ((m : ModuleTree) (out : Outside) (e : Design) → I m out no_design e → Q e) → (top : Option ModuleTree) → ((m : ModuleTree) → top ≡ Some m → Member m ms) → HoldsOk Q (from_top ms top)
   top_holds Q begins ends None among = tt
   top_holds Q begins ends (Some m) among =
-      holds_ok_of (I m (record { given = []; scope = nothing; joints = [] }) no_design) Q (walk ms 64 ((module_name m).name ∷ []) m ((module_name m).name ∷ []) (record { given = []; scope = nothing; joints = [] }) no_design)
-      (walk_holds 64 ((module_name m).name ∷ []) m ((module_name m).name ∷ []) (record { given = []; scope = nothing; joints = [] }) no_design (begins m (among m refl)))
-      (ends m (record { given = []; scope = nothing; joints = [] }))
+      holds_ok_of (Walked m (record { given = []; scope = nothing; joints = [] }) no_design) Q (walk ms 64 ((module_name m).name ∷ []) m ((module_name m).name ∷ []) (record { given = []; scope = nothing; joints = [] }) no_design)
+      (walk_holds 64 ((module_name m).name ∷ []) m ((module_name m).name ∷ []) (record { given = []; scope = nothing; joints = [] }) no_design (λ apart. begins m (among m refl)))
+      (λ e k. ends m (record { given = []; scope = nothing; joints = [] }) e k.1)
     where
       holds_ok_of : (A B : Design → Type 0) (r : Result Design Broken) → HoldsOk A r → ((e : Design) → A e → B e) → HoldsOk B r
       holds_ok_of A B (Ok e) h f = f e h

@@ -20,7 +20,7 @@ use Rattle.v_scope.specs.Scope.{Scope, find, means}
 use Rattle.v_flat.specs.Objects.{count_of}
 use Rattle.v_flat.specs.Checks.{checked}
 use Rattle.v_flat.specs.Targets.{Drive, as_target, driving}
-use Rattle.v_flat.specs.Headers.{Port, all_ports, find_port, items_in, later, port_name, ports_in, ports_of}
+use Rattle.v_flat.specs.Headers.{Port, find_port, later, port_name, ports_of}
 use Rattle.v_flat.specs.Declarations.{Declared, Entries, Place, declarations, find_declared, in_order, is_free, listed, other_lines, port_lines, whole_of}
 use Rattle.v_flat.specs.Statements.{reads}
 use Rattle.v_flat.specs.Design.{Design, Joint, Joints, any_change, entries, find_joint, input_run, output_run, wakes_of, joint, joint_count, joined, joints_of, named_joint, named_joints, object_of, opened, ordered_joints, output_joined, output_target, place_of, port_joint, port_joints, port_once, value_checked, with_process}
@@ -31,12 +31,13 @@ use Rattle.v_shape.proofs.Declared.{Goes, declared_hold}
 use Rattle.v_shape.proofs.Joints.{as_many}
 use Rattle.v_shape.proofs.Names.{Among, Differ, among_first, among_later, is_itself, same_name}
 use Rattle.v_shape.proofs.Nodes.{one_if}
+use Rattle.v_shape.proofs.Ports.{ports_apart}
 use Rattle.v_laws.specs.Joints.{Joints_are_counted}
 use Rattle.v_laws.proofs.Members.{Member, member_both}
 use Rattle.v_laws.proofs.Directions.{HasDirection, directed, found_member, put_member}
 use Rattle.v_laws.proofs.Found.{of_ok, of_sound}
 use Rattle.v_laws.proofs.Places.{member_named}
-use Rattle.v_laws.proofs.Joined.{distinct_differ, found_port, one_port}
+use Rattle.v_laws.proofs.Joined.{found_port, one_port}
 
 -- ---- the connections
 
@@ -321,7 +322,7 @@ port_object m d constants ds e p here = (found.0, free_passed p.name constants (
 
 pub joints_are_counted : Joints_are_counted
 joints_are_counted outer c m driven x given path d constants ds joins first second =
-    let differ = distinct_differ [] (all_ports (ports_in m) (items_in m)) in
+    let differ = ports_apart (place_of m constants d) m ds second in
     let ones : AreOfPorts (ports_of m) x.list = of_sound (λ (y : Joints). AreOfPorts (ports_of m) y.list) (joints_of outer c (ports_of m) driven) x (all_given outer (ports_of m) c driven differ) joins in
     let many : length x.list ≡ joint_count c (ports_of m) = of_sound (λ (y : Joints). length y.list ≡ joint_count c (ports_of m)) (joints_of outer c (ports_of m) driven) x (as_many outer c (ports_of m) driven) joins in
     let hit : hits (ports_of m) x.list ≡ length x.list = all_hit (ports_of m) x.list differ ones in

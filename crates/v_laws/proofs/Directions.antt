@@ -14,7 +14,7 @@ use Rattle.v_scope.specs.Found.{Holds, HoldsOk, and_then, ended, fine, needs, ne
 use Rattle.v_scope.specs.declared.meaning.Bounds.{Bounds}
 use Rattle.v_scope.specs.Limits.{most_parts}
 use Rattle.v_flat.specs.Objects.{count_of}
-use Rattle.v_flat.specs.Headers.{HeadedPort, Port, all_ports, declared_direction, direction_of, distinct, first_head, headed, headed_port, items_in, name_of, ports_in, ports_of}
+use Rattle.v_flat.specs.Headers.{HeadedPort, Port, declared_direction, direction_of, first_head, headed, headed_port, header_ports, items_in, name_of, ports_in, ports_of}
 use Rattle.v_flat.specs.Declarations.{Declared, Integer, Place, Reg, Sort, Wire, are_halves, bounds_in, declarations, declare, declare_again, declare_all, declare_header, declare_line, declare_lines, declare_memory, declare_ports, declare_register, declare_registers, declared_as, declared_too, find_declared, find_direction, header_declared, integer_bounds, is_direction_alone, is_free, is_input_reg, is_net_or_reg, is_new, is_port, is_sort_alone, known_names, names_checked, net_identifier, port_checked, same_bounds, signals_in, sort_of, vector_bounds, whole_of, with_declared}
 use Rattle.v_flat.proofs.Holds.{holds_any, holds_ended, holds_needs, holds_next, holds_ok_any, holds_then, holds_wants}
 use Rattle.v_shape.proofs.Names.{Among, is_itself, same_name}
@@ -364,19 +364,6 @@ module _ (w : Place) where
       (ended (needs (not (list_any (bytes_eq j.name) seen) && find_direction j.name w.ports) rule.BadPort j.at fine)) (λ u. names_checked w (j.name ∷ seen) is)
       (holds_ok_any (ended (needs (not (list_any (bytes_eq j.name) seen) && find_direction j.name w.ports) rule.BadPort j.at fine))) (λ u t. names_direct i is (j.name ∷ seen) m)
 
-distinct_member : (p : Port) (seen : List (List ℕ)) (ps : List Port) → Member p (distinct seen ps) → Member p ps
-distinct_member p seen [] m = absurd m
-distinct_member p seen (q ∷ ps) m = go (list_any (bytes_eq q.name) seen) m (distinct_member p seen ps) (distinct_member p (q.name ∷ seen) ps)
-  where
-    here : Member p (q ∷ distinct (q.name ∷ seen) ps) → (Member p (distinct (q.name ∷ seen) ps) → Member p ps) → Member p (q ∷ ps)
-    here (inl e) k = inl e
-    here (inr g) k = inr (k g)
-
-    go : (b : Bool) → Member p (if b then distinct seen ps else q ∷ distinct (q.name ∷ seen) ps) → (Member p (distinct seen ps) → Member p ps)
-        → (Member p (distinct (q.name ∷ seen) ps) → Member p ps) → Member p (q ∷ ps)
-    go true g j k = inr (j g)
-    go false g j k = here g k
-
 abbrev named_port : List ItemTree → Identifier → Port
 named_port is i = record { name = i.name; direction = declared_direction i.name is }
 
@@ -398,9 +385,6 @@ pub record HasDirection (p : Port) (ds : List Declared) : Type 0 where
 pub directed : (w : Place) (m : ModuleTree) (p : Port) → w.ports ≡ ports_of m → Member p (ports_of m) → HoldsOk (HasDirection p) (declarations w m)
 directed w m p ports here = by_header (ports_in m) refl
   where
-    from_port : Member p (all_ports (ports_in m) (items_in m))
-    from_port = distinct_member p [] (all_ports (ports_in m) (items_in m)) here
-
     named : (ns : List Identifier) → ports_in m ≡ NamedPorts ns → (o : Option Direction) → declared_direction p.name (items_in m) ≡ o → p.direction ≡ declared_direction p.name (items_in m) → is_some o ≡ true
         → (ds : List Declared) → HoldsOk (HasDirection p) (declare_lines w (items_in m) ds)
     named ns f None e g h ds = cc
@@ -412,7 +396,7 @@ directed w m p ports here = by_header (ports_in m) refl
 
     is_named : (ns : List Identifier) → ports_in m ≡ NamedPorts ns → (q : Port) → Member q (ports_of m) → (i : Identifier) × Member i ns × (q ≡ named_port (items_in m) i)
     is_named ns f q k =
-        member_map (named_port (items_in m)) q ns (subst (λ (ps : HeaderPortsTree). Member q (all_ports ps (items_in m))) f (distinct_member q [] (all_ports (ports_in m) (items_in m)) k))
+        member_map (named_port (items_in m)) q ns (subst (λ (ps : HeaderPortsTree). Member q (header_ports ps (items_in m))) f k)
 
     by_names : (ns : List Identifier) → ports_in m ≡ NamedPorts ns → HoldsOk (HasDirection p) (next (header_declared w (NamedPorts ns)) (declare_lines w (items_in m)))
     by_names ns f =
@@ -444,5 +428,5 @@ directed w m p ports here = by_header (ports_in m) refl
     by_header : (ps : HeaderPortsTree) → ports_in m ≡ ps → HoldsOk (HasDirection p) (declarations w m)
     by_header (NamedPorts ns) f = subst (λ (x : HeaderPortsTree). HoldsOk (HasDirection p) (next (header_declared w x) (declare_lines w (items_in m)))) (sym f) (by_names ns f)
     by_header (DeclaredPorts ps) f =
-        let h = member_map headed_port p (headed first_head ps) (subst (λ (x : HeaderPortsTree). Member p (all_ports x (items_in m))) f from_port) in
+        let h = member_map headed_port p (headed first_head ps) (subst (λ (x : HeaderPortsTree). Member p (header_ports x (items_in m))) f here) in
         subst (λ (x : HeaderPortsTree). HoldsOk (HasDirection p) (next (header_declared w x) (declare_lines w (items_in m)))) (sym f) (by_heads (headed first_head ps) h.0 h.1 h.2)

@@ -17,34 +17,22 @@ use Rattle.v_scope.specs.Scope.{Scope}
 use Rattle.v_flat.specs.Expressions.{Values}
 use Rattle.v_flat.specs.Checks.{checked}
 use Rattle.v_flat.specs.Targets.{Drive, as_target, driving, target_width, updates}
-use Rattle.v_flat.specs.Headers.{Port, distinct, find_port, port_name, all_ports, items_in, open_parameters, parameters_of, ports_in, ports_of}
+use Rattle.v_flat.specs.Headers.{Port, find_port, port_name, open_parameters, parameters_of, ports_of}
 use Rattle.v_scope.specs.Limits.{most_parts}
 use Rattle.v_flat.specs.Declarations.{Given}
 use Rattle.v_shape.proofs.Ends.{sound_both, wants_sound}
 use Rattle.v_flat.specs.Design.{Joint, Joints, find_joint, joint, joined, joints_of, named_joint, named_joints, ordered_joints, output_joined, port_once, value_checked, State, given_of, instance_checked, is_fresh, joint_count}
 use Rattle.v_flat.proofs.Holds.{holds_any, holds_each, holds_lost, holds_then}
-use Rattle.v_shape.proofs.Names.{Among, Differ, among_first, among_later, one_of_more, same_name}
+use Rattle.v_shape.proofs.Names.{Among, Differ, one_of_more, same_name}
 use Rattle.v_laws.specs.Digits.{IsDriven, IsWritten}
 use Rattle.v_laws.specs.Drivers.{NetsHaveNoWords}
 use Rattle.v_laws.proofs.Members.{Member}
 use Rattle.v_laws.proofs.Driven.{GoesOn, driving_goes, goes_on, stays}
+use Rattle.v_laws.proofs.Along.{PortsDiffer}
 use Rattle.v_laws.proofs.Places.{member_named}
 use Rattle.v_laws.proofs.Recorded.{TargetRecorded, target_recorded}
 
 -- ---- ports by their names
-
-distinct_new : (p : Port) (seen : List (List ℕ)) (ps : List Port) → Member p (distinct seen ps) → Among p.name seen → ⊥
-distinct_new p seen [] m a = m
-distinct_new p seen (q ∷ ps) m a = go (list_any (bytes_eq q.name) seen) refl m (distinct_new p seen ps) (distinct_new p (q.name ∷ seen) ps)
-  where
-    here : list_any (bytes_eq q.name) seen ≡ false → Member p (q ∷ distinct (q.name ∷ seen) ps) → (Member p (distinct (q.name ∷ seen) ps) → Among p.name (q.name ∷ seen) → ⊥) → ⊥
-    here e (inl f) k = let g : list_any (bytes_eq q.name) seen ≡ true = ap (λ (r : Port). list_any (bytes_eq r.name) seen) (sym f) ∙ a in cc
-    here e (inr g) k = k g (among_later p.name q.name seen a)
-
-    go : (b : Bool) → list_any (bytes_eq q.name) seen ≡ b → Member p (if b then distinct seen ps else q ∷ distinct (q.name ∷ seen) ps) → (Member p (distinct seen ps) → Among p.name seen → ⊥)
-        → (Member p (distinct (q.name ∷ seen) ps) → Among p.name (q.name ∷ seen) → ⊥) → ⊥
-    go true e g j k = j g a
-    go false e g j k = here e g k
 
 pub named_member : (n : List ℕ) (ps : List Port) → Among n (map port_name ps) → (q : Port) × Member q ps × (q.name ≡ n)
 named_member n [] a = cc
@@ -53,19 +41,6 @@ named_member n (p ∷ ps) a = go (one_of_more n p.name (map port_name ps) a) (na
     go : (n ≡ p.name) ⊎ Among n (map port_name ps) → (Among n (map port_name ps) → (q : Port) × Member q ps × (q.name ≡ n)) → (q : Port) × Member q (p ∷ ps) × (q.name ≡ n)
     go (inl e) k = (p, inl refl, sym e)
     go (inr b) k = let r = k b in (r.0, inr r.1, r.2)
-
-pub distinct_differ : (seen : List (List ℕ)) (ps : List Port) → Differ (map port_name (distinct seen ps))
-distinct_differ seen [] = tt
-distinct_differ seen (p ∷ ps) = go (list_any (bytes_eq p.name) seen) (distinct_differ seen ps) (distinct_differ (p.name ∷ seen) ps)
-  where
-    first : Among p.name (map port_name (distinct (p.name ∷ seen) ps)) → ⊥
-    first a =
-        let r = named_member p.name (distinct (p.name ∷ seen) ps) a in
-        distinct_new r.0 (p.name ∷ seen) ps r.1 (ap (λ m. list_any (bytes_eq m) (p.name ∷ seen)) r.2 ∙ among_first p.name seen)
-
-    go : (b : Bool) → Differ (map port_name (distinct seen ps)) → Differ (map port_name (distinct (p.name ∷ seen) ps)) → Differ (map port_name (if b then distinct seen ps else p ∷ distinct (p.name ∷ seen) ps))
-    go true j k = j
-    go false j k = (first, k)
 
 -- a port is known by its name
 pub one_port : (ps : List Port) → Differ (map port_name ps) → (p q : Port) → Member p ps → Member q ps → p.name ≡ q.name → p ≡ q
@@ -202,8 +177,8 @@ module _ (s : Scope) (none : NetsHaveNoWords s) where
 
 -- where no rule is broken in an instance
 pub checked_joined : (s : State) → NetsHaveNoWords s.scope → (p : ℕ) (v : Option ConnectionsTree) (i : Identifier) (c : Option ConnectionsTree) (n : ModuleTree) (x : List Given × Joints)
-    → instance_checked p v i c s n ≡ Sound x → AreJoined (ports_of n) s.scope s.driven x.1
-checked_joined s none p v i c n x e = subst (Holds (AreJoined (ports_of n) s.scope s.driven)) found (joints_hold s.scope none (ports_of n) (distinct_differ [] (all_ports (ports_in n) (items_in n))) c s.driven)
+    → instance_checked p v i c s n ≡ Sound x → PortsDiffer n → AreJoined (ports_of n) s.scope s.driven x.1
+checked_joined s none p v i c n x e apart = subst (Holds (AreJoined (ports_of n) s.scope s.driven)) found (joints_hold s.scope none (ports_of n) apart c s.driven)
   where
     asked : Found (List Given × Joints)
     asked = both (given_of s.scope v (open_parameters (parameters_of n))) (joints_of s.scope c (ports_of n) s.driven)

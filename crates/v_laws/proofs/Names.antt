@@ -1,5 +1,5 @@
 -- What the names of an instance stand for has their paths, and no two of them are one.
-use Rattle.std.proofs.Common.{◌≡◌, ◌<◌, ◌≤◌, ◌+◌, ◌&&◌, ◌∙◌, ◌⊎◌, inl, inr, ℕ, zero, suc, Bool, true, false, not, List, [], ◌∷◌, ◌++◌, map, length, slice_get, slice_set, Option, Some, None, Ok, is_none, refl, sym, ap, subst, arith, length-append}
+use Rattle.std.proofs.Common.{◌≡◌, ◌<◌, ◌≤◌, ◌+◌, ◌&&◌, ◌∙◌, ◌⊎◌, inl, inr, ℕ, zero, suc, Bool, true, false, not, List, [], ◌∷◌, ◌++◌, map, length, slice_get, slice_set, Option, Some, None, is_none, refl, sym, ap, subst, arith, length-append}
 use Rattle.std.specs.Prelude.{bytes_eq}
 use Rattle.std.specs.List.{list_any}
 use Rattle.std.proofs.lemmas.List.{append_assoc, length-map, map-append}
@@ -8,7 +8,6 @@ use Rattle.gpi.specs.declared.design.Spot.{Spot}
 use Rattle.gpi.specs.declared.design.Spot.TheVariants.{Inner, Sig, Words}
 use Rattle.v_syntax.specs.declared.statement.Identifier.{Identifier}
 use Rattle.v_syntax.specs.SourceTrees.{ModuleTree}
-use Rattle.v_scope.specs.Found.{HoldsOk}
 use Rattle.v_scope.specs.declared.meaning.Bounds.{Bounds}
 use Rattle.v_scope.specs.declared.meaning.DataObject.{DataObject}
 use Rattle.v_scope.specs.Limits.{most_parts}
@@ -16,13 +15,13 @@ use Rattle.v_scope.specs.Scope.{find, low_of, width_of}
 use Rattle.v_flat.specs.Objects.{count_of}
 use Rattle.v_flat.specs.Headers.{ports_of}
 use Rattle.v_flat.specs.Targets.{Drive}
-use Rattle.v_flat.specs.Declarations.{Declared, Entries, Place, declarations, in_order}
+use Rattle.v_flat.specs.Declarations.{Declared, Entries, in_order}
 use Rattle.v_flat.specs.Paths.{NodeAt, Path, SignalAt, below}
 use Rattle.v_flat.specs.Design.{Design, Outside, State, all_signals, child_name, children, closed, is_fresh, object_of, opened, place_of, signals_of, spot_of, start_of, with_child, word_signals}
 use Rattle.v_shape.proofs.Kept.{Keeps, KeepsParts, joints_keep, plain_holds}
 use Rattle.v_shape.proofs.Names.{Among, Differ, differ_both, among_first, among_later, one_of_more}
 use Rattle.v_shape.proofs.Nodes.{Children}
-use Rattle.v_shape.proofs.Order.{AreGood, declared_good, names, order_good}
+use Rattle.v_shape.proofs.Order.{AreGood, good_in_order, names}
 use Rattle.v_shape.proofs.Signals.{all_many}
 use Rattle.v_shape.proofs.Walk.{Steps, design_holds, opening, scope_of}
 use Rattle.v_laws.specs.Instances.{IsAt, IsSignalAt, Names_differ, Names_have_their_paths}
@@ -286,15 +285,12 @@ closes_behind path d ds t h = record {
 
 name_steps : Steps Starts Behind Amid
 name_steps = record {
-  opens = λ m path out d constants ds h e. opens_amid m path out d constants (in_order (ports_of m) ds) h (order_good (length d.signals) m ds (of_ok (place_of m constants d) m ds h.short e));
+  opens = λ m path out d constants ds h e. opens_amid m path out d constants (in_order (ports_of m) ds) h (good_in_order (place_of m constants d) m ds h.short e);
   plain = λ path d ds p k s h. plain_holds (Amid path d ds) p k s (λ t keeps. kept_amid path d ds s t h keeps);
   given = λ path d ds p v i c s m x h few e. h.fit;
   inner = λ path d ds i driven s e h few is b. inner_amid path d ds i driven s e h is b;
   closes = closes_behind;
 }
-  where
-    of_ok : (w : Place) (m : ModuleTree) (ds : List Declared) → w.first ≤ most_parts → declarations w m ≡ Ok ds → AreGood w.first ds
-    of_ok w m ds fits e = subst (HoldsOk (AreGood w.first)) e (declared_good w m fits)
 
 -- ---- the whole
 

@@ -19,7 +19,7 @@ use Rattle.v_scope.specs.Limits.{most_parts}
 use Rattle.v_flat.specs.Checks.{checked}
 use Rattle.v_flat.specs.Targets.{Drive, driving, target_width, updates}
 use Rattle.v_flat.specs.Statements.{assigned_value, reads, statement_checked, statement_reads}
-use Rattle.v_flat.specs.Headers.{Port, all_names, all_ports, items_in, later, parameters_of, ports_in, ports_of}
+use Rattle.v_flat.specs.Headers.{Port, all_names, later, parameters_of, ports_of}
 use Rattle.v_flat.specs.Declarations.{Declared, Entries, Given, declarations, in_order, parameters, signals_in}
 use Rattle.v_flat.specs.Paths.{Path}
 use Rattle.v_flat.specs.Design.{Design, Joints, Outside, State, adding, all_signals, always, always_item, assigning, beginning, closed, driver, events_of, in_turn, initial_item, instance_checked, net, net_count, opened, place_of, plain_item, port_joints, register, register_count, running, wakes_of, whole_of, with_child, flat_design}
@@ -27,14 +27,15 @@ use Rattle.v_flat.proofs.Holds.{holds_any, holds_both, holds_each, holds_then, h
 use Rattle.v_shape.proofs.Kept.{joints_keep}
 use Rattle.v_shape.proofs.Signals.{all_many}
 use Rattle.v_shape.proofs.Walk.{opening, scope_of}
+use Rattle.v_shape.proofs.Ports.{ports_apart}
 use Rattle.v_laws.specs.Digits.{Changes, IsDriven}
 use Rattle.v_laws.specs.Drivers.{NetsHaveNoWords}
-use Rattle.v_laws.proofs.Along.{Steps, design_holds, outside_of}
+use Rattle.v_laws.proofs.Along.{PortsDiffer, Steps, design_holds, outside_of}
 use Rattle.v_laws.proofs.Applied.{changed_written}
 use Rattle.v_laws.proofs.Directions.{ArePlain, HasDirection, directed, plain_declared}
 use Rattle.v_laws.proofs.Driven.{GoesOn, IsNet, driving_goes}
 use Rattle.v_laws.proofs.Found.{of_ok}
-use Rattle.v_laws.proofs.Joined.{AreJoined, IsJoined, checked_joined, distinct_differ}
+use Rattle.v_laws.proofs.Joined.{AreJoined, IsJoined, checked_joined}
 use Rattle.v_laws.proofs.Members.{Member}
 use Rattle.v_laws.proofs.Opening.{AreApart, AreOpened, IsInput, opened_apart}
 use Rattle.v_laws.proofs.Places.{HasScope, IsPlaced, constants_are, has_scope, input_or_output, net_words, order_plain, placed_in, placed_once}
@@ -207,8 +208,8 @@ module _ (m : ModuleTree) (out : Outside) (d : Design) (ds : List Declared) wher
   -- ---- instances
 
   joined_in : (p : ℕ) (v : Option ConnectionsTree) (i : Identifier) (c : Option ConnectionsTree) (s : State) (n : ModuleTree) (x : List Given × Joints) → Amid m out d ds s → instance_checked p v i c s n ≡ Sound x
-      → AreJoined (ports_of n) s.scope s.driven x.1
-  joined_in p v i c s n x h e = checked_joined s (no_words s h) p v i c n x e
+      → PortsDiffer n → AreJoined (ports_of n) s.scope s.driven x.1
+  joined_in p v i c s n x h e apart = checked_joined s (no_words s h) p v i c n x e apart
 
   given_starts : (s : State) (n : ModuleTree) (x : List Given × Joints) → Amid m out d ds s → AreJoined (ports_of n) s.scope s.driven x.1 → Starts n (outside_of s x) s.design
   given_starts s n x h j = record {
@@ -285,7 +286,7 @@ module _ (m : ModuleTree) (path : Path) (out : Outside) (d : Design) (constants 
       after = port_joints out.scope out.joints (scope_of constants d own) (ports_of m) (opened path own d)
 
       known : AreOpened out.scope out.joints (ports_of m) d starts own (scope_of constants d own) scope_is directions after
-      known = opened_apart out.scope out.joints (ports_of m) d starts own (scope_of constants d own) scope_is directions (opened path own d) refl (distinct_differ [] (all_ports (ports_in m) (items_in m)))
+      known = opened_apart out.scope out.joints (ports_of m) d starts own (scope_of constants d own) scope_is directions (opened path own d) refl (ports_apart (place_of m constants d) m ds second)
 
       many : length after.signals ≡ length d.signals + signals_in own
       many =
@@ -307,8 +308,8 @@ once_steps : (ms : List ModuleTree) → Steps ms Starts Behind Amid
 once_steps ms = record {
   opens = λ m path out d constants ds h first second. opens_amid m path out d constants ds h first second;
   plain = λ m out d ds p k s here h. plain_amid m out d ds p k s h;
-  given = λ m out d ds p v i c s n x h among e. given_starts m out d ds s n x h (joined_in m out d ds p v i c s n x h e);
-  inner = λ m out d ds p v i c s n x e h f b. inner_amid m out d ds i s n x e h (joined_in m out d ds p v i c s n x h f) b;
+  given = λ m out d ds p v i c s n x h among e apart. given_starts m out d ds s n x h (joined_in m out d ds p v i c s n x h e apart);
+  inner = λ m out d ds p v i c s n x e h f apart b. inner_amid m out d ds i s n x e h (joined_in m out d ds p v i c s n x h f apart) b;
   closes = λ m path out d ds t h. closes_behind m out d ds path t h;
 }
 

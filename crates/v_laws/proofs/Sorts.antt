@@ -438,8 +438,8 @@ sort_steps : (ms : List ModuleTree) → Steps ms Starts Behind Amid
 sort_steps ms = record {
   opens = λ m path out d constants ds h first second. opens_amid m path out d constants ds h first second;
   plain = λ m out d ds p k s here h. plain_amid m out d ds p k s here h;
-  given = λ m out d ds p v i c s n x h among e. given_starts m out d ds s n x h (checked_joined s (no_words m out d ds s h) p v i c n x e);
-  inner = λ m out d ds p v i c s n x e h f b. inner_amid m out d ds i s n x e h b;
+  given = λ m out d ds p v i c s n x h among e apart. given_starts m out d ds s n x h (checked_joined s (no_words m out d ds s h) p v i c n x e apart);
+  inner = λ m out d ds p v i c s n x e h f apart b. inner_amid m out d ds i s n x e h b;
   closes = λ m path out d ds t h. record { all = h.all; more = h.more; signals = h.signals };
 }
 

@@ -27,7 +27,7 @@ use Rattle.v_flat.specs.Objects.{count_of}
 use Rattle.v_flat.specs.Checks.{checked}
 use Rattle.v_flat.specs.Targets.{Drive, as_target, driving}
 use Rattle.v_flat.specs.Statements.{reads, statement_checked, statement_reads}
-use Rattle.v_flat.specs.Headers.{Port, all_names, all_ports, find_port, items_in, later, open_parameters, parameters_of, port_name, ports_in, ports_of}
+use Rattle.v_flat.specs.Headers.{Port, all_names, find_port, items_in, later, open_parameters, parameters_of, port_name, ports_of}
 use Rattle.v_flat.specs.Declarations.{Declared, Entries, Given, in_order, parameters, signals_in}
 use Rattle.v_flat.specs.Paths.{Path}
 use Rattle.v_flat.specs.Design.{Design, Joint, Joints, Outside, State, adding, all_signals, always, always_item, any_change, assigning, beginning, driver, events_of, find_joint, flat_design, given_of, in_turn, initial_item, input_joint, input_run, instance_checked, is_fresh, joined, joint, joint_count, joints_of, named_joint, named_joints, net, net_count, opened, ordered_joints, output_joined, output_run, output_target, plain_item, port_joint, port_joints, port_once, register, register_count, running, value_checked, wakes_of, whole_of, with_child}
@@ -38,9 +38,9 @@ use Rattle.v_shape.proofs.Names.{Differ, same_name}
 use Rattle.v_shape.proofs.Signals.{all_many}
 use Rattle.v_shape.proofs.Walk.{opening, scope_of}
 use Rattle.v_laws.specs.Reads.{Assignments_wait_for_enough, Lies, ListsEvents, Procedures_wait_for_enough, Settled, Suffices, WaitsForEnough}
-use Rattle.v_laws.proofs.Along.{Steps, design_holds, outside_of}
+use Rattle.v_laws.proofs.Along.{PortsDiffer, Steps, design_holds, outside_of}
 use Rattle.v_laws.proofs.Awaited.{assigning_waits, implicit_waits, input_waits, output_waits}
-use Rattle.v_laws.proofs.Joined.{distinct_differ, found_port, one_port}
+use Rattle.v_laws.proofs.Joined.{found_port, one_port}
 use Rattle.v_laws.proofs.Members.{Member, member_both}
 use Rattle.v_laws.proofs.Places.{HasScope, IsPlaced, constants_are, has_scope}
 use Rattle.v_laws.proofs.Settled.{statements_read_enough}
@@ -181,8 +181,8 @@ module _ (ms : List ModuleTree) where
 
   -- where no rule is broken in an instance
   checked_joins : (s : State) (p : ℕ) (v : Option ConnectionsTree) (i : Identifier) (c : Option ConnectionsTree) (n : ModuleTree) (x : List Given × Joints)
-      → instance_checked p v i c s n ≡ Sound x → AllJoined (ports_of n) s.scope x.1
-  checked_joins s p v i c n x e = subst (Holds (AllJoined (ports_of n) s.scope)) found (joints_join s.scope (ports_of n) (distinct_differ [] (all_ports (ports_in n) (items_in n))) c s.driven)
+      → instance_checked p v i c s n ≡ Sound x → PortsDiffer n → AllJoined (ports_of n) s.scope x.1
+  checked_joins s p v i c n x e apart = subst (Holds (AllJoined (ports_of n) s.scope)) found (joints_join s.scope (ports_of n) apart c s.driven)
     where
       asked : Found (List Given × Joints)
       asked = both (given_of s.scope v (open_parameters (parameters_of n))) (joints_of s.scope c (ports_of n) s.driven)
@@ -362,8 +362,8 @@ module _ (ms : List ModuleTree) where
   waiting_steps = record {
     opens = λ m path out d constants ds h first second. opens_amid m path out d constants ds h first;
     plain = λ m out d ds p k s here h. plain_amid m out d ds p k s here h;
-    given = λ m out d ds p v i c s n x h among e. record { among = among; joins = checked_joins s p v i c n x e; lies = lies m out d ds s h; wait = h.wait };
-    inner = λ m out d ds p v i c s n x e h f b. inner_amid m out d ds i s n x e h b;
+    given = λ m out d ds p v i c s n x h among e apart. record { among = among; joins = checked_joins s p v i c n x e apart; lies = lies m out d ds s h; wait = h.wait };
+    inner = λ m out d ds p v i c s n x e h f apart b. inner_amid m out d ds i s n x e h b;
     closes = λ m path out d ds t h. record { signals = let u = h.signals in omega (arith, u); wait = h.wait };
   }
 

@@ -11,7 +11,7 @@ use Rattle.v_flat.specs.Objects.{count_of}
 use Rattle.v_flat.specs.Headers.{ports_of}
 use Rattle.v_flat.specs.Declarations.{Declared, Place, declarations, in_order, signals_in}
 use Rattle.v_names.specs.Proper.{HasFewWords}
-use Rattle.v_shape.proofs.Order.{AllWide, AreGood, declared_good, order_good}
+use Rattle.v_shape.proofs.Order.{AllWide, AreGood, ordered_good}
 use Rattle.v_layout.specs.Fits.{IsProperDeclared, Fit}
 
 few_words : (ws : Option Bounds) (n : ℕ) → count_of ws + n ≤ most_parts → HasFewWords ws
@@ -26,9 +26,10 @@ each_proper (d ∷ ds) w h =
 good_fits : (first : ℕ) (ds : List Declared) → AreGood first ds → Fit first ds
 good_fits first ds h = let r = h.room in record { proper = each_proper ds h.wide (omega (arith, r)); room = h.room }
 
-ordered : (first : ℕ) (m : ModuleTree) (r : Result (List Declared) Broken) → HoldsOk (AreGood first) r → HoldsOk (λ (ds : List Declared). Fit first (in_order (ports_of m) ds)) r
-ordered first m (Ok ds) h = good_fits first (in_order (ports_of m) ds) (order_good first m ds h)
+ordered : (first : ℕ) (m : ModuleTree) (r : Result (List Declared) Broken) → HoldsOk (λ (ds : List Declared). AreGood first (in_order (ports_of m) ds)) r
+    → HoldsOk (λ (ds : List Declared). Fit first (in_order (ports_of m) ds)) r
+ordered first m (Ok ds) h = good_fits first (in_order (ports_of m) ds) h
 ordered first m (Err b) h = tt
 
 pub declarations_fit : (w : Place) (m : ModuleTree) → w.first ≤ most_parts → HoldsOk (λ (ds : List Declared). Fit w.first (in_order (ports_of m) ds)) (declarations w m)
-declarations_fit w m h = ordered w.first m (declarations w m) (declared_good w m h)
+declarations_fit w m h = ordered w.first m (declarations w m) (ordered_good w m h)

@@ -23,7 +23,7 @@ pub struct Place<'a> {
     /// The parameters with their values, and what names mean where they alone are known.
     pub constants: &'a Constants,
     /// The ports of the module.
-    pub ports: &'a Ports,
+    pub ports: &'a Ports<'a>,
     /// The number of the instance's first signal in the design.
     pub first: u32,
 }

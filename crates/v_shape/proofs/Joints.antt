@@ -1,6 +1,5 @@
 -- How many assignments the connections of an instance make.
-use Rattle.std.proofs.Common.{◌≡◌, ◌≤◌, ◌+◌, ◌∙◌, ℕ, Bool, true, false, ◌||◌, List, [], ◌∷◌, length, Option, Some, None, refl, sym, ap, arith, subst, length-append, if◌then◌else◌}
-use Rattle.std.proofs.lemmas.Slice.Eq.{bytes_eq-Decides}
+use Rattle.std.proofs.Common.{◌≡◌, ◌≤◌, ◌+◌, ◌∙◌, ℕ, Bool, true, false, List, [], ◌∷◌, length, map, Option, Some, None, refl, sym, ap, arith, subst, length-append, if◌then◌else◌}
 use Rattle.std.specs.Prelude.{bytes_eq}
 use Rattle.gpi.specs.Design.{Proc}
 use Rattle.gpi.specs.declared.design.Kind.TheVariants as process_kind
@@ -10,7 +9,7 @@ use Rattle.v_syntax.specs.declared.statement.Identifier.{Identifier}
 use Rattle.v_syntax.specs.declared.item.Direction.{Direction}
 use Rattle.v_syntax.specs.declared.item.Direction.TheVariants as direction
 use Rattle.v_syntax.specs.ExpressionTrees.{Tree, TargetTree, first_at}
-use Rattle.v_syntax.specs.SourceTrees.{ConnectionTree, Connection, ConnectionsTree, Ordered, Named as NamedConnections, ModuleTree}
+use Rattle.v_syntax.specs.SourceTrees.{ConnectionTree, Connection, ConnectionsTree, Ordered, Named as NamedConnections}
 use Rattle.v_scope.specs.declared.found.Found.{Found}
 use Rattle.v_scope.specs.declared.meaning.DataObject.{DataObject}
 use Rattle.v_scope.specs.declared.meaning.Meaning.{Meaning}
@@ -21,10 +20,11 @@ use Rattle.v_scope.specs.Found.{Holds, each}
 use Rattle.v_scope.specs.Scope.{Scope, find}
 use Rattle.v_flat.specs.Checks.{checked}
 use Rattle.v_flat.specs.Targets.{Drive, as_target, driving}
-use Rattle.v_flat.specs.Headers.{Port, all_ports, distinct, find_port, items_in, ports_in, ports_of}
+use Rattle.v_flat.specs.Headers.{Port, find_port, port_name}
 use Rattle.v_flat.specs.Design.{Design, Joint, Joints, find_joint, joint, joint_count, joint_made, joined, joints_of, named_count, named_joint, named_joints, named_made, ordered_count, ordered_joints, output_joined, output_target, port_joint, port_joints, port_once, value_checked, any_change, input_joint, input_run, output_run, wakes_of, with_process}
 use Rattle.v_flat.specs.Statements.{reads}
 use Rattle.v_flat.proofs.Holds.{holds_any, holds_each, holds_lost, holds_then}
+use Rattle.v_shape.proofs.Names.{Among, Differ, among_first, among_later, same_name}
 use Rattle.v_shape.proofs.Nodes.{one_if}
 
 -- ---- as many as are found
@@ -88,22 +88,22 @@ abbrev same : List ℕ → List Port → ℕ
 same n [] = 0
 same n (p ∷ ps) = one_if (bytes_eq n p.name) + same n ps
 
-same_once : (n : List ℕ) (seen : List (List ℕ)) (ps : List Port) → same n (distinct seen ps) + one_if (list_any (bytes_eq n) seen) ≤ 1
-same_once n seen [] = go (list_any (bytes_eq n) seen)
+none_same : (n : List ℕ) (ps : List Port) → (Among n (map port_name ps) → ⊥) → same n ps ≡ 0
+none_same n [] h = refl
+none_same n (p ∷ ps) h = go (bytes_eq n p.name) refl (none_same n ps (λ a. h (among_later n p.name (map port_name ps) a)))
   where
-    go : (b : Bool) → 0 + one_if b ≤ 1
-    go true = omega arith
-    go false = omega arith
-same_once n seen (p ∷ ps) = go (list_any (bytes_eq p.name) seen) (bytes_eq n p.name) (list_any (bytes_eq n) seen) refl refl refl (same_once n seen ps) (same_once n (p.name ∷ seen) ps)
+    go : (b : Bool) → bytes_eq n p.name ≡ b → same n ps ≡ 0 → one_if b + same n ps ≡ 0
+    go true e k = absurd (h (ap (λ m. list_any (bytes_eq m) (p.name ∷ map port_name ps)) (same_name n p.name e) ∙ among_first p.name (map port_name ps)))
+    go false e k = omega (arith, k)
+
+same_once : (n : List ℕ) (ps : List Port) → Differ (map port_name ps) → same n ps ≤ 1
+same_once n [] h = omega arith
+same_once n (p ∷ ps) h = go (bytes_eq n p.name) refl (same_once n ps h.1)
   where
-    go : (x y z : Bool) → list_any (bytes_eq p.name) seen ≡ x → bytes_eq n p.name ≡ y → list_any (bytes_eq n) seen ≡ z → same n (distinct seen ps) + one_if z ≤ 1
-        → same n (distinct (p.name ∷ seen) ps) + one_if (y || z) ≤ 1 → same n (if x then distinct seen ps else p ∷ distinct (p.name ∷ seen) ps) + one_if z ≤ 1
-    go true y z h1 h2 h3 h4 h5 = h4
-    go false true true h1 h2 h3 h4 h5 =
-        let e : list_any (bytes_eq n) seen ≡ list_any (bytes_eq p.name) seen = ap (λ k. list_any (bytes_eq k) seen) ((bytes_eq-Decides n p.name).0 h2) in absurd (let f = sym h3 ∙ e ∙ h1 in cc)
-    go false true false h1 h2 h3 h4 h5 = let e = ap one_if h2 in omega (arith, h5, e)
-    go false false true h1 h2 h3 h4 h5 = let e = ap one_if h2 in omega (arith, h5, e)
-    go false false false h1 h2 h3 h4 h5 = let e = ap one_if h2 in omega (arith, h5, e)
+    go : (b : Bool) → bytes_eq n p.name ≡ b → same n ps ≤ 1 → one_if b + same n ps ≤ 1
+    go true e k =
+        let f : same n ps ≡ 0 = none_same n ps (λ a. h.0 (ap (λ m. list_any (bytes_eq m) (map port_name ps)) (sym (same_name n p.name e)) ∙ a)) in omega (arith, f)
+    go false e k = omega (arith, k)
 
 -- a joint more makes at most one more
 hits_more : (ps : List Port) (j : Joint) (js : List Joint) → hits ps (j ∷ js) ≤ same j.port ps + hits ps js
@@ -119,10 +119,10 @@ none_hit : (ps : List Port) → hits ps [] ≡ 0
 none_hit [] = refl
 none_hit (p ∷ ps) = let h = none_hit ps in omega (arith, h)
 
-few_hits : (ps : List Port) (js : List Joint) → hits (distinct [] ps) js ≤ length js
-few_hits ps [] = let h = none_hit (distinct [] ps) in omega (arith, h)
-few_hits ps (j ∷ js) =
-    let h = few_hits ps js in let k = hits_more (distinct [] ps) j js in let l = same_once j.port [] ps in omega (arith, h, k, l)
+few_hits : (ps : List Port) (js : List Joint) → Differ (map port_name ps) → hits ps js ≤ length js
+few_hits ps [] apart = let h = none_hit ps in omega (arith, h)
+few_hits ps (j ∷ js) apart =
+    let h = few_hits ps js apart in let k = hits_more ps j js in let l = same_once j.port ps apart in omega (arith, h, k, l)
 
 abbrev AtMost : ℕ → Design → Design → Type 0
 AtMost n d e = length e.processes ≤ length d.processes + n
@@ -163,7 +163,7 @@ all_add outer js s (p ∷ ps) d =
     let k : AtMost (hits ps js) one (port_joints outer js s ps one) = all_add outer js s ps one in
     omega (arith, h, k)
 
-pub few_added : (m : ModuleTree) (outer : Scope) (js : List Joint) (s : Scope) (d : Design)
-    → length (port_joints outer js s (ports_of m) d).processes ≤ length d.processes + length js
-few_added m outer js s d =
-    let h = all_add outer js s (ports_of m) d in let k = few_hits (all_ports (ports_in m) (items_in m)) js in omega (arith, h, k)
+pub few_added : (ps : List Port) (outer : Scope) (js : List Joint) (s : Scope) (d : Design) → Differ (map port_name ps)
+    → length (port_joints outer js s ps d).processes ≤ length d.processes + length js
+few_added ps outer js s d apart =
+    let h = all_add outer js s ps d in let k = few_hits ps js apart in omega (arith, h, k)

@@ -7,6 +7,7 @@ pub mod Joints
 pub mod Short
 pub mod Declared
 pub mod Names
+pub mod Ports
 pub mod Order
 pub mod Signals
 pub mod Paths

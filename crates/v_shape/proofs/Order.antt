@@ -1,17 +1,19 @@
 -- The declarations of an instance, in the order of ports and first declarations.
-use Rattle.std.proofs.Common.{◌≡◌, ◌≤◌, ◌+◌, ◌||◌, ◌⊎◌, inl, inr, ◌∙◌, ℕ, Bool, true, false, List, [], ◌∷◌, ◌++◌, map, Option, Some, None, refl, sym, ap, subst, arith, if◌then◌else◌}
+use Rattle.std.proofs.Common.{◌≡◌, ◌≤◌, ◌+◌, ◌||◌, ◌⊎◌, inl, inr, ◌∙◌, ℕ, Bool, true, false, List, [], ◌∷◌, ◌++◌, map, Option, Some, None, Result, Ok, Err, refl, sym, ap, subst, arith, if◌then◌else◌}
 use Rattle.std.specs.Prelude.{bytes_eq}
 use Rattle.std.specs.List.{list_any}
 use Rattle.std.proofs.lemmas.List.{map-append}
 use Rattle.gpi.specs.Terms.{IsWidth}
 use Rattle.v_syntax.specs.SourceTrees.{ModuleTree}
+use Rattle.v_scope.specs.declared.rule.Broken.{Broken}
 use Rattle.v_scope.specs.Limits.{most_parts}
 use Rattle.v_scope.specs.Found.{HoldsOk}
 use Rattle.v_scope.specs.Scope.{width_of}
 use Rattle.v_flat.specs.Objects.{count_of}
-use Rattle.v_flat.specs.Headers.{Port, all_ports, distinct, items_in, port_name, ports_in, ports_of}
+use Rattle.v_flat.specs.Headers.{Port, port_name, ports_of}
 use Rattle.v_flat.specs.Declarations.{Declared, Place, declarations, find_declared, in_order, listed, other_lines, port_lines, signals_in, whole_of, with_declared}
 use Rattle.v_shape.proofs.Declared.{Goes, declared_hold}
+use Rattle.v_shape.proofs.Ports.{found_name, ports_differ}
 use Rattle.v_shape.proofs.Names.{Among, Differ, among_first, among_later, differ_both, is_itself, one_of_more, same_name}
 
 abbrev pub name_of : Declared → List ℕ
@@ -49,14 +51,6 @@ not_there n (d ∷ ds) h a = go (bytes_eq d.name n) refl h (one_of_more n d.name
     go true e f k later = cc
     go false e f (inl k) later = let g : bytes_eq d.name n ≡ true = ap (λ m. bytes_eq d.name m) k ∙ is_itself d.name in cc
     go false e f (inr k) later = later f k
-
-found_name : (n : List ℕ) (ds : List Declared) (d : Declared) → find_declared n ds ≡ Some d → d.name ≡ n
-found_name n [] d h = cc
-found_name n (x ∷ xs) d h = go (bytes_eq x.name n) refl h (found_name n xs d)
-  where
-    go : (b : Bool) → bytes_eq x.name n ≡ b → (if b then Some x else find_declared n xs) ≡ Some d → (find_declared n xs ≡ Some d → d.name ≡ n) → d.name ≡ n
-    go true e f later = let g : x.name ≡ n = same_name x.name n e in let k : x ≡ d = cc in ap name_of (sym k) ∙ g
-    go false e f later = later f
 
 found_wide : (n : List ℕ) (ds : List Declared) (d : Declared) → AllWide ds → find_declared n ds ≡ Some d → IsWidth (width_of d.bounds)
 found_wide n [] d w h = cc
@@ -116,22 +110,6 @@ pub declared_good : (w : Place) (m : ModuleTree) → w.first ≤ most_parts → 
 declared_good w m fits = declared_hold w (AreGood w.first) (good_goes w fits) m
 
 -- ---- in order
-
-ports_differ : (seen : List (List ℕ)) (ps : List Port) → Differ (map port_name (distinct seen ps)) × ((n : List ℕ) → Among n (map port_name (distinct seen ps)) → Among n seen → ⊥)
-ports_differ seen [] = (tt, λ n a b. cc)
-ports_differ seen (p ∷ ps) = go (list_any (bytes_eq p.name) seen) refl (ports_differ seen ps) (ports_differ (p.name ∷ seen) ps)
-  where
-    here : (n : List ℕ) → list_any (bytes_eq p.name) seen ≡ false → ((m : List ℕ) → Among m (map port_name (distinct (p.name ∷ seen) ps)) → Among m (p.name ∷ seen) → ⊥)
-        → (n ≡ p.name) ⊎ Among n (map port_name (distinct (p.name ∷ seen) ps)) → Among n seen → ⊥
-    here n e k (inl f) b = let g : list_any (bytes_eq p.name) seen ≡ true = ap (λ m. list_any (bytes_eq m) seen) (sym f) ∙ b in cc
-    here n e k (inr a) b = k n a (among_later n p.name seen b)
-
-    go : (b : Bool) → list_any (bytes_eq p.name) seen ≡ b
-        → Differ (map port_name (distinct seen ps)) × ((n : List ℕ) → Among n (map port_name (distinct seen ps)) → Among n seen → ⊥)
-        → Differ (map port_name (distinct (p.name ∷ seen) ps)) × ((n : List ℕ) → Among n (map port_name (distinct (p.name ∷ seen) ps)) → Among n (p.name ∷ seen) → ⊥)
-        → Differ (map port_name (if b then distinct seen ps else p ∷ distinct (p.name ∷ seen) ps)) × ((n : List ℕ) → Among n (map port_name (if b then distinct seen ps else p ∷ distinct (p.name ∷ seen) ps)) → Among n seen → ⊥)
-    go true e h k = h
-    go false e h k = (((λ a. k.1 p.name a (among_first p.name seen)), k.0), λ n a b. here n e k.1 (one_of_more n p.name (map port_name (distinct (p.name ∷ seen) ps)) a) b)
 
 -- what a port is declared to be has the port's name
 port_names : (n : List ℕ) (ps : List Port) (ds : List Declared) → Among n (names (port_lines ps ds)) → Among n (map port_name ps)
@@ -241,15 +219,24 @@ lines_signals ps (d ∷ ds) h = go (list_any (bytes_eq d.name) (map port_name ps
     go true k l = omega (arith, k, l)
     go false k l = omega (arith, k, l)
 
-pub order_good : (first : ℕ) (m : ModuleTree) (ds : List Declared) → AreGood first ds → AreGood first (in_order (ports_of m) ds)
-order_good first m ds h = record {
+pub order_good : (first : ℕ) (m : ModuleTree) (ds : List Declared) → Differ (map port_name (ports_of m)) → AreGood first ds → AreGood first (in_order (ports_of m) ds)
+order_good first m ds apart h = record {
   wide = wide_both (port_lines (ports_of m) ds) (other_lines (map port_name (ports_of m)) ds) (port_lines_wide (ports_of m) ds h.wide) (other_lines_wide (map port_name (ports_of m)) ds h.wide);
-  differ = order_differ (ports_of m) ds ports.0 h.differ;
+  differ = order_differ (ports_of m) ds apart h.differ;
   room =
       let r = h.room in
-      let k = lines_signals (ports_of m) ds ports.0 in
+      let k = lines_signals (ports_of m) ds apart in
       let e = signals_both (port_lines (ports_of m) ds) (other_lines (map port_name (ports_of m)) ds) in omega (arith, r, k, e);
 }
+
+pub ordered_good : (w : Place) (m : ModuleTree) → w.first ≤ most_parts → HoldsOk (λ (ds : List Declared). AreGood w.first (in_order (ports_of m) ds)) (declarations w m)
+ordered_good w m fits = both (declarations w m) (ports_differ w m) (declared_good w m fits)
   where
-    ports : Differ (map port_name (ports_of m)) × ((n : List ℕ) → Among n (map port_name (ports_of m)) → Among n [] → ⊥)
-    ports = ports_differ [] (all_ports (ports_in m) (items_in m))
+    both : (r : Result (List Declared) Broken) → HoldsOk (λ (ds : List Declared). Differ (map port_name (ports_of m))) r → HoldsOk (AreGood w.first) r
+        → HoldsOk (λ (ds : List Declared). AreGood w.first (in_order (ports_of m) ds)) r
+    both (Ok ds) h k = order_good w.first m ds h k
+    both (Err b) h k = tt
+
+-- the same where it is known what is declared
+pub good_in_order : (w : Place) (m : ModuleTree) (ds : List Declared) → w.first ≤ most_parts → declarations w m ≡ Ok ds → AreGood w.first (in_order (ports_of m) ds)
+good_in_order w m ds fits e = subst (HoldsOk (λ (xs : List Declared). AreGood w.first (in_order (ports_of m) xs))) e (ordered_good w m fits)

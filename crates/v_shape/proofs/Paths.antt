@@ -1,5 +1,5 @@
 -- No two signals of a design have one path.
-use Rattle.std.proofs.Common.{◌≡◌, ◌<◌, ◌≤◌, ◌+◌, ◌⊎◌, inl, inr, ◌∙◌, not, ◌&&◌, ℕ, zero, suc, Bool, true, false, List, [], ◌∷◌, ◌++◌, map, length, slice_get, Option, Some, None, is_none, Ok, refl, sym, ap, subst, arith, length-append}
+use Rattle.std.proofs.Common.{◌≡◌, ◌<◌, ◌≤◌, ◌+◌, ◌⊎◌, inl, inr, ◌∙◌, not, ◌&&◌, ℕ, zero, suc, Bool, true, false, List, [], ◌∷◌, ◌++◌, map, length, slice_get, Option, Some, None, is_none, refl, sym, ap, subst, arith, length-append}
 use Rattle.std.proofs.lemmas.List.{append_assoc, map-append}
 use Rattle.std.specs.Prelude.{bytes_eq}
 use Rattle.std.specs.List.{list_any}
@@ -15,13 +15,13 @@ use Rattle.v_scope.specs.Scope.{find, low_of, width_of}
 use Rattle.v_flat.specs.Objects.{count_of}
 use Rattle.v_flat.specs.Headers.{ports_of}
 use Rattle.v_flat.specs.Targets.{Drive}
-use Rattle.v_flat.specs.Declarations.{Declared, Entries, Place, declarations, in_order}
+use Rattle.v_flat.specs.Declarations.{Declared, Entries, in_order}
 use Rattle.v_flat.specs.Paths.{Path, SignalAt, below}
 use Rattle.v_flat.specs.Design.{all_signals, child_name, children, Design, flat_design, is_fresh, object_of, opened, Outside, place_of, signals_of, start_of, State, with_child, word_signals}
 use Rattle.v_shape.proofs.Kept.{Keeps, joints_keep, plain_holds}
 use Rattle.v_shape.proofs.Names.{Among, Differ, among_first, among_later, among_left, among_right, one_of_more}
 use Rattle.v_shape.proofs.Nodes.{Children}
-use Rattle.v_shape.proofs.Order.{AreGood, declared_good, names, order_good}
+use Rattle.v_shape.proofs.Order.{AreGood, good_in_order, names}
 use Rattle.v_shape.proofs.Signals.{all_many}
 use Rattle.v_shape.proofs.Walk.{Steps, design_holds, opening, scope_of}
 
@@ -231,15 +231,12 @@ inner_amid path d ds i driven s e h fresh b = record {
 
 path_steps : Steps Starts Behind Amid
 path_steps = record {
-  opens = λ m path out d constants ds h e. opens_amid m path out d constants (in_order (ports_of m) ds) (order_good (length d.signals) m ds (of_ok (place_of m constants d) m ds h e));
+  opens = λ m path out d constants ds h e. opens_amid m path out d constants (in_order (ports_of m) ds) (good_in_order (place_of m constants d) m ds h e);
   plain = λ path d ds p k s h. plain_holds (Amid path d ds) p k s (λ t keeps. kept_amid path d ds s t h keeps);
   given = λ path d ds p v i c s m x h few e. h.short;
   inner = λ path d ds i driven s e h few is b. inner_amid path d ds i driven s e h is b;
   closes = λ path d ds t h. record { more = h.more; signals = h.signals; apart = h.apart; under = begin_under path (child_names t.children) h.more h.begin; short = h.short };
 }
-  where
-    of_ok : (w : Place) (m : ModuleTree) (ds : List Declared) → w.first ≤ most_parts → declarations w m ≡ Ok ds → AreGood w.first ds
-    of_ok w m ds fits e = subst (HoldsOk (AreGood w.first)) e (declared_good w m fits)
 
 -- ---- the whole
 

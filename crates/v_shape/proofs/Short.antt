@@ -1,5 +1,5 @@
 -- A design has at most 65,536 instances and as many processes.
-use Rattle.std.proofs.Common.{◌≡◌, ◌<◌, ◌≤◌, ◌+◌, ℕ, true, List, [], ◌∷◌, length, nat_lt, nat_le, Option, Some, None, refl, ap, arith, length-append}
+use Rattle.std.proofs.Common.{◌≡◌, ◌<◌, ◌≤◌, ◌+◌, ℕ, true, List, [], ◌∷◌, length, map, nat_lt, nat_le, Option, Some, None, refl, ap, arith, length-append}
 use Rattle.std.proofs.lemmas.Bool.Decides.{nat_tests}
 use Rattle.std.proofs.lemmas.List.{length-set}
 use Rattle.gpi.specs.Design.{Proc}
@@ -17,13 +17,15 @@ use Rattle.v_scope.specs.Scope.{Scope}
 use Rattle.v_flat.specs.Checks.{checked}
 use Rattle.v_flat.specs.Targets.{Drive, driving}
 use Rattle.v_flat.specs.Statements.{statement_checked, statement_reads}
-use Rattle.v_flat.specs.Headers.{open_parameters, parameters_of, ports_of}
+use Rattle.v_flat.specs.Headers.{open_parameters, parameters_of, port_name, ports_of}
 use Rattle.v_flat.specs.Declarations.{Declared, Given, in_order}
 use Rattle.v_flat.specs.Paths.{Path}
-use Rattle.v_flat.specs.Design.{adding, always, always_item, assigning, beginning, Design, driver, events_of, flat_design, given_of, in_turn, initial_item, instance_checked, is_fresh, joint_count, Joints, joints_of, net, net_count, opened, Outside, plain_item, register, register_count, running, State, wakes_of, whole_of}
+use Rattle.v_flat.specs.Design.{adding, always, always_item, assigning, beginning, Design, driver, events_of, flat_design, given_of, in_turn, initial_item, instance_checked, is_fresh, joint_count, Joints, joints_of, net, net_count, opened, Outside, place_of, plain_item, register, register_count, running, State, wakes_of, whole_of}
 use Rattle.v_flat.proofs.Holds.{holds_any, holds_each, holds_then, holds_wants}
 use Rattle.v_shape.proofs.Ends.{sound_both, wants_sound}
 use Rattle.v_shape.proofs.Joints.{as_many, few_added}
+use Rattle.v_shape.proofs.Names.{Differ}
+use Rattle.v_shape.proofs.Ports.{ports_apart}
 use Rattle.v_shape.proofs.Kept.{Keeps, joints_keep, plain_keeps}
 use Rattle.v_shape.proofs.Walk.{Steps, design_holds, opening, scope_of}
 
@@ -147,13 +149,14 @@ Behind path d e = IsShort e
 abbrev Amid : Path → Design → List Declared → State → Type 0
 Amid path d ds s = IsShort s.design
 
-opens_short : (m : ModuleTree) (path : Path) (out : Outside) (d : Design) (s : Scope) (ds : List Declared) → HasRoom m out d → IsShort (opening m path out d s ds).design
-opens_short m path out d s ds h = record {
+opens_short : (m : ModuleTree) (path : Path) (out : Outside) (d : Design) (s : Scope) (ds : List Declared) → Differ (map port_name (ports_of m)) → HasRoom m out d
+    → IsShort (opening m path out d s ds).design
+opens_short m path out d s ds apart h = record {
   nodes =
       let n = h.nodes in
       let k = ap length (joints_keep out.scope out.joints s (ports_of m) (opened path ds d)).nodes in
       let l = length-append d.nodes (record { path = path; children = [] } ∷ []) in omega (arith, n, k, l);
-  processes = let n = h.processes in let k = few_added m out.scope out.joints s (opened path ds d) in omega (arith, n, k);
+  processes = let n = h.processes in let k = few_added (ports_of m) out.scope out.joints s (opened path ds d) apart in omega (arith, n, k);
 }
 
 plain_short : (p : ℕ) (k : KindTree) (s : State) → IsShort s.design → Holds (λ (t : State). IsShort t.design) (plain_item p k s)
@@ -186,7 +189,7 @@ given_room p v i c s m x few e = record { nodes = grind (arith, nat_tests); proc
 
 short_steps : Steps HasRoom Behind Amid
 short_steps = record {
-  opens = λ m path out d constants ds h e. opens_short m path out d (scope_of constants d (in_order (ports_of m) ds)) (in_order (ports_of m) ds) h;
+  opens = λ m path out d constants ds h e. opens_short m path out d (scope_of constants d (in_order (ports_of m) ds)) (in_order (ports_of m) ds) (ports_apart (place_of m constants d) m ds e) h;
   plain = λ path d ds p k s h. plain_short p k s h;
   given = λ path d ds p v i c s m x h few e. given_room p v i c s m x few e;
   inner = λ path d ds i driven s e h few is g. g;

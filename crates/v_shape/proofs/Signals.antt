@@ -1,5 +1,5 @@
 -- A design has at most 65,536 signals, of 1 to 128 digits each, and each name of an instance is one of its signals or instances.
-use Rattle.std.proofs.Common.{◌≡◌, ◌<◌, ◌≤◌, ◌+◌, ◌&&◌, ◌∙◌, ℕ, zero, suc, Bool, true, false, IsTrue, List, [], ◌∷◌, ◌++◌, map, length, nat_le, slice_set, Option, Some, None, Ok, refl, sym, ap, subst, arith, length-append}
+use Rattle.std.proofs.Common.{◌≡◌, ◌<◌, ◌≤◌, ◌+◌, ◌&&◌, ◌∙◌, ℕ, zero, suc, Bool, true, false, IsTrue, List, [], ◌∷◌, ◌++◌, map, length, nat_le, slice_set, Option, Some, None, refl, sym, ap, subst, arith, length-append}
 use Rattle.std.proofs.lemmas.Bool.Decides.{nat_tests}
 use Rattle.std.proofs.lemmas.List.{length-set}
 use Rattle.four_value.specs.declared.Digit.{Digit}
@@ -17,13 +17,13 @@ use Rattle.v_scope.specs.Scope.{low_of, width_of}
 use Rattle.v_flat.specs.Objects.{count_of}
 use Rattle.v_flat.specs.Headers.{ports_of}
 use Rattle.v_flat.specs.Targets.{Drive}
-use Rattle.v_flat.specs.Declarations.{Declared, Entries, Place, declarations, in_order, signals_in}
+use Rattle.v_flat.specs.Declarations.{Declared, Entries, in_order, signals_in}
 use Rattle.v_flat.specs.Paths.{NodeAt, Path, SignalAt, below, node_of, signal_of}
 use Rattle.v_flat.specs.Design.{all_signals, children, closed, Design, flat_design, object_of, opened, Outside, place_of, signals_of, spot_of, start_of, State, with_child, word_signals}
 use Rattle.v_shape.proofs.Declared.{span_some}
 use Rattle.v_shape.proofs.Kept.{Keeps, KeepsParts, joints_keep, plain_holds}
 use Rattle.v_shape.proofs.Nodes.{Children}
-use Rattle.v_shape.proofs.Order.{AllWide, AreGood, declared_good, order_good}
+use Rattle.v_shape.proofs.Order.{AllWide, AreGood, good_in_order}
 use Rattle.v_shape.proofs.Walk.{Steps, design_holds, opening, scope_of}
 
 -- ---- signals of an instance
@@ -218,16 +218,12 @@ closes_behind path d ds t h = record {
 
 fit_steps : Steps Starts Behind Amid
 fit_steps = record {
-  opens = λ m path out d constants ds h e. opens_amid m path out d constants (in_order (ports_of m) ds) h
-      (order_good (length d.signals) m ds (of_ok (place_of m constants d) m ds h.short e));
+  opens = λ m path out d constants ds h e. opens_amid m path out d constants (in_order (ports_of m) ds) h (good_in_order (place_of m constants d) m ds h.short e);
   plain = λ path d ds p k s h. plain_holds (Amid path d ds) p k s (λ t keeps. kept_amid path d ds s t h keeps);
   given = λ path d ds p v i c s m x h few e. h.fit;
   inner = λ path d ds i driven s e h few is b. inner_amid path d ds i driven s e h b;
   closes = closes_behind;
 }
-  where
-    of_ok : (w : Place) (m : ModuleTree) (ds : List Declared) → w.first ≤ most_parts → declarations w m ≡ Ok ds → AreGood w.first ds
-    of_ok w m ds fits e = subst (HoldsOk (AreGood w.first)) e (declared_good w m fits)
 
 -- ---- the whole
 

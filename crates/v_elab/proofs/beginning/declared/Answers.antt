@@ -1,14 +1,12 @@
 -- What is declared, and then the first state.
-use Rattle.std.proofs.Common.{length, map, sym, subst}
+use Rattle.std.proofs.Common.{length}
 use Rattle.v_syntax.specs.SourceTrees.{view_module}
-use Rattle.v_flat.specs.Headers.{Port, port_name}
-use Rattle.v_elab.specs.Ports.{Differ}
-use Rattle.v_elab.proofs.Names.{ports_differ}
-use Rattle.v_elab.proofs.Declared.{declared_broken, declared_ok, names_fit}
+use Rattle.v_elab.proofs.Declared.{declared_ok, names_differ, names_fit}
 use Rattle.v_elab.proofs.beginning.declared.Goals as goal
 
 pub opened-requires-clause-distinct : goal.opened-requires-clause-distinct
-opened-requires-clause-distinct c = subst (λ ps. Differ (map port_name ps)) (sym c.requires.ports) (ports_differ (view_module c.args.module.now))
+opened-requires-clause-distinct c =
+    names_differ (view_module c.args.module.now) c.args.constants.now c.args.ports.now c.len.result c.in_ok-names.field-0 c.in-Ok.names c.in_ok-names.ensures c.requires.scope c.requires.ports c.in-Ok.is
 
 pub opened-requires-clause-fit : goal.opened-requires-clause-fit
 opened-requires-clause-fit c =

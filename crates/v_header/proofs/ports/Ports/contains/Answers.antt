@@ -1,11 +1,9 @@
--- The names that have entries are those of the ports.
-use Rattle.std.proofs.Common.{ap, ◌∙◌, List, map, bytes_eq}
-use Rattle.std.specs.List.{list_any}
-use Rattle.v_flat.specs.Headers.{Port, port_name}
-use Rattle.v_header.proofs.Stored.{named}
+-- A name that has a place is a port's.
+use Rattle.std.proofs.Common.{◌∙◌}
+use Rattle.v_header.proofs.Places.{is_there}
 use Rattle.v_header.proofs.ports.Ports.contains.Goals as goal
 
 pub returns : goal.returns
 returns c =
-    c.contains_key.ensures ∙ named (λ k. k.items) c.self.inside.directions.entries c.args.name.now
-    ∙ ap (λ (ps : List Port). list_any (bytes_eq c.args.name.now) (map port_name ps)) c.self.view_is
+    c.is_some.ensures
+    ∙ is_there c.args.name.now c.self.inside.list.items c.args.self.now c.self.inside.places c.find.result c.self.invariant c.self.view_is c.find.ensures

@@ -1,15 +1,13 @@
--- The entry that is found is a port's.
-use Rattle.std.proofs.Common.{List, Some, ap, ◌∙◌, ℕ}
-use Rattle.v_flat.specs.Headers.{find_port}
-use Rattle.v_header.specs.Ports.{port_of}
-use Rattle.v_header.proofs.Stored.{found_none, found_some}
+-- The port at the name's place.
+use Rattle.std.proofs.Common.{◌∙◌}
+use Rattle.v_header.proofs.Places.{found_nowhere, found_there}
 use Rattle.v_header.proofs.ports.Ports.find.Goals as goal
 
 pub returns-in-Some : goal.returns-in-Some
 returns-in-Some c =
-    ap (λ (n : List ℕ). Some (port_of n c.in-Some.direction.now)) c.deref.ensures.value
-    ∙ found_some (λ k. k.items) c.self.inside.directions.entries c.args.name.now c.in-Some.name.now c.in-Some.direction.now c.in-Some.ensures.key c.in-Some.ensures.value
-    ∙ ap (find_port c.args.name.now) c.self.view_is
+    c.get.ensures
+    ∙ found_there c.args.name.now c.self.inside.list.items c.args.self.now c.self.inside.places c.find.result c.self.invariant c.self.view_is c.find.ensures c.in-Some.place c.in-Some.is
 
 pub returns-in-None : goal.returns-in-None
-returns-in-None c = found_none (λ k. k.items) c.self.inside.directions.entries c.args.name.now c.in-None.ensures.value ∙ ap (find_port c.args.name.now) c.self.view_is
+returns-in-None c =
+    found_nowhere c.args.name.now c.self.inside.list.items c.args.self.now c.self.inside.places c.find.result c.self.invariant c.self.view_is c.find.ensures c.in-None.is
