@@ -70,6 +70,13 @@ def designs_of_size(size):
     yield "one case", filled(size, lambda n: f"{n % 256}: ;\n", top + "reg [7:0] r;\ninitial case (r)\n", "endcase\n" + end)
     loop = "for (i = 0; i < 8; i = i + 1) r[i] = a;\n"
     yield "loops of eight turns", filled(size, lambda n: loop, top + "reg [7:0] r;\ninteger i;\ninitial begin\n", "end\n" + end)
+    # past the limit of unrolled nodes, so that the command ends for want of memory
+    yield "one sum in 4,096 turns", top + f"reg r;\ninteger i;\ninitial for (i = 0; i < 4096; i = i + 1) r = {sum_of(size // 4 - 64)};\n" + end
+
+
+def sum_of(terms):
+    """A sum of so many terms, in brackets by halves; each further term takes four bytes."""
+    return "a" if terms == 1 else f"({sum_of(terms // 2)}+{sum_of(terms - terms // 2)})"
 
 
 def measurements():
