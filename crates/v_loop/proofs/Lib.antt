@@ -6,3 +6,4 @@ pub mod Scopes
 pub mod Widths
 pub mod Whole
 pub mod Rows
+pub mod Counted

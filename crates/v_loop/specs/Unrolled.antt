@@ -1,5 +1,5 @@
 -- How far a design may be unrolled: a limit of its own, since the standard has none for loops (IEEE 1364-2005, clause 9.6).
-use Rattle.std.specs.Prelude.{◌≡◌, ◌≤◌, ◌+◌, ℕ, List, [], ◌∷◌, Result, Ok, Err}
+use Rattle.std.specs.Prelude.{◌≡◌, ◌≤◌, ◌<◌, ◌+◌, ℕ, List, [], ◌∷◌, Result, Ok, Err}
 use Rattle.port_io.specs.declared.ports.NoMemory.{NoMemory}
 use Rattle.v_syntax.specs.ExpressionTrees.{Tree, Number, Named, Bracketed, Unary, Binary, Conditional, Concatenation, Replication, SelectsTree, Whole, One, OfWord, SelectTree, Bit, Part, IndexedPart, Trees, none, more, TargetTree, NamedTarget, JoinedTarget, TargetTrees, no_target, more_targets}
 use Rattle.v_syntax.specs.StatementTrees.{StatementTree, Assignment, If, IfElse, Case, Match, Default, CaseTrees, no_case, more_cases}
@@ -61,7 +61,7 @@ own_nodes (IfElse c a b) = 1 + nodes c
 own_nodes (Case k e cs) = 1 + (nodes e + labels_nodes cs)
 own_nodes a = 1
 
--- so many more are counted, or some of them where that is too many
+-- so many more are counted; or else they are too many, and as many of them as still may be are
 abbrev pub Counts : ℕ → ℕ → ℕ → Result (Unit {0}) NoMemory → Type 0
-Counts old new n (Ok u) = new ≡ old + n
-Counts old new n (Err e) = old ≤ new
+Counts old new n (Ok u) = (new ≡ old + n) × (old ≤ most_unrolled → new ≤ most_unrolled)
+Counts old new n (Err e) = (old ≤ new) × ((most_unrolled ≤ new) × (new < old + n))

@@ -1,9 +1,9 @@
 //! The nodes of a statement that is unrolled.
 
-ghost use Rattle.std.specs.Prelude.{[], ◌∷◌, map};
+ghost use Rattle.std.specs.Prelude.{◌≤◌, [], ◌∷◌, map, OnOk};
 ghost use Rattle.v_syntax.specs.ExpressionTrees.{view, view_select, view_selects, view_target, view_targets, views};
 ghost use Rattle.v_syntax.specs.StatementTrees.{case_trees, view as view_statement, view_case};
-ghost use Rattle.v_loop.specs.Unrolled.{Counts, all_nodes, label_nodes, labels_nodes, nodes, own_nodes, select_nodes, selects_nodes, target_nodes, targets_nodes};
+ghost use Rattle.v_loop.specs.Unrolled.{Counts, all_nodes, labels_nodes, most_unrolled, nodes, own_nodes, select_nodes, selects_nodes, target_nodes, targets_nodes};
 
 use crate::Unrolled;
 use port_io::NoMemory;
@@ -127,9 +127,11 @@ fn count_labels(unrolled: &mut Unrolled, items: &[CaseItem]) -> Result<(), NoMem
 
 impl Unrolled {
     /// Counts a statement: itself and the nodes of its expressions and targets, but not the statements in it, nor the header of a loop, whose
-    /// parts are constants. That there are more than a design may have is want of memory.
+    /// parts are constants. Want of memory comes exactly where there are more than a design may have then; as many of them as still may be are
+    /// counted.
     pub fn count_statement(&mut self, statement: &Statement) -> Result<(), NoMemory>
-        ensures { Counts self.old self.new (own_nodes (view_statement statement.now)) result }
+        ensures counts { Counts self.old self.new (own_nodes (view_statement statement.now)) result }
+        ensures few { OnOk result (self.new ≤ most_unrolled) }
     {
         self.count()?;
         match statement {
