@@ -1,4 +1,4 @@
--- A tree begins: from left to right, and a First begins no part after one that is done.
+-- A tree begins (cocotb 1.8, "Triggers"): from left to right, and a First begins no part after one that is done.
 use Rattle.std.specs.Prelude.{ℕ, ◌<◌, Bool, true, false, List, length, Option, None, Some, if◌then◌else◌, slice_index_or, slice_set}
 use Rattle.py_value.specs.declared.trigger.TaskNo.{TaskNo}
 use Rattle.py_value.specs.declared.trigger.EventNo.{EventNo}

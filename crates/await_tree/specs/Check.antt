@@ -1,4 +1,4 @@
--- The tree of a trigger before it begins, and why it may not begin.
+-- The tree of a trigger before it begins, and why it may not begin (cocotb 1.8, "Triggers").
 use Rattle.std.specs.Prelude.{ℕ, ◌+◌, nat_lt, Bool, true, false, List, [], ◌∷◌, Option, None, Some, if◌then◌else◌}
 use Rattle.gpi.specs.State.{is_end}
 use Rattle.gpi.specs.declared.types.Key.{Key}

@@ -1,4 +1,4 @@
--- A cause reaches all leaves that wait for it, and a lock goes to one leaf.
+-- A cause reaches all leaves that wait for it, and a lock goes to one leaf (cocotb 1.8, "Triggers").
 use Rattle.std.specs.Prelude.{ℕ, zero, suc, ◌==◌, ◌||◌, Bool, false, List, [], ◌∷◌, if◌then◌else◌}
 use Rattle.gpi.specs.Keys.{same_key}
 use Rattle.gpi.specs.declared.types.Key.{Key}

@@ -1,4 +1,4 @@
--- Laws of trees.
+-- A means of proof: laws of trees, for the proofs of the keepers of waiting tasks.
 use Rattle.std.specs.Prelude.{◌≡◌, ℕ, ◌≤◌, true, false, List, [], length}
 use Rattle.py_value.specs.Trigger as trigger
 use Rattle.py_value.specs.Trigger.{Trig, IsSound}

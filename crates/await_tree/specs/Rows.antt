@@ -1,4 +1,4 @@
--- Worked trees, with their numbers.
+-- A means of proof: worked trees, with their numbers, by which the definition of trees is tried.
 use Rattle.std.specs.Prelude.{◌≡◌, ℕ, false, true, [], ◌∷◌, Some, None}
 use Rattle.gpi.specs.declared.types.Key.{Key}
 use Rattle.gpi.specs.declared.types.Key.TheVariants as key

@@ -1,4 +1,4 @@
--- A tree that has begun: no part of it that waits is one that would be done.
+-- A means of proof: a tree that has begun, for the proofs of trees of triggers: no part of it that waits is one that would be done.
 use Rattle.std.specs.Prelude.{◌≡◌, false, None}
 use Rattle.await_tree.specs.Tree.{Tree, Trees, Over, Leaf, Cycles, First, Combine, Limit, NoTree, Then, is_over, first_over, first_faulted, are_over}
 

@@ -1,4 +1,4 @@
--- What a tree answers to what it is told, and what is left of it then.
+-- What a tree answers to what it is told, and what is left of it then (cocotb 1.8, "Triggers").
 use Rattle.std.specs.Prelude.{◌≡◌, Option, Some}
 use Rattle.py_value.specs.declared.value.Fault.{Fault}
 use Rattle.await_tree.specs.declared.cause.Step.{Step}

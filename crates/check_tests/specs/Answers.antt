@@ -1,4 +1,4 @@
--- What the answer for a text shows.
+-- A means of proof: what the answer for a text shows, for the test program of checks.
 use Rattle.std.specs.Prelude.{◌≡◌, ◌⊎◌, ℕ, ◌<◌, ◌≤◌, List, ◌++◌, length, Result, Ok, Err, codes}
 use Rattle.std.specs.Fmt.{decimal}
 use Rattle.port_io.specs.Limits.{most_bytes}

@@ -1,4 +1,5 @@
--- How an accepted tests file is shown: its functions by number, how many tests it has, and the tests in order.
+-- A means of proof: how an accepted tests file is shown, for the test program of checks: its functions by number, how many tests it has,
+-- and the tests in order.
 use Rattle.std.specs.Prelude.{ℕ, ◌-◌, nat_lt, true, false, Bool, List, [], ◌∷◌, ◌++◌, length, take, slice_get, Option, Some, None, codes, if◌then◌else◌}
 use Rattle.std.specs.Fmt.{decimal, signed_decimal}
 use Rattle.std.specs.List.{concat, flat_map}

@@ -1,4 +1,4 @@
--- What the laws of an answer say.
+-- A means of proof: what the two laws of an answer say, which stand beside the command's contract.
 use Rattle.std.specs.Prelude.{◌≡◌, ℕ, Bool, List, Option, Some}
 use Rattle.gpi.specs.declared.design.Flat.{Flat}
 use Rattle.test_body.specs.BodyTrees.{Case, Function}

@@ -1,4 +1,4 @@
--- Where the tasks of a configuration stand.
+-- A means of proof: where the tasks of a configuration stand, for the laws that each effect of a test keeps it.
 use Rattle.std.specs.Prelude.{◌≤◌, length, Option, None, Some}
 use Rattle.py_value.specs.declared.trigger.TaskNo.{TaskNo}
 use Rattle.run_model.specs.Limits.{live_limit}

@@ -1,4 +1,4 @@
--- The design of a text, or why it has none.
+-- A means of proof: the design of a text, or why it has none, for the test program of elaboration.
 use Rattle.std.specs.Prelude.{◌≡◌, ℕ, ◌<◌, List, length, Option, Result, Ok, Err}
 use Rattle.port_io.specs.Limits.{most_bytes}
 use Rattle.gpi.specs.declared.design.Flat.{Flat}

@@ -1,4 +1,4 @@
--- Vectors as rows write and show them.
+-- A means of proof: vectors as rows write and show them, for the test program of elaboration.
 use Rattle.std.specs.Prelude.{ℕ, ◌==◌, List, [], ◌∷◌, map, reverse, take, if◌then◌else◌}
 use Rattle.four_value.specs.Limits.{most_digits}
 use Rattle.four_value.specs.declared.Digit.{Digit}

@@ -1,4 +1,4 @@
--- The values of a design's signals under a stimulus (IEEE 1364-2005, clause 11).
+-- A means of proof: the values of a design's signals under a stimulus (IEEE 1364-2005, clause 11), for the test program of elaboration.
 use Rattle.std.specs.Prelude.{◌≡◌, ℕ, zero, suc, ◌<◌, ◌≤◌, ◌⊎◌, List, [], ◌∷◌, ◌++◌, length, Option, None, Some, codes, false, if◌then◌else◌}
 use Rattle.std.specs.List.{flat_map, slice_split}
 use Rattle.four_value.specs.Vector.{digit_letters}

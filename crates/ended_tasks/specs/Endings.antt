@@ -1,4 +1,4 @@
--- How the tasks of a test have ended, each by its number from 0 in the order in which they were started.
+-- How the tasks of a test have ended, each by its number from 0 in the order in which they were started (cocotb 1.8, "Triggers", `Join`).
 use Rattle.std.specs.Prelude.{Bool, true, false, ◌<◌, length, List, [], ◌∷◌, ◌++◌, map, Option, Some, None, is_some, slice_index_or, slice_set}
 use Rattle.std.specs.Option.{option_map}
 use Rattle.py_value.specs.declared.trigger.TaskNo.{TaskNo}

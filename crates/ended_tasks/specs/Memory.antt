@@ -1,4 +1,5 @@
--- Which results of joins take memory where they are copied: values that do, and faults.
+-- A means of proof: which results of joins take memory where they are copied, values that do and faults, for the proofs of a test's tasks
+-- that have ended.
 use Rattle.std.specs.Prelude.{Bool, true, false, IsTrue, Option, Some, None}
 use Rattle.py_value.specs.Memory.{copy_takes_memory}
 use Rattle.py_value.specs.declared.trigger.TaskNo.{TaskNo}

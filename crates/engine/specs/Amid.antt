@@ -1,4 +1,4 @@
--- Amid an event, while keys that fired are still to be served.
+-- A means of proof: amid an event, while keys that fired are still to be served, for the proofs of the runner's turns.
 use Rattle.std.specs.Prelude.{◌≡◌, ℕ, ◌≤◌, ◌+◌, true, false, List, length, Option}
 use Rattle.port_io.specs.Means.{SinkMeans}
 use Rattle.port_io.specs.declared.ports.SinkFault.{SinkFault}

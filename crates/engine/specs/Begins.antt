@@ -1,4 +1,4 @@
--- How a test has begun.
+-- A means of proof: how a test has begun, for the proofs of the runner's turns.
 use Rattle.std.specs.Prelude.{Option, None, Some}
 use Rattle.py_syntax.specs.declared.fault_kind.FaultKind.{FaultKind}
 use Rattle.py_value.specs.Answer.{plain_fault}

@@ -1,4 +1,4 @@
--- Configurations between two tests, while the start of the next one is planned.
+-- A means of proof: configurations between two tests, while the start of the next one is planned, for the proofs of the runner's turns.
 use Rattle.std.specs.Prelude.{◌≡◌, ℕ, List, [], Option, Some}
 use Rattle.gpi.specs.State.{State}
 use Rattle.gpi.specs.declared.types.Counts.{Counts}

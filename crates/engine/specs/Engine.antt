@@ -1,4 +1,4 @@
--- The configuration that an engine stands for, together with a simulator.
+-- A means of proof: the configuration that an engine stands for, together with a simulator, for the proofs of the runner's turns.
 use Rattle.std.specs.Prelude.{Bool}
 use Rattle.gpi.specs.Content.{Content}
 use Rattle.gpi.specs.declared.types.Counts.{Counts}

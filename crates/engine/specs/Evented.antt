@@ -1,4 +1,5 @@
--- What a write that is done at once, and an event, lead to, whatever the rest of the configuration is.
+-- A means of proof: what a write that is done at once, and an event, lead to, whatever the rest of the configuration is, for the proofs of
+-- the runner's turns.
 use Rattle.std.specs.Prelude.{◌≡◌, Bool, List, Option, Some}
 use Rattle.port_io.specs.Means.{SinkMeans, PutsTo}
 use Rattle.port_io.specs.declared.ports.SinkFault.{SinkFault}

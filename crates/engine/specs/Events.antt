@@ -1,4 +1,4 @@
--- What a turn comes to that was an event of the simulator.
+-- A means of proof: what a turn comes to that was an event of the simulator, for the proofs of the runner's turns.
 use Rattle.std.specs.Prelude.{◌≡◌, Bool, true, false, Option, None, Some, Result, Ok, IsErr}
 use Rattle.port_io.specs.declared.ports.NoMemory.{NoMemory}
 use Rattle.port_io.specs.declared.ports.SinkFault.{SinkFault}

@@ -1,4 +1,4 @@
--- When an engine and a simulator fit.
+-- A means of proof: when an engine and a simulator fit, for the proofs of the runner's turns.
 use Rattle.std.specs.Prelude.{◌≡◌, Option, None}
 use Rattle.gpi.specs.Content.{Content}
 use Rattle.gpi.specs.Limits.{latest_time}

@@ -1,4 +1,4 @@
--- Lines that are put one after the other, until a put fails.
+-- A means of proof: lines that are put one after the other, until a put fails, for the proofs of the runner's turns.
 use Rattle.std.specs.Prelude.{◌≡◌, ℕ, List, Option, None, Some}
 use Rattle.port_io.specs.Means.{SinkMeans, PutsTo}
 use Rattle.port_io.specs.declared.ports.SinkFault.{SinkFault}

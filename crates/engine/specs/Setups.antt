@@ -1,4 +1,4 @@
--- What all of a run shares, by who tells its changes.
+-- A means of proof: what all of a run shares, by who tells its changes, for the proofs of the runner's turns.
 use Rattle.std.specs.Prelude.{List}
 use Rattle.test_body.specs.BodyTrees.{Function}
 use Rattle.run_model.specs.Rig.{Setup}

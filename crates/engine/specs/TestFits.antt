@@ -1,4 +1,4 @@
--- When a running test and a simulator fit.
+-- A means of proof: when a running test and a simulator fit, for the proofs of the runner's turns.
 use Rattle.std.specs.Prelude.{◌≡◌, ◌≤◌, length, Option, None, Some}
 use Rattle.gpi.specs.Content.{Content}
 use Rattle.gpi.specs.declared.design.Flat.{Flat}

@@ -1,4 +1,4 @@
--- How late the times of a configuration are.
+-- A means of proof: how late the times of a configuration are, for the proofs of the runner's turns.
 use Rattle.std.specs.Prelude.{◌≡◌, ◌≤◌, ℕ, true, List, Option, IfSome}
 use Rattle.gpi.specs.Keys.{among}
 use Rattle.gpi.specs.declared.types.Key.{Key}

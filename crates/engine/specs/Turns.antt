@@ -1,4 +1,4 @@
--- What the answers to a turn say of its steps and of what was put.
+-- A means of proof: what the answers to a turn say of its steps and of what was put, for the proofs of the runner's turns.
 use Rattle.std.specs.Prelude.{◌≡◌, ℕ, Bool, true, false, List, [], ◌∷◌, Option, None, Some, Result, Ok, Err, is_some}
 use Rattle.port_io.specs.PutsPart.{PutsPart}
 use Rattle.port_io.specs.Means.{SinkMeans, PutsTo}

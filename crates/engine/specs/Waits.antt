@@ -1,4 +1,4 @@
--- Which triggers a task may wait for.
+-- A means of proof: which triggers a task may wait for, for the proofs of the runner's turns.
 use Rattle.std.specs.Prelude.{◌≡◌, ◌≤◌, length}
 use Rattle.py_value.specs.Trigger.{Trig}
 use Rattle.py_attribute.specs.Look.{View}

@@ -1,4 +1,4 @@
--- What is printed of a value or of a fault.
+-- A means of proof: what is printed of a value or of a fault, for the test program of evaluation.
 use Rattle.std.specs.Prelude.{ℕ, ◌+◌, Bool, true, false, List, ◌++◌, codes, length, nat_lt, if◌then◌else◌, Ok, Err}
 use Rattle.std.specs.Fmt.{decimal}
 use Rattle.py_syntax.specs.StatementTables.{fault_name}

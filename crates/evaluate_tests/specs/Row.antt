@@ -1,4 +1,4 @@
--- What is answered for a row.
+-- A means of proof: what is answered for a row, for the test program of evaluation.
 use Rattle.std.specs.Prelude.{◌≡◌, ℕ, ◌<◌, ◌≤◌, List, [], ◌∷◌, ◌++◌, Option, None, Some, codes, length}
 use Rattle.port_io.specs.Limits.{most_bytes}
 use Rattle.py_syntax.specs.ExpressionTrees.{Tree, height}

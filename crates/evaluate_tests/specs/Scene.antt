@@ -1,4 +1,4 @@
--- What the rows' task sees.
+-- A means of proof: what the rows' task sees, for the test program of evaluation.
 use Rattle.std.specs.Prelude.{List, [], ◌∷◌, codes, true, false}
 use Rattle.four_value.specs.declared.Digit.{Digit}
 use Rattle.four_value.specs.declared.Digit.TheVariants.{Zero, One, X, Z}

@@ -1,4 +1,4 @@
--- The names of the rows' task, with their values, in the code and in contracts.
+-- A means of proof: the names of the rows' task, with their values, in the code and in contracts, for the test program of evaluation.
 use Rattle.std.specs.Prelude.{List, [], ◌∷◌, ◌++◌, ℕ, None, Some, codes, pos, negsuc, true}
 use Rattle.four_value.specs.declared.Digit.TheVariants as digit
 use Rattle.py_syntax.specs.declared.fault_kind.FaultKind.TheVariants.{ValueError}

@@ -1,4 +1,4 @@
--- The planes come back from the digits.
+-- A means of proof: the planes come back from the digits, for the proofs of vectors.
 use Rattle.std.proofs.Common.{◌≡◌, ℕ, zero, suc, ◌%◌, ◌/◌, ◌^◌, ◌<◌, length, refl, ap, arith}
 use Rattle.std.proofs.Math.Nat.{pow-suc}
 use Rattle.four_value.specs.declared.vector.Bits.TheInside.{Inside}

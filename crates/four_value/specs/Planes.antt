@@ -1,4 +1,4 @@
--- How two planes of bits stand for the digits of a vector.
+-- How two planes of bits stand for the digits of a vector, as `aval` and `bval` do (IEEE 1364-2005, clause 27.14).
 use Rattle.std.specs.Prelude.{ℕ, zero, suc, ◌+◌, ◌*◌, ◌%◌, ◌/◌, ◌^◌, ◌<◌, ◌≤◌, List, [], ◌∷◌}
 use Rattle.four_value.specs.Limits.{most_digits}
 use Rattle.four_value.specs.declared.Digit.{Digit}

@@ -1,4 +1,4 @@
--- One activation of a statement: the map of signals, and the list of updates.
+-- One activation of a statement (IEEE 1364-2005, clause 9): the map of signals, and the list of updates.
 use Rattle.std.specs.Prelude.{◌≡◌, ℕ, zero, suc, ◌+◌, List, [], ◌∷◌, ◌++◌, length, take, drop, slice_index_or, slice_set, Option, Some, None}
 use Rattle.four_value.specs.declared.Digit.{Digit}
 use Rattle.four_value.specs.declared.Digit.TheVariants.{One}
@@ -40,20 +40,20 @@ abbrev pub all_applied : List Update → Map → Map
 all_applied [] m = m
 all_applied (u ∷ us) m = all_applied us (applied u m)
 
--- a blocking assignment: all indices are evaluated before the first part is written
+-- a blocking assignment: all indices are evaluated before the first part is written (clause 9.2.1)
 abbrev pub blocking : List Update → Run → Run
 blocking us r = record r { signals = all_applied us r.signals }
 
--- a nonblocking assignment: its updates are appended
+-- a nonblocking assignment: its updates are appended (clause 9.2.2)
 abbrev pub nonblocking : List Update → Run → Run
 nonblocking us r = record r { updates = r.updates ++ us }
 
--- the branch of `if`: the first only where the condition is true
+-- the branch of `if`: the first only where the condition is true (clause 9.4)
 abbrev pub by_truth : Digit → Run → Run → Run
 by_truth One a b = a
 by_truth _ a b = b
 
--- the item of a case statement, or its default
+-- the item of a case statement, or its default (clause 9.5)
 abbrev pub by_item : Option ℕ → (ℕ → Run) → Run → Run
 by_item (Some k) items other = items k
 by_item None items other = other

@@ -1,4 +1,4 @@
--- What a simulator holds, and what its calls leave.
+-- What a simulator holds, and what its calls leave (IEEE 1364-2005, clause 11).
 use Rattle.std.specs.Prelude.{length, ◌<◌, [], ◌≡◌, ℕ, ◌≤◌, List, ◌∷◌, Option, None, Some, false}
 use Rattle.gpi.specs.declared.types.Region.TheVariants as region
 use Rattle.gpi.specs.declared.types.Key.{Key}

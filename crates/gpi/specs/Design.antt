@@ -1,4 +1,4 @@
--- A design as the simulator sees it.
+-- A design as the simulator sees it: signals, and processes over them (IEEE 1364-2005, clause 11.2).
 use Rattle.std.specs.Prelude.{ℕ, suc, Bool, true, false, List, [], ◌∷◌, replicate, if◌then◌else◌}
 use Rattle.gpi.specs.declared.design.Kind.{Kind}
 use Rattle.gpi.specs.declared.design.Kind.TheVariants.{Assign, Always, Initial}

@@ -86,13 +86,13 @@ activate ps s p (Some proc) =
       region = region.Active;
     }
 
--- 3: a process is active
+-- 3: a process is active (clause 11.3)
 abbrev pub active_case : List Proc → State → List ℕ → Option Event
 active_case ps s [] = None
 active_case ps s (p ∷ rest) =
     Some (record { state = activate ps (record s { active = rest }) p (slice_get ps p); told = None; fired = [] })
 
--- 4: a later update exists
+-- 4: a later update exists (clause 11.3)
 abbrev pub later_case : List Proc → State → Keys → Option Event
 later_case ps s keys = due_case ps (record s { later = [] }) keys s.later
 

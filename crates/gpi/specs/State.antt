@@ -42,7 +42,7 @@ edge_fits Pos _ = false
 edge_fits Neg NegEdge = true
 edge_fits Neg _ = false
 
--- the wake waits for the change: of its signal, and for an edge one of its lowest digit
+-- the wake waits for the change: of its signal, and for an edge one of its lowest digit (clause 9.7.2)
 abbrev pub meets : Wake → Report → Bool
 meets w c = (w.sig.0 == c.sig.0) && edge_fits w.edge (edge_of (digit_at c.before 0) (digit_at c.after 0))
 

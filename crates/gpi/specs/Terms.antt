@@ -23,7 +23,7 @@ abbrev pub word_value : Option ℕ → ℕ → (ℕ → List Digit) → List Dig
 word_value (Some s) w m = m s
 word_value None w m = all_x w
 
--- so many copies of these digits
+-- so many copies of these digits (clause 5.1.14)
 abbrev pub copies : ℕ → List Digit → List Digit
 copies zero ds = []
 copies (suc n) ds = ds ++ copies n ds

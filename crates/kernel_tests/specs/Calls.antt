@@ -1,4 +1,5 @@
--- Calls of a simulator's interface, when they are allowed, and what they are answered.
+-- A means of proof: calls of a simulator's interface, when they are allowed, and what they are answered, for the test program of
+-- simulators.
 use Rattle.std.specs.Prelude.{◌≡◌, ◌<◌, ℕ, ◌-◌, ◌^◌, min, true, false, List, Option, None, Some, codes, length, option_map, if◌then◌else◌}
 use Rattle.std.specs.Str.{bytes_eq}
 use Rattle.four_value.specs.Vector.{vector}

@@ -1,4 +1,5 @@
--- The designs that rows name, and the Verilog text that each stands for (IEEE 1364-2005).
+-- A means of proof: the designs that rows name, and the Verilog text that each stands for (IEEE 1364-2005), for the test program of
+-- simulators.
 use Rattle.std.specs.Prelude.{◌≡◌, ℕ, List, [], ◌∷◌, Option, Some, None, codes, if◌then◌else◌}
 use Rattle.std.specs.Str.{bytes_eq}
 use Rattle.four_value.specs.declared.Digit.TheVariants.{X, Z}

@@ -1,4 +1,4 @@
--- Registered keys, told by lists.
+-- A means of proof: registered keys, told by lists, for the test program of simulators.
 use Rattle.std.specs.Prelude.{◌≡◌, List, [], ◌∷◌, ◌++◌, filter, not, Option, None, Some}
 use Rattle.gpi.specs.Keys.{Keys, among, has, same_key}
 use Rattle.gpi.specs.declared.types.Fired.{Fired}

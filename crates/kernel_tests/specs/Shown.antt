@@ -1,4 +1,4 @@
--- How the answer to a row is shown.
+-- A means of proof: how the answer to a row is shown, for the test program of simulators.
 use Rattle.std.specs.Prelude.{ℕ, List, [], ◌++◌, Option, None, Some, codes, ◌≡◌, ◌⊎◌}
 use Rattle.std.specs.Fmt.{decimal}
 use Rattle.four_value.specs.Vector.{digit_letters}

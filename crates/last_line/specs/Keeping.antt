@@ -1,4 +1,4 @@
--- What a sink that keeps the last piece means.
+-- A means of proof: what a sink that keeps the last piece means, for its proofs.
 use Rattle.std.specs.Prelude.{◌≡◌, ℕ, List, None}
 use Rattle.port_io.specs.Means.{SinkMeans}
 

@@ -1,4 +1,4 @@
--- The keys that a book holds.
+-- A means of proof: the keys that a book holds, for the proofs of the plain simulator.
 use Rattle.std.specs.Prelude.{◌≡◌, ℕ, ◌<◌, ◌==◌, Bool, false, List, [], ◌∷◌, Option, None, Some, slice_index_or, length, if◌then◌else◌}
 use Rattle.gpi.specs.declared.types.Key.{Key}
 use Rattle.gpi.specs.declared.types.Key.TheVariants.{At, Rise, Fall, Change, ReadWrite, ReadOnly, NextStep}

@@ -1,4 +1,4 @@
--- What the plain simulator holds.
+-- A means of proof: what the plain simulator holds, for its proofs.
 use Rattle.std.specs.Prelude.{◌≡◌, ℕ, ◌<◌, ◌≤◌, List, [], ◌∷◌, ◌++◌, length, vec_capacity, Option, None, Some, if◌then◌else◌}
 use Rattle.gpi.specs.Limits.{most_elements}
 use Rattle.gpi.specs.Terms.{widths_of}

@@ -1,4 +1,4 @@
--- Lists of process numbers.
+-- A means of proof: lists of process numbers, for the proofs of the plain simulator.
 use Rattle.std.specs.Prelude.{◌≡◌, ℕ, ◌<◌, Bool, true, false, List, [], ◌∷◌, Option, None, Some}
 use Rattle.gpi.specs.declared.design.Kind.{Kind}
 use Rattle.gpi.specs.declared.design.Kind.TheVariants.{Always}

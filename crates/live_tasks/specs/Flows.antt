@@ -1,4 +1,4 @@
--- Flows by the numbers of their tasks, and what a poll of one leaves.
+-- A means of proof: flows by the numbers of their tasks, and what a poll of one leaves, for the proofs of the runner.
 use Rattle.std.specs.Prelude.{◌≡◌, ℕ, List, Option, Some, None, slice_index_or}
 use Rattle.py_attribute.specs.Look.{View}
 use Rattle.py_value.specs.declared.trigger.TaskNo.{TaskNo}

@@ -1,4 +1,5 @@
--- The live tasks of a test, as flows by the numbers of their tasks: nothing stands for a task that lives no more.
+-- A means of proof: the live tasks of a test, as flows by the numbers of their tasks, for the proofs of the runner: nothing stands for a
+-- task that lives no more.
 use Rattle.std.specs.Prelude.{◌≡◌, ℕ, ◌==◌, Bool, not, List, [], ◌∷◌, filter, Option, Some, None, slice_set, if◌then◌else◌}
 use Rattle.py_attribute.specs.Look.{View}
 use Rattle.py_value.specs.declared.trigger.TaskNo.{TaskNo}

@@ -1,4 +1,5 @@
--- What the question of a `for` finds: its next element, where there is one, and what is left then.
+-- A means of proof: what the question of a `for` finds, its next element, where there is one, and what is left then, for the proofs of a
+-- task's loops.
 use Rattle.std.specs.Prelude.{◌≡◌, ℕ, ◌+ℤ◌, List, [], ◌∷◌, Option, None, Some, Result, Ok, Err, if◌then◌else◌}
 use Rattle.py_integer.specs.Integer.{held}
 use Rattle.py_value.specs.Answer.{Answer}

@@ -1,4 +1,4 @@
--- What the code keeps of what a `for` has still to go over.
+-- A means of proof: what the code keeps of what a `for` has still to go over, for the proofs of a task's loops.
 use Rattle.std.specs.Prelude.{ℤ, ◌+ℤ◌}
 use Rattle.py_integer.specs.Integer.{number}
 use Rattle.task_model.specs.Frame as frame

@@ -1,4 +1,5 @@
--- The frame that an open call stands for, and how a call in the midst of a step is a place where something is done.
+-- A means of proof: the frame that an open call stands for, and how a call in the midst of a step is a place where something is done, for
+-- the proofs of a task's open calls.
 use Rattle.std.specs.Prelude.{◌≡◌, ℕ, List, Option}
 use Rattle.py_value.specs.Answer.{plain_fault}
 use Rattle.py_value.specs.declared.trigger.TaskNo.{TaskNo}

@@ -1,4 +1,4 @@
--- The jumps, courses and wishes that the code's types stand for.
+-- A means of proof: the jumps, courses and wishes that the code's types stand for, for the proofs of a task's open calls.
 use Rattle.task_model.specs.Frame as frame
 use Rattle.task_model.specs.Moves as move
 use Rattle.open_call.specs.declared.course.Jump.{Jump}

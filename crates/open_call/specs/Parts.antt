@@ -1,4 +1,4 @@
--- What a stack of parts holds.
+-- A means of proof: what a stack of parts holds, for the proofs of a task's open calls.
 use Rattle.std.specs.Prelude.{List, [], ◌∷◌, ◌++◌, drop, Option, None, Some}
 use Rattle.py_syntax.specs.ExpressionTrees.{view}
 use Rattle.test_body.specs.BodyTrees.{Block}

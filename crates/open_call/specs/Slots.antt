@@ -1,4 +1,4 @@
--- The names that slots stand for.
+-- A means of proof: the names that slots stand for, for the proofs of a task's open calls.
 use Rattle.std.specs.Prelude.{ℕ, List, [], ◌∷◌, ◌++◌, map, take, drop, Option, None, Some}
 use Rattle.py_value.specs.declared.value.Value.{Value}
 use Rattle.py_attribute.specs.Look.{Names, Local}

@@ -1,4 +1,4 @@
--- What a list of waiting tasks keeps.
+-- A means of proof: what a list of waiting tasks keeps, for the proofs of the plain keeper of waiting tasks.
 use Rattle.std.specs.Prelude.{List, map}
 use Rattle.gpi.specs.declared.types.Key.{Key}
 use Rattle.await_tree.specs.Whole.{tree_in}

@@ -1,4 +1,4 @@
--- Counts of 64 bits that stay, and that rise.
+-- A means of proof: counts of 64 bits that stay, and that rise, for the proofs of stores and sinks.
 use Rattle.std.specs.Prelude.{◌≡◌, ℕ, ◌≤◌}
 use Rattle.std.proofs.Common.{arith}
 use Rattle.port_io.specs.Ports.{next_count, IsRaised}

@@ -1,4 +1,4 @@
--- What a store and a sink in memory hold.
+-- A means of proof: what a store and a sink in memory hold, for the tests over them.
 use Rattle.std.specs.Prelude.{ℕ, Bool, List, Option, ◌==◌, find}
 use Rattle.std.specs.Option.{option_map}
 use Rattle.std.specs.List.{list_any}

@@ -1,4 +1,4 @@
--- What contracts see of a store and a sink in memory.
+-- A means of proof: what contracts see of a store and a sink in memory, for the tests over them.
 use Rattle.port_io.specs.Memory.{Files, Lines}
 use Rattle.port_io.specs.declared.mem_store.MemStore.TheInside.{Inside as StoreInside}
 use Rattle.port_io.specs.declared.mem_sink.MemSink.TheInside.{Inside as SinkInside}

@@ -1,4 +1,4 @@
--- Pieces that are put one after the other.
+-- A means of proof: pieces that are put one after the other, for the proofs of stores and sinks.
 use Rattle.std.specs.Prelude.{ℕ, List, [], ◌∷◌, ◌++◌, Bool, true, false, refl}
 use Rattle.std.proofs.Common.{subst, sym, ap, append_assoc, ◌∙◌}
 use Rattle.port_io.specs.Ports.{TakesAll, Puts}

@@ -1,4 +1,5 @@
--- What a reader gives, read after read, and what becomes of a read of a named file.
+-- A means of proof: what a reader gives, read after read, and what becomes of a read of a named file, for the proofs of stores over a
+-- folder.
 use Rattle.std.specs.Prelude.{◌≡◌, ◌≢◌, ◌⊎◌, ℕ, ◌<◌, List, [], ◌∷◌, length, Option}
 use Rattle.std.specs.Io.KnownBytes.{Consumes, IsAtEnd}
 use Rattle.port_io.specs.Ports.{next_count}

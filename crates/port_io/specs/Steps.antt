@@ -1,4 +1,4 @@
--- What a read and a put do to a store and a sink in memory.
+-- A means of proof: what a read and a put do to a store and a sink in memory, for the tests over them.
 use Rattle.std.specs.Prelude.{◌≡◌, ◌⊎◌, ℕ, ◌≤◌, true, false, List, [], ◌++◌, take, None, Some, IsSomeAnd, refl}
 use Rattle.std.specs.Io.KnownBytes.{Appends}
 use Rattle.port_io.specs.Ports.{next_count, IsRaised, GivesFile, AppendsPart}

@@ -1,4 +1,4 @@
--- What a put does to a sink over a writer, write after write.
+-- A means of proof: what a put does to a sink over a writer, write after write, for the proofs of stores and sinks.
 use Rattle.std.specs.Prelude.{◌≡◌, ◌≢◌, ◌⊎◌, ℕ, ◌<◌, List, [], ◌∷◌, drop}
 use Rattle.port_io.specs.Ports.{next_count}
 

@@ -1,4 +1,4 @@
--- Calls that a row asks for, one after the other.
+-- A means of proof: calls that a row asks for, one after the other, for the test program of stores and sinks.
 use Rattle.std.specs.Prelude.{ℕ, zero, suc, List, [], ◌∷◌, ◌++◌}
 
 -- what is asked at the first so many places, in order

@@ -1,4 +1,4 @@
--- What rows of a sink, a name, a sequence and a place come to.
+-- A means of proof: what rows of a sink, a name, a sequence and a place come to, for the test program of stores and sinks.
 use Rattle.std.specs.Prelude.{◌≡◌, ℕ, ◌+◌, Bool, true, false, not, ◌||◌, nat_lt, List, [], ◌∷◌, ◌++◌, length, map, fold, codes, if◌then◌else◌}
 use Rattle.std.specs.Fmt.{decimal}
 use Rattle.std.specs.List.{flat_map, slice_split}

@@ -1,4 +1,5 @@
--- Attributes of values, words of memories, the text that `str` gives, and the signal whose width `len` tells.
+-- Attributes of values, words of memories, the text that `str` gives, and the signal whose width `len` tells (the language reference, 6.3.1
+-- and 6.3.2; the library reference, "Built-in Functions").
 use Rattle.std.specs.Prelude.{ℕ, ◌+◌, ◌-◌, ◌^◌, ◌==◌, ◌&&◌, nat_lt, nat_le, List, [], ◌∷◌, length, codes, Option, Some, None, is_some, unwrap_or, if◌then◌else◌, Ok, Err, ℤ, pos, negsuc, ◌-ℤ◌}
 use Rattle.std.specs.Option.{option_or}
 use Rattle.std.specs.Str.{bytes_eq}

@@ -1,4 +1,5 @@
--- What a function of the code returned is the answer of an operation, unless memory ran out.
+-- A means of proof: what a function of the code returned is the answer of an operation, unless memory ran out, for the proofs of
+-- evaluation.
 use Rattle.std.specs.Prelude.{◌≡◌, ◌+◌, ◌≤◌, Result, Ok, Err}
 use Rattle.py_attribute.specs.declared.fault.OperationFault.{OperationFault}
 use Rattle.py_attribute.specs.declared.fault.OperationFault.TheVariants as faults

@@ -1,5 +1,5 @@
--- Which values a view knows: each signal and node in them is of its design, each task, event and lock was made in its test, each trigger
--- is sound, and each clock can run.
+-- A means of proof: which values a view knows, for the proofs of evaluation: each signal and node in them is of its design, each task,
+-- event and lock was made in its test, each trigger is sound, and each clock can run.
 use Rattle.std.specs.Prelude.{◌≡◌, ℕ, ◌+◌, ◌<◌, ◌≤◌, length, List, [], ◌∷◌, IfSome}
 use Rattle.gpi.specs.declared.types.SigId.{SigId}
 use Rattle.py_value.specs.Limits.{signal_numbers}

@@ -1,4 +1,4 @@
--- What a task sees of the simulation and of the runner, its names, and what values are by it.
+-- What a task sees of the simulation and of the runner, its names, and what values are by it (the language reference, 4.2).
 use Rattle.std.specs.Prelude.{ℕ, ◌==◌, Bool, true, false, List, [], ◌∷◌, length, Option, None, Some, Ok, Err, codes, pos, slice_index_or, if◌then◌else◌}
 use Rattle.std.specs.List.{find}
 use Rattle.std.specs.Option.{option_map, option_and_then}

@@ -1,4 +1,5 @@
--- What is true of each trigger in a value, those inside others among them, by its task and its number.
+-- A means of proof: what is true of each trigger in a value, those inside others among them, by its task and its number, for the proofs of
+-- evaluation.
 use Rattle.std.specs.Prelude.{ℕ, ◌<◌, ◌≤◌, ◌==◌, ◌||◌, not, nat_lt, Bool, IsTrue, List, Option, Some, None}
 use Rattle.py_value.specs.Trigger.{Trig, Made, Form, Trigs, NoTrig, Then, First, Combine, Limit}
 use Rattle.py_value.specs.declared.trigger.TaskNo.{TaskNo}

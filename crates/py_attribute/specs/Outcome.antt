@@ -1,4 +1,4 @@
--- What an evaluation gives: a value or the kind of a fault, and the number of the task's next trigger.
+-- What an evaluation gives (the language reference, 4.3 and 6): a value or the kind of a fault, and the number of the task's next trigger.
 use Rattle.std.specs.Prelude.{◌≡◌, ◌≤◌, ℕ, Result, Ok, Err, IfOk}
 use Rattle.py_syntax.specs.declared.fault_kind.FaultKind.{FaultKind}
 use Rattle.py_value.specs.Answer.{Answer}

@@ -1,4 +1,4 @@
--- Readings that may fail, put together.
+-- A means of proof: readings that may fail, put together, for the proofs of Python's parser.
 use Rattle.std.specs.Prelude.{List, Option, Some, None}
 use Rattle.py_syntax.specs.declared.token.Token.{Token}
 use Rattle.py_phrase.specs.Marks.{end_of, after_last}

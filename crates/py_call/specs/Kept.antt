@@ -1,5 +1,5 @@
--- What is kept of a form while a line is read, and the greatest height of its expressions. In the place of an expression over the limit
--- on heights another stands, and its height counts as one above the limit.
+-- A means of proof: what is kept of a form while a line is read, and the greatest height of its expressions, for the proofs of Python's
+-- parser. In the place of an expression over the limit on heights another stands, and its height counts as one above the limit.
 use Rattle.std.specs.Prelude.{ℕ, ◌+◌, ◌-◌, max, nat_le, List, [], ◌∷◌, Option, Some, None, if◌then◌else◌}
 use Rattle.py_syntax.specs.ExpressionTrees.{Tree, height}
 use Rattle.py_syntax.specs.StatementTrees.{Argument, StartedCall, FunctionCall, ClockStart, Timed, TimedValue, TimedCall, Awaited, AwaitedValue, AwaitedCall, AwaitedStart, WithTimeout, RightSide, RightValue, RightAwait, RightStart, NewEvent, NewLock, RandomInt}

@@ -1,5 +1,5 @@
--- How started calls, what is awaited and right sides are read, from left to right, as functions on lists of tokens. Where they give
--- None no such form stands there.
+-- A means of proof: how started calls, what is awaited and right sides are read, from left to right, as functions on lists of tokens, for
+-- the proofs of Python's parser. Where they give None no such form stands there.
 use Rattle.std.specs.Prelude.{ℕ, zero, suc, max, Bool, true, ◌&&◌, List, [], ◌∷◌, ◌++◌, map, length, Option, Some, None, codes, if◌then◌else◌}
 use Rattle.std.specs.Str.{bytes_eq}
 use Rattle.py_syntax.specs.ExpressionTrees.{Tree, Attribute}

@@ -1,4 +1,4 @@
--- What the code returns, without where it lies in memory.
+-- A means of proof: what the code returns, without where it lies in memory, for the proofs of Python's parser.
 use Rattle.std.specs.Prelude.{ℕ, List, map, Option}
 use Rattle.std.specs.Borrow.{Bor}
 use Rattle.std.specs.declared.vec.Vec.{Vec}

@@ -1,4 +1,4 @@
--- The tokens that decide how a call goes on.
+-- A means of proof: the tokens that decide how a call goes on, for the proofs of Python's parser.
 use Rattle.std.specs.Prelude.{ℕ, Bool, true, false, List, [], ◌∷◌, Option, Some, None, if◌then◌else◌}
 use Rattle.std.specs.Str.{bytes_eq}
 use Rattle.py_syntax.specs.declared.keyword.Keyword.TheVariants as keyword

@@ -1,4 +1,4 @@
--- What an evaluation tells its caller.
+-- A means of proof: what an evaluation tells its caller, for the proofs of evaluation.
 use Rattle.std.specs.Prelude.{◌≡◌, ℕ, Result, Ok, Err}
 use Rattle.py_value.specs.Answer.{raised}
 use Rattle.py_value.specs.declared.trigger.TaskNo.{TaskNo}

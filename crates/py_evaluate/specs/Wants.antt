@@ -1,5 +1,6 @@
--- Where memory may run out in an evaluation, and what the number of the task's next trigger is then. Memory is taken for a text, for some
--- copies of a name's value, for a value that waits while another expression is evaluated, for the arguments of a call, and by some calls.
+-- A means of proof: where memory may run out in an evaluation, and what the number of the task's next trigger is then, for the proofs of
+-- evaluation. Memory is taken for a text, for some copies of a name's value, for a value that waits while another expression is evaluated,
+-- for the arguments of a call, and by some calls.
 use Rattle.std.specs.Prelude.{◌≡◌, ◌⊎◌, ℕ, Bool, not, IsTrue, Option, IsSomeAnd, Ok}
 use Rattle.py_syntax.specs.ExpressionTrees.{Tree, Constant, FormatString, Name, Bracketed, Attribute, Subscript, Call, MethodCall, Unary, Infix, Trees, NoTree, Then, Parts, NoPart, TextThen, FormattedThen}
 use Rattle.py_syntax.specs.declared.expression.BoolOp.{BoolOp}

@@ -1,4 +1,4 @@
--- Attributes.
+-- A means of proof: an attribute, as its object and its name, for the proofs of Python's parser.
 use Rattle.std.specs.Prelude.{ℕ, List, Option, Some, None}
 use Rattle.py_syntax.specs.ExpressionTrees.{Tree, Attribute}
 

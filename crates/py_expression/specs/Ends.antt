@@ -1,4 +1,4 @@
--- Where an expression ends.
+-- A means of proof: where an expression ends, for the proofs of Python's parser.
 use Rattle.std.specs.Prelude.{Bool, true, false, ◌∷◌, [], ◌≡◌, ◌⊎◌, ℕ, ◌<◌, ◌≤◌, List, Option, Some, None, Result, Ok, Err}
 use Rattle.py_syntax.specs.ExpressionTables.{level_of, function_of, method_of}
 use Rattle.py_syntax.specs.ExpressionTrees.{Tree, Constant, FormatString, Name, Bracketed, Attribute, Subscript, Call, MethodCall, Unary, Infix}

@@ -1,4 +1,4 @@
--- What is open while an expression is read, and where in it reading stands.
+-- A means of proof: what is open while an expression is read, and where in it reading stands, for the proofs of Python's parser.
 use Rattle.std.specs.Prelude.{ℕ, List}
 use Rattle.py_syntax.specs.declared.token.Token.{Token}
 use Rattle.py_syntax.specs.declared.expression.UnOp.{UnOp}

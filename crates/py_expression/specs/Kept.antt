@@ -1,4 +1,4 @@
--- What the code keeps, without where it lies in memory.
+-- A means of proof: what the code keeps, without where it lies in memory, for the proofs of Python's parser.
 use Rattle.std.specs.Prelude.{length}
 use Rattle.py_syntax.specs.ExpressionTrees.{view}
 use Rattle.py_expression.specs.Rows.{trees_of, parts_of}

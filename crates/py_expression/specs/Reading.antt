@@ -1,5 +1,6 @@
--- How an expression is read, from left to right, as a function on lists of tokens. Where it gives None no expression stands there.
--- `limit` is the greatest height of an expression, of which more is kept than two attributes' names; the code takes `height_limit`.
+-- A means of proof: how an expression is read, from left to right, as a function on lists of tokens, for the proofs of Python's parser.
+-- Where it gives None no expression stands there. `limit` is the greatest height of an expression, of which more is kept than two
+-- attributes' names; the code takes `height_limit`.
 use Rattle.std.specs.Prelude.{ℕ, zero, suc, ◌+◌, ◌*◌, Bool, ◌&&◌, nat_le, List, [], ◌∷◌, length, Option, Some, None, if◌then◌else◌}
 use Rattle.py_syntax.specs.ExpressionTables.{level_of, left_level, prefix_level, function_of, method_of, takes_argument, has_enough, name_at}
 use Rattle.py_syntax.specs.declared.constant.Const.{Const}

@@ -1,4 +1,4 @@
--- Lists of the code's trees as lists of trees.
+-- A means of proof: lists of the code's trees as lists of trees, for the proofs of Python's parser.
 use Rattle.std.specs.Prelude.{List, [], ◌∷◌}
 use Rattle.py_syntax.specs.ExpressionTrees.{Trees, NoTree, Then, Parts, NoPart, view, view_part}
 use Rattle.py_syntax.specs.declared.expression.Expression.{Expression}

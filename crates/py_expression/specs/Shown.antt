@@ -1,4 +1,5 @@
--- What is kept of a tree while a text is read: the tree and its height, or, where it is too high, the names of its two outermost attributes.
+-- A means of proof: what is kept of a tree while a text is read, for the proofs of Python's parser: the tree and its height, or, where it
+-- is too high, the names of its two outermost attributes.
 use Rattle.std.specs.Prelude.{ℕ, ◌+◌, max, nat_le, nat_lt, List, if◌then◌else◌}
 use Rattle.py_syntax.specs.ExpressionTrees.{Tree, Constant, FormatString, Name, Bracketed, Attribute, Subscript, Call, MethodCall, Unary, Infix, Trees, NoTree, Then, Parts, NoPart, TextThen, FormattedThen, height}
 use Rattle.py_syntax.specs.declared.constant.Const.{Const}

@@ -1,4 +1,4 @@
--- What the code has open, without where it lies in memory.
+-- A means of proof: what the code has open, without where it lies in memory, for the proofs of Python's parser.
 use Rattle.std.specs.Prelude.{List, [], ◌∷◌}
 use Rattle.py_expression.specs.Kept.{measured, arguments_in, parts_in}
 use Rattle.py_expression.specs.Frames

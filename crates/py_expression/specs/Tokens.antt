@@ -1,4 +1,4 @@
--- The tokens that decide how an expression goes on.
+-- A means of proof: the tokens that decide how an expression goes on, for the proofs of Python's parser.
 use Rattle.std.specs.Prelude.{ℕ, List, [], ◌∷◌, Option, Some, None}
 use Rattle.py_syntax.specs.declared.keyword.Keyword.TheVariants as keyword
 use Rattle.py_syntax.specs.declared.operator.Operator.{Operator}

@@ -1,4 +1,4 @@
--- What the lines of a text are, and what is answered where it breaks a rule.
+-- A means of proof: what the lines of a text are, and what is answered where it breaks a rule, for the proofs of Python's lexer.
 use Rattle.std.specs.Prelude.{◌≡◌, ℕ, List, None, Some, Result, Ok, Err}
 use Rattle.py_syntax.specs.Line.{Line}
 use Rattle.py_syntax.specs.Places.{first_place}

@@ -1,4 +1,4 @@
--- A piece that lies within a text.
+-- A means of proof: a piece that lies within a text, for the proofs of Python's lexer.
 use Rattle.std.specs.Prelude.{◌≡◌, ℕ, ◌<◌, ◌≤◌, false, List, length}
 use Rattle.py_syntax.specs.Bytes.{is_brace}
 use Rattle.py_syntax.specs.Places.{line_ends}

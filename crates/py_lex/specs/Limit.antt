@@ -1,4 +1,4 @@
--- Numbers that aren't too great.
+-- A means of proof: numbers that aren't too great, for the proofs of Python's lexer.
 use Rattle.std.specs.Prelude.{ℕ, ◌^◌, nat_lt, Option, None, Some, if◌then◌else◌}
 
 -- the number, if it is below 2^127

@@ -1,4 +1,4 @@
--- What a call gave, where the tokens are this line.
+-- A means of proof: what a call gave, where the tokens are this line, for the proofs of Python's parser.
 use Rattle.std.specs.Prelude.{◌≡◌, Result, Ok, Err}
 use Rattle.py_syntax.specs.ModuleTrees as trees
 use Rattle.py_syntax.specs.ModuleTrees.{view_module_line}

@@ -1,4 +1,4 @@
--- How the lines of a module are read, as functions on lists of tokens.
+-- A means of proof: how the lines of a module are read, as functions on lists of tokens, for the proofs of Python's parser.
 use Rattle.std.specs.Prelude.{ℕ, Bool, true, false, List, ◌∷◌, Option, Some, None, codes, if◌then◌else◌}
 use Rattle.py_syntax.specs.ModuleForms.{affixes, parameters}
 use Rattle.py_syntax.specs.ModuleTrees.{ModuleLine, Import, FromImport, Constant, Test, Factory, AddOption, GenerateTests, Function}

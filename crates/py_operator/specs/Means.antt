@@ -1,4 +1,4 @@
--- What number the code's enum stands for.
+-- A means of proof: what number the code's enum stands for, for the proofs of evaluation.
 use Rattle.py_integer.specs.Integer.{number}
 use Rattle.py_operator.specs.declared.number.Number.{Number}
 use Rattle.py_operator.specs.declared.number.Number.TheVariants as code

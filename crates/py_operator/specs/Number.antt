@@ -1,4 +1,4 @@
--- The numbers of values, and the results that a value can hold.
+-- The numbers of values, and the results that a value can hold (the language reference, 3.2, "The standard type hierarchy").
 use Rattle.std.specs.Prelude.{ℕ, Option, Some, None, Ok, Err, ℤ, pos}
 use Rattle.four_value.specs.Vector.{number}
 use Rattle.py_integer.specs.Integer.{truth_number}

@@ -1,4 +1,4 @@
--- What a caller of the parser is told.
+-- A means of proof: what a caller of the parser is told, for the proofs of Python's parser.
 use Rattle.std.specs.Prelude.{◌≡◌, List, Result, Ok, Err}
 use Rattle.py_syntax.specs.BlockTrees.{ModuleItem, view_module}
 use Rattle.py_syntax.specs.declared.tree.Module.{Module}

@@ -1,4 +1,4 @@
--- What a call gave, against what reading gives.
+-- A means of proof: what a call gave, against what reading gives, for the proofs of Python's parser.
 use Rattle.std.specs.Prelude.{◌≡◌, List, map, Result, Ok, Err, Box}
 use Rattle.std.proofs.Common.{Vec, Global}
 use Rattle.py_syntax.specs.Line.{Line}

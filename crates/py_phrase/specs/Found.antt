@@ -1,4 +1,5 @@
--- What a call gave, where these constants stand at the front, with these tokens behind them.
+-- A means of proof: what a call gave, where these constants stand at the front, with these tokens behind them, for the proofs of Python's
+-- parser.
 use Rattle.std.specs.Prelude.{◌≡◌, List, Result, Ok, Err}
 use Rattle.std.specs.Borrow.{Bor}
 use Rattle.std.proofs.Common.{Vec, Global}

@@ -1,4 +1,5 @@
--- What a function of the code returned, seen by a view, is what reading gives, unless memory ran out.
+-- A means of proof: what a function of the code returned, seen by a view, is what reading gives, unless memory ran out, for the proofs of
+-- Python's parser.
 use Rattle.std.specs.Prelude.{◌≡◌, Option, Some, None, Result, Ok, Err}
 use Rattle.py_phrase.specs.declared.fault.ReadError.{ReadError}
 use Rattle.py_phrase.specs.declared.fault.ReadError.TheVariants as errors

@@ -1,4 +1,4 @@
--- The tokens at the front: marks, words and names.
+-- A means of proof: the tokens at the front, for the proofs of Python's parser: marks, words and names.
 use Rattle.std.specs.Prelude.{ℕ, Bool, false, List, [], ◌∷◌, Option, Some, None, if◌then◌else◌}
 use Rattle.std.specs.Str.{bytes_eq}
 use denote.Enum.Bare.{sameb}

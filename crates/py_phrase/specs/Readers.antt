@@ -1,5 +1,5 @@
--- Readers of phrases, as functions on lists of tokens. A reader gives the value at the front and the tokens after it, or None where
--- no phrase stands there.
+-- A means of proof: readers of phrases, as functions on lists of tokens, for the proofs of Python's parser. A reader gives the value at the
+-- front and the tokens after it, or None where no phrase stands there.
 use Rattle.std.specs.Prelude.{ℕ, zero, suc, Bool, true, false, ◌^◌, nat_lt, List, [], ◌∷◌, ◌++◌, length, Option, Some, None, pos, neg_ℤ, if◌then◌else◌}
 use Rattle.py_syntax.specs.declared.constant.Const.{Const}
 use Rattle.py_syntax.specs.declared.constant.Const.TheVariants as constants

@@ -1,4 +1,4 @@
--- Started calls, what is awaited, and right sides as texts.
+-- A means of proof: started calls, what is awaited, and right sides as texts, for the test program of Python's texts.
 use Rattle.std.specs.Prelude.{ℕ, List, [], ◌∷◌, ◌++◌, Option, None, Some, codes}
 use Rattle.std.specs.List.{concat, flat_map}
 use Rattle.py_syntax.specs.ExpressionTrees.{Tree}

@@ -1,4 +1,4 @@
--- Blocks and modules as texts.
+-- A means of proof: blocks and modules as texts, for the test program of Python's texts.
 use Rattle.std.specs.Prelude.{ℕ, List, [], ◌∷◌, ◌++◌, Option, None, Some, codes}
 use Rattle.std.specs.List.{concat, flat_map}
 use Rattle.py_syntax.specs.BlockTrees.{BlockItem, DocstringAt, StatementAt, ClauseAt, Block, NoItem, Then, ModuleItem, TextAt, LineAt, FunctionAt}

@@ -1,4 +1,4 @@
--- Statements and headers as texts.
+-- A means of proof: statements and headers as texts, for the test program of Python's texts.
 use Rattle.std.specs.Prelude.{ℕ, List, [], ◌∷◌, ◌++◌, Option, None, Some, codes}
 use Rattle.std.specs.List.{concat, flat_map}
 use Rattle.py_syntax.specs.ExpressionTrees.{Tree}

@@ -1,4 +1,5 @@
--- Constants and expressions as texts. Each node is its name and its parts in brackets.
+-- A means of proof: constants and expressions as texts, for the test program of Python's texts. Each node is its name and its parts in
+-- brackets.
 use Rattle.std.specs.Prelude.{ℕ, true, false, List, [], ◌∷◌, ◌++◌, codes}
 use Rattle.std.specs.Fmt.{signed_decimal}
 use Rattle.std.specs.List.{concat}

@@ -1,4 +1,5 @@
--- What is kept of statements and headers while a line is read, and the greatest height of their expressions.
+-- A means of proof: what is kept of statements and headers while a line is read, and the greatest height of their expressions, for the
+-- proofs of Python's parser.
 use Rattle.std.specs.Prelude.{ℕ, List}
 use Rattle.py_syntax.specs.ExpressionTrees.{Tree}
 use Rattle.py_syntax.specs.StatementTrees.{Logger, CocotbLog, HierarchyLog, Statement, Pass, Break, Continue, Return, Raise, Assert, Assign, AugmentedAssign, AssignValue, SetImmediateValue, Await, Act, Log, StartSoon, Span, Stop, StartStop, StartStopStep, Constants, Header, If, Elif, Else, While, For, Try, Except, With, BodyLine, Simple, Heads}

@@ -1,4 +1,4 @@
--- Which form a line of a function's body has.
+-- A means of proof: which form a line of a function's body has, for the proofs of Python's parser.
 use Rattle.std.specs.Prelude.{ℕ, ◌≡◌, nat_le, List, Option, Some, None, Result, Ok, Err, if◌then◌else◌}
 use Rattle.py_syntax.specs.StatementTrees.{BodyLine, view_line}
 use Rattle.py_syntax.specs.declared.statement.BodyLine as code

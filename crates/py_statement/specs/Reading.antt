@@ -1,4 +1,5 @@
--- How the lines of a function's body are read, as functions on lists of tokens. Where they give None no such form stands there.
+-- A means of proof: how the lines of a function's body are read, as functions on lists of tokens, for the proofs of Python's parser. Where
+-- they give None no such form stands there.
 use Rattle.std.specs.Prelude.{ℕ, ◌+◌, ◌==◌, Bool, true, false, ◌&&◌, List, [], ◌∷◌, ◌++◌, Option, Some, None, codes, if◌then◌else◌}
 use Rattle.std.specs.Str.{bytes_eq}
 use Rattle.py_syntax.specs.ExpressionTrees.{Tree, Name, Attribute}

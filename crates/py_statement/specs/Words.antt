@@ -1,4 +1,4 @@
--- The names and tokens that decide which statement or header a line is.
+-- A means of proof: the names and tokens that decide which statement or header a line is, for the proofs of Python's parser.
 use Rattle.std.specs.Prelude.{ℕ, List, [], ◌∷◌, Option, Some, None, find, codes}
 use Rattle.std.specs.Str.{bytes_eq}
 use Rattle.py_syntax.specs.StatementTables.{action_name, level_name, augmenting, fault_of}

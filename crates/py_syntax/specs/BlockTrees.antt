@@ -1,4 +1,4 @@
--- Modules and blocks as trees, without where they lie in memory.
+-- Modules and blocks as trees, without where they lie in memory (the language reference, 8 and 9.2).
 use Rattle.std.specs.Prelude.{ℕ, List, [], ◌∷◌, map}
 use Rattle.py_syntax.specs.ModuleTrees.{ModuleLine, view_module_line}
 use Rattle.py_syntax.specs.StatementTrees.{Statement, Header, view_statement, view_header}

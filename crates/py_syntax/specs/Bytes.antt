@@ -1,4 +1,4 @@
--- Kinds of bytes.
+-- Kinds of bytes (the language reference, 2).
 use Rattle.std.specs.Prelude.{ℕ, Bool, ◌&&◌, ◌||◌, not, nat_le, ◌==◌, List, count_by}
 use Rattle.std.specs.List.{list_all}
 

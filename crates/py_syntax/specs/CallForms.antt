@@ -1,5 +1,5 @@
--- Which tokens a started call, what is awaited and a right side spell. A started call is followed by others; what is awaited and a
--- right side reach to the end of their line.
+-- Which tokens a started call, what is awaited and a right side spell (the language reference, 6.3.4 and 6.4). A started call is followed
+-- by others; what is awaited and a right side reach to the end of their line.
 use Rattle.std.specs.Prelude.{◌≡◌, ◌⊎◌, ℕ, Bool, true, false, ◌||◌, ◌&&◌, List, [], ◌∷◌, map, Option, Some, None, codes, if◌then◌else◌}
 use Rattle.std.specs.Str.{bytes_eq}
 use Rattle.py_syntax.specs.ExpressionTrees.{Tree}

@@ -1,4 +1,4 @@
--- Which tokens a constant and a list of constants spell.
+-- Which tokens a constant and a list of constants spell (the language reference, 6.2.2 and 6.2.5).
 use Rattle.std.specs.Prelude.{◌≡◌, ◌⊎◌, ℕ, ◌<◌, ◌^◌, neg_ℤ, pos, List, [], ◌∷◌}
 use Rattle.py_syntax.specs.ExpressionSpells.{IsConstant}
 use Rattle.py_syntax.specs.declared.constant.Const.{Const}

@@ -1,5 +1,5 @@
--- Which tokens an expression spells. Both lists are what is left of a text: the tree stands at the front of the first, and the second
--- follows it.
+-- Which tokens an expression spells (the language reference, 6). Both lists are what is left of a text: the tree stands at the front of the
+-- first, and the second follows it.
 use Rattle.std.specs.Prelude.{◌≡◌, ◌⊎◌, ℕ, ◌+◌, ◌<◌, ◌≤◌, ◌^◌, true, false, List, ◌∷◌, ◌++◌, Some, pos, negsuc}
 use Rattle.py_syntax.specs.ExpressionTables.{level_of, prefix_level, left_level, operation_tokens, prefix_token, function_name, method_name, takes_argument, has_enough, name_at}
 use Rattle.py_syntax.specs.ExpressionTrees.{Tree, Constant, FormatString, Name, Bracketed, Attribute, Subscript, Call, MethodCall, Unary, Infix, Trees, NoTree, Then, Parts, NoPart, TextThen, FormattedThen}
@@ -12,7 +12,7 @@ use Rattle.py_syntax.specs.declared.token.Token.{Token}
 use Rattle.py_syntax.specs.declared.token.Token.TheVariants as token
 use Rattle.py_syntax.specs.declared.expression.Function.{Function}
 
--- How tightly a tree binds; a primary has the greatest level.
+-- How tightly a tree binds; a primary has the greatest level (6.17).
 unfoldable pub level : Tree → ℕ
 level (Unary op e) = prefix_level op
 level (Infix op l r) = level_of op
@@ -86,7 +86,7 @@ unfoldable mutual
       × (here ≡ token.Operator operator.Comma ∷ us)
       × (takes_argument f n ≡ true) × Begins f n us vs × Spells e vs ws × SpellOthers f (n + 1) es ws rest
 
-  -- the parts of an f-string, up to its end
+  -- the parts of an f-string, up to its end (2.4.3)
   pub SpellParts : Parts → List Token → List Token → Type 0
   SpellParts NoPart here rest = here ≡ token.FormatEnd ∷ rest
   SpellParts (TextThen t ps) here rest = (us : List Token) × (here ≡ token.FormatText t ∷ us) × SpellParts ps us rest

@@ -1,4 +1,4 @@
--- The operators, functions and methods of expressions: how they are spelled, and how tightly operators bind.
+-- The operators, functions and methods of expressions: how they are spelled, and how tightly operators bind (the language reference, 6.17).
 use Rattle.std.specs.Prelude.{ℕ, Bool, true, false, ◌||◌, ◌&&◌, ◌==◌, nat_lt, nat_le, List, [], ◌∷◌, Option, Some, None, find, codes, if◌then◌else◌}
 use Rattle.std.specs.Str.{bytes_eq}
 use Rattle.py_syntax.specs.declared.keyword.Keyword.TheVariants as keyword

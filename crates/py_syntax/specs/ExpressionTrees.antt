@@ -1,4 +1,4 @@
--- Trees of expressions, without where they lie in memory, and how high they are.
+-- Trees of expressions, without where they lie in memory, and how high they are (the language reference, 6).
 use Rattle.std.specs.Prelude.{ℕ, ◌+◌, max, List}
 use Rattle.py_syntax.specs.declared.constant.Const.{Const}
 use Rattle.py_syntax.specs.declared.expression.UnOp.{UnOp}

@@ -1,4 +1,4 @@
--- What texts are made of.
+-- What texts are made of (the language reference, 2).
 use Rattle.std.specs.Prelude.{◌≡◌, ◌≢◌, ℕ, false, List, [], ◌∷◌, ◌++◌, take, Option, None, Some, if◌then◌else◌}
 use Rattle.py_syntax.specs.Bytes.{is_escapable, is_brace}
 

@@ -1,4 +1,4 @@
--- The reserved words of Python and how they are spelled.
+-- The reserved words of Python and how they are spelled (the language reference, 2.3.1).
 use Rattle.std.specs.Prelude.{ℕ, List, [], ◌∷◌, Option, find, codes}
 use Rattle.std.specs.Str.{bytes_eq}
 use Rattle.py_syntax.specs.declared.keyword.Keyword.{Keyword}

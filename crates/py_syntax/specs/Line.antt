@@ -1,4 +1,4 @@
--- A logical line.
+-- A logical line (the language reference, 2.1.1).
 use Rattle.std.specs.Prelude.{ℕ, Bool, List}
 use Rattle.py_syntax.specs.declared.token.Token.{Token}
 use Rattle.py_syntax.specs.declared.line_number.LineNumber.{LineNumber}

@@ -1,4 +1,4 @@
--- What contracts see of a logical line and of the lines of a text.
+-- A means of proof: what contracts see of a logical line and of the lines of a text, for the proofs of Python's lexer and parser.
 use Rattle.std.specs.Prelude.{List}
 use Rattle.py_syntax.specs.Line.{Line}
 use Rattle.py_syntax.specs.declared.line.LogicalLine.TheInside.{Inside as LineInside}

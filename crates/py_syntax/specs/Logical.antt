@@ -1,4 +1,4 @@
--- The logical lines that pieces make, and the rules that they break.
+-- The logical lines that pieces make, and the rules that they break (the language reference, 2.1).
 use Rattle.std.specs.Prelude.{ℕ, Bool, true, false, ◌&&◌, ◌||◌, not, ◌==◌, nat_lt, List, [], ◌∷◌, ◌++◌, Option, None, Some, if◌then◌else◌, find, filter, fold, slice_get, slice_index, length, ◌-◌}
 use Rattle.std.specs.List.{filter_map, flat_map, list_any}
 use Rattle.std.specs.Option.{option_map}
@@ -37,7 +37,7 @@ abbrev pub into_first : Placed → List (List Placed) → List (List Placed)
 into_first x [] = (x ∷ []) ∷ []
 into_first x (g ∷ gs) = (x ∷ g) ∷ gs
 
--- the pieces up to and with each line end outside of brackets
+-- the pieces up to and with each line end outside of brackets (2.1.6)
 unfoldable pub groups : List Placed → List (List Placed)
 groups [] = [] ∷ []
 groups (x ∷ xs) = if ends_line x then (x ∷ []) ∷ groups xs else into_first x (groups xs)
@@ -72,7 +72,7 @@ line_from xs (Some x) = Some (record {
   tokens = flat_map (λ y. tokens_of y.piece) xs;
 })
 
--- Empty lines and lines of comments alone are none.
+-- Empty lines and lines of comments alone are none (2.1.7).
 unfoldable pub line_of : List Placed → Option Line
 line_of xs = line_from xs (find has_token xs)
 
@@ -117,7 +117,7 @@ open_format a = if is_code a.mode then [] else broken_on a.line rule.UnclosedTex
 unfoldable pub broken_at_end : Place → List Broken
 broken_at_end a = open_format a ++ open_line (slice_get a.open_brackets 0)
 
--- the indentation of the innermost open block, which is that of the line before
+-- the indentation of the innermost open block, which is that of the line before (2.1.8)
 abbrev pub innermost : List ℕ → ℕ
 innermost blocks = slice_index blocks (length blocks - 1)
 

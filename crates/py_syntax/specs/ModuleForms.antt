@@ -1,4 +1,4 @@
--- Which tokens the lines of a module spell.
+-- Which tokens the lines of a module spell (the language reference, 7 and 8).
 use Rattle.std.specs.Prelude.{ℕ, Bool, true, false, List, [], ◌∷◌, Option, Some, None, codes, if◌then◌else◌}
 use Rattle.std.specs.Str.{bytes_eq}
 use Rattle.py_syntax.specs.ConstantForms.{SpellsConstant}
@@ -42,7 +42,7 @@ closing = token.Close bracket.Round
 abbrev pub last : Phrase (Unit {0})
 last x = closes closing
 
--- `import name`
+-- `import name` (7.11)
 abbrev pub import_form : Phrase ModuleLine
 import_form = both (λ x n. Import n) (exactly import_word) name
 
@@ -54,11 +54,11 @@ module_name = elements name dot nothing
 abbrev pub imported : Phrase (List (List ℕ))
 imported = either (elements name comma nothing) (exactly opening ▹ elements name comma (closes closing))
 
--- `from package.module import name, ..`
+-- `from package.module import name, ..` (7.11)
 abbrev pub from_form : Phrase ModuleLine
 from_form = both FromImport (exactly from_word ▹ module_name ◃ exactly import_word) imported
 
--- `name = constant`
+-- `name = constant` (7.2)
 abbrev pub constant_form : Phrase ModuleLine
 constant_form = both Constant (name ◃ exactly assign) SpellsConstant
 
@@ -66,7 +66,7 @@ constant_form = both Constant (name ◃ exactly assign) SpellsConstant
 abbrev pub setting : Phrase Setting
 setting = both (λ n c. record { name = n; value = c }) (name ◃ exactly assign) SpellsConstant
 
--- `@cocotb.test(name=constant, ..)`
+-- `@cocotb.test(name=constant, ..)` (8.7)
 abbrev pub test_form : Phrase ModuleLine
 test_form = both (λ x ss. Test ss) (exactly (token.Operator operator.At) ▹ word (codes "cocotb") ▹ exactly dot ▹ word (codes "test") ▹ exactly opening) (listed setting closing)
 
@@ -156,7 +156,7 @@ defaults_last seen (p ∷ ps) = if has_default p.default then defaults_last true
 abbrev pub parameters : List Parameter → Option (List Parameter)
 parameters ps = if defaults_last false ps then Some ps else None
 
--- `async def name(parameter, ..):`
+-- `async def name(parameter, ..):` (8.9.1)
 abbrev pub function_form : Phrase ModuleLine
 function_form =
     both Function (exactly (token.Keyword keyword.Async) ▹ exactly (token.Keyword keyword.Def) ▹ name ◃ exactly opening)

@@ -1,4 +1,4 @@
--- Trees of the lines of a module, without where they lie in memory.
+-- Trees of the lines of a module, without where they lie in memory (the language reference, 7 and 8).
 use Rattle.std.specs.Prelude.{ℕ, List, Option}
 use Rattle.py_syntax.specs.declared.constant.Const.{Const}
 use Rattle.py_syntax.specs.declared.module.Parameter.{Parameter}

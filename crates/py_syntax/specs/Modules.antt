@@ -1,4 +1,4 @@
--- Which logical lines a module spells.
+-- Which logical lines a module spells (the language reference, 2.1.8 and 8).
 use Rattle.std.specs.Prelude.{◌≡◌, ℕ, suc, Bool, true, false, List, [], ◌∷◌, ◌++◌}
 use Rattle.py_syntax.specs.Line.{Line}
 use Rattle.py_syntax.specs.ModuleTrees.{ModuleLine, Import, FromImport, Constant, Test, Factory, AddOption, GenerateTests, Function}

@@ -1,4 +1,4 @@
--- Numbers.
+-- Numbers (the language reference, 2.4.4 and 2.4.5).
 use Rattle.std.specs.Prelude.{ℕ, Bool, true, false, ◌&&◌, not, ◌+◌, ◌-◌, ◌*◌, ◌^◌, ◌==◌, nat_le, nat_lt, List, [], ◌∷◌, drop, slice_index, Option, None, Some, if◌then◌else◌}
 use Rattle.py_syntax.specs.Bytes.{is_digit}
 

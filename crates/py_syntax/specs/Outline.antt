@@ -1,4 +1,4 @@
--- Which lines stand in which blocks, and which lines of a text have no place.
+-- Which lines stand in which blocks, and which lines of a text have no place (the language reference, 2.1.8 and 8).
 use Rattle.std.specs.Prelude.{◌≡◌, ◌⊎◌, ℕ, zero, suc, ◌-◌, ◌<◌, ◌≤◌, Bool, true, false, ◌&&◌, ◌==◌, nat_lt, List, [], ◌∷◌, length, Option, Some, None, if◌then◌else◌}
 use Rattle.py_syntax.specs.Line.{Line}
 use Rattle.py_syntax.specs.ModuleTrees.{ModuleLine, view_module_line}

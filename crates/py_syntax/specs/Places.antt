@@ -1,4 +1,4 @@
--- A place in a text, and how a piece moves it on.
+-- A place in a text, and how a piece moves it on (the language reference, 2.1).
 use Rattle.std.specs.Prelude.{◌≡◌, ℕ, ◌+◌, Bool, true, false, ◌&&◌, ◌||◌, not, List, [], ◌∷◌, ◌++◌, length, take, slice_get, Option, None, Some, ◌-◌, if◌then◌else◌}
 use Rattle.py_syntax.specs.Line.{physical_line}
 use Rattle.py_syntax.specs.Bytes.{is_quote}

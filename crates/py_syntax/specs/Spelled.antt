@@ -1,4 +1,4 @@
--- The pieces of a text spell it.
+-- The pieces of a text spell it (the language reference, 2).
 use Rattle.std.specs.Prelude.{◌≡◌, ℕ, List, [], ◌∷◌, ◌++◌}
 use Rattle.py_syntax.specs.Places.{Place, context_of, place_after}
 use Rattle.py_syntax.specs.Standing.{Stands}

@@ -1,4 +1,4 @@
--- Which bytes spell a piece, and before which rest, rule by rule.
+-- Which bytes spell a piece, and before which rest, rule by rule (the language reference, 2).
 use Rattle.std.specs.Prelude.{◌≡◌, ◌≢◌, ◌≤◌, ℕ, Bool, true, false, ◌&&◌, ◌||◌, not, ◌==◌, List, [], ◌∷◌, ◌++◌, length, drop, slice_index, codes, Option, None, Some}
 use Rattle.std.specs.List.{list_all, list_any, take_while}
 use Rattle.std.specs.Str.{bytes_eq}
@@ -136,13 +136,13 @@ StaysOpenOnLine quote body = (items : List Item) (behind : List ℕ) → AreInTe
 
 -- The piece stands here, spelled by these bytes, before this rest.
 pub data Stands (c : Context) (p : Piece) (bytes rest : List ℕ) : Type 0 where
-  -- Ends of lines, blanks and comments. A line ends with a line feed, or a carriage return and a line feed.
+  -- Ends of lines, blanks and comments. A line ends with a line feed, or a carriage return and a line feed (2.1.2, 2.1.3 and 2.1.9).
   line_feed : p ≡ piece.LineEnd → bytes ≡ 10 ∷ [] → Stands c p bytes rest
   carriage_return : IsOfCode c.mode → p ≡ piece.LineEnd → bytes ≡ 13 ∷ 10 ∷ [] → Stands c p bytes rest
   space : IsOfCode c.mode → p ≡ piece.Space → bytes ≡ 32 ∷ [] → Stands c p bytes rest
   tab : c.mode ≡ mode.Code → c.at_front ≡ true → p ≡ piece.Tab → bytes ≡ 9 ∷ [] → Stands c p bytes rest
   comment : (body : List ℕ) → c.mode ≡ mode.Code → p ≡ piece.Comment → bytes ≡ 35 ∷ body → list_all not_line_feed body ≡ true → EndsBefore not_line_feed rest → Stands c p bytes rest
-  -- Words, brackets and marks, each as long as can be.
+  -- Words, brackets and marks, each as long as can be (2.3, 2.5 and 2.6).
   word : IsOfCode c.mode → p ≡ piece.Token (word_token bytes (keyword_of bytes)) true → is_letter (slice_index bytes 0) ≡ true → list_all is_word_byte bytes ≡ true → EndsBefore is_word_byte rest
       → begins_format c.mode bytes rest ≡ false → Stands c p bytes rest
   number : IsOfCode c.mode → p ≡ piece.Token (number_token (number_of bytes)) true → is_digit (slice_index bytes 0) ≡ true → list_all (is_number_byte (base_of bytes)) bytes ≡ true
@@ -159,7 +159,7 @@ pub data Stands (c : Context) (p : Piece) (bytes rest : List ℕ) : Type 0 where
   bad_byte : (b : ℕ) → IsOfCode c.mode → p ≡ piece.BadByte → bytes ≡ b ∷ [] → is_printable b ≡ false → b ≢ 10 → (b ≡ 13 → EndsBefore (λ d. d == 10) rest)
       → (b ≡ 9 → c.mode ≡ mode.Code → c.at_front ≡ true → ⊥) → Stands c p bytes rest
   backslash : c.mode ≡ mode.Code → p ≡ piece.BadByte → bytes ≡ 92 ∷ [] → Stands c p bytes rest
-  -- Texts and docstrings.
+  -- Texts and docstrings (2.4.1).
   text : (quote : ℕ) (items : List Item) → c.mode ≡ mode.Code → p ≡ piece.Token (text_token (said_by items)) (are_printable (bytes_of items)) → bytes ≡ quote ∷ (bytes_of items ++ quote ∷ [])
       → is_quote quote ≡ true → AreInText quote items → IsNoDocstring c (bytes ++ rest) → Stands c p bytes rest
   open_text : (quote : ℕ) (body : List ℕ) → c.mode ≡ mode.Code → p ≡ piece.OpenText → bytes ≡ quote ∷ body → is_quote quote ≡ true → list_all not_line_feed body ≡ true

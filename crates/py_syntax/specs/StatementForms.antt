@@ -1,4 +1,4 @@
--- Which tokens a statement, a header and a line of a function's body spell. Each is a whole line.
+-- Which tokens a statement, a header and a line of a function's body spell (the language reference, 7 and 8). Each is a whole line.
 use Rattle.std.specs.Prelude.{◌≡◌, ℕ, suc, Bool, true, false, ◌==◌, List, [], ◌∷◌, length, Option, Some, None, codes, if◌then◌else◌}
 use Rattle.py_syntax.specs.ExpressionTrees.{Tree, Constant}
 use Rattle.py_syntax.specs.ExpressionSpells.{level, Closes, Spells}
@@ -16,7 +16,7 @@ use Rattle.py_syntax.specs.declared.operator.Bracket.TheVariants as bracket
 use Rattle.py_syntax.specs.declared.token.Token.{Token}
 use Rattle.py_syntax.specs.declared.token.Token.TheVariants as token
 
--- Statements.
+-- Statements (7).
 
 -- the fault's value in brackets, if there is one
 abbrev pub SpellsRaised : Option Tree → List Token → Type 0
@@ -87,7 +87,7 @@ SpellsStatement (Log g l e es) here =
     × SpellsLogger g here (method_tokens (level_name l) us) × SpellsValues (e ∷ es) us [] × (can_log e es ≡ true)
 SpellsStatement (StartSoon f) here = SpellsStart (codes "start_soon") f here
 
--- Headers.
+-- Headers (8).
 
 -- `:` at the end of the line
 abbrev pub colon : List Token

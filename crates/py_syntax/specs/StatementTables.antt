@@ -1,4 +1,5 @@
--- The names of kinds of faults, and which operators an assignment may have before its `=`.
+-- The names of kinds of faults, and which operators an assignment may have before its `=` (the library reference, "Built-in Exceptions";
+-- the language reference, 7.2.1).
 use Rattle.std.specs.Prelude.{ℕ, List, [], ◌∷◌, Option, Some, None, find, codes}
 use Rattle.std.specs.Str.{bytes_eq}
 use Rattle.py_syntax.specs.declared.operator.Operator.{Operator}

@@ -1,4 +1,5 @@
--- Trees of statements and of the headers of blocks, without where they lie in memory, and how high they are.
+-- Trees of statements and of the headers of blocks, without where they lie in memory, and how high they are (the language reference, 7 and
+-- 8).
 use Rattle.std.specs.Prelude.{ℕ, max, List, [], ◌∷◌, map, Option, Some, None}
 use Rattle.py_syntax.specs.ExpressionTrees.{Tree, view, height}
 use Rattle.py_syntax.specs.declared.constant.Const.{Const}

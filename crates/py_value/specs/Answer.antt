@@ -1,4 +1,4 @@
--- What an operation answers: a value, or the kind of the fault that it raises.
+-- What an operation answers (the language reference, 4.3): a value, or the kind of the fault that it raises.
 use Rattle.std.specs.Prelude.{Result, Ok, Err, []}
 use Rattle.py_syntax.specs.declared.fault_kind.FaultKind.{FaultKind}
 use Rattle.py_value.specs.declared.value.Fault.{Fault}

@@ -1,4 +1,5 @@
--- Which values take memory where they are copied: those that hold a text, and triggers that hold others.
+-- A means of proof: which values take memory where they are copied, for the proofs of copies: those that hold a text, and triggers that
+-- hold others.
 use Rattle.std.specs.Prelude.{Bool, true, false}
 use Rattle.py_value.specs.Trigger.{Form, First, Combine, Limit, form_of}
 use Rattle.py_value.specs.declared.value.Value.{Value}

@@ -1,4 +1,4 @@
--- What is asked of a text, and what the answer shows.
+-- A means of proof: what is asked of a text, and what the answer shows, for the test program of Python's texts.
 use Rattle.std.specs.Prelude.{◌≡◌, ◌⊎◌, ℕ, ◌<◌, ◌≤◌, List, ◌++◌, length, Option, None, Some, Ok, Err, codes, if◌then◌else◌}
 use Rattle.std.specs.Str.{bytes_eq}
 use Rattle.std.specs.Fmt.{decimal}

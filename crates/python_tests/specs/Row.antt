@@ -1,4 +1,4 @@
--- The text of a row that is put together of repeated parts.
+-- A means of proof: the text of a row that is put together of repeated parts, for the test program of Python's texts.
 use Rattle.std.specs.Prelude.{ℕ, min, List, ◌++◌}
 use Rattle.std.specs.List.{repeat}
 use Rattle.table_rows.specs.Rows.{decimal, part_at, written}

@@ -1,4 +1,4 @@
--- How logical lines and their tokens are shown.
+-- A means of proof: how logical lines and their tokens are shown, for the test program of Python's texts.
 use Rattle.std.specs.Prelude.{ℕ, Bool, true, false, List, [], ◌++◌, codes}
 use Rattle.std.specs.List.{flat_map, join_by}
 use Rattle.std.specs.Fmt.{decimal}

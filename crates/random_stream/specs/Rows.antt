@@ -1,4 +1,4 @@
--- Worked draws, which tools/random_rows.py reckoned.
+-- A means of proof: worked draws, which tools/random_rows.py reckoned, by which the definition of the generator is tried.
 use Rattle.std.specs.Prelude.{◌≡◌, ℕ, zero, suc, List, [], ◌∷◌, ℤ, pos, neg_ℤ}
 use Rattle.random_stream.specs.Generator.{Generator, next, word, seeded}
 use Rattle.random_stream.specs.Draw.{drawn}

@@ -1,4 +1,4 @@
--- What a run over the tests of a file leaves of an engine and its simulator.
+-- A means of proof: what a run over the tests of a file leaves of an engine and its simulator, for its proofs.
 use Rattle.std.specs.Prelude.{◌≡◌, ◌≢◌, Bool, true, false, []}
 use Rattle.gpi.specs.Content.{Content}
 use Rattle.wait_list.specs.Keys.{AreKeys}

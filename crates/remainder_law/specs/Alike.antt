@@ -1,4 +1,4 @@
--- Configurations and runs that are the same but for the rests that are still to do.
+-- A means of proof: configurations and runs that are the same but for the rests that are still to do, for the law of the remainder.
 use Rattle.std.specs.Prelude.{◌≡◌, List, [], ◌∷◌, Option, None, Some}
 use Rattle.test_body.specs.BodyTrees.{Block}
 use Rattle.await_tree.specs.declared.cause.Given.{Given}

@@ -1,4 +1,5 @@
--- The laws of the remainder: what a task has still to do that never comes is without effect.
+-- A means of proof: what the laws of the remainder say, which stand beside the command's contract: what a task has still to do that never
+-- comes is without effect.
 use Rattle.std.specs.Prelude.{◌≡◌, ℕ, List}
 use Rattle.test_body.specs.BodyTrees.{Block, Case}
 use Rattle.run_model.specs.Rig.{Setup}

@@ -1,4 +1,4 @@
--- Two tests files that differ in how a function's body ends, and their tasks.
+-- A means of proof: two tests files that differ in how a function's body ends, and their tasks, for the law of the remainder.
 use Rattle.std.specs.Prelude.{◌≡◌, ◌⊎◌, List, [], ◌∷◌, ◌++◌, Option}
 use Rattle.test_body.specs.BodyTrees.{Block, NoItem, Then, Function}
 use Rattle.task_model.specs.Frame.{Course, On, Has, Leaves, Frame, Task, items}

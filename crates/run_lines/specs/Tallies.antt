@@ -1,4 +1,4 @@
--- How many tests there were of each verdict.
+-- A means of proof: how many tests there were of each verdict, for the proofs of a run's lines.
 use Rattle.std.specs.Prelude.{◌≡◌, ◌+◌, ◌-◌, ◌^◌, ◌<◌, List, length, count_by}
 use Rattle.run_model.specs.Verdict.{is_pass, is_fail, is_skip}
 use Rattle.run_model.specs.declared.outcome.Verdict.{Verdict}

@@ -1,4 +1,4 @@
--- What each thing that a task wants does, and what the task is given next.
+-- What each thing that a task wants does, and what the task is given next (cocotb 1.8, "Triggers", `cocotb.start_soon`).
 use Rattle.std.specs.Prelude.{ℕ, ℤ, ◌==◌, ◌||◌, nat_le, Bool, true, false, not, List, [], ◌∷◌, ◌++◌, length, filter, Option, None, Some}
 use Rattle.four_value.specs.declared.Digit.{Digit}
 use Rattle.gpi.specs.State.{is_end}

@@ -1,4 +1,4 @@
--- What is left of a task that was killed, and of a test that ended.
+-- A means of proof: what is left of a task that was killed, and of a test that ended, for the proofs of the runner.
 use Rattle.std.specs.Prelude.{◌≡◌, ◌||◌, Bool, false, List, [], ◌∷◌, None}
 use Rattle.py_value.specs.declared.trigger.TaskNo.{TaskNo}
 use Rattle.sync_objects.specs.States.{none}

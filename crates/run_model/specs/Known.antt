@@ -1,4 +1,5 @@
--- Configurations of which all is known: each value, each trigger and each number in them is of the design, or was made in the test.
+-- A means of proof: configurations of which all is known, for the proofs of the runner: each value, each trigger and each number in them is
+-- of the design, or was made in the test.
 use Rattle.std.specs.Prelude.{◌≡◌, ◌<◌, List, [], ◌∷◌, length, Option, IfSome}
 use Rattle.gpi.specs.Terms.{widths_of}
 use Rattle.gpi.specs.declared.types.Key.{Key}

@@ -1,4 +1,5 @@
--- Worked runs of events, locks, joins and random numbers. What is expected was reckoned by hand from the rules.
+-- A means of proof: worked runs of events, locks, joins and random numbers, by which the definition of a run is tried. What is expected was
+-- reckoned by hand from the rules.
 use Rattle.std.specs.Prelude.{false, [], ◌∷◌, Some, codes}
 use Rattle.py_syntax.specs.ExpressionTrees.{Name, Constant}
 use Rattle.py_syntax.specs.StatementTrees.{KindAs}

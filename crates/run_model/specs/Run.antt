@@ -1,4 +1,4 @@
--- A run: tests in order, step by step, up to a budget.
+-- A run (cocotb 1.8, `cocotb.test`): tests in order, step by step, up to a budget.
 use Rattle.std.specs.Prelude.{◌≡◌, ℕ, zero, suc, ◌+◌, nat_le, Bool, true, false, not, ◌&&◌, List, [], ◌∷◌, ◌++◌, map, Option, None, Some, if◌then◌else◌}
 use Rattle.gpi.specs.State.{State}
 use Rattle.gpi.specs.Content as content

@@ -1,4 +1,4 @@
--- How fired keys, events and ended tasks are served.
+-- How fired keys, events and ended tasks are served (cocotb 1.8, "Triggers").
 use Rattle.std.specs.Prelude.{ℕ, Bool, true, false, List, [], ◌∷◌, ◌++◌, Option, None, Some, if◌then◌else◌}
 use Rattle.four_value.specs.declared.Digit.{Digit}
 use Rattle.gpi.specs.Keys.{among, set_of}

@@ -1,4 +1,5 @@
--- Worked runs of tests: how they begin and end, their options, and the budget. What is expected was reckoned by hand from the rules.
+-- A means of proof: worked runs of tests, by which the definition of a run is tried: how they begin and end, their options, and the budget.
+-- What is expected was reckoned by hand from the rules.
 use Rattle.std.specs.Prelude.{◌≡◌, true, false, [], ◌∷◌, None, Some, codes, pos}
 use Rattle.py_syntax.specs.declared.constant.Const.TheVariants as constant
 use Rattle.py_syntax.specs.declared.expression.BinOp.TheVariants as op

@@ -1,4 +1,4 @@
--- Short words for the trees, designs and tests of worked runs.
+-- A means of proof: short words for the trees, designs and tests of worked runs.
 use Rattle.std.specs.Prelude.{◌≡◌, ℕ, ◌==◌, ◌+◌, ◌&&◌, zero, suc, Bool, true, false, List, [], ◌∷◌, ◌++◌, None, codes}
 use Rattle.four_value.specs.declared.Digit.TheVariants.{X, Z}
 use Rattle.gpi.specs.declared.acts.Act.TheVariants.{Nonblocking}

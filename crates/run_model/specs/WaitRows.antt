@@ -1,4 +1,5 @@
--- Worked runs of waits, writes, kills and limits. What is expected was reckoned by hand from the rules.
+-- A means of proof: worked runs of waits, writes, kills and limits, by which the definition of a run is tried. What is expected was
+-- reckoned by hand from the rules.
 use Rattle.std.specs.Prelude.{◌≡◌, ℕ, List, [], ◌∷◌, Some, codes}
 use Rattle.py_syntax.specs.ExpressionTrees.{Tree, Name, Call}
 use Rattle.py_syntax.specs.ExpressionTrees as tree

@@ -1,4 +1,4 @@
--- Tasks that live, each in one place alone.
+-- A means of proof: tasks that live, each in one place alone, for the proofs of the runner.
 use Rattle.std.specs.Prelude.{◌≡◌, true, false, List, Option, None, Some, IsSome}
 use Rattle.py_value.specs.declared.trigger.TaskNo.{TaskNo}
 use Rattle.task_model.specs.Frame.{Task}

@@ -1,4 +1,4 @@
--- What a configuration is made of, and which keys the runner itself awaits.
+-- A means of proof: what a configuration is made of, and which keys the runner itself awaits, for the proofs of the runner.
 use Rattle.std.specs.Prelude.{◌≡◌, ℕ, true, List, Some}
 use Rattle.gpi.specs.Keys.{Keys, has}
 use Rattle.gpi.specs.State.{State}

@@ -1,4 +1,5 @@
--- Where the tasks of a test stand: at most one has its turn, some are ready and some wait; of those that were started each one lives or has ended.
+-- A means of proof: where the tasks of a test stand, for the proofs of the runner: at most one has its turn, some are ready and some wait;
+-- of those that were started each one lives or has ended.
 use Rattle.std.specs.Prelude.{◌≡◌, ℕ, ◌+◌, ◌<◌, ◌≤◌, ◌==◌, Bool, true, false, not, List, [], ◌∷◌, ◌++◌, length, map, Option, None, Some, IsSome, is_some}
 use Rattle.py_value.specs.declared.trigger.TaskNo.{TaskNo}
 use Rattle.ended_tasks.specs.Endings.{Endings, is_done}

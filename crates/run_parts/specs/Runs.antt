@@ -1,4 +1,4 @@
--- Steps of a run from some place of it on.
+-- A means of proof: steps of a run from some place of it on, for the proofs of the runner.
 use Rattle.std.specs.Prelude.{◌≡◌, ℕ, ◌+◌, Bool, false, List, ◌++◌, is_some}
 use Rattle.run_model.specs.Rig.{Rig, Setup}
 use Rattle.run_model.specs.Run.{Place, Run, goes, is_over, steps}

@@ -1,4 +1,4 @@
--- What the calls do to a queue, and to a configuration.
+-- A means of proof: what the calls do to a queue, and to a configuration, for the proofs of the runner's queue.
 use Rattle.std.specs.Prelude.{ℕ, true, false, List, [], ◌∷◌, ◌++◌, None, Some}
 use Rattle.four_value.specs.declared.Digit.{Digit}
 use Rattle.gpi.specs.declared.types.SigId.{SigId}

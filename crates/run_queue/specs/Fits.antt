@@ -1,4 +1,4 @@
--- The queue that a `RunQueue` keeps, and when it and a simulator fit.
+-- A means of proof: the queue that a `RunQueue` keeps, and when it and a simulator fit, for the proofs of the runner's queue.
 use Rattle.std.specs.Prelude.{◌≡◌, List, []}
 use Rattle.gpi.specs.Content.{Content}
 use Rattle.gpi.specs.Design.{procs_of, widths}

@@ -1,4 +1,4 @@
--- Waiting tasks whose trees have begun, and whom a cause reaches.
+-- A means of proof: waiting tasks whose trees have begun, and whom a cause reaches, for the proofs of the runner's queue.
 use Rattle.std.specs.Prelude.{◌≡◌, Bool, false, List, [], ◌∷◌}
 use Rattle.std.specs.List.{list_any}
 use Rattle.await_tree.specs.declared.cause.Cause.{Cause}

@@ -1,4 +1,4 @@
--- What the events, locks and tasks of a test tell a tree that begins.
+-- A means of proof: what the events, locks and tasks of a test tell a tree that begins, for the proofs of the runner.
 use Rattle.await_tree.specs.Begin.{Facts}
 use Rattle.sync_objects.specs.States.{States}
 use Rattle.ended_tasks.specs.Endings.{Endings, all_failed}

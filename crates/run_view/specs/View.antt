@@ -1,4 +1,5 @@
--- What a task sees of a simulator that runs a design, of the events and locks of its test, and of how tasks have ended.
+-- A means of proof: what a task sees of a simulator that runs a design, of the events and locks of its test, and of how tasks have ended,
+-- for the proofs of the runner.
 use Rattle.std.specs.Prelude.{◌≡◌, List, length}
 use Rattle.gpi.specs.Soundness.{IsSoundFlat}
 use Rattle.gpi.specs.State.{State}

@@ -1,4 +1,4 @@
--- What is asked of a row, and what the answer shows.
+-- A means of proof: what is asked of a row, and what the answer shows, for the test program of runs.
 use Rattle.std.specs.Prelude.{◌≡◌, ◌≢◌, ℕ, List, ◌++◌, Option, None, Some, codes, if◌then◌else◌}
 use Rattle.std.specs.Str.{bytes_eq}
 use Rattle.list_kernel.specs.declared.kernel.ListKernel.{ListKernel}

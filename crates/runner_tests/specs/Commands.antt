@@ -1,4 +1,4 @@
--- What the command of a row comes to, and how it is shown.
+-- A means of proof: what the command of a row comes to, and how it is shown, for the test program of runs.
 use Rattle.std.specs.Prelude.{◌≡◌, ◌⊎◌, ℕ, List, [], ◌∷◌, codes}
 use Rattle.std.specs.List.{flat_map, slice_split}
 use Rattle.port_io.specs.Memory.{Files, Lines}

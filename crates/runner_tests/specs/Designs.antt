@@ -1,4 +1,4 @@
--- What a design is read as, as it is shown.
+-- A means of proof: what a design is read as, as it is shown, for the test program of runs.
 use Rattle.std.specs.Prelude.{◌≡◌, ℕ, List, ◌++◌, None, Result, Ok, Err, codes}
 use Rattle.std.specs.Fmt.{decimal}
 use Rattle.std.specs.List.{flat_map}

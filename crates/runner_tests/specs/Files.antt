@@ -1,4 +1,4 @@
--- The two files of a row, and the sink of its command.
+-- A means of proof: the two files of a row, and the sink of its command, for the test program of runs.
 use Rattle.std.specs.Prelude.{ℕ, ◌-◌, List, [], ◌∷◌, ◌++◌, length, take, replicate, Some, codes, if◌then◌else◌}
 use Rattle.std.specs.Str.{bytes_eq}
 use Rattle.port_io.specs.Means.{SinkMeans, StoreMeans}

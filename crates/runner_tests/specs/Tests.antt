@@ -1,4 +1,4 @@
--- What tests are read as, as it is shown.
+-- A means of proof: what tests are read as, as it is shown, for the test program of runs.
 use Rattle.std.specs.Prelude.{◌≡◌, ℕ, List, ◌++◌, length, Result, Ok, Err, codes}
 use Rattle.std.specs.Fmt.{decimal}
 use Rattle.test_body.specs.Views.{view_file}

@@ -1,4 +1,4 @@
--- How many keys are registered after each turn of a test, and how that is shown.
+-- A means of proof: how many keys are registered after each turn of a test, and how that is shown, for the test program of runs.
 use Rattle.std.specs.Prelude.{◌≡◌, ℕ, zero, suc, ◌-◌, false, List, [], ◌∷◌, ◌++◌, Result, Ok, Err, codes}
 use Rattle.std.specs.Fmt.{decimal}
 use Rattle.port_io.specs.Means.{SinkMeans}

@@ -1,4 +1,4 @@
--- How a status, counts and digits are shown.
+-- A means of proof: how a status, counts and digits are shown, for the test program of runs.
 use Rattle.std.specs.Prelude.{ℕ, List, ◌++◌, codes}
 use Rattle.std.specs.Fmt.{decimal}
 use Rattle.four_value.specs.declared.Digit.{Digit}

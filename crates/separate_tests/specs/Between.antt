@@ -1,4 +1,4 @@
--- Where a run stands between two tests, and when two such runs agree.
+-- A means of proof: where a run stands between two tests, and when two such runs agree, for the law of separate tests.
 use Rattle.std.specs.Prelude.{◌≡◌, ℕ, List, Option, Some, None}
 use Rattle.gpi.specs.State.{State}
 use Rattle.gpi.specs.declared.types.Counts.{Counts}

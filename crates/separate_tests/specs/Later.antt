@@ -1,4 +1,4 @@
--- What a run adds on its way from one configuration to a later one.
+-- A means of proof: what a run adds on its way from one configuration to a later one, for the law of separate tests.
 use Rattle.std.specs.Prelude.{◌≡◌, ℕ, ◌+◌, nat_le, Bool, not, ◌&&◌, List, [], ◌∷◌, ◌++◌}
 use Rattle.gpi.specs.declared.types.Counts.{Counts}
 use Rattle.run_model.specs.Rig.{Rig, Setup}

@@ -1,4 +1,4 @@
--- The laws of separate tests.
+-- A means of proof: what the laws of separate tests say, which stand beside the command's contract.
 use Rattle.std.specs.Prelude.{◌≡◌, ℕ, true, false, List, Some}
 use Rattle.test_body.specs.BodyTrees.{Case}
 use Rattle.run_model.specs.Rig.{Setup}

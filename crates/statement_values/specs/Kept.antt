@@ -1,4 +1,4 @@
--- What the code keeps of a write and of a draw.
+-- A means of proof: what the code keeps of a write and of a draw, for the proofs of a task's statements.
 use Rattle.task_model.specs.Values as values
 use Rattle.statement_values.specs.declared.draws.Draw.{Draw}
 use Rattle.statement_values.specs.declared.writes.SignalWrite.{SignalWrite}

@@ -1,4 +1,5 @@
--- What is known of the events and locks of a test, each by its number from 0 in the order in which they were made.
+-- What is known of the events and locks of a test, each by its number from 0 in the order in which they were made (cocotb 1.8, "Triggers",
+-- `Event` and `Lock`).
 use Rattle.std.specs.Prelude.{Bool, true, false, List, [], ◌∷◌, ◌++◌, slice_index_or, slice_set}
 use Rattle.py_value.specs.declared.trigger.EventNo.{EventNo}
 use Rattle.py_value.specs.declared.trigger.LockNo.{LockNo}

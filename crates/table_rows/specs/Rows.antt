@@ -1,4 +1,4 @@
--- The parts of a row, and what they say.
+-- A means of proof: the parts of a row, and what they say, for the test programs that read rows.
 use Rattle.std.specs.Prelude.{ℕ, zero, suc, ◌+◌, ◌-◌, ◌*◌, ◌^◌, ◌%◌, ◌==◌, Bool, List, [], ◌∷◌, if◌then◌else◌, nat_lt, fold, min}
 use Rattle.std.specs.List.{before_first, after_first}
 

@@ -1,4 +1,4 @@
--- How bytes are shown.
+-- A means of proof: how bytes are shown, for the test programs that read rows.
 use Rattle.std.specs.Prelude.{◌≡◌, ℕ, ◌==◌, List, [], ◌∷◌, ◌++◌, if◌then◌else◌}
 use Rattle.std.specs.Str.{encode_utf8_all}
 

@@ -1,4 +1,4 @@
--- Steps of a call that evaluate nothing, and conditions.
+-- A means of proof: steps of a call that evaluate nothing, and conditions, for the proofs of a task's steps.
 use Rattle.std.specs.Prelude.{ℕ, Bool}
 use Rattle.py_syntax.specs.ExpressionTrees.{Tree}
 use Rattle.py_value.specs.Truth.{truth}

@@ -21,7 +21,7 @@ use Rattle.task_model.specs.Awaits.{waits}
 use Rattle.task_model.specs.Statements.{do_statement}
 use Rattle.task_model.specs.declared.task.Turned.TheVariants as turned
 
--- ---- conditions
+-- ---- conditions (8.1 and 8.2)
 
 abbrev pub choose : Bool → List Todo → List Todo → At → Move
 choose true ts us a = go_on (first_do ts a)
@@ -31,7 +31,7 @@ choose false ts us a = go_on (first_do us a)
 abbrev pub ask : Tree → List Todo → List Todo → At → Move
 ask e ts us a = with_eval a e (λ v b. choose (truth v) ts us b)
 
--- ---- what a `for` goes over
+-- ---- what a `for` goes over (8.3)
 
 -- the numbers of `range(start, stop, step)`, whose step isn't 0
 abbrev pub numbers : ℤ → ℤ → ℤ → Answer Left
@@ -55,7 +55,7 @@ eval_span s (StartStopStep e f g) k =
     lift (and_then (three_numbers (number_of x) (number_of y) (number_of z)) (λ p. numbers p.0 p.1 p.2)) l)))
 eval_span s (Constants cs) k = gives (Listed cs) k
 
--- ---- the questions of a `for`
+-- ---- the questions of a `for` (8.3)
 
 -- a number stands before the bound, in the direction of the step
 abbrev pub is_before : ℤ → ℤ → ℤ → Bool
@@ -77,7 +77,7 @@ ask_next n (Numbers z stop step) block a = ask_number (is_before z stop step) n 
 ask_next n (Listed []) block a = go_on a
 ask_next n (Listed (c ∷ cs)) block a = each n (constant_value c) (Listed cs) block a
 
--- ---- `async with`
+-- ---- `async with` (8.9.3)
 
 abbrev pub lock_of : Value → Answer LockNo
 lock_of (value.Lock l) = Ok l

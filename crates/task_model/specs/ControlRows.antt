@@ -1,4 +1,4 @@
--- Worked rows of each rule of control, as in `Rows`.
+-- A means of proof: worked rows of each rule of control, as in `Rows`, by which the definition of a task is tried.
 use Rattle.std.specs.Prelude.{◌≡◌, true, false, [], ◌∷◌, Some, codes, pos}
 use Rattle.four_value.specs.declared.Digit.TheVariants.{Zero, One}
 use Rattle.py_syntax.specs.ExpressionTrees.{Tree, Constant, FormatString, Name, Attribute, NoPart, TextThen, FormattedThen}

@@ -1,4 +1,5 @@
--- A task that is driven by hand, for worked rows: what it wants, where it is given these answers in order, and what that costs.
+-- A means of proof: a task that is driven by hand, for worked rows: what it wants, where it is given these answers in order, and what that
+-- costs.
 use Rattle.std.specs.Prelude.{ℕ, zero, suc, ◌+◌, List, [], ◌∷◌, Option, None, Some}
 use Rattle.py_attribute.specs.Look.{View}
 use Rattle.test_body.specs.BodyTrees.{Function}

@@ -1,4 +1,5 @@
--- Worked rows of faults and of what comes first, as in `Rows`; of starts of clocks, and of numbers that no value can hold.
+-- A means of proof: worked rows of faults and of what comes first, of starts of clocks, and of numbers that no value can hold, as in
+-- `Rows`, by which the definition of a task is tried.
 use Rattle.std.specs.Prelude.{◌≡◌, ℕ, false, List, [], ◌∷◌, ◌++◌, map, replicate, None, Some, codes, pos}
 use Rattle.four_value.specs.declared.Digit.{Digit}
 use Rattle.four_value.specs.declared.Digit.TheVariants.{Zero, One}

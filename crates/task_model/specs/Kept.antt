@@ -1,4 +1,4 @@
--- The names of a call, without their values.
+-- A means of proof: the names of a call, without their values, for the proofs of tasks.
 use Rattle.std.specs.Prelude.{ℕ, List, map}
 use Rattle.py_attribute.specs.Look.{Names, Local}
 

@@ -1,5 +1,6 @@
--- Which tasks a view knows: each value that a task holds, and each lock and task in its marks, is one that the view knows, and each call in its file and
--- in what it has still to do is sound. Which things that it wants and is given a view knows.
+-- A means of proof: which tasks a view knows, for the proofs of tasks: each value that a task holds, and each lock and task in its marks,
+-- is one that the view knows, and each call in its file and in what it has still to do is sound. Which things that it wants and is given a
+-- view knows.
 use Rattle.std.specs.Prelude.{◌≡◌, ℕ, ◌<◌, ◌≤◌, ◌+ℤ◌, ◌-ℤ◌, IsTrue, List, [], ◌∷◌, length, pos}
 use Rattle.std.specs.List.{list_all}
 use Rattle.py_integer.specs.Integer.{is_whole}

@@ -14,7 +14,7 @@ use Rattle.task_model.specs.Frame.{Todo, Do, Again, Each, Uses, Handles, Bound, 
 use Rattle.task_model.specs.Moves.{At, Move, Nothing, Asks, Ends, moved, go_on, leave, first_do, named}
 use Rattle.task_model.specs.declared.task.Turned.TheVariants as turned
 
--- ---- handlers
+-- ---- handlers (8.4)
 
 -- `except kind`: that kind, or any where it is `Exception`
 abbrev pub catches_kind : FaultKind → FaultKind → Bool

@@ -1,4 +1,4 @@
--- The step of one call: what it leaves of the call, and what it wants.
+-- The step of one call (the language reference, 7 and 8): what it leaves of the call, and what it wants.
 use Rattle.std.specs.Prelude.{ℕ, List, [], ◌∷◌, ◌++◌, length, nat_lt, if◌then◌else◌, Option, None, Some, Ok, Err}
 use Rattle.py_syntax.specs.ExpressionTrees.{Tree}
 use Rattle.py_syntax.specs.declared.fault_kind.FaultKind.{FaultKind}

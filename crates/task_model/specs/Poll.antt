@@ -1,4 +1,5 @@
--- A poll: the steps of a task up to the first that wants something, or that doesn't fit the fuel.
+-- A means of proof: a poll, for the proofs of tasks: the steps of a task up to the first that wants something, or that doesn't fit the
+-- fuel.
 use Rattle.std.specs.Prelude.{◌≡◌, ℕ, zero, suc, ◌-◌, ◌<◌, ◌≤◌, ◌⊎◌, List, Option, None, Some}
 use Rattle.py_attribute.specs.Look.{View}
 use Rattle.test_body.specs.BodyTrees.{Function}

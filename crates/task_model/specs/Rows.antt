@@ -1,5 +1,5 @@
--- Worked rows of values, control and calls: what a task wants, in order, and what that costs. Each is a test's text as a tree, and what is expected was
--- reckoned by hand from the rules.
+-- A means of proof: worked rows of values, control and calls, by which the definition of a task is tried: what it wants, in order, and what
+-- that costs. Each is a test's text as a tree, and what is expected was reckoned by hand from the rules.
 use Rattle.std.specs.Prelude.{◌≡◌, true, false, [], ◌∷◌, None, Some, codes}
 use Rattle.py_syntax.specs.ExpressionTrees.{Constant, FormatString, Name, Infix, NoPart, TextThen, FormattedThen}
 use Rattle.py_syntax.specs.StatementTrees.{Stop, KindAs}

@@ -1,4 +1,4 @@
--- One step of a task.
+-- One step of a task (the language reference, 6.4 and 8.9.1).
 use Rattle.std.specs.Prelude.{ℕ, suc, nat_lt, Bool, true, false, List, [], ◌∷◌, length, Option, None, Some}
 use Rattle.py_syntax.specs.declared.fault_kind.FaultKind.TheVariants.{RuntimeError}
 use Rattle.py_value.specs.Answer.{plain_fault}

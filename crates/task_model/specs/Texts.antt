@@ -1,4 +1,4 @@
--- Short words for the trees and the views of worked rows.
+-- A means of proof: short words for the trees and the views of worked rows.
 use Rattle.std.specs.Prelude.{ℕ, suc, false, List, [], ◌∷◌, Some, codes, pos}
 use Rattle.gpi.specs.declared.design.Spot.TheVariants.{Sig}
 use Rattle.gpi.specs.declared.types.Region.TheVariants.{Begin}

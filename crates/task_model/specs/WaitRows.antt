@@ -1,4 +1,4 @@
--- Worked rows of times, limits, clocks and locks, as in `Rows`.
+-- A means of proof: worked rows of times, limits, clocks and locks, as in `Rows`, by which the definition of a task is tried.
 use Rattle.std.specs.Prelude.{◌≡◌, ℕ, false, List, [], ◌∷◌, Some, codes, pos}
 use Rattle.four_value.specs.declared.Digit.TheVariants.{Zero, One}
 use Rattle.py_syntax.specs.ExpressionTrees.{FormatString, Name, Attribute, NoPart, TextThen, FormattedThen}

@@ -1,4 +1,4 @@
--- Which keys a configuration needs.
+-- A means of proof: which keys a configuration needs, for the laws of what runs reach.
 use Rattle.std.specs.Prelude.{◌≡◌, ℕ, ◌||◌, ◌&&◌, Bool, false, List, [], Option, None, Some}
 use Rattle.std.specs.List.{list_any}
 use Rattle.gpi.specs.Keys.{among, same_key}

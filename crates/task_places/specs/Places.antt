@@ -1,4 +1,4 @@
--- Where the tasks of a configuration stand.
+-- A means of proof: where the tasks of a configuration stand, for the laws of what runs reach.
 use Rattle.std.specs.Prelude.{◌≡◌, ℕ, ◌+◌, ◌<◌, ◌≤◌, ◌==◌, ◌⊎◌, false, length, All, Option, None, Some, IfSome, IsSome, count_by}
 use Rattle.std.specs.Option.{option_map}
 use Rattle.py_value.specs.declared.trigger.TaskNo.{TaskNo}

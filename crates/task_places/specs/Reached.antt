@@ -1,4 +1,4 @@
--- Configurations that runs reach.
+-- A means of proof: configurations that runs reach, for the laws of where their tasks stand and of what these wait for.
 use Rattle.std.specs.Prelude.{◌≡◌, ℕ, List}
 use Rattle.gpi.specs.Soundness.{IsSoundFlat}
 use Rattle.test_body.specs.BodyTrees.{Case}

@@ -1,4 +1,4 @@
--- What the leaves of waiting trees wait for hasn't come.
+-- A means of proof: what the leaves of waiting trees wait for hasn't come, for the laws of what runs reach.
 use Rattle.std.specs.Prelude.{◌≡◌, true, false, List, [], ◌∷◌, None, IsSome}
 use Rattle.await_tree.specs.Begin.{Facts, is_set, is_held, ended}
 use Rattle.await_tree.specs.Tree.{leaves}

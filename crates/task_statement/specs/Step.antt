@@ -1,4 +1,4 @@
--- What a step of a call tells.
+-- A means of proof: what a step of a call tells, for the proofs of a task's steps.
 use Rattle.std.specs.Prelude.{◌≡◌, ℕ, ◌≤◌, ◌∷◌, Result, IfOk}
 use Rattle.py_value.specs.declared.trigger.TaskNo.{TaskNo}
 use Rattle.py_attribute.specs.Look.{View}

@@ -1,4 +1,4 @@
--- What the code's arguments and calls stand for.
+-- A means of proof: what the code's arguments and calls stand for, for the proofs of a task's statements.
 use Rattle.std.specs.Prelude.{List, map}
 use Rattle.task_model.specs.Calls.{Argument, Called}
 use Rattle.task_values.specs.declared.operands.Argument as code

@@ -1,4 +1,4 @@
--- What an evaluation tells its caller.
+-- A means of proof: what an evaluation tells its caller, for the proofs of a task's statements.
 use Rattle.std.specs.Prelude.{◌≡◌, ℕ, ◌≤◌, Result, Ok, Err}
 use Rattle.py_value.specs.Answer.{Answer}
 use Rattle.py_attribute.specs.declared.fault.OperationFault.{OperationFault}

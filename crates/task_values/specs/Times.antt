@@ -1,4 +1,4 @@
--- Limits of time, evaluated (cocotb 1.8, `with_timeout`).
+-- A means of proof: limits of time, evaluated (cocotb 1.8, `with_timeout`), for the proofs of a task's statements.
 use Rattle.std.specs.Prelude.{ℕ, Option}
 use Rattle.py_syntax.specs.ExpressionTrees.{Tree}
 use Rattle.py_attribute.specs.Outcome.{Outcome, Scope, gives, bind}

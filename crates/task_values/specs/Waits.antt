@@ -1,4 +1,4 @@
--- What statements that wait evaluate, each as one outcome.
+-- A means of proof: what statements that wait evaluate, each as one outcome, for the proofs of a task's statements.
 use Rattle.std.specs.Prelude.{ℕ, Option}
 use Rattle.py_syntax.specs.ExpressionTrees.{Tree}
 use Rattle.py_value.specs.Trigger as trigger

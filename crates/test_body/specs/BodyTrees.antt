@@ -1,5 +1,6 @@
--- What an accepted tests file stands for, without where it lies in memory: a function's number stands in place of the name of each call, a
--- value in place of each module constant, and a compound statement in place of its clauses. The rest is as in the trees of `py_syntax`.
+-- What an accepted tests file stands for, without where it lies in memory (the language reference, 7 and 8): a function's number stands in
+-- place of the name of each call, a value in place of each module constant, and a compound statement in place of its clauses. The rest is
+-- as in the trees of `py_syntax`.
 use Rattle.std.specs.Prelude.{ℕ, Bool, List, Option}
 use Rattle.py_syntax.specs.ExpressionTrees.{Tree}
 use Rattle.py_syntax.specs.StatementTrees.{Caught, Span}

@@ -1,4 +1,4 @@
--- Worked rows: calls and tests that are sound, and some that are not.
+-- A means of proof: worked rows, calls and tests that are sound and some that are not, by which the definition of soundness is tried.
 use Rattle.std.specs.Prelude.{◌≡◌, ℕ, true, false, List, [], ◌∷◌, map, None, codes}
 use Rattle.py_syntax.specs.ExpressionTrees.{Tree, Name}
 use Rattle.py_syntax.specs.declared.constant.Const.{Const}

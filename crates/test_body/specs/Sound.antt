@@ -1,4 +1,5 @@
--- Files in which each call and each test names a function of the file, with a value for each of its parameters.
+-- A means of proof: files in which each call and each test names a function of the file, with a value for each of its parameters, for the
+-- proofs of the runner.
 use Rattle.std.specs.Prelude.{ℕ, suc, ◌==◌, nat_lt, nat_le, Bool, false, ◌&&◌, List, [], ◌∷◌, ◌++◌, length, Some, slice_get}
 use Rattle.std.specs.List.{list_all, filter, range_with_len}
 use Rattle.std.specs.Option.{option_map_or}

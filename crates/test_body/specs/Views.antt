@@ -1,4 +1,4 @@
--- The trees that the code's types stand for.
+-- A means of proof: the trees that the code's types stand for, for the proofs of all that takes a tests file.
 use Rattle.std.specs.Prelude.{List, [], ◌∷◌, map, option_map}
 use Rattle.py_syntax.specs.ExpressionTrees.{view}
 use Rattle.py_syntax.specs.StatementTrees.{view_caught, view_span}

@@ -1,4 +1,4 @@
--- A function of which tests are made.
+-- A means of proof: a function of which tests are made, for the proofs of the check of a tests file.
 use Rattle.std.specs.Prelude.{◌≡◌}
 use Rattle.test_cases.specs.declared.factories.TestedFunction.{TestedFunction}
 use Rattle.test_meaning.specs.Cases.{settings_of}

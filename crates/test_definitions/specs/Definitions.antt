@@ -1,4 +1,4 @@
--- Where names are defined.
+-- A means of proof: where names are defined, for the proofs of the check of a tests file.
 use Rattle.std.specs.Prelude.{Bool, false, Option, Some, None}
 use Rattle.std.specs.Option.{option_map_or}
 use Rattle.std.specs.Str.{bytes_eq}

@@ -1,4 +1,4 @@
--- Tables of the names that stand above.
+-- A means of proof: tables of the names that stand above, for the proofs of the check of a tests file.
 use Rattle.std.specs.Prelude.{◌≡◌, ℕ, true, false, List, [], ◌∷◌, ◌++◌, Option, None, Some, is_some}
 use Rattle.std.specs.List.{flat_map}
 use Rattle.py_syntax.specs.BlockTrees.{ModuleItem}

@@ -1,4 +1,4 @@
--- A function that is called.
+-- A means of proof: a function that is called, for the proofs of the check of a tests file.
 use Rattle.std.specs.Prelude.{◌≡◌, Option, Some}
 use Rattle.test_expressions.specs.declared.meanings.CalledFunction.{CalledFunction}
 use Rattle.test_rules.specs.File.{Definition}

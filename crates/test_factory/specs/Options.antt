@@ -1,4 +1,4 @@
--- The code's options and cases.
+-- A means of proof: the code's options and cases, for the proofs of the check of a tests file.
 use Rattle.std.specs.Prelude.{ℕ, List, map}
 use Rattle.std.specs.declared.vec.Vec.{Vec}
 use Rattle.py_syntax.specs.declared.constant.Const.{Const}

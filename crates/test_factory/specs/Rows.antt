@@ -1,4 +1,4 @@
--- Worked factories.
+-- A means of proof: worked factories, by which the definition of their cases is tried.
 use Rattle.std.specs.Prelude.{◌≡◌, ℕ, List, [], ◌∷◌, slice_get, Some, codes, pos}
 use Rattle.py_syntax.specs.declared.constant.Const.{Const}
 use Rattle.py_syntax.specs.declared.constant.Const.TheVariants as constant

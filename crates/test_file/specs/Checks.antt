@@ -1,4 +1,4 @@
--- What the check of a tests file answers.
+-- A means of proof: what the check of a tests file answers, for its proofs.
 use Rattle.std.specs.Prelude.{◌≡◌, List, Result, Ok, Err}
 use Rattle.py_syntax.specs.BlockTrees.{ModuleItem}
 use Rattle.py_syntax.specs.Line.{physical_line}

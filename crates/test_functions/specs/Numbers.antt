@@ -1,4 +1,4 @@
--- The numbers of the functions of a module.
+-- A means of proof: the numbers of the functions of a module, for the proofs of the check of a tests file.
 use Rattle.std.specs.Prelude.{◌≡◌, List, length, option_map}
 use Rattle.py_syntax.specs.BlockTrees.{ModuleItem}
 use Rattle.test_names.specs.Places.{first_place}

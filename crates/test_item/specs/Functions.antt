@@ -1,4 +1,4 @@
--- What is asked of the function whose header stands behind some items.
+-- A means of proof: what is asked of the function whose header stands behind some items, for the proofs of the check of a tests file.
 use Rattle.std.specs.Prelude.{Bool, false, List, [], None}
 use Rattle.std.specs.List.{last_or}
 use Rattle.std.specs.Option.{option_map_or}

@@ -1,4 +1,4 @@
--- The line of an item itself, without those of its block.
+-- A means of proof: the line of an item itself, without those of its block, for the proofs of the check of a tests file.
 use Rattle.std.specs.Prelude.{Bool, List, Option, Some, None, [], if◌then◌else◌}
 use Rattle.std.specs.List.{find, flat_map}
 use Rattle.std.specs.Option.{option_or}

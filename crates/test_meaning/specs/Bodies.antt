@@ -1,5 +1,5 @@
--- What the functions of an accepted tests file stand for: values in place of module constants, numbers in place of the names of called
--- functions, an operand for each parameter, and compound statements in place of their clauses.
+-- What the functions of an accepted tests file stand for (the language reference, 6.3.4, 7 and 8): values in place of module constants,
+-- numbers in place of the names of called functions, an operand for each parameter, and compound statements in place of their clauses.
 use Rattle.std.specs.Prelude.{ℕ, suc, true, List, [], ◌∷◌, ◌++◌, length, map, Option, Some, None, option_map, codes, if◌then◌else◌}
 use Rattle.py_syntax.specs.BlockTrees.{BlockItem, DocstringAt, StatementAt, ClauseAt}
 use Rattle.py_syntax.specs.BlockTrees as blocks
@@ -53,7 +53,7 @@ abbrev mutual
   parts_in s (TextThen t ps) = TextThen t (parts_in s ps)
   parts_in s (FormattedThen e ps) = FormattedThen (tree_in s e) (parts_in s ps)
 
--- ---- calls
+-- ---- calls (6.3.4)
 
 -- the operands that are written, in that order, from the one with this number on, each with its parameter
 abbrev pub given_operands : Inside → List Parameter → ℕ → List syntax.Argument → List Operand
@@ -142,7 +142,7 @@ span_in s (syntax.StartStop e f) = syntax.StartStop (tree_in s e) (tree_in s f)
 span_in s (syntax.StartStopStep e f g) = syntax.StartStopStep (tree_in s e) (tree_in s f) (tree_in s g)
 span_in s (syntax.Constants cs) = syntax.Constants (map (value_in s.file.constants) cs)
 
--- ---- blocks
+-- ---- blocks (8)
 
 -- What stands in a block from some place on: the items, and in front of them, where the block goes on there with clauses of the statement
 -- above, its `else` and its handlers.

@@ -1,4 +1,5 @@
--- Worked bodies: what calls, names, clauses and whole functions stand for. What is expected was read from the rules of the language.
+-- A means of proof: worked bodies, by which the definition of what calls, names, clauses and whole functions stand for is tried. What is
+-- expected was read from the rules of the language.
 use Rattle.std.specs.Prelude.{◌≡◌, ℕ, Bool, true, false, List, [], ◌∷◌, ◌++◌, map, Some, None, codes}
 use Rattle.py_syntax.specs.BlockTrees.{ModuleItem, FunctionAt, Block, NoItem, Then, DocstringAt, StatementAt, ClauseAt}
 use Rattle.py_syntax.specs.ExpressionTrees as tree

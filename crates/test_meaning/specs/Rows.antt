@@ -1,4 +1,5 @@
--- Worked files: the tests that they have, and refusals. What is expected was read from the rules of the language and from cocotb 1.8.
+-- A means of proof: worked files, the tests that they have and refusals, by which the definition of a file's tests is tried. What is
+-- expected was read from the rules of the language and from cocotb 1.8.
 use Rattle.std.specs.Prelude.{◌≡◌, ℕ, true, false, List, [], ◌∷◌, ◌++◌, map, Option, Some, None, Ok, Err, codes, slice_get}
 use Rattle.py_syntax.specs.BlockTrees.{ModuleItem, LineAt}
 use Rattle.py_syntax.specs.ExpressionTrees.{Constant, Infix}

@@ -1,4 +1,4 @@
--- The first place of each name.
+-- A means of proof: the first place of each name, for the proofs of the check of a tests file.
 use Rattle.std.specs.Prelude.{ℕ, List, [], ◌∷◌, Option, None, Some, if◌then◌else◌, bytes_eq}
 use Rattle.std.specs.Option.{option_or}
 

@@ -1,4 +1,4 @@
--- Names, and lists of them.
+-- Names, and lists of them (the language reference, 2.3).
 use Rattle.std.specs.Prelude.{ℕ, Bool, not, Bool, false, ◌||◌, List, [], ◌∷◌, ◌++◌, if◌then◌else◌}
 use Rattle.std.specs.List.{list_any}
 use Rattle.std.specs.Str.{bytes_eq}

@@ -1,4 +1,5 @@
--- Worked rows, as trees of modules. What is expected was read from the rules of the language, and nothing comes from the definitions.
+-- A means of proof: worked rows, as trees of modules, by which the rules of a tests file are tried. What is expected was read from the
+-- rules of the language, and nothing comes from the definitions.
 use Rattle.std.specs.Prelude.{◌≡◌, ℕ, suc, true, false, List, [], ◌∷◌, ◌++◌, map, length, Some, None, codes, pos, replicate}
 use Rattle.py_syntax.specs.BlockTrees.{Block, ModuleItem, TextAt, LineAt, FunctionAt, NoItem, Then, DocstringAt, StatementAt, ClauseAt}
 use Rattle.py_syntax.specs.ExpressionTrees as tree

@@ -1,4 +1,5 @@
--- The rules of a tests file, each by the lines that break it; and the first line that breaks one.
+-- The rules of a tests file, each by the lines that break it; and the first line that breaks one (the language reference, 4.2, 7 and 8;
+-- cocotb 1.8).
 use Rattle.std.specs.Prelude.{ℕ, suc, ◌==◌, nat_lt, not, Bool, true, false, ◌&&◌, ◌||◌, List, [], ◌∷◌, ◌++◌, length, map, sum_by, Option, Some, None, is_some, codes, if◌then◌else◌}
 use Rattle.std.specs.List.{list_any, list_all, flat_map, filter, find, join_with_byte, last_or, position_or_len}
 use Rattle.std.specs.Option.{option_map_or, option_or}
@@ -21,7 +22,7 @@ use Rattle.test_rules.specs.Names.{Name, is_among, come_twice}
 use Rattle.test_factory.specs.Product.{Choice, case_count, case_limit}
 use Rattle.test_rules.specs.Uses.{Use, Reads, Needs, Calls, Takes, Leaves, Makes, Extends, Around, FileLine, file_lines, expects_kind, is_kind, parameter_names}
 
--- ---- UnknownImport
+-- ---- UnknownImport (7.11)
 
 abbrev pub modules : List Name
 modules = codes "cocotb" ∷ codes "random" ∷ []
@@ -58,7 +59,7 @@ is_unknown_import (LineAt l (Import n)) = not (is_among n modules)
 is_unknown_import (LineAt l (FromImport ms ns)) = not (list_all (is_exported (join_with_byte 46 ms)) ns)
 is_unknown_import _ = false
 
--- ---- UnknownName
+-- ---- UnknownName (4.2.2)
 
 abbrev pub name_in : Use → Option Name
 name_in (Reads n) = Some n

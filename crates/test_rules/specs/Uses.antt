@@ -1,4 +1,4 @@
--- What the lines of a module use, and where: each rule on names asks about these alone.
+-- What the lines of a module use, and where (the language reference, 4.2.2): each rule on names asks about these alone.
 use Rattle.std.specs.Prelude.{ℕ, Bool, true, false, ◌||◌, ◌&&◌, List, [], ◌∷◌, ◌++◌, map, Option, Some, None, is_some, codes, if◌then◌else◌}
 use Rattle.std.specs.List.{flat_map}
 use Rattle.std.specs.Str.{bytes_eq}

@@ -1,4 +1,4 @@
--- What a scope of a module stands for.
+-- A means of proof: what a scope of a module stands for, for the proofs of the check of a tests file.
 use Rattle.std.specs.Prelude.{ℕ, List, map, take}
 use Rattle.py_syntax.specs.BlockTrees.{view_module}
 use Rattle.test_rules.specs.File.{File, file_of}

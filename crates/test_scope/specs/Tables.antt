@@ -1,4 +1,4 @@
--- What the tables of a module say.
+-- A means of proof: what the tables of a module say, for the proofs of the check of a tests file.
 use Rattle.std.specs.Prelude.{◌≡◌, List}
 use Rattle.std.specs.List.{position_from}
 use Rattle.py_syntax.specs.BlockTrees.{ModuleItem}

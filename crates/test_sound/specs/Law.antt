@@ -1,4 +1,4 @@
--- The law that accepted files are sound.
+-- A means of proof: what the law says that accepted files are sound, for the proofs of the reading of a tests file.
 use Rattle.std.specs.Prelude.{◌≡◌, true, List, None}
 use Rattle.py_syntax.specs.BlockTrees.{ModuleItem}
 use Rattle.test_body.specs.Sound.{is_sound}

@@ -1,4 +1,4 @@
--- The calls that are started in a module.
+-- A means of proof: the calls that are started in a module, for the proofs of the check of a tests file.
 use Rattle.std.specs.Prelude.{Bool, true, List, [], ◌∷◌, ◌++◌, Some}
 use Rattle.std.specs.List.{flat_map, list_all}
 use Rattle.py_syntax.specs.BlockTrees.{BlockItem, DocstringAt, StatementAt, ClauseAt, Block, NoItem, Then, ModuleItem, FunctionAt}

@@ -1,4 +1,4 @@
--- The live tasks of a test, before and after a poll of one of them.
+-- A means of proof: the live tasks of a test, before and after a poll of one of them, for the proofs of the runner.
 use Rattle.std.specs.Prelude.{◌≡◌, ℕ, List, Some}
 use Rattle.py_attribute.specs.Look.{View}
 use Rattle.py_value.specs.declared.trigger.TaskNo.{TaskNo}

@@ -1,4 +1,4 @@
--- The tasks of a test: those that live, and how the others have ended.
+-- A means of proof: the tasks of a test, those that live and how the others have ended, for the proofs of the runner.
 use Rattle.std.specs.Prelude.{◌≡◌, ◌<◌, ◌||◌, nat_le, not, Bool, List, length, filter, Option, IsSome, is_some}
 use Rattle.py_value.specs.declared.trigger.TaskNo.{TaskNo}
 use Rattle.ended_tasks.specs.Endings.{Endings, start_limit, is_done}

@@ -1,4 +1,4 @@
--- What a fault says of a text.
+-- A means of proof: what a fault says of a text, for the proofs of the reading of a tests file.
 use Rattle.std.specs.Prelude.{ℕ, List}
 use Rattle.test_text.specs.declared.fault.TestsFault.{TestsFault}
 use Rattle.test_text.specs.declared.fault.TestsFault.TheVariants as fault

@@ -1,4 +1,4 @@
--- Which rule uses break.
+-- A means of proof: which rule uses break, for the proofs of the check of a tests file.
 use Rattle.std.specs.Prelude.{nat_le, List, Option, Some, None, if◌then◌else◌}
 use Rattle.std.specs.List.{list_any}
 use Rattle.test_rules.specs.File.{File}

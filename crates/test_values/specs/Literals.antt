@@ -1,4 +1,4 @@
--- The literals that constants of a module stand for.
+-- A means of proof: the literals that constants of a module stand for, for the proofs of the check of a tests file.
 use Rattle.std.specs.Prelude.{◌≡◌, ℕ, List, Option, None, Some, slice_get, option_and_then, option_map}
 use Rattle.py_syntax.specs.BlockTrees.{ModuleItem, LineAt}
 use Rattle.py_syntax.specs.ModuleTrees.{Constant}

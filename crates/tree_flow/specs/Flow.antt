@@ -1,4 +1,4 @@
--- The task that a flow stands for, and what a step of it does.
+-- A means of proof: the task that a flow stands for, and what a step of it does, for the proofs of flows.
 use Rattle.std.specs.Prelude.{◌≡◌, ℕ, ◌-◌, ◌⊎◌, Bool, true, false, List, [], ◌∷◌, ◌++◌, map, Option, None, Some}
 use Rattle.py_attribute.specs.Look.{View}
 use Rattle.test_body.specs.BodyTrees.{Function}

@@ -1,4 +1,5 @@
--- What an assignment is, of a target and a value that were checked (IEEE 1364-2005, clauses 5.4.1 and 9.2).
+-- A means of proof: what an assignment is, of a target and a value that were checked (IEEE 1364-2005, clauses 5.4.1 and 9.2), for the
+-- proofs of elaboration.
 use Rattle.std.specs.Prelude.{◌≡◌, ℕ, max, List}
 use Rattle.four_value.specs.Vector.{resize}
 use Rattle.gpi.specs.declared.acts.Act.{Act}

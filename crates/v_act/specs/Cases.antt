@@ -1,4 +1,5 @@
--- What it means that the items of a case statement were checked (IEEE 1364-2005, clause 9.5), and what is found in the whole.
+-- A means of proof: what it means that the items of a case statement were checked (IEEE 1364-2005, clause 9.5), and what is found in the
+-- whole, for the proofs of elaboration.
 use Rattle.std.specs.Prelude.{◌≡◌, ℕ, ◌≤◌, List, [], ◌∷◌, Option, None, Some, Bool, false, ◌||◌}
 use Rattle.four_value.specs.declared.Digit.{Digit}
 use Rattle.four_value.specs.Limits.{most_digits}

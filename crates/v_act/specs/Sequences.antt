@@ -1,4 +1,5 @@
--- Several statements together, whatever they were found in: a statement before others, and all of them as one (IEEE 1364-2005, clause 9.8.1).
+-- A means of proof: several statements together, whatever they were found in, for the proofs of elaboration: a statement before others, and
+-- all of them as one (IEEE 1364-2005, clause 9.8.1).
 use Rattle.std.specs.Prelude.{◌≡◌, [], ◌∷◌, ◌++◌}
 use Rattle.gpi.specs.declared.acts.Act.{Act}
 use Rattle.gpi.specs.Activation.{MakesAct, SoundList}

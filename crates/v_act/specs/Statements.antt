@@ -1,4 +1,5 @@
--- What it means that a statement was checked (IEEE 1364-2005, clause 9): the first broken rule, and its activation.
+-- A means of proof: what it means that a statement was checked (IEEE 1364-2005, clause 9), for the proofs of elaboration: the first broken
+-- rule, and its activation.
 use Rattle.std.specs.Prelude.{◌≡◌, ℕ, List, [], ◌∷◌, Option, Some}
 use Rattle.four_value.specs.declared.Digit.{Digit}
 use Rattle.gpi.specs.declared.acts.Act.{Act}

@@ -1,4 +1,4 @@
--- Many targets together (IEEE 1364-2005, annex A.8.5), the lowest part first.
+-- A means of proof: many targets together (IEEE 1364-2005, annex A.8.5), the lowest part first, for the proofs of elaboration.
 use Rattle.std.specs.Prelude.{◌≡◌, ℕ, ◌+◌, ◌^◌, ◌≤◌, max, List, [], ◌∷◌, ◌++◌, length}
 use Rattle.four_value.specs.declared.Digit.{Digit}
 use Rattle.four_value.specs.Limits.{most_digits}

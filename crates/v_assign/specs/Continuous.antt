@@ -1,4 +1,5 @@
--- What it means that the target of a continuous assignment was checked (IEEE 1364-2005, clause 6.1), and which digits are driven then.
+-- A means of proof: what it means that the target of a continuous assignment was checked (IEEE 1364-2005, clause 6.1), and which digits are
+-- driven then, for the proofs of elaboration.
 use Rattle.std.specs.Prelude.{ℕ, List, [], ◌∷◌, ◌++◌, Option}
 use Rattle.v_syntax.specs.ExpressionTrees.{TargetTree, TargetTrees, no_target, more_targets}
 use Rattle.v_scope.specs.declared.found.Found.{Found}

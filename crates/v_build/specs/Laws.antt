@@ -1,4 +1,4 @@
--- A law of what is built.
+-- A means of proof: a law of what is built, for the proofs of elaboration.
 use Rattle.std.specs.Prelude.{◌≡◌, ◌≤◌, ℕ, List, Option, Ok}
 use Rattle.gpi.specs.declared.design.Flat.{Flat}
 use Rattle.gpi.specs.Soundness.{IsSoundFlat}

@@ -1,4 +1,4 @@
--- What the code has built of a design so far.
+-- A means of proof: what the code has built of a design so far, for the proofs of elaboration.
 use Rattle.std.specs.Prelude.{◌≡◌, ◌≤◌, ℕ, IsTrue, List, [], ◌∷◌, ◌++◌, map, length, slice_set}
 use Rattle.gpi.specs.declared.design.Flat.{Flat}
 use Rattle.gpi.specs.declared.design.Process.{Process}

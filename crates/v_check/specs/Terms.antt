@@ -1,4 +1,5 @@
--- What an expression is in a context of w digits: a term, or the rule that is broken first.
+-- A means of proof: what an expression is in a context of w digits, for the proofs of elaboration: a term, or the rule that is broken
+-- first.
 use Rattle.std.specs.Prelude.{◌≡◌, ℕ, Result, Ok, Err}
 use Rattle.gpi.specs.declared.terms.Term.{Term}
 use Rattle.gpi.specs.Made.{Makes}

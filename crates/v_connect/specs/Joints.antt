@@ -1,4 +1,5 @@
--- What it means that the connections of an instance were checked (IEEE 1364-2005, clauses 12.3.5 to 12.3.9).
+-- A means of proof: what it means that the connections of an instance were checked (IEEE 1364-2005, clauses 12.3.5 to 12.3.9), for the
+-- proofs of elaboration.
 use Rattle.std.specs.Prelude.{◌≡◌, ℕ, List, [], ◌∷◌, Option, None, Some, option_map, slice_get}
 use Rattle.std.specs.Borrow.{Bor}
 use Rattle.v_syntax.specs.declared.item.Direction.{Direction}

@@ -1,4 +1,5 @@
--- What it means that an expression was checked: the first broken rule, its width, and what it is in each context.
+-- A means of proof: what it means that an expression was checked, for the proofs of elaboration: the first broken rule, its width, and what
+-- it is in each context.
 use Rattle.std.specs.Prelude.{◌≡◌, ℕ, ◌<◌, List, length, Option, None, Some, nat_le, slice_index}
 use Rattle.four_value.specs.declared.Digit.{Digit}
 use Rattle.gpi.specs.Terms.{AreWords, IsWidth}

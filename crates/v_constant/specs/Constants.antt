@@ -1,4 +1,4 @@
--- Laws of constant expressions (IEEE 1364-2005, clause 5).
+-- A means of proof: laws of constant expressions (IEEE 1364-2005, clause 5), for the proofs of elaboration.
 use Rattle.std.specs.Prelude.{◌≡◌, ℕ, List, true}
 use Rattle.v_syntax.specs.ExpressionTrees.{Tree}
 use Rattle.v_scope.specs.Scope.{Scope}

@@ -1,4 +1,4 @@
--- Concatenations of many parts (IEEE 1364-2005, clause 5.1.14), the lowest part first.
+-- A means of proof: concatenations of many parts (IEEE 1364-2005, clause 5.1.14), the lowest part first, for the proofs of elaboration.
 use Rattle.std.specs.Prelude.{ℕ, ◌+◌, ◌≤◌, List, [], ◌∷◌, ◌++◌}
 use Rattle.four_value.specs.declared.Digit.{Digit}
 use Rattle.four_value.specs.Limits.{most_digits}

@@ -1,4 +1,5 @@
--- The value of an expression in a context of w digits (IEEE 1364-2005, clause 5.4), where what stands by itself is settled.
+-- A means of proof: the value of an expression in a context of w digits (IEEE 1364-2005, clause 5.4), where what stands by itself is
+-- settled, for the proofs of elaboration.
 use Rattle.std.specs.Prelude.{◌≡◌, ℕ, List}
 use Rattle.four_value.specs.declared.Digit.{Digit}
 use Rattle.four_value.specs.Vector.{resize}

@@ -1,4 +1,5 @@
--- What a text comes to, and what two designs have in common that one text stands for.
+-- A means of proof: what a text comes to, and what two designs have in common that one text stands for, for the proofs of the reading of a
+-- design.
 use Rattle.std.specs.Prelude.{◌≡◌, ◌⊎◌, ℕ, List, Option}
 use Rattle.gpi.specs.declared.design.Flat.{Flat}
 use Rattle.gpi.specs.Design.{procs_of}

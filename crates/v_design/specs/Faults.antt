@@ -1,4 +1,4 @@
--- What a fault says of a text.
+-- A means of proof: what a fault says of a text, for the proofs of the reading of a design.
 use Rattle.std.specs.Prelude.{ℕ, List, Option}
 use Rattle.v_design.specs.declared.fault.DesignFault.{DesignFault}
 use Rattle.v_design.specs.declared.fault.DesignFault.TheVariants as fault

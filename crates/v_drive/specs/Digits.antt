@@ -1,4 +1,4 @@
--- What it means that digits of nets are driven (IEEE 1364-2005, clause 6.1).
+-- A means of proof: what it means that digits of nets are driven (IEEE 1364-2005, clause 6.1), for the proofs of elaboration.
 use Rattle.std.specs.Prelude.{◌≡◌, ℕ, ◌+◌, ◌<◌, ◌≤◌, List, [], ◌∷◌, ◌++◌, Bool}
 use Rattle.std.specs.Int.{bit_at, from_bool}
 use Rattle.four_value.specs.Limits.{most_digits}

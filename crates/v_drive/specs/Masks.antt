@@ -1,4 +1,4 @@
--- Digits of a signal as a number, whose bit i stands for digit i.
+-- A means of proof: digits of a signal as a number, whose bit i stands for digit i, for the proofs of elaboration.
 use Rattle.std.specs.Prelude.{ℕ, ◌-◌, ◌*◌, ◌^◌, nat_eq, unwrap_or}
 use Rattle.std.specs.HashMap.{get}
 use Rattle.v_flat.specs.Targets.{Drive}

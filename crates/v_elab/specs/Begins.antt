@@ -1,5 +1,5 @@
--- How an instance begins (IEEE 1364-2005, clauses 12.1 to 12.3): its parameters and declarations, its signals and names, and the assignments of its
--- connected ports.
+-- A means of proof: how an instance begins (IEEE 1364-2005, clauses 12.1 to 12.3), for the proofs of elaboration: its parameters and
+-- declarations, its signals and names, and the assignments of its connected ports.
 use Rattle.std.specs.Prelude.{◌<◌, ℕ, List, [], ◌++◌, length, Result, Ok}
 use Rattle.gpi.specs.Design.{widths}
 use Rattle.v_syntax.specs.SourceTrees.{ModuleTree}

@@ -1,4 +1,4 @@
--- What it means that a text was elaborated.
+-- A means of proof: what it means that a text was elaborated, for the proofs of elaboration.
 use Rattle.std.specs.Prelude.{◌≡◌, ℕ, List, Option, Result, Ok, Err}
 use Rattle.gpi.specs.declared.design.Flat.{Flat}
 use Rattle.v_syntax.specs.declared.source.Source.{Source}

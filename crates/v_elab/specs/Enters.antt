@@ -1,4 +1,5 @@
--- What an instance among the items of a module is (IEEE 1364-2005, clause 12.1.2), before and behind all that stands below it.
+-- A means of proof: what an instance among the items of a module is (IEEE 1364-2005, clause 12.1.2), before and behind all that stands
+-- below it, for the proofs of elaboration.
 use Rattle.std.specs.Prelude.{◌≡◌, ◌<◌, ℕ, List, [], ◌∷◌, ◌++◌, Option, option_map, length, Result, Ok, bytes_eq}
 use Rattle.std.specs.Borrow.{Bor}
 use Rattle.std.specs.List.{list_any}

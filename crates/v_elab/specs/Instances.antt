@@ -1,4 +1,4 @@
--- An instance between two of its items, with the names of the instances in it.
+-- A means of proof: an instance between two of its items, with the names of the instances in it, for the proofs of elaboration.
 use Rattle.std.specs.Prelude.{◌≡◌, ℕ, List, map, true, is_none, is_some, bytes_eq}
 use Rattle.std.specs.List.{list_any}
 use Rattle.test_names.specs.Places.{first_place}

@@ -1,4 +1,4 @@
--- The state of an instance before its first item (IEEE 1364-2005, clause 12.1).
+-- A means of proof: the state of an instance before its first item (IEEE 1364-2005, clause 12.1), for the proofs of elaboration.
 use Rattle.std.specs.Prelude.{ℕ, List, [], ◌++◌, length}
 use Rattle.v_scope.specs.Scope.{means}
 use Rattle.v_flat.specs.Declarations.{Declared, Entries}

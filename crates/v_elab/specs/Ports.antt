@@ -1,4 +1,5 @@
--- What it means that the connected ports of an instance have their assignments (IEEE 1364-2005, clause 12.3.9.2).
+-- A means of proof: what it means that the connected ports of an instance have their assignments (IEEE 1364-2005, clause 12.3.9.2), for the
+-- proofs of elaboration.
 use Rattle.std.specs.Prelude.{◌≡◌, ℕ, List, bytes_eq}
 use Rattle.std.specs.List.{IsDistinct}
 use Rattle.gpi.specs.Design.{widths}

@@ -1,4 +1,5 @@
--- An instance between two of its items, as the code has it and as the definition has it, and what items make of it.
+-- A means of proof: an instance between two of its items, as the code has it and as the definition has it, and what items make of it, for
+-- the proofs of elaboration.
 use Rattle.std.specs.Prelude.{◌≡◌, ◌≤◌, ℕ, length, Result, Ok, Err}
 use Rattle.gpi.specs.Design.{widths}
 use Rattle.v_syntax.specs.SourceTrees.{KindTree}

@@ -1,4 +1,4 @@
--- What it means that an instance was walked (IEEE 1364-2005, clause 12.1).
+-- A means of proof: what it means that an instance was walked (IEEE 1364-2005, clause 12.1), for the proofs of elaboration.
 use Rattle.std.specs.Prelude.{◌≤◌, ℕ, List, length, Result}
 use Rattle.v_syntax.specs.SourceTrees.{ModuleTree}
 use Rattle.v_scope.specs.declared.rule.Broken.{Broken}

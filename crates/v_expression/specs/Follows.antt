@@ -1,4 +1,4 @@
--- What can go on with an expression.
+-- A means of proof: what can go on with an expression, for the proofs of Verilog's parser.
 use Rattle.std.specs.Prelude.{ℕ, List, [], ◌∷◌, Option, Some, None, if◌then◌else◌}
 use Rattle.v_syntax.specs.declared.token.Token.{Token}
 use Rattle.v_syntax.specs.declared.token.Token.TheVariants as token

@@ -1,4 +1,4 @@
--- One list of trees behind another.
+-- A means of proof: one list of trees behind another, for the proofs of Verilog's parser.
 use Rattle.std.specs.Prelude.{Ok}
 use Rattle.v_syntax.specs.ExpressionTrees.{Tree, Trees, none, more, TargetTree, TargetTrees, no_target, more_targets}
 use Rattle.v_phrase.specs.Stops.{Answer, ◌>>=◌}

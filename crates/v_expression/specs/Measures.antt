@@ -1,4 +1,4 @@
--- What was read, with its height beside it.
+-- A means of proof: what was read, with its height beside it, for the proofs of Verilog's parser.
 use Rattle.std.specs.Prelude.{◌≡◌, ℕ, ◌≤◌}
 use Rattle.v_syntax.specs.ExpressionTrees.{view, views, view_select, view_selects, height, select_height, selects_height, trees_height}
 use Rattle.v_expression.specs.declared.measured.Measured.{Measured}

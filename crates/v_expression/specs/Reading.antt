@@ -1,5 +1,5 @@
--- What is read from left to right, as functions on lists of tokens: `end` is the number of the text's tokens, `room` the
--- number of levels that may stand below what is read.
+-- A means of proof: what is read from left to right, as functions on lists of tokens, for the proofs of Verilog's parser: `end` is the
+-- number of the text's tokens, `room` the number of levels that may stand below what is read.
 use Rattle.std.specs.Prelude.{ℕ, zero, suc, ◌+◌, List, [], ◌∷◌, length, Option, Some, None, Result, Ok, nat_le, if◌then◌else◌}
 use Rattle.v_syntax.specs.declared.token.Token.{Token}
 use Rattle.v_syntax.specs.declared.token.Token.TheVariants as token

@@ -1,4 +1,4 @@
--- With which tokens an expression or a target begins.
+-- A means of proof: with which tokens an expression or a target begins, for the proofs of Verilog's parser.
 use Rattle.std.specs.Prelude.{Bool, true, false, List, [], ◌∷◌}
 use Rattle.v_syntax.specs.declared.token.Token.{Token}
 use Rattle.v_syntax.specs.declared.token.Token.TheVariants as token

@@ -1,4 +1,4 @@
--- What is broken first in an expression, and its width where that is known.
+-- What is broken first in an expression, and its width where that is known (IEEE 1364-2005, clauses 5.1, 5.2 and 5.4).
 use Rattle.std.specs.Prelude.{ℕ, ◌+◌, ◌*◌, ◌&&◌, List, length, max, Option, None, Some, Bool, true, false, nat_le, nat_lt, if◌then◌else◌}
 use Rattle.four_value.specs.declared.Digit.{Digit}
 use Rattle.four_value.specs.Vector.{number}
@@ -15,7 +15,7 @@ use Rattle.v_scope.specs.Scope.{span, width_of, is_falling, Scope, find}
 use Rattle.v_flat.specs.Objects.{Nature, Unknown, NoConstant, Vector, Memory, nature_of}
 use Rattle.v_flat.specs.Expressions.{unary_class, binary_class, unary_width, binary_width, number_or, meaning, no_signals}
 
--- ---- constants
+-- ---- constants (clause 5)
 
 abbrev pub is_constant : Option Meaning → Bool
 is_constant (Some (Constant ds b)) = true
@@ -71,7 +71,7 @@ abbrev pub index : Bool → Scope → Tree → Found ℕ → Found (Unit {0})
 index true s e x = each (λ ds. tt) (constant s e x)
 index false s e x = each (λ w. tt) x
 
--- ---- widths
+-- ---- widths (clause 5.4.1)
 
 abbrev pub sized : ℕ → Found ℕ → Found ℕ
 sized p x = and_then x (λ w. wants (nat_le w most_digits) rule.TooWide p (Sound w))
@@ -80,14 +80,14 @@ sized p x = and_then x (λ w. wants (nat_le w most_digits) rule.TooWide p (Sound
 abbrev pub filled : ℕ → Found ℕ → Found ℕ
 filled p x = and_then x (λ w. needs (nat_lt 0 w) rule.BadRange p (Sound w))
 
--- indices that go with a range's direction; equal ones go with both
+-- indices that go with a range's direction; equal ones go with both (clause 5.2.1)
 abbrev pub go_with : Bounds → ℕ → ℕ → Bool
 go_with b i j = if is_falling b then nat_le j i else nat_le i j
 
 abbrev pub narrow : ℕ → ℕ → Found ℕ
 narrow p w = needs (nat_le w most_digits) rule.TooWide p (Sound w)
 
--- a count that is at least 1
+-- a count that is at least 1 (clause 5.1.14)
 abbrev pub counted : ℕ → List Digit → Found ℕ
 counted p ds = needs (nat_lt 0 (number_or (number ds))) rule.BadRange p (Sound (number_or (number ds)))
 

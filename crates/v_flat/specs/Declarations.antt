@@ -1,4 +1,4 @@
--- Parameters and declarations of an instance.
+-- Parameters and declarations of an instance (IEEE 1364-2005, clauses 4.2, 4.9, 4.10, 12.2 and 12.3.3).
 use Rattle.std.specs.Prelude.{ℕ, ◌+◌, ◌%◌, List, [], ◌∷◌, ◌++◌, map, length, Option, None, Some, Result, Ok, Bool, true, false, ◌&&◌, ◌||◌, ◌==◌, not, is_some, is_none, nat_le, bytes_eq, if◌then◌else◌}
 use Rattle.std.specs.List.{list_any}
 use Rattle.std.specs.Option.{option_or}
@@ -27,7 +27,7 @@ use Rattle.v_flat.specs.Expressions.{number_or}
 use Rattle.v_flat.specs.Checks.{constant_of}
 use Rattle.v_flat.specs.Headers.{HeadedPort, headed, first_head, Port, port_name, Parameter, ports_in, items_in}
 
--- ---- ranges
+-- ---- ranges (clause 4.3.1)
 
 -- bounds are taken modulo 2 ^ 32
 abbrev pub bound : List Digit → ℕ
@@ -44,7 +44,7 @@ abbrev pub vector_bounds : Option RangeTree → Scope → Found Bounds
 vector_bounds None s = Sound (record { left = 0; right = 0 })
 vector_bounds (Some r) s = and_then (bounds_in r s) (λ b. needs (nat_le (width_of b) most_digits) rule.TooWide (range_at r) (Sound b))
 
--- ---- parameters
+-- ---- parameters (clauses 4.10 and 12.2)
 
 -- a value that an instance gives to a parameter
 pub record Given : Type 0 where
@@ -77,7 +77,7 @@ abbrev pub parameters : List Parameter → List Given → Scope → Entries → 
 parameters [] given others s = Ok s
 parameters (p ∷ ps) given others s = next (ended (parameter p given others s)) (parameters ps given others)
 
--- ---- declarations
+-- ---- declarations (clauses 4.2, 4.9 and 12.3.3)
 
 pub data Sort : Type 0 where
   Wire : Sort
@@ -123,7 +123,7 @@ is_input_reg _ _ = false
 abbrev pub port_checked : Place → ℕ → Declared → Found (List Declared) → Found (List Declared)
 port_checked w p d x = wants (is_port d.direction d.name w.ports && not (is_input_reg d.direction d.sort)) rule.BadPort p x
 
--- one declaration has the direction alone, and the other `wire` or `reg` alone
+-- one declaration has the direction alone, and the other `wire` or `reg` alone (clause 12.3.3)
 abbrev pub is_net_or_reg : Option Sort → Bool
 is_net_or_reg (Some Wire) = true
 is_net_or_reg (Some Reg) = true

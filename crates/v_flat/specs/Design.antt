@@ -1,4 +1,5 @@
--- The walk from the top: the design that a text stands for, or the first rule that it breaks.
+-- The walk from the top: the design that a text stands for, or the first rule that it breaks (IEEE 1364-2005, clauses 12.1 to 12.3 and
+-- 12.8).
 use Rattle.std.specs.Prelude.{◌≡◌, ℕ, zero, suc, ◌+◌, List, [], ◌∷◌, ◌++◌, map, length, Option, None, Some, Result, Ok, Err, Bool, ◌&&◌, not, is_some, is_none, nat_le, nat_lt, bytes_eq, slice_set, slice_index_or, if◌then◌else◌}
 use Rattle.std.specs.List.{filter, flat_map, list_any, range_with_len}
 use Rattle.four_value.specs.declared.Digit.{Digit}
@@ -64,7 +65,7 @@ no_design = record { signals = []; nodes = []; processes = [] }
 abbrev pub sig : ℕ → SigId
 sig n = record { 0 = n }
 
--- ---- signals
+-- ---- signals (clauses 4.2 and 4.9)
 
 abbrev pub start_of : DataKind → Digit
 start_of Register = X
@@ -100,7 +101,7 @@ abbrev pub children : ℕ → List Declared → List (List ℕ × Spot)
 children first [] = []
 children first (d ∷ ds) = (d.name, spot_of (object_of first d) d.words) ∷ children (first + count_of d.words) ds
 
--- ---- wakes
+-- ---- wakes (clause 9.7)
 
 abbrev pub is_read : ℕ → List Span → Bool
 is_read n xs = list_any (λ x. nat_le x.first n && nat_lt n (x.first + x.count)) xs
@@ -108,7 +109,7 @@ is_read n xs = list_any (λ x. nat_le x.first n && nat_lt n (x.first + x.count))
 abbrev pub any_change : ℕ → Wake
 any_change n = record { sig = sig n; edge = wake_edge.Any }
 
--- any change of a signal that is read, by rising number
+-- any change of a signal that is read, by rising number (clause 9.7.5)
 abbrev pub wakes_of : List Span → Design → List Wake
 wakes_of xs d = map any_change (filter (λ n. is_read n xs) (range_with_len 0 (length d.signals)))
 
@@ -131,12 +132,12 @@ abbrev pub events_of : Scope → List Event → Found (List Wake)
 events_of s [] = Sound []
 events_of s (e ∷ es) = each (λ x. x.0 ∷ x.1) (both (wake_by e (find e.name.name s)) (events_of s es))
 
--- ---- processes
+-- ---- processes (clauses 6.1 and 9.9)
 
 abbrev pub from : Map → Run
 from m = record { signals = m; updates = [] }
 
--- a continuous assignment waits for what its expression reads
+-- a continuous assignment waits for what its expression reads (clause 6.1.2)
 abbrev pub assigning : Scope → TargetTree → Tree → Design → Proc
 assigning s t e d = record { kind = process_kind.Assign; wakes = wakes_of (reads s e) d; run = λ m. assign Blocking s t e (from m) }
 
@@ -166,12 +167,12 @@ driven_by x t e s = each (λ w. adding (assigning s.scope t e s.design) x.driven
 abbrev pub driver : DriverTree → State → Found State
 driver (Driver t e) s = driven_by (driving None s.scope t s.driven) t e s
 
--- wire n = e
+-- wire n = e (clause 6.1.1)
 abbrev pub net : NetTree → State → Found State
 net (NetOf i None) s = Sound s
 net (NetOf i (Some e)) s = driver (Driver (whole_of i) e) s
 
--- reg n = e
+-- reg n = e (clause 6.2.1)
 abbrev pub register : RegisterTree → State → Found State
 register (RegisterOf i (Some (Initially e))) s = each (λ w. adding (beginning s.scope (whole_of i) e) s.driven s) (checked s.scope e)
 register (RegisterOf i _) s = Sound s
@@ -218,7 +219,7 @@ plain_item p (Always c a) s = with_room p 1 s.design (always_item c a s)
 plain_item p (Initial a) s = with_room p 1 s.design (initial_item a s)
 plain_item p _ s = Sound s
 
--- ---- instances: parameters
+-- ---- instances: parameters (clause 12.2.2)
 
 abbrev pub one_more : List ℕ → List Digit × List Given → List Given
 one_more n x = record { name = n; value = x.0 } ∷ x.1
@@ -243,7 +244,7 @@ given_of s None ns = Sound []
 given_of s (Some (Ordered es)) ns = ordered_given s es ns
 given_of s (Some (NamedConnections cs)) ns = named_given s ns [] cs
 
--- ---- instances: ports
+-- ---- instances: ports (clauses 12.3.5 to 12.3.9)
 
 -- a port of the instance, and what it is joined to
 pub record Joint : Type 0 where
@@ -328,14 +329,14 @@ abbrev pub find_joint : List ℕ → List Joint → Option Tree
 find_joint n [] = None
 find_joint n (j ∷ js) = if bytes_eq j.port n then Some j.value else find_joint n js
 
--- an input is assigned the value of its connection; o is the port
+-- an input is assigned the value of its connection; o is the port (clause 12.3.9.2)
 abbrev pub input_run : Scope → DataObject → Tree → Map → Run
 input_run outer o e m = blocking (whole_update (Some o.first) (assigned_value (width_of o.bounds) outer e (read m))) (from m)
 
 abbrev pub input_joint : Scope → DataObject → Tree → Design → Design
 input_joint outer o e d = with_process (record { kind = process_kind.Assign; wakes = wakes_of (reads outer e) d; run = input_run outer o e }) d
 
--- what an output is connected to is assigned its value
+-- what an output is connected to is assigned its value (clause 12.3.9.2)
 abbrev pub output_run : Scope → DataObject → TargetTree → Map → Run
 output_run outer o t m = blocking (updates outer t (read m) (resize (read m o.first) (target_width outer t))) (from m)
 
@@ -353,7 +354,7 @@ abbrev pub port_joints : Scope → List Joint → Scope → List Port → Design
 port_joints outer js s [] d = d
 port_joints outer js s (p ∷ ps) d = port_joints outer js s ps (port_joint outer (find_joint p.name js) p.direction (find p.name s) d)
 
--- ---- the walk
+-- ---- the walk (clauses 12.1.2 and 12.8)
 
 abbrev pub find_module : List ℕ → List ModuleTree → Option ModuleTree
 find_module n [] = None
@@ -441,7 +442,7 @@ unfoldable pub walk : List ModuleTree → ℕ → Sub
 walk ms zero above m path out d = instance (λ a n q o e. Ok e) 0 ms above m path out d
 walk ms (suc room) above m path out d = instance (walk ms room) (suc room) ms above m path out d
 
--- ---- the top
+-- ---- the top (clause 12.1.1)
 
 abbrev pub instance_names : List ItemTree → List (List ℕ)
 instance_names [] = []

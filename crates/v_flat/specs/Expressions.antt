@@ -35,7 +35,7 @@ Values = ℕ → List Digit
 abbrev pub no_signals : Values
 no_signals s = []
 
--- ---- operators by their rules of widths
+-- ---- operators by their rules of widths (clause 5.4.1)
 
 abbrev pub unary_class : UnaryOperator → UnaryClass
 unary_class unary.Plus = Keeps keeping.Plus
@@ -113,7 +113,7 @@ of_two (Compares o) xs ys w = resize (compare_value o xs ys ∷ []) w
 of_two (Joins o) xs ys w = resize (logic_value o xs ys ∷ []) w
 of_two (Shifts o) xs ys w = shift_value o xs ys
 
--- ---- names
+-- ---- names (clause 5.2)
 
 abbrev pub number_or : Option ℕ → ℕ
 number_or (Some n) = n
@@ -135,7 +135,7 @@ whole_value (Some (Constant ds b)) m = ds
 whole_value (Some (Object o)) m = m o.first
 whole_value _ m = []
 
--- one select: digits of a vector, or a word of a memory
+-- one select: digits of a vector, or a word of a memory (clauses 5.2.1 and 5.2.2)
 abbrev pub object_width : DataObject → Option Bounds → ℕ → ℕ
 object_width o None n = n
 object_width o (Some w) n = width_of o.bounds
@@ -203,7 +203,7 @@ abbrev mutual
   meaning s (Concatenation p es) w m = resize (joined s es m) w
   meaning s (Replication p c es) w m = resize (copies (number_or (number (meaning s c (width s c) no_signals))) (joined s es m)) w
 
-  -- the first part has the highest digits
+  -- the first part has the highest digits (clause 5.1.14)
   pub joined : Scope → Trees → Values → List Digit
   joined s none m = []
   joined s (more e es) m = joined s es m ++ meaning s e (width s e) m

@@ -1,4 +1,5 @@
--- What a module's header and declarations say before its parameters have values: its ports, its parameters, its names.
+-- What a module's header and declarations say before its parameters have values: its ports, its parameters, its names (IEEE 1364-2005,
+-- clauses 4.10, 4.11 and 12.3).
 use Rattle.std.specs.Prelude.{ℕ, List, [], ◌∷◌, ◌++◌, map, Option, None, Some, Bool, true, false, bytes_eq, if◌then◌else◌}
 use Rattle.std.specs.List.{list_any}
 use Rattle.v_syntax.specs.declared.statement.Identifier.{Identifier}
@@ -23,9 +24,9 @@ ports_in (ModuleOf n ps ports is) = ports
 abbrev pub name_of : Identifier → List ℕ
 name_of i = i.name
 
--- ---- ports
+-- ---- ports (clause 12.3)
 
--- a port of a header that declares it; one without a head has the head before it
+-- a port of a header that declares it; one without a head has the head before it (clause 12.3.4)
 pub record HeadedPort : Type 0 where
   pub head : PortHeadTree
   pub name : Identifier
@@ -49,7 +50,7 @@ pub record Port : Type 0 where
   pub name : List ℕ
   pub direction : Option Direction
 
--- the direction that the items declare first
+-- the direction that the items declare first (clause 12.3.3)
 abbrev pub declared_direction : List ℕ → List ItemTree → Option Direction
 declared_direction n [] = None
 declared_direction n (ItemAt p (Ports h is) ∷ rest) =
@@ -74,7 +75,7 @@ port_name p = p.name
 abbrev pub ports_of : ModuleTree → List Port
 ports_of m = header_ports (ports_in m) (items_in m)
 
--- ---- parameters, in their order
+-- ---- parameters, in their order (clause 4.10)
 
 pub record Parameter : Type 0 where
   pub is_local : Bool
@@ -107,12 +108,12 @@ item_parameters (ItemAt p k ∷ rest) = item_parameters rest
 abbrev pub parameters_of : ModuleTree → List Parameter
 parameters_of (ModuleOf n ps ports is) = header_parameters None ps ++ item_parameters is
 
--- those that an override may name, in order
+-- those that an override may name, in order (clauses 4.10.2 and 12.2.2)
 abbrev pub open_parameters : List Parameter → List (List ℕ)
 open_parameters [] = []
 open_parameters (p ∷ ps) = if p.is_local then open_parameters ps else p.name.name ∷ open_parameters ps
 
--- ---- all names of parameters, nets, registers and memories
+-- ---- all names of parameters, nets, registers and memories (clause 4.11)
 
 abbrev pub net_name : NetTree → List ℕ
 net_name (NetOf i e) = i.name

@@ -1,4 +1,4 @@
--- Laws of the definitions.
+-- A means of proof: laws of the definitions of a design.
 use Rattle.std.specs.Prelude.{◌≡◌, ℕ, false, List, [], ◌∷◌}
 use Rattle.v_syntax.specs.ExpressionTrees.{Tree}
 use Rattle.v_syntax.specs.SourceTrees.{ItemTree, ModuleTree}

@@ -1,4 +1,4 @@
--- Signals and instances by their paths, and the texts of paths.
+-- Signals and instances by their paths, and the texts of paths (IEEE 1364-2005, clause 12.5).
 use Rattle.std.specs.Prelude.{ℕ, List, [], ◌∷◌, ◌++◌, Option, None, Some, decimal}
 use Rattle.four_value.specs.declared.Digit.{Digit}
 use Rattle.gpi.specs.declared.design.Signal.{Signal}

@@ -1,5 +1,6 @@
--- Designs that are worked out from the definitions. What is expected of the first 78 was computed by a model of its own, written
--- in Python, and what is expected of the others, from `contexts_of_comparisons` on, by hand; no value comes from the definitions.
+-- A means of proof: designs that are worked out from the definitions, by which these are tried. What is expected of the first 78 was
+-- computed by a model of its own, written in Python, and what is expected of the others, from `contexts_of_comparisons` on, by hand; no
+-- value comes from the definitions.
 use Rattle.std.specs.Prelude.{◌≡◌, ℕ, zero, suc, ◌+◌, ◌*◌, List, [], ◌∷◌, length, None, Some, Result, Ok, Err, codes, decimal}
 use Rattle.four_value.specs.declared.Digit.TheVariants.{X, Z}
 use Rattle.gpi.specs.declared.design.Spot.TheVariants as spot

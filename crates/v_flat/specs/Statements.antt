@@ -1,4 +1,4 @@
--- Statements: what is broken first, which signals are read, and one activation.
+-- Statements (IEEE 1364-2005, clause 9): what is broken first, which signals are read, and one activation.
 use Rattle.std.specs.Prelude.{ℕ, zero, suc, List, [], ◌∷◌, ◌++◌, max, Option, None, Some, Bool, true, false, ◌||◌, bytes_eq, if◌then◌else◌}
 use Rattle.four_value.specs.declared.Digit.{Digit}
 use Rattle.four_value.specs.declared.Digit.TheVariants.{Zero, One as OneDigit, X, Z}
@@ -39,7 +39,7 @@ use Rattle.v_flat.specs.Targets.{target_checked, target_width, updates}
 abbrev pub done : {A : Type 0} → Found A → Found (Unit {0})
 done x = each (λ a. tt) x
 
--- ---- loops
+-- ---- loops (clause 9.6)
 
 -- the register that a loop counts in
 abbrev pub counter_in : ℕ → DataObject → Option Bounds → DataKind → Found DataObject
@@ -151,7 +151,7 @@ abbrev pub with_counter : {A : Type 0} → Option Meaning → (DataObject → A)
 with_counter (Some (Object o)) f other = f o
 with_counter _ f other = other
 
--- ---- what is read: signals, as a first one and a count
+-- ---- what is read: signals, as a first one and a count (clauses 6.1.2 and 9.7.5)
 
 pub record Span : Type 0 where
   pub first : ℕ
@@ -239,7 +239,7 @@ abbrev pub take_updates : AssignmentKind → List Update → Run → Run
 take_updates assignment.Blocking us r = blocking us r
 take_updates assignment.Nonblocking us r = nonblocking us r
 
--- in the context of the greater width, and then resized
+-- in the context of the greater width, and then resized (clauses 5.4.1 and 5.6)
 abbrev pub assigned_value : ℕ → Scope → Tree → Values → List Digit
 assigned_value w s e m = resize (meaning s e (max w (width s e)) m) w
 
@@ -296,7 +296,7 @@ abbrev mutual
   activations s no_statement r = r
   activations s (more_statements a rest) r = activations s rest (activation s a r)
 
-  -- the first item with a label that agrees, else the first default
+  -- the first item with a label that agrees, else the first default (clause 9.5)
   pub chosen : Agreement → List Digit → ℕ → Scope → CaseTrees → Run → Run → Run
   chosen k v w s no_case r other = other
   chosen k v w s (more_cases c cs) r other = chosen_item k v w s c r (chosen k v w s cs r other)

@@ -1,4 +1,4 @@
--- Targets of assignments: what is broken first, what they drive, and the updates that they get.
+-- Targets of assignments (IEEE 1364-2005, clauses 6.1 and 9.2): what is broken first, what they drive, and the updates that they get.
 use Rattle.std.specs.Prelude.{ℕ, ◌+◌, ◌==◌, ◌&&◌, List, [], ◌∷◌, ◌++◌, min, max, Option, None, Some, Bool, true, false, nat_lt}
 use Rattle.std.specs.List.{list_any}
 use Rattle.four_value.specs.declared.Digit.{Digit}
@@ -28,7 +28,7 @@ use Rattle.v_flat.specs.Checks.{sized, filled, by_nature, of_vector, of_memory}
 
 -- ---- what is broken
 
--- a procedure gives values to registers and words, a continuous assignment to nets
+-- a procedure gives values to registers and words, a continuous assignment to nets (clause 6)
 abbrev pub fits_kind : Manner → DataKind → Bool
 fits_kind Procedural Register = true
 fits_kind Procedural Net = false
@@ -61,7 +61,7 @@ abbrev mutual
   targets_checked s no_target = Sound 0
   targets_checked s (more_targets t ts) = each (λ x. x.0 + x.1) (both (target_checked s t) (targets_checked s ts))
 
--- ---- what is driven: digits of a net, by their places
+-- ---- what is driven: digits of a net, by their places (clause 6.1)
 
 pub record Drive : Type 0 where
   pub signal : ℕ
@@ -157,7 +157,7 @@ abbrev mutual
   as_targets none = Some no_target
   as_targets (more e es) = one_target (as_target e) (as_targets es)
 
--- ---- what an assignment does
+-- ---- what an assignment does (clauses 6.1 and 9.2)
 
 abbrev mutual
   pub target_width : Scope → TargetTree → ℕ

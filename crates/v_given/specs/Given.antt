@@ -1,4 +1,5 @@
--- What it means that the values which an instance gives were found (IEEE 1364-2005, clause 12.2.2).
+-- A means of proof: what it means that the values which an instance gives were found (IEEE 1364-2005, clause 12.2.2), for the proofs of
+-- elaboration.
 use Rattle.std.specs.Prelude.{◌≡◌, ℕ, List, Option, option_map}
 use Rattle.std.specs.Borrow.{Bor}
 use Rattle.four_value.specs.declared.Digit.{Digit}

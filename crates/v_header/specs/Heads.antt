@@ -1,4 +1,4 @@
--- The heads and the ports of a header that the code tells, as the definition has them.
+-- A means of proof: the heads and the ports of a header that the code tells, as the definition has them, for the proofs of elaboration.
 use Rattle.std.specs.Prelude.{List, map}
 use Rattle.v_syntax.specs.SourceTrees.{PortHeadTree, Head}
 use Rattle.v_flat.specs.Headers.{HeadedPort}

@@ -1,4 +1,4 @@
--- The names that the code tells, as the definition has them.
+-- A means of proof: the names that the code tells, as the definition has them, for the proofs of elaboration.
 use Rattle.std.specs.Prelude.{ℕ, List, [], ◌∷◌, map}
 use Rattle.std.specs.Borrow.{Bor}
 use Rattle.v_syntax.specs.SourceTrees.{HeaderPortTree, HeaderPortOf, ItemTree}

@@ -1,4 +1,4 @@
--- The parameters that the code tells, as the definition has them.
+-- A means of proof: the parameters that the code tells, as the definition has them, for the proofs of elaboration.
 use Rattle.std.specs.Prelude.{List, [], ◌∷◌, Option, map, option_map}
 use Rattle.std.specs.Borrow.{Bor}
 use Rattle.v_syntax.specs.declared.item.Range.{Range}

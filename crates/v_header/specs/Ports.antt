@@ -1,4 +1,4 @@
--- The ports that the code tells, as the definition has them, and their places.
+-- A means of proof: the ports that the code tells, as the definition has them, and their places, for the proofs of elaboration.
 use Rattle.std.specs.Prelude.{ℕ, suc, List, [], ◌∷◌, ◌++◌, map, Option, None, Some, option_map, bytes_eq, if◌then◌else◌}
 use Rattle.std.specs.Option.{option_and_then}
 use Rattle.v_syntax.specs.declared.statement.Identifier.{Identifier}

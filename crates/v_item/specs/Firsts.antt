@@ -1,4 +1,4 @@
--- With which tokens items and their parts begin.
+-- A means of proof: with which tokens items and their parts begin, for the proofs of Verilog's parser.
 use Rattle.std.specs.Prelude.{Bool, true, false, List, [], ◌∷◌, Option, Some, None}
 use Rattle.v_syntax.specs.declared.token.Token.{Token}
 use Rattle.v_syntax.specs.declared.token.Token.TheVariants as token

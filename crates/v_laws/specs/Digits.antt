@@ -1,4 +1,5 @@
--- Digits of signals: which are driven, which are written by updates, and which a process changes.
+-- A means of proof: digits of signals, for the proofs of laws of a design: which are driven, which are written by updates, and which a
+-- process changes.
 use Rattle.std.specs.Prelude.{◌≡◌, ◌+◌, ◌<◌, ◌≤◌, ◌⊎◌, ℕ, List, [], ◌∷◌, Some, length, slice_get}
 use Rattle.four_value.specs.declared.Digit.{Digit}
 use Rattle.gpi.specs.declared.types.Update.{Update}

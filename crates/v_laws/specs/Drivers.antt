@@ -1,4 +1,5 @@
--- Laws of drivers (IEEE 1364-2005, clauses 6.1 and 9.2): what each process gives a value to.
+-- A means of proof: laws of drivers (IEEE 1364-2005, clauses 6.1 and 9.2), for the proofs of elaboration: what each process gives a value
+-- to.
 use Rattle.std.specs.Prelude.{◌≡◌, ◌≤◌, ℕ, List, Option, Some, None, length, slice_get}
 use Rattle.four_value.specs.declared.Digit.{Digit}
 use Rattle.four_value.specs.declared.Digit.TheVariants.{X, Z}

@@ -1,4 +1,4 @@
--- Laws of the names of instances (IEEE 1364-2005, clause 12.5).
+-- A means of proof: laws of the names of instances (IEEE 1364-2005, clause 12.5), for the proofs of elaboration.
 use Rattle.std.specs.Prelude.{◌≡◌, ◌+◌, ◌<◌, ℕ, List, Option, Some, None, slice_get}
 use Rattle.gpi.specs.declared.design.Spot.{Spot}
 use Rattle.gpi.specs.declared.design.Spot.TheVariants.{Inner, Sig, Words}

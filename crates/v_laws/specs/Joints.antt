@@ -1,4 +1,4 @@
--- A law of connected ports (IEEE 1364-2005, clause 12.3).
+-- A means of proof: a law of connected ports (IEEE 1364-2005, clause 12.3), for the proofs of elaboration.
 use Rattle.std.specs.Prelude.{◌≡◌, ◌+◌, List, [], ◌++◌, Option, Ok, length}
 use Rattle.v_syntax.specs.SourceTrees.{ConnectionsTree, ModuleTree}
 use Rattle.v_scope.specs.declared.found.Found.TheVariants.{Sound}

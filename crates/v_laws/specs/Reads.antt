@@ -1,4 +1,5 @@
--- Laws of what is read (IEEE 1364-2005, clauses 6.1.2 and 9.7.5): on maps of the signals that agree on it, the same is done.
+-- A means of proof: laws of what is read (IEEE 1364-2005, clauses 6.1.2 and 9.7.5), for the proofs of elaboration: on maps of the signals
+-- that agree on it, the same is done.
 use Rattle.std.specs.Prelude.{◌≡◌, ◌+◌, ◌≤◌, ◌⊎◌, ℕ, List, [], ◌∷◌, length, slice_get, Option, Some, true}
 use Rattle.four_value.specs.declared.Digit.{Digit}
 use Rattle.gpi.specs.declared.design.Kind.TheVariants as process_kind

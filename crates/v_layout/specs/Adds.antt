@@ -1,4 +1,4 @@
--- Lists to which some of what was to be added was added.
+-- A means of proof: lists to which some of what was to be added was added, for the proofs of elaboration.
 use Rattle.std.specs.Prelude.{◌≡◌, List, ◌++◌}
 
 -- the new list is the old one with the first of all behind it, however many

@@ -1,4 +1,5 @@
--- Declarations that fit into a design (IEEE 1364-2005, clauses 4.3.1 and 4.9): 1 to 128 digits, at most 65,536 words, and room for all signals.
+-- A means of proof: declarations that fit into a design (IEEE 1364-2005, clauses 4.3.1 and 4.9), for the proofs of elaboration: 1 to 128
+-- digits, at most 65,536 words, and room for all signals.
 use Rattle.std.specs.Prelude.{ℕ, ◌+◌, ◌≤◌, List}
 use Rattle.std.specs.List.{All}
 use Rattle.gpi.specs.Terms.{IsWidth}

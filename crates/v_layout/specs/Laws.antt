@@ -1,4 +1,4 @@
--- Laws of declarations and of the names that they give.
+-- A means of proof: laws of declarations and of the names that they give, for the proofs of elaboration.
 use Rattle.std.specs.Prelude.{ℕ, ◌≤◌, List, ◌++◌, length, map}
 use Rattle.std.specs.List.{All}
 use Rattle.gpi.specs.Design.{widths}

@@ -1,4 +1,4 @@
--- Scopes in which each name is a signal of the design, with its width.
+-- A means of proof: scopes in which each name is a signal of the design, with its width, for the proofs of elaboration.
 use Rattle.std.specs.Prelude.{ℕ, List, ◌++◌}
 use Rattle.v_scope.specs.Scope.{Scope, find}
 use Rattle.v_constant.specs.Checked.{IsNameOf}

@@ -1,4 +1,4 @@
--- Declared names in the order of ports, as the code tells them.
+-- A means of proof: declared names in the order of ports, as the code tells them, for the proofs of elaboration.
 use Rattle.std.specs.Prelude.{List, map}
 use Rattle.v_flat.specs.Declarations.{Declared}
 use Rattle.v_layout.specs.declared.details.Line.{Line}

@@ -1,4 +1,4 @@
--- What is known in an instance before its declarations, as the code has it.
+-- A means of proof: what is known in an instance before its declarations, as the code has it, for the proofs of elaboration.
 use Rattle.std.specs.Prelude.{◌≡◌, List, Result}
 use Rattle.v_syntax.specs.SourceTrees.{ModuleTree}
 use Rattle.v_scope.specs.declared.rule.Broken.{Broken}

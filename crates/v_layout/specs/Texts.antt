@@ -1,4 +1,4 @@
--- The text of an instance's path.
+-- A means of proof: the text of an instance's path, for the proofs of elaboration.
 use Rattle.std.specs.Prelude.{◌≡◌, ◌≢◌, ℕ, List, []}
 use Rattle.v_flat.specs.Paths.{Path, path_text}
 

@@ -1,4 +1,4 @@
--- The classes of bytes that tokens are made of, and how many of a class stand at the front of a text.
+-- The classes of bytes that tokens are made of, and how many of a class stand at the front of a text (IEEE 1364-2005, clause 3).
 use Rattle.std.specs.Prelude.{ℕ, Bool, not, nat_le, ◌==◌, ◌||◌, ◌&&◌, List}
 use Rattle.std.specs.List.{prefix_len}
 use Rattle.v_lex.specs.declared.bytes.ByteClass.{ByteClass}

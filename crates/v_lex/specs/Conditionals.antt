@@ -1,6 +1,7 @@
--- What the branches of a conditional are, and which of them is taken (IEEE 1364-2005, clause 19.4): the first whose condition
--- holds, where what stands around the conditional is taken. The laws of `laws.rt` say that the directives of `Lexing` do so.
--- A part is one of a text's row, as in `Row`; a branch is a directive with the parts up to the conditional's next one.
+-- A means of proof: what the branches of a conditional are, and which of them is taken (IEEE 1364-2005, clause 19.4), for the laws of
+-- Verilog's lexer: the first whose condition holds, where what stands around the conditional is taken. The laws of `laws.rt` say that the
+-- directives of `Lexing` do so. A part is one of a text's row, as in `Row`; a branch is a directive with the parts up to the conditional's
+-- next one.
 use Rattle.std.specs.Prelude.{◌≡◌, ◌≢◌, ℕ, ◌+◌, Bool, true, false, not, ◌||◌, List, [], ◌∷◌, ◌++◌, length, ◌⊎◌}
 use Rattle.v_lex.specs.declared.directive.Directive.TheVariants as directive
 use Rattle.v_lex.specs.declared.directive.LexRule.TheVariants as rule

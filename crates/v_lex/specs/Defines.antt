@@ -1,4 +1,4 @@
--- Which names are defined behind parts of a text (IEEE 1364-2005, clause 19.3).
+-- A means of proof: which names are defined behind parts of a text (IEEE 1364-2005, clause 19.3), for the laws of Verilog's lexer.
 use Rattle.std.specs.Prelude.{◌≡◌, ◌≢◌, ℕ, List, ◌∷◌, ◌++◌, ◌⊎◌, All}
 use lib.Chars.{codes}
 use Rattle.v_lex.specs.declared.directive.Directive.TheVariants as directive

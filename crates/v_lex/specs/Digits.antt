@@ -1,4 +1,4 @@
--- The letters of bases, and the bits of one written digit.
+-- The letters of bases, and the bits of one written digit (IEEE 1364-2005, clause 3.5.1).
 use Rattle.std.specs.Prelude.{ℕ, ◌-◌, ◌^◌, nat_lt, nat_le, ◌==◌, ◌||◌, ◌&&◌, List, [], ◌∷◌, replicate, Option, Some, None, if◌then◌else◌}
 use Rattle.four_value.specs.declared.Digit.{Digit}
 use Rattle.four_value.specs.declared.Digit.TheVariants.{Zero, X, Z}

@@ -1,4 +1,4 @@
--- The words of directives.
+-- The words of directives (IEEE 1364-2005, clause 19).
 use Rattle.std.specs.Prelude.{ℕ, List, [], ◌∷◌, Option}
 use Rattle.std.specs.List.{find}
 use Rattle.std.specs.Str.{bytes_eq}

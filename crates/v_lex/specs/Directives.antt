@@ -1,4 +1,5 @@
--- Which bytes are a directive: a backquote, its word directly behind it, and its parts, with separators between them.
+-- Which bytes are a directive (IEEE 1364-2005, clause 19): a backquote, its word directly behind it, and its parts, with separators between
+-- them.
 use Rattle.std.specs.Prelude.{◌≡◌, ℕ, ◌*◌, List, [], ◌∷◌, ◌++◌, Some, ◌⊎◌}
 use lib.Chars.{codes}
 use Rattle.v_lex.specs.declared.bytes.ByteClass.TheVariants as class
@@ -23,7 +24,7 @@ pub data IsBlankLine : List ℕ → Type 0 where
 abbrev pub NamePart : List ℕ → List ℕ → List ℕ → Type 0
 NamePart name parts behind = (gap : List ℕ) × (parts ≡ gap ++ name) × AllIn class.Separator gap × IsName name × Stops class.Name behind
 
--- separators, and `none` or `wire`
+-- separators, and `none` or `wire` (clause 19.2)
 abbrev pub NetTypePart : List ℕ → List ℕ → Type 0
 NetTypePart parts behind =
     (gap name : List ℕ) × (parts ≡ gap ++ name) × AllIn class.Separator gap × ((name ≡ codes "none") ⊎ (name ≡ codes "wire"))
@@ -44,7 +45,7 @@ pub record TimePart (time : ℕ) (parts : List ℕ) : Type 0 where
   pub measured : unit_of unit ≡ Some femtoseconds
   pub total : time ≡ magnitude * femtoseconds
 
--- a time unit, separators and /, and a time precision
+-- a time unit, separators and /, and a time precision (clause 19.8)
 pub record ScalePart (unit precision : ℕ) (parts behind : List ℕ) : Type 0 where
   pub first : List ℕ
   pub gap : List ℕ
@@ -93,7 +94,7 @@ IsDirective directive.Broken bytes behind = (name : List ℕ) × IsBare name byt
 IsDirective directive.Unnamed bytes behind = (name : List ℕ) × IsBare name bytes behind × IsUnnamed name
 IsDirective d bytes behind = IsWhole d bytes behind
 
--- the words of the directives that part a conditional
+-- the words of the directives that part a conditional (clause 19.4)
 abbrev pub IsOfConditional : DirectiveWord → Type 0
 IsOfConditional word.IfDef = Unit {0}
 IsOfConditional word.IfNDef = Unit {0}

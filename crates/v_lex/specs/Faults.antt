@@ -1,4 +1,4 @@
--- The answer for a broken rule.
+-- A means of proof: the answer for a broken rule, for the proofs of Verilog's lexer.
 use Rattle.std.specs.Prelude.{ℕ, List}
 use Rattle.v_lex.specs.declared.directive.BrokenRule.{BrokenRule}
 use Rattle.v_lex.specs.declared.directive.LexRule.{LexRule}

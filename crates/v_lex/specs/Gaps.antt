@@ -1,4 +1,4 @@
--- Separators and comments.
+-- Separators and comments (IEEE 1364-2005, clauses 3.2 and 3.3).
 use Rattle.std.specs.Prelude.{◌≡◌, ℕ, List, [], ◌∷◌, ◌++◌, IsTrue, IsFalse, ◌⊎◌}
 use Rattle.v_lex.specs.declared.bytes.ByteClass.{ByteClass}
 use Rattle.v_lex.specs.declared.bytes.ByteClass.TheVariants as class
@@ -13,7 +13,7 @@ Stops c (b ∷ bs) = IsFalse (is_in c b)
 abbrev pub IsSeparator : List ℕ → Type 0
 IsSeparator bytes = (b : ℕ) × (bytes ≡ b ∷ []) × IsTrue (is_separator b)
 
--- // and all up to the end of the line
+-- // and all up to the end of the line (clause 3.3)
 abbrev pub IsLineComment : List ℕ → List ℕ → Type 0
 IsLineComment bytes behind = (inside : List ℕ) × (bytes ≡ 47 ∷ 47 ∷ inside) × AllIn class.Line inside × Stops class.Line behind
 
@@ -21,7 +21,7 @@ IsLineComment bytes behind = (inside : List ℕ) × (bytes ≡ 47 ∷ 47 ∷ ins
 abbrev pub IsOpen : List ℕ → Type 0
 IsOpen bytes = (front rest : List ℕ) → bytes ≡ front ++ 42 ∷ 47 ∷ rest → ⊥
 
--- /* and all up to the first */
+-- /* and all up to the first */ (clause 3.3)
 abbrev pub IsBlockComment : List ℕ → Type 0
 IsBlockComment bytes = (inside : List ℕ) × (bytes ≡ 47 ∷ 42 ∷ inside ++ 42 ∷ 47 ∷ []) × IsOpen (inside ++ 42 ∷ [])
 

@@ -1,4 +1,5 @@
--- What directives set, and what the parts of a text tell: tokens, their places, and the rules that are broken.
+-- What directives set, and what the parts of a text tell (IEEE 1364-2005, clauses 3 and 19): tokens, their places, and the rules that are
+-- broken.
 use Rattle.std.specs.Prelude.{ℕ, ◌-◌, min, Bool, true, false, not, ◌&&◌, nat_le, List, [], ◌∷◌, ◌++◌, length, take, map, Option, Some}
 use Rattle.std.specs.Prelude.{None, if◌then◌else◌}
 use Rattle.std.specs.List.{slice_get}
@@ -21,7 +22,7 @@ pub record State : Type 0 where
   pub defined : List ℕ → Bool
   -- the open conditionals, the innermost last
   pub conditionals : List Conditional
-  -- the unit of time, in femtoseconds
+  -- the unit of time, in femtoseconds (clause 19.8)
   pub unit : ℕ
   -- the least precision so far, in femtoseconds
   pub step : Option ℕ
@@ -29,7 +30,7 @@ pub record State : Type 0 where
 abbrev pub nanosecond : ℕ
 nanosecond = 1000000
 
--- ---- definitions
+-- ---- definitions (clause 19.3)
 
 abbrev pub no_name : List ℕ → Bool
 no_name name = false
@@ -42,7 +43,7 @@ with_name defined name is_defined other = if bytes_eq name other then is_defined
 unfoldable pub start : State
 start = record { defined = with_name no_name (codes "COCOTB_SIM") true; conditionals = []; unit = nanosecond; step = None }
 
--- ---- conditionals
+-- ---- conditionals (clause 19.4)
 
 abbrev pub innermost : List Conditional → Option Conditional
 innermost cs = slice_get cs (length cs - 1)
@@ -76,7 +77,7 @@ abbrev pub with_next_part : List Conditional → Bool → Bool → Option Condit
 with_next_part cs holds is_else None = cs
 with_next_part cs holds is_else (Some c) = if c.has_else then cs else outer cs ++ next_part c holds is_else ∷ []
 
--- ---- directives
+-- ---- directives (clause 19)
 
 abbrev pub least : Option ℕ → ℕ → ℕ
 least None n = n

@@ -1,4 +1,5 @@
--- A Verilog text as a row of parts: tokens, separators, comments, directives, what is skipped, and broken rules.
+-- A Verilog text as a row of parts (IEEE 1364-2005, clauses 3.1 and 19): tokens, separators, comments, directives, what is skipped, and
+-- broken rules.
 use Rattle.std.specs.Prelude.{◌≡◌, ℕ, ◌+◌, Bool, true, false, List, [], ◌∷◌, ◌++◌, length, Some, unwrap_or, IsFalse, ◌⊎◌}
 use Rattle.v_syntax.specs.declared.token.Token.{Token}
 use Rattle.v_lex.specs.declared.bytes.ByteClass.TheVariants as class

@@ -1,4 +1,4 @@
--- Which bytes have the form of a token, and which token they spell.
+-- Which bytes have the form of a token, and which token they spell (IEEE 1364-2005, clauses 3.4 to 3.7).
 use Rattle.std.specs.Prelude.{◌≡◌, ℕ, suc, ◌+◌, ◌-◌, ◌*◌, ◌^◌, ◌≤◌, ◌<◌, ◌==◌, List, [], ◌∷◌, ◌++◌, take, replicate, Some, None, IsTrue}
 use Rattle.std.specs.Prelude.{◌⊎◌, if◌then◌else◌}
 use Rattle.std.specs.List.{list_all}
@@ -30,17 +30,17 @@ pub data Form : Type 0 where
   Quoted : Form
   Sign : Form
 
--- a letter or _, and letters, digits, _ and $ behind it
+-- a letter or _, and letters, digits, _ and $ behind it (clause 3.7)
 abbrev pub IsWord : List ℕ → Type 0
 IsWord [] = ⊥
 IsWord (b ∷ bs) = IsTrue (is_name_start b) × AllIn class.Name bs
 
--- $, and letters, digits, _ and $ behind it
+-- $, and letters, digits, _ and $ behind it (clause 3.7.3)
 abbrev pub IsSystemName : List ℕ → Type 0
 IsSystemName [] = ⊥
 IsSystemName (b ∷ bs) = (b ≡ 36) × AllIn class.Name bs
 
--- a decimal digit, and decimal digits and _ behind it
+-- a decimal digit, and decimal digits and _ behind it (clause 3.5.1)
 abbrev pub IsDecimal : List ℕ → Type 0
 IsDecimal [] = ⊥
 IsDecimal (b ∷ bs) = IsTrue (is_digit b) × AllIn class.Decimal bs
@@ -61,7 +61,7 @@ pub record IsBased (bytes size written : List ℕ) (base : Base) : Type 0 where
 abbrev pub IsNumber : List ℕ → Type 0
 IsNumber bytes = IsDecimal bytes ⊎ ((size written : List ℕ) × (base : Base) × IsBased bytes size written base)
 
--- a quote, bytes other than a quote and a line feed, and a quote
+-- a quote, bytes other than a quote and a line feed, and a quote (clause 3.6)
 abbrev pub IsQuoted : List ℕ → List ℕ → Type 0
 IsQuoted bytes inside = (bytes ≡ 34 ∷ inside ++ 34 ∷ []) × AllIn class.Text inside
 
@@ -77,7 +77,7 @@ pub record IsLongest (form : Form) (bytes behind : List ℕ) : Type 0 where
   pub has : HasForm form bytes
   pub most : (other : Form) (more rest : List ℕ) → behind ≡ more ++ rest → HasForm other (bytes ++ more) → more ≡ []
 
--- ---- numbers
+-- ---- numbers (clause 3.5.1)
 
 -- how many digits stand there, _ apart
 unfoldable pub digit_count : List ℕ → ℕ
@@ -144,7 +144,7 @@ NumberOf bytes ds =
 
 -- ---- tokens
 
--- A name is a word that isn't reserved.
+-- A name is a word that isn't reserved (clause 3.7.2).
 abbrev pub IsName : List ℕ → Type 0
 IsName bytes = IsWord bytes × (keyword_of bytes ≡ None) × (reserved_of bytes ≡ None)
 

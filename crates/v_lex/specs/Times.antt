@@ -1,4 +1,4 @@
--- The units of time of a directive, and how many of one it may ask for.
+-- The units of time of a directive, and how many of one it may ask for (IEEE 1364-2005, clause 19.8).
 use Rattle.std.specs.Prelude.{ℕ, List, Option, Some, None, if◌then◌else◌}
 use Rattle.std.specs.Str.{bytes_eq}
 use lib.Chars.{codes}

@@ -1,4 +1,4 @@
--- What holds of turns.
+-- A means of proof: what holds of turns, for the proofs of elaboration.
 use Rattle.std.specs.Prelude.{◌≡◌, ℕ, List, length, All, Some}
 use Rattle.four_value.specs.declared.Digit.{Digit}
 use Rattle.v_scope.specs.declared.meaning.DataObject.{DataObject}

@@ -1,4 +1,5 @@
--- How far a design may be unrolled: a limit of its own, since the standard has none for loops (IEEE 1364-2005, clause 9.6).
+-- A means of proof: how far a design may be unrolled, for the proofs of elaboration: a limit of its own, since the standard has none for
+-- loops (IEEE 1364-2005, clause 9.6).
 use Rattle.std.specs.Prelude.{◌≡◌, ◌≤◌, ◌<◌, ◌+◌, ℕ, List, [], ◌∷◌, Result, Ok, Err}
 use Rattle.port_io.specs.declared.ports.NoMemory.{NoMemory}
 use Rattle.v_syntax.specs.ExpressionTrees.{Tree, Number, Named, Bracketed, Unary, Binary, Conditional, Concatenation, Replication, SelectsTree, Whole, One, OfWord, SelectTree, Bit, Part, IndexedPart, Trees, none, more, TargetTree, NamedTarget, JoinedTarget, TargetTrees, no_target, more_targets}

@@ -1,4 +1,5 @@
--- Scopes in which each vector has 1 to 128 digits, each memory at most 65,536 words, and each constant as many digits as its range.
+-- A means of proof: scopes in which each vector has 1 to 128 digits, each memory at most 65,536 words, and each constant as many digits as
+-- its range, for the proofs of elaboration.
 use Rattle.std.specs.Prelude.{◌≡◌, ℕ, ◌≤◌, List, length, Option, None, Some}
 use Rattle.gpi.specs.Terms.{IsWidth}
 use Rattle.v_scope.specs.declared.meaning.Bounds.{Bounds}

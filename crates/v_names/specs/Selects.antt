@@ -1,4 +1,5 @@
--- What it means that the selects behind a name were checked (IEEE 1364-2005, clause 5.2), and what is found in the whole.
+-- A means of proof: what it means that the selects behind a name were checked (IEEE 1364-2005, clause 5.2), and what is found in the whole,
+-- for the proofs of elaboration.
 use Rattle.std.specs.Prelude.{◌≡◌, ℕ, List, Bool, true, false}
 use Rattle.four_value.specs.declared.Digit.{Digit}
 use Rattle.four_value.specs.Vector.{number}

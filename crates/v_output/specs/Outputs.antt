@@ -1,4 +1,5 @@
--- What it means that the target was checked to which an output is connected (IEEE 1364-2005, clauses 6.1 and 12.3.9.2).
+-- A means of proof: what it means that the target was checked to which an output is connected (IEEE 1364-2005, clauses 6.1 and 12.3.9.2),
+-- for the proofs of elaboration.
 use Rattle.std.specs.Prelude.{ℕ, Option, None, Some}
 use Rattle.v_syntax.specs.ExpressionTrees.{TargetTree}
 use Rattle.v_scope.specs.declared.found.Found.{Found}

@@ -1,4 +1,5 @@
--- The parameters of an instance with their values, as the code has them, and what names mean where they alone are known.
+-- A means of proof: the parameters of an instance with their values, as the code has them, and what names mean where they alone are known,
+-- for the proofs of elaboration.
 use Rattle.std.specs.Prelude.{◌≡◌, ℕ, List, map, false, not, Result, Ok, Err}
 use Rattle.v_scope.specs.declared.rule.Broken.{Broken}
 use Rattle.v_scope.specs.declared.meaning.Meaning.{Meaning}

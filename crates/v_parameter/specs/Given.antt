@@ -1,4 +1,4 @@
--- The values that an instance gives to parameters, as the code keeps them: by their names.
+-- A means of proof: the values that an instance gives to parameters, by their names as the code keeps them, for the proofs of elaboration.
 use Rattle.std.specs.Prelude.{◌≡◌, ℕ, List, [], ◌∷◌, Option, None, Some, bytes_eq, if◌then◌else◌}
 use Rattle.four_value.specs.declared.Digit.{Digit}
 use Rattle.v_flat.specs.Declarations.{Given}

@@ -1,4 +1,4 @@
--- What the values of parameters are, as the code has them.
+-- A means of proof: what the values of parameters are, as the code has them, for the proofs of elaboration.
 use Rattle.v_scope.specs.declared.meaning.Meaning.{Meaning}
 use Rattle.v_scope.specs.declared.meaning.Meaning.TheVariants as meant
 use Rattle.v_parameter.specs.declared.constants.Value.{Value}

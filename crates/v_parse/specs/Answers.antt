@@ -1,4 +1,4 @@
--- What a fault says of a text.
+-- A means of proof: what a fault says of a text, for the proofs of Verilog's parser.
 use Rattle.std.specs.Prelude.{◌≡◌, ℕ, ◌-◌, List, length, Result, Ok, Err}
 use Rattle.v_syntax.specs.declared.token.Token.{Token}
 use Rattle.v_syntax.specs.declared.source.Module.{Module}

@@ -1,4 +1,4 @@
--- With which tokens the parts of a module begin.
+-- A means of proof: with which tokens the parts of a module begin, for the proofs of Verilog's parser.
 use Rattle.std.specs.Prelude.{Bool, true, false, List}
 use Rattle.v_syntax.specs.declared.token.Token.{Token}
 use Rattle.v_syntax.specs.declared.token.Token.TheVariants as token

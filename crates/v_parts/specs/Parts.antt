@@ -1,4 +1,5 @@
--- What it means that the parts of braces were checked (IEEE 1364-2005, clause 5.1.14), and what is found in the whole.
+-- A means of proof: what it means that the parts of braces were checked (IEEE 1364-2005, clause 5.1.14), and what is found in the whole,
+-- for the proofs of elaboration.
 use Rattle.std.specs.Prelude.{◌≡◌, ℕ, List}
 use Rattle.four_value.specs.declared.Digit.{Digit}
 use Rattle.v_syntax.specs.ExpressionTrees.{Tree, Concatenation, Replication, Trees, none, more}

@@ -1,4 +1,4 @@
--- What token stands first, as far as the grammar looks at it, and sets of such kinds.
+-- A means of proof: what token stands first, as far as the grammar looks at it, and sets of such kinds, for the proofs of Verilog's parser.
 use Rattle.std.specs.Prelude.{◌≡◌, Bool, true, false, not, ◌&&◌, ◌||◌, List, [], ◌∷◌}
 use Rattle.std.specs.List.{list_all}
 use Rattle.v_syntax.specs.declared.token.Token.{Token}

@@ -1,5 +1,5 @@
--- Why a text is not read. `begins n rest` says that a partial tree of height at most n spells the text up to the tokens
--- in rest.
+-- A means of proof: why a text is not read, for the proofs of Verilog's parser. `begins n rest` says that a partial tree of height at most
+-- n spells the text up to the tokens in rest.
 use Rattle.std.specs.Prelude.{◌≡◌, ℕ, ◌≤◌, ◌<◌, List, length, Result, Ok, Err}
 use Rattle.v_syntax.specs.declared.token.Token.{Token}
 use Rattle.v_phrase.specs.declared.read_error.ReadError.{ReadError}

@@ -1,4 +1,5 @@
--- What it means that a process which was found is the one that an item of the definition adds to its state.
+-- A means of proof: what it means that a process which was found is the one that an item of the definition adds to its state, for the
+-- proofs of elaboration.
 use Rattle.std.specs.Prelude.{◌≡◌, List}
 use Rattle.gpi.specs.declared.design.Process.{Process}
 use Rattle.gpi.specs.Design.{proc_of}

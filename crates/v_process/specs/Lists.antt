@@ -1,4 +1,5 @@
--- What it means that the statements of a block and the items of a case statement were checked, whole (IEEE 1364-2005, clauses 9.5 and 9.8.1).
+-- A means of proof: what it means that the statements of a block and the items of a case statement were checked, whole (IEEE 1364-2005,
+-- clauses 9.5 and 9.8.1), for the proofs of elaboration.
 use Rattle.std.specs.Prelude.{List, map}
 use Rattle.v_syntax.specs.declared.statement.Statement as code
 use Rattle.v_syntax.specs.declared.statement.CaseItem as code_item

@@ -1,4 +1,5 @@
--- What it means that a connected port has its process (IEEE 1364-2005, clause 12.3.9.2): its assignment, as the definition makes it.
+-- A means of proof: what it means that a connected port has its process (IEEE 1364-2005, clause 12.3.9.2), for the proofs of elaboration:
+-- its assignment, as the definition makes it.
 use Rattle.std.specs.Prelude.{List, [], ◌∷◌, None}
 use Rattle.gpi.specs.declared.design.Kind.TheVariants.{Assign}
 use Rattle.gpi.specs.declared.design.Wake.{Wake}

@@ -1,5 +1,5 @@
--- What it means that a process was found (IEEE 1364-2005, clauses 6.1, 6.2.1 and 9.9): the first broken rule, and what the simulator sees
--- of it.
+-- A means of proof: what it means that a process was found (IEEE 1364-2005, clauses 6.1, 6.2.1 and 9.9), for the proofs of elaboration: the
+-- first broken rule, and what the simulator sees of it.
 use Rattle.std.specs.Prelude.{◌≡◌, ℕ, List, None}
 use Rattle.gpi.specs.declared.design.Kind.{Kind}
 use Rattle.gpi.specs.declared.design.Kind.TheVariants.{Assign, Always}

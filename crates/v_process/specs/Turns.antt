@@ -1,4 +1,5 @@
--- What it means that the turns of a loop were checked, each in its own scope (IEEE 1364-2005, clause 9.6).
+-- A means of proof: what it means that the turns of a loop were checked, each in its own scope (IEEE 1364-2005, clause 9.6), for the proofs
+-- of elaboration.
 use Rattle.std.specs.Prelude.{◌≡◌, ℕ, List, [], None}
 use Rattle.four_value.specs.declared.Digit.{Digit}
 use Rattle.gpi.specs.declared.acts.Act.{Act}

@@ -1,4 +1,4 @@
--- Vectors of at most 128 digits, whatever is broken beside them.
+-- A means of proof: vectors of at most 128 digits, whatever is broken beside them, for the proofs of elaboration.
 use Rattle.std.specs.Prelude.{ℕ, nat_le}
 use Rattle.gpi.specs.Terms.{IsWidth}
 use Rattle.v_scope.specs.declared.rule.ElabRule.TheVariants as rule

@@ -1,4 +1,5 @@
--- The signals that the code tells, as the definition has them, and what a list of them holds to which more are added.
+-- A means of proof: the signals that the code tells, as the definition has them, and what a list of them holds to which more are added, for
+-- the proofs of elaboration.
 use Rattle.std.specs.Prelude.{◌≡◌, List, ◌++◌, length, map, take, Result, OnOk}
 use Rattle.port_io.specs.declared.ports.NoMemory.{NoMemory}
 use Rattle.v_flat.specs.Statements.{Span}

@@ -1,4 +1,4 @@
--- Operators: which marks are which, and how tightly each binds.
+-- Operators: which marks are which, and how tightly each binds (IEEE 1364-2005, clause 5.1.2).
 use Rattle.std.specs.Prelude.{ℕ, Option, Some, None}
 use Rattle.v_syntax.specs.declared.mark.Mark.{Mark}
 use Rattle.v_syntax.specs.declared.mark.Mark.TheVariants as mark

@@ -1,5 +1,5 @@
--- The grammar of expressions and targets: which tokens a tree spells. Texts are lists of tokens; `here` and `rest` are
--- what is left of a text of `end` tokens before and behind the tree.
+-- The grammar of expressions and targets (IEEE 1364-2005, annex A.8): which tokens a tree spells. Texts are lists of tokens; `here` and
+-- `rest` are what is left of a text of `end` tokens before and behind the tree.
 use Rattle.std.specs.Prelude.{◌≡◌, ℕ, ◌-◌, ◌≤◌, ◌<◌, List, ◌∷◌, length, Some}
 use Rattle.v_syntax.specs.declared.token.Token.{Token}
 use Rattle.v_syntax.specs.declared.token.Token.TheVariants as token
@@ -26,7 +26,7 @@ IsUnary op here rest = (m : Mark) × IsMark m here rest × (unary_operator m ≡
 abbrev pub IsBinary : BinaryOperator → List Token → List Token → Type 0
 IsBinary op here rest = (m : Mark) × IsMark m here rest × (binary_operator m ≡ Some op)
 
--- Each operand binds as tightly as its place asks: binary operators group to the left, a conditional to the right.
+-- Each operand binds as tightly as its place asks: binary operators group to the left, a conditional to the right (clause 5.1.2).
 unfoldable mutual
   pub Spans : ℕ → Tree → List Token → List Token → Type 0
   Spans end (Number at ds) here rest = (at ≡ place end here) × (here ≡ token.Number ds ∷ rest)

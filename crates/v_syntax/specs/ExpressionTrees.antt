@@ -1,4 +1,4 @@
--- Expressions and targets as trees, without where they lie in memory. The names are those of the code's types.
+-- Expressions and targets as trees, without where they lie in memory (IEEE 1364-2005, annex A.8). The names are those of the code's types.
 use Rattle.std.specs.Prelude.{ℕ, ◌+◌, max, List, [], ◌∷◌}
 use Rattle.four_value.specs.declared.Digit.{Digit}
 use Rattle.v_syntax.specs.declared.expression.UnaryOperator.{UnaryOperator}

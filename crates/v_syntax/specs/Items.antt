@@ -16,7 +16,7 @@ use Rattle.v_syntax.specs.SourceTrees.{RangeTree, Bounds, PortHeadTree, Head, Ne
 use Rattle.v_syntax.specs.Phrases.{Phrase, nothing, token_of, place_in, ◌⊛◌, ◌◃◌, ◌▹◌, maybe, separated, one_of, either}
 use Rattle.v_syntax.specs.Statements.{sign, word_of, listed, identifier, expression, target, statement}
 
--- [ expression : expression ]
+-- [ expression : expression ] (annex A.2.5)
 abbrev pub range : ℕ → ℕ → Phrase Token RangeTree
 range end n = nothing Bounds ⊛ place_in end ◃ sign mark.OpenBracket ⊛ expression end n ◃ sign mark.Colon ⊛ expression end n ◃ sign mark.CloseBracket
 
@@ -24,7 +24,7 @@ range end n = nothing Bounds ⊛ place_in end ◃ sign mark.OpenBracket ⊛ expr
 abbrev pub value : ℕ → ℕ → Phrase Token Tree
 value end n = sign mark.Assign ▹ expression end n
 
--- input or output, [wire or reg], [range]
+-- input or output, [wire or reg], [range] (annex A.2.1.2)
 abbrev pub port_head : ℕ → ℕ → Phrase Token PortHeadTree
 port_head end n = nothing Head ⊛ token_of direction_of ⊛ maybe (token_of port_kind) ⊛ maybe (range end n)
 
@@ -72,7 +72,7 @@ event end = nothing event_of ⊛ maybe (token_of edge_of) ⊛ identifier end
 abbrev pub bracketed_events : ℕ → Phrase Token ControlTree
 bracketed_events end = either (nothing Events ⊛ separated (token_of event_separator) (event end) ◃ sign mark.CloseParenthesis) (nothing Implicit ◃ sign mark.Star ◃ sign mark.CloseParenthesis)
 
--- * or ( * ) or ( event or event , event )
+-- * or ( * ) or ( event or event , event ) (annex A.6.5)
 abbrev pub events : ℕ → Phrase Token ControlTree
 events end = either (sign mark.OpenParenthesis ▹ bracketed_events end) (nothing Implicit ◃ sign mark.Star)
 
@@ -82,18 +82,18 @@ always_item end n = nothing Always ◃ word_of word.Always ◃ sign mark.At ⊛ 
 abbrev pub initial_item : ℕ → ℕ → Phrase Token KindTree
 initial_item end n = nothing Initial ◃ word_of word.Initial ⊛ statement end n WholeInitial
 
--- . name ( [expression] )
+-- . name ( [expression] ) (annex A.4.1)
 abbrev pub connection : ℕ → ℕ → Phrase Token ConnectionTree
 connection end n = nothing Connection ⊛ place_in end ◃ sign mark.Dot ⊛ identifier end ◃ sign mark.OpenParenthesis ⊛ maybe (expression end n) ◃ sign mark.CloseParenthesis
 
 abbrev pub connections : ℕ → ℕ → Phrase Token ConnectionsTree
 connections end n = either (nothing Ordered ⊛ listed (expression end n)) (nothing Named ⊛ listed (connection end n))
 
--- # ( connections )
+-- # ( connections ) (annex A.4.1)
 abbrev pub overrides : ℕ → ℕ → Phrase Token ConnectionsTree
 overrides end n = sign mark.Hash ▹ sign mark.OpenParenthesis ▹ connections end n ◃ sign mark.CloseParenthesis
 
--- name [# ( connections )] name ( [connections] ) ;
+-- name [# ( connections )] name ( [connections] ) ; (annex A.4.1)
 abbrev pub instance_item : ℕ → ℕ → Phrase Token KindTree
 instance_item end n =
     nothing Instance ⊛ identifier end ⊛ maybe (overrides end n) ⊛ identifier end

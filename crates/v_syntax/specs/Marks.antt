@@ -1,4 +1,4 @@
--- The operators and marks of the grammar: the longest that stands at a place is taken.
+-- The operators and marks of the grammar (IEEE 1364-2005, clause 3.4): the longest that stands at a place is taken.
 use Rattle.std.specs.Prelude.{◌≡◌, true, ℕ, List, [], ◌∷◌, Option, nat_eq}
 use Rattle.std.specs.List.{find, starts_with}
 use lib.Chars.{codes}

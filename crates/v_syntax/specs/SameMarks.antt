@@ -1,4 +1,4 @@
--- One mark, or another.
+-- A means of proof: one mark, or another, for the proofs of Verilog's parser.
 use Rattle.std.specs.Prelude.{ℕ, Bool, nat_eq}
 use Rattle.v_syntax.specs.declared.mark.Mark.{Mark}
 use Rattle.v_syntax.specs.declared.mark.Mark.TheVariants.{CaseEqual, CaseUnequal, ArithmeticShiftLeft, ArithmeticShiftRight, LessOrEqual, GreaterOrEqual, Equal, Unequal, LogicalAnd, LogicalOr, ShiftLeft, ShiftRight, Nand, Nor, TildeCaret, CaretTilde, PlusColon, Hash, OpenParenthesis, CloseParenthesis, Semicolon, Comma, Assign, OpenBracket, CloseBracket, Colon, At, Star, Dot, OpenBrace, CloseBrace, Question, Bar, Caret, Ampersand, Less, Greater, Plus, Minus, Slash, Percent, Exclamation, Tilde}

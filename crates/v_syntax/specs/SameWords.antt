@@ -1,4 +1,4 @@
--- One keyword, or another.
+-- A means of proof: one keyword, or another, for the proofs of Verilog's parser.
 use Rattle.std.specs.Prelude.{ℕ, Bool, nat_eq}
 use Rattle.v_syntax.specs.declared.word.Keyword.{Keyword}
 use Rattle.v_syntax.specs.declared.word.Keyword.TheVariants.{Always, Assign, Begin, Case, CaseX, CaseZ, Default, Else, End, EndCase, EndModule, For, If, Initial, Input, Integer, LocalParam, Module, NegEdge, Or, Output, Parameter, PosEdge, Reg, Wire}

@@ -1,4 +1,5 @@
--- Items, modules and texts as trees, without where they lie in memory. The names are those of the code's types.
+-- Items, modules and texts as trees, without where they lie in memory (IEEE 1364-2005, annexes A.1 to A.4). The names are those of the
+-- code's types.
 use Rattle.std.specs.Prelude.{ℕ, List, Option, map, option_map}
 use Rattle.v_syntax.specs.declared.statement.Identifier.{Identifier}
 use Rattle.v_syntax.specs.declared.item.Range.{Range}

@@ -24,7 +24,7 @@ first_parameter end n = nothing HeaderParameterOf ⊛ (nothing headed ⊛ parame
 abbrev pub next_parameter : ℕ → ℕ → Phrase Token HeaderParameterTree
 next_parameter end n = nothing HeaderParameterOf ⊛ maybe (parameter_head end n) ⊛ identifier end ⊛ value end n
 
--- # ( first {, next} )
+-- # ( first {, next} ) (annex A.1.3)
 abbrev pub header_parameters : ℕ → ℕ → Phrase Token (List HeaderParameterTree)
 header_parameters end n =
     sign mark.Hash ▹ sign mark.OpenParenthesis ▹ both ◌∷◌ (first_parameter end n) (many (sign mark.Comma ▹ next_parameter end n)) ◃ sign mark.CloseParenthesis
@@ -45,7 +45,7 @@ declared_ports end n = both ◌∷◌ (first_port end n) (many (sign mark.Comma 
 abbrev pub ports : ℕ → ℕ → Phrase Token HeaderPortsTree
 ports end n = either (nothing NamedPorts ⊛ listed (identifier end)) (nothing DeclaredPorts ⊛ declared_ports end n)
 
--- ( [ports] )
+-- ( [ports] ) (annex A.1.3)
 abbrev pub port_list : ℕ → ℕ → Phrase Token (Option HeaderPortsTree)
 port_list end n = sign mark.OpenParenthesis ▹ maybe (ports end n) ◃ sign mark.CloseParenthesis
 
@@ -60,12 +60,12 @@ all_ports _ = NamedPorts []
 abbrev pub module_tree : Identifier → Option (List HeaderParameterTree) → Option (Option HeaderPortsTree) → List ItemTree → ModuleTree
 module_tree name parameters ps items = ModuleOf name (all_parameters parameters) (all_ports ps) items
 
--- module name [# ( parameters )] [( [ports] )] ; {item} endmodule
+-- module name [# ( parameters )] [( [ports] )] ; {item} endmodule (annex A.1.2)
 abbrev pub module_definition : ℕ → ℕ → Phrase Token ModuleTree
 module_definition end n =
     nothing module_tree ◃ word_of word.Module ⊛ identifier end ⊛ maybe (header_parameters end n) ⊛ maybe (port_list end n) ◃ sign mark.Semicolon
     ⊛ many (item end n) ◃ word_of word.EndModule
 
--- {module}
+-- {module} (annex A.1.2)
 abbrev pub source : ℕ → ℕ → Phrase Token (List ModuleTree)
 source end n = many (module_definition end n)

@@ -1,4 +1,4 @@
--- Statements as trees, without where they lie in memory. The names are those of the code's types.
+-- Statements as trees, without where they lie in memory (IEEE 1364-2005, annex A.6). The names are those of the code's types.
 use Rattle.std.specs.Prelude.{ℕ, List, [], ◌∷◌, Option, map}
 use Rattle.four_value.specs.declared.Digit.{Digit}
 use Rattle.v_syntax.specs.declared.word.SystemTask.{SystemTask}

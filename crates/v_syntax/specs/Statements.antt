@@ -53,7 +53,7 @@ target end n = record {
   missing = 1 ≤ n;
 }
 
--- ---- an `else` belongs to the nearest `if`
+-- ---- an `else` belongs to the nearest `if` (clause 9.4)
 
 -- An `else` that follows belongs to no part of the statement.
 unfoldable pub IsClosed : StatementTree → Type 0
@@ -84,14 +84,14 @@ branches s = record {
 abbrev pub label : Phrase Token (List ℕ)
 label = sign mark.Colon ▹ token_of name_of
 
--- # number ;
+-- # number ; (annex A.6.5)
 abbrev pub delay : ℕ → Phrase Token StatementTree
 delay end = nothing Delay ◃ sign mark.Hash ⊛ place_in end ⊛ token_of number_of ◃ sign mark.Semicolon
 
 abbrev pub block_tree : Option (List ℕ) → List StatementTree → StatementTree
 block_tree l ss = Block l (statement_trees ss)
 
--- begin [: name] {statement} end
+-- begin [: name] {statement} end (annex A.6.3)
 abbrev pub block : Phrase Token StatementTree → Phrase Token StatementTree
 block s = nothing block_tree ◃ word_of word.Begin ⊛ maybe label ⊛ many s ◃ word_of word.End
 
@@ -114,7 +114,7 @@ delayed_block end n s = nothing delayed_tree ◃ word_of word.Begin ⊛ maybe la
 abbrev pub assignment_tree : TargetTree → AssignmentKind → Tree → StatementTree
 assignment_tree t k e = Assignment k t e
 
--- target = expression ; or target <= expression ;
+-- target = expression ; or target <= expression ; (annex A.6.2)
 abbrev pub assignment : ℕ → ℕ → Phrase Token StatementTree
 assignment end n = nothing assignment_tree ⊛ target end n ⊛ token_of assignment_kind ⊛ expression end n ◃ sign mark.Semicolon
 
@@ -122,15 +122,15 @@ abbrev pub if_tree : Tree → StatementTree × Option StatementTree → Statemen
 if_tree c (s, None) = If c s
 if_tree c (s, Some r) = IfElse c s r
 
--- if ( expression ) statement [else statement]
+-- if ( expression ) statement [else statement] (annex A.6.6)
 abbrev pub conditional : ℕ → ℕ → Phrase Token StatementTree → Phrase Token StatementTree
 conditional end n s = both if_tree (word_of word.If ▹ sign mark.OpenParenthesis ▹ expression end n ◃ sign mark.CloseParenthesis) (branches s)
 
--- expression , .. : statement
+-- expression , .. : statement (annex A.6.7)
 abbrev pub match_item : ℕ → ℕ → Phrase Token StatementTree → Phrase Token CaseTree
 match_item end n s = nothing Match ⊛ listed (expression end n) ◃ sign mark.Colon ⊛ s
 
--- default [:] statement
+-- default [:] statement (annex A.6.7)
 abbrev pub default_item : Phrase Token StatementTree → Phrase Token CaseTree
 default_item s = nothing Default ◃ word_of word.Default ◃ maybe (sign mark.Colon) ⊛ s
 
@@ -140,7 +140,7 @@ case_item end n s = either (match_item end n s) (default_item s)
 abbrev pub case_tree : CaseKind → Tree → List CaseTree → StatementTree
 case_tree k e cs = Case k e (case_trees cs)
 
--- case ( expression ) item {item} endcase
+-- case ( expression ) item {item} endcase (annex A.6.7)
 abbrev pub case_statement : ℕ → ℕ → Phrase Token StatementTree → Phrase Token StatementTree
 case_statement end n s = nothing case_tree ⊛ token_of case_kind ◃ sign mark.OpenParenthesis ⊛ expression end n ◃ sign mark.CloseParenthesis ⊛ some (case_item end n s) ◃ word_of word.EndCase
 
@@ -160,14 +160,14 @@ numbered at h = (at, h)
 abbrev pub for_tree : ℕ × HeaderTree → StatementTree → StatementTree
 for_tree (at, h) s = For at h s
 
--- for header statement
+-- for header statement (annex A.6.8)
 abbrev pub for_statement : ℕ → ℕ → Phrase Token StatementTree → Phrase Token StatementTree
 for_statement end n s = both for_tree (nothing numbered ⊛ place_in end ◃ word_of word.For ⊛ for_header end n) s
 
 abbrev pub argument : ℕ → ℕ → Phrase Token ArgumentTree
 argument end n = either (nothing Value ⊛ expression end n) (nothing Text ⊛ token_of text_of)
 
--- ( [argument , ..] )
+-- ( [argument , ..] ) (annex A.6.9)
 abbrev pub arguments : ℕ → ℕ → Phrase Token (Option (List ArgumentTree))
 arguments end n = sign mark.OpenParenthesis ▹ maybe (listed (argument end n)) ◃ sign mark.CloseParenthesis
 

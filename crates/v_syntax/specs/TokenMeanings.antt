@@ -1,4 +1,4 @@
--- What a token stands for where the grammar asks for one of a kind.
+-- What a token stands for where the grammar asks for one of a kind (IEEE 1364-2005, clauses 3.5 to 3.7).
 use Rattle.std.specs.Prelude.{ℕ, List, Option, Some, None}
 use Rattle.four_value.specs.declared.Digit.{Digit}
 use Rattle.v_syntax.specs.declared.token.Token.{Token}

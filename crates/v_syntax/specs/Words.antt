@@ -1,4 +1,4 @@
--- Names, reserved words and the names of system tasks.
+-- Names, reserved words and the names of system tasks (IEEE 1364-2005, clause 3.7 and annex B).
 use Rattle.std.specs.Prelude.{ℕ, List, [], ◌∷◌, Option}
 use Rattle.std.specs.List.{find}
 use Rattle.std.specs.Str.{bytes_eq}

@@ -1,4 +1,5 @@
--- The digits of a net that a target drives, whose indices are constants (IEEE 1364-2005, clause 6.1).
+-- A means of proof: the digits of a net that a target drives, whose indices are constants (IEEE 1364-2005, clause 6.1), for the proofs of
+-- elaboration.
 use Rattle.std.specs.Prelude.{◌≡◌, ℕ, ◌≤◌, [], Option, Some}
 use Rattle.four_value.specs.Limits.{most_digits}
 use Rattle.four_value.specs.Vector.{number}

@@ -1,5 +1,5 @@
--- What it means that the name in a target was found (IEEE 1364-2005, clauses 6.1 and 9.2): the first broken rule, its width, and the
--- updates that it gets.
+-- A means of proof: what it means that the name in a target was found (IEEE 1364-2005, clauses 6.1 and 9.2), for the proofs of elaboration:
+-- the first broken rule, its width, and the updates that it gets.
 use Rattle.std.specs.Prelude.{◌≡◌, ℕ, ◌+◌, max, List, [], length, Option}
 use Rattle.four_value.specs.declared.Digit.{Digit}
 use Rattle.gpi.specs.declared.targets.Target.{Target}

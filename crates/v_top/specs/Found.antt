@@ -1,4 +1,4 @@
--- The modules that the code refers to, as trees.
+-- A means of proof: the modules that the code refers to, as trees, for the proofs of elaboration.
 use Rattle.std.specs.Prelude.{List, Option, map, option_map}
 use Rattle.std.specs.Borrow.{Bor}
 use Rattle.v_syntax.specs.declared.source.Module.{Module}

@@ -1,4 +1,5 @@
--- What tables of names say of the modules of a text (IEEE 1364-2005, clauses 4.11 and 12.1).
+-- A means of proof: what tables of names say of the modules of a text (IEEE 1364-2005, clauses 4.11 and 12.1), for the proofs of
+-- elaboration.
 use Rattle.std.specs.Prelude.{◌≡◌, ◌||◌, ℕ, suc, List, [], ◌∷◌, Option, None, Some, option_map, is_some, Result, Ok, Err, bytes_eq, if◌then◌else◌}
 use Rattle.std.specs.List.{list_any}
 use Rattle.test_names.specs.Places.{first_place}

@@ -1,4 +1,5 @@
--- What a process waits for that reads some signals (IEEE 1364-2005, clauses 6.1.2 and 9.7.5).
+-- A means of proof: what a process waits for that reads some signals (IEEE 1364-2005, clauses 6.1.2 and 9.7.5), for the proofs of
+-- elaboration.
 use Rattle.std.specs.Prelude.{◌≡◌, ℕ, List, length}
 use Rattle.std.specs.List.{filter, range_with_len}
 use Rattle.gpi.specs.declared.design.Wake.{Wake}

@@ -1,4 +1,4 @@
--- The trees that a task may wait for.
+-- A means of proof: the trees that a task may wait for, for the proofs of the keepers of waiting tasks.
 use Rattle.std.specs.Prelude.{◌≡◌, ℕ, false}
 use Rattle.py_value.specs.Trigger.{Trig}
 use Rattle.await_tree.specs.Begin.{Facts, begin}
