@@ -3,7 +3,20 @@
 ghost use Rattle.std.specs.Prelude.{◌≡◌, map, option_map, IfOk};
 ghost use Rattle.std.specs.Fmt.{signed_decimal};
 ghost use Rattle.test_body.specs.Views.{view_case, view_file, view_function, view_limit};
-ghost use Rattle.check_tests.specs.Files.{cases_text, constant_text, fail_mark, file_text, front_text, functions_text, kind_text, last_text, options_text, skip_mark, time_text, truth_text};
+ghost use Rattle.check_tests.specs.Files.{
+  cases_text,
+  constant_text,
+  fail_mark,
+  file_text,
+  front_text,
+  functions_text,
+  kind_text,
+  last_text,
+  options_text,
+  skip_mark,
+  time_text,
+  truth_text,
+};
 
 use crate::pieces::{Shown, all_texts, joined, texts};
 use port_io::{Name, Sequence};

@@ -58,7 +58,8 @@ pub fn decide<S: Store>(
     top: Option<&str>,
     store: &mut S,
 ) -> Result<Decision, NoMemory>
-    ensures reads { IfOk result (λ decision. ReadsBoth (store_means S.Store) (option_copied top.entry) design.now tests.now store.old (reading_of decision) store.new) }
+    ensures reads { IfOk result
+        (λ decision. ReadsBoth (store_means S.Store) (option_copied top.entry) design.now tests.now store.old (reading_of decision) store.new) }
     ensures can_run { IfOk result (λ decision. CanRun decision) }
 {
     match store.read_file(alloc, design, MOST) {

@@ -59,7 +59,8 @@ pub(crate) fn design_refused(
     design: &str,
     refusal: DesignRefusal,
 ) -> Result<Decision, NoMemory>
-    ensures { IfOk result (λ decision. reading_of decision ≡ refused Status.DesignRefused (refused_line design.now (design_words.refusal_word refusal))) }
+    ensures { IfOk result
+        (λ decision. reading_of decision ≡ refused Status.DesignRefused (refused_line design.now (design_words.refusal_word refusal))) }
 {
     let reason = refusal.text(alloc)?;
     let line = refused_text(alloc, design, &reason)?;
@@ -72,7 +73,8 @@ pub(crate) fn tests_refused(
     tests: &str,
     refusal: TestsRefusal,
 ) -> Result<Decision, NoMemory>
-    ensures { IfOk result (λ decision. reading_of decision ≡ refused Status.TestsRefused (refused_line tests.now (tests_words.refusal_word refusal))) }
+    ensures { IfOk result
+        (λ decision. reading_of decision ≡ refused Status.TestsRefused (refused_line tests.now (tests_words.refusal_word refusal))) }
 {
     let reason = refusal.text(alloc)?;
     let line = refused_text(alloc, tests, &reason)?;

@@ -44,7 +44,8 @@ fn run_words<R: Files + Print + AllocGlobal, K: Gpi, L: Ledger>(
 }
 
 /// Runs the command with the process's own words, on files of the current folder and standard output, over a simulator. It gives the
-/// status that the process is to end with: that of `cocorun`, or 7 where the words could not be had. The simulator is as `cocorun` leaves it with that status.
+/// status that the process is to end with: that of `cocorun`, or 7 where the words could not be had. The simulator is as `cocorun` leaves it with
+/// that status.
 pub fn run_process<R: Env + Files + Print + AllocGlobal, K: Gpi>(rt: &R, kernel: &mut K) -> ExitCode
     ensures { EndsProcess K.is_loaded result kernel.old kernel.new }
 {

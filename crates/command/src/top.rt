@@ -99,7 +99,8 @@ fn run_shown<O: Sink, K: Gpi, L: Ledger>(
 ) -> Result<Status, NoMemory>
     requires flat { IsSoundFlat flat.now }
     requires file { is_sound (view_file file.now) ≡ true }
-    ensures runs { RunsShown options.shown (sink_means O.Sink) options flat.now (view_file file.now) (status_in result) (K.content kernel.new) out.old out.new }
+    ensures runs { RunsShown options.shown (sink_means O.Sink) options flat.now
+        (view_file file.now) (status_in result) (K.content kernel.new) out.old out.new }
     ensures loaded { OnOk result (K.is_loaded kernel.new) }
 {
     match options.shown {
@@ -170,7 +171,9 @@ pub fn cocorun<S: Store, O: Sink, K: Gpi, L: Ledger>(
     kernel: &mut K,
     steps: &mut Steps<L>,
 ) -> Status
-    ensures answer { Answered (store_means S.Store) (sink_means O.Sink) (map string_bytes words.now) result store.old store.new (K.content kernel.new) out.old out.new ⊎ Quit result out.old out.new }
+    ensures answer { Answered (store_means S.Store) (sink_means O.Sink) (map string_bytes words.now) result
+        store.old store.new (K.content kernel.new) out.old out.new
+        ⊎ Quit result out.old out.new }
     ensures kernel { LeavesKernel K.is_loaded result kernel.old kernel.new }
     ensures read_fault { RaisedAt Status.ReadFault (S.faults store.old) (S.faults store.new) result }
     ensures write_fault { RaisedAt Status.WriteFault (O.faults out.old) (O.faults out.new) result }

@@ -12,7 +12,8 @@ ghost use Rattle.wait_list.specs.declared.ready.Entry.{Entry};
 
 /// Whatever the task wants that has its turn: after it each task that has its turn, is ready or waits is live, and stands in one place alone.
 pub fn effect_keeps_places()
-    ensures { (setup : Setup) (task : TaskNo) (turned : Turned) (c : Rig) → c.running ≡ None → StandsIn (Some task) c → StandsOwn (effect setup task turned c).rig }
+    ensures { (setup : Setup) (task : TaskNo) (turned : Turned) (c : Rig) → c.running ≡ None
+        → StandsIn (Some task) c → StandsOwn (effect setup task turned c).rig }
 {}
 
 /// So it is after an event, with all that it fires.

@@ -3,7 +3,20 @@ ghost use Rattle.std.specs.Prelude.{◌≡◌, length, map, IfOk, OnOk};
 ghost use Rattle.std.specs.List.{flat_map, slice_split};
 ghost use Rattle.gpi.specs.Soundness.{IsSoundFlat};
 ghost use Rattle.table_rows.specs.Rows.{is_byte};
-ghost use Rattle.elaboration_tests.specs.Runs.{Chain, Deposits, Settles, ShowsDesign, ShowsRun, Steps, path_text, shown_by, standing_text, steps_of, value_text, words_of};
+ghost use Rattle.elaboration_tests.specs.Runs.{
+  Chain,
+  Deposits,
+  Settles,
+  ShowsDesign,
+  ShowsRun,
+  Steps,
+  path_text,
+  shown_by,
+  standing_text,
+  steps_of,
+  value_text,
+  words_of,
+};
 
 use crate::digits::{letters, vector};
 use gpi::{Advance, Flat, Gpi, Region, SigId, Signal};
@@ -150,7 +163,8 @@ fn steps_text<K: Gpi>(
 ) -> Result<Vec<u8>, NoMemory>
     requires loaded { K.is_loaded kernel.old }
     requires signals { length (K.content kernel.old).state.signals ≡ signals }
-    ensures { IfOk result (λ text. Chain Steps (shown_by paths.items (K.content kernel.old)) (steps_of stimulus.now) (shown_by text.items (K.content kernel.new))) }
+    ensures { IfOk result
+        (λ text. Chain Steps (shown_by paths.items (K.content kernel.old)) (steps_of stimulus.now) (shown_by text.items (K.content kernel.new))) }
 {
     let mut text = paths;
     let steps = pieces(alloc, stimulus, b'|')?;

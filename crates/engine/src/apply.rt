@@ -25,8 +25,8 @@ impl<M: FlowMaker + Drop, W: Awaits> RunningTest<M, W> {
     ghost use Rattle.engine.specs.TestFits.{FitsAt, FitsNext, Kept};
     ghost use Rattle.engine.specs.Parts.{means, rig_of};
 
-    /// What the task wants that has its turn is done, once the turn is taken from it. What tasks see must know what it wants. The task goes on and is given
-    /// something, or its turn ends. After a failed put and after `NoMemory` only `clear` is called.
+    /// What the task wants that has its turn is done, once the turn is taken from it. What tasks see must know what it wants. The task goes on and
+    /// is given something, or its turn ends. After a failed put and after `NoMemory` only `clear` is called.
     pub fn apply<O: Sink, K: Gpi, L: Ledger>(
         &mut self,
         alloc: Global,
@@ -38,13 +38,20 @@ impl<M: FlowMaker + Drop, W: Awaits> RunningTest<M, W> {
         steps: &mut Steps<L>,
     ) -> Result<Next, NoMemory>
         requires loaded { K.is_loaded kernel.old }
-        requires fits { FitsAt (Some task) teller.now.flat.now (means M.functions M.Flow.functions M.Flow.meaning W.waiting W.held) self.old (K.content kernel.old) }
+        requires fits { FitsAt (Some task) teller.now.flat.now
+            (means M.functions M.Flow.functions M.Flow.meaning W.waiting W.held) self.old (K.content kernel.old) }
         requires time { (K.content kernel.old).state.time ≤ latest_time }
-        requires known { KnowsTurned (M.functions self.old.tasks.maker) (view_of (setup_of (M.functions self.old.tasks.maker) teller.now) (rig_of (means M.functions M.Flow.functions M.Flow.meaning W.waiting W.held) self.old (K.content kernel.old))) turned }
+        requires known { KnowsTurned (M.functions self.old.tasks.maker) (view_of (setup_of (M.functions self.old.tasks.maker) teller.now)
+            (rig_of (means M.functions M.Flow.functions M.Flow.meaning W.waiting W.held) self.old (K.content kernel.old))) turned }
         requires wanted { turned ≢ Turned.Spent }
-        ensures leads { IfOk result (λ next. LeadsTo (setup_of (M.functions self.old.tasks.maker) teller.now) task turned (rig_of (means M.functions M.Flow.functions M.Flow.meaning W.waiting W.held) self.old (K.content kernel.old)) next (rig_of (means M.functions M.Flow.functions M.Flow.meaning W.waiting W.held) self.new (K.content kernel.new))) }
-        ensures puts { PutsTo (sink_means O.Sink) out.old (effect (setup_of (M.functions self.old.tasks.maker) teller.now) task turned (rig_of (means M.functions M.Flow.functions M.Flow.meaning W.waiting W.held) self.old (K.content kernel.old))).lines (next_fault result) out.new }
-        ensures fits { IfOk result (λ next. FitsNext task next teller.now.flat.now (means M.functions M.Flow.functions M.Flow.meaning W.waiting W.held) self.new (K.content kernel.new)) }
+        ensures leads { IfOk result (λ next. LeadsTo (setup_of (M.functions self.old.tasks.maker) teller.now) task turned
+            (rig_of (means M.functions M.Flow.functions M.Flow.meaning W.waiting W.held) self.old (K.content kernel.old)) next
+            (rig_of (means M.functions M.Flow.functions M.Flow.meaning W.waiting W.held) self.new (K.content kernel.new))) }
+        ensures puts { PutsTo (sink_means O.Sink) out.old (effect (setup_of (M.functions self.old.tasks.maker) teller.now) task turned
+            (rig_of (means M.functions M.Flow.functions M.Flow.meaning W.waiting W.held) self.old (K.content kernel.old))).lines
+            (next_fault result) out.new }
+        ensures fits { IfOk result (λ next. FitsNext task next teller.now.flat.now
+            (means M.functions M.Flow.functions M.Flow.meaning W.waiting W.held) self.new (K.content kernel.new)) }
         ensures kept { Kept (means M.functions M.Flow.functions M.Flow.meaning W.waiting W.held) K.is_loaded K.content self.old self.new kernel.new }
     {
         match turned {

@@ -58,9 +58,12 @@ impl<'a, M: FlowMaker + Drop, W: Awaits> Engine<'a, M, W> {
         requires new { self.old.test.queue.deadline ≡ None }
         requires some { 1 ≤ after }
         ensures limited { OnOk result (rig_of (means M.functions M.Flow.functions M.Flow.meaning W.waiting W.held) self.new (K.content kernel.new)
-            ≡ counted [] (rig_of (means M.functions M.Flow.functions M.Flow.meaning W.waiting W.held) self.old (K.content kernel.old)) (with_deadline (Ok after) (rig_of (means M.functions M.Flow.functions M.Flow.meaning W.waiting W.held) self.old (K.content kernel.old)))) }
+            ≡ counted [] (rig_of (means M.functions M.Flow.functions M.Flow.meaning W.waiting W.held) self.old (K.content kernel.old))
+            (with_deadline (Ok after)
+            (rig_of (means M.functions M.Flow.functions M.Flow.meaning W.waiting W.held) self.old (K.content kernel.old)))) }
         ensures fits { OnOk result (FitsKernel (means M.functions M.Flow.functions M.Flow.meaning W.waiting W.held) self.new (K.content kernel.new)) }
-        ensures keeps { KeepsAll (means M.functions M.Flow.functions M.Flow.meaning W.waiting W.held) K.is_loaded K.content self.old self.new kernel.new }
+        ensures keeps { KeepsAll (means M.functions M.Flow.functions M.Flow.meaning W.waiting W.held)
+            K.is_loaded K.content self.old self.new kernel.new }
         ensures runs { self.new.runs_test ≡ self.old.runs_test }
     {
         match deadline_at(kernel.now(), after) {
@@ -81,11 +84,15 @@ impl<'a, M: FlowMaker + Drop, W: Awaits> Engine<'a, M, W> {
         requires fits { FitsKernel (means M.functions M.Flow.functions M.Flow.meaning W.waiting W.held) self.old (K.content kernel.old) }
         requires none { awaited (rig_of (means M.functions M.Flow.functions M.Flow.meaning W.waiting W.held) self.old (K.content kernel.old)) ≡ [] }
         requires new { self.old.test.queue.deadline ≡ None }
-        ensures limited { IfOk result (λ fault. faulted fault (rig_of (means M.functions M.Flow.functions M.Flow.meaning W.waiting W.held) self.new (K.content kernel.new))
+        ensures limited { IfOk result
+            (λ fault. faulted fault (rig_of (means M.functions M.Flow.functions M.Flow.meaning W.waiting W.held) self.new (K.content kernel.new))
             ≡ counted [] (rig_of (means M.functions M.Flow.functions M.Flow.meaning W.waiting W.held) self.old (K.content kernel.old))
-            (with_limit (setup_of (means M.functions M.Flow.functions M.Flow.meaning W.waiting W.held) self.old).flat.step_fs (Some (view_limit limit.now)) (rig_of (means M.functions M.Flow.functions M.Flow.meaning W.waiting W.held) self.old (K.content kernel.old)))) }
+            (with_limit (setup_of (means M.functions M.Flow.functions M.Flow.meaning W.waiting W.held) self.old).flat.step_fs
+            (Some (view_limit limit.now))
+            (rig_of (means M.functions M.Flow.functions M.Flow.meaning W.waiting W.held) self.old (K.content kernel.old)))) }
         ensures fits { OnOk result (FitsKernel (means M.functions M.Flow.functions M.Flow.meaning W.waiting W.held) self.new (K.content kernel.new)) }
-        ensures keeps { KeepsAll (means M.functions M.Flow.functions M.Flow.meaning W.waiting W.held) K.is_loaded K.content self.old self.new kernel.new }
+        ensures keeps { KeepsAll (means M.functions M.Flow.functions M.Flow.meaning W.waiting W.held)
+            K.is_loaded K.content self.old self.new kernel.new }
         ensures runs { self.new.runs_test ≡ self.old.runs_test }
     {
         match limit_steps(alloc, self.teller.flat.step_fs, limit) {
@@ -113,11 +120,15 @@ impl<'a, M: FlowMaker + Drop, W: Awaits> Engine<'a, M, W> {
             ≡ emptied (K.content kernel.old).state self.old.test.random (K.content kernel.old).counts }
         requires sound { is_sound_case (M.functions self.old.test.tasks.maker) (view_case case.now) ≡ true }
         requires known { (view : View) → KnowsNode view 0 → KnowsAll view values }
-        ensures begins { IfOk result (λ fault. faulted fault (rig_of (means M.functions M.Flow.functions M.Flow.meaning W.waiting W.held) self.new (K.content kernel.new))
-            ≡ counted [] (rig_of (means M.functions M.Flow.functions M.Flow.meaning W.waiting W.held) self.old (K.content kernel.old)) (with_limit (setup_of (means M.functions M.Flow.functions M.Flow.meaning W.waiting W.held) self.old).flat.step_fs (view_case case.now).time
-            (with_new_task (function_at (M.functions self.old.test.tasks.maker) case.now.func) values (rig_of (means M.functions M.Flow.functions M.Flow.meaning W.waiting W.held) self.old (K.content kernel.old))))) }
+        ensures begins { IfOk result
+            (λ fault. faulted fault (rig_of (means M.functions M.Flow.functions M.Flow.meaning W.waiting W.held) self.new (K.content kernel.new))
+            ≡ counted [] (rig_of (means M.functions M.Flow.functions M.Flow.meaning W.waiting W.held) self.old (K.content kernel.old))
+            (with_limit (setup_of (means M.functions M.Flow.functions M.Flow.meaning W.waiting W.held) self.old).flat.step_fs
+            (view_case case.now).time (with_new_task (function_at (M.functions self.old.test.tasks.maker) case.now.func) values
+            (rig_of (means M.functions M.Flow.functions M.Flow.meaning W.waiting W.held) self.old (K.content kernel.old))))) }
         ensures fits { OnOk result (FitsKernel (means M.functions M.Flow.functions M.Flow.meaning W.waiting W.held) self.new (K.content kernel.new)) }
-        ensures keeps { KeepsAll (means M.functions M.Flow.functions M.Flow.meaning W.waiting W.held) K.is_loaded K.content self.old self.new kernel.new }
+        ensures keeps { KeepsAll (means M.functions M.Flow.functions M.Flow.meaning W.waiting W.held)
+            K.is_loaded K.content self.old self.new kernel.new }
         ensures runs { self.new.runs_test ≡ self.old.runs_test }
     {
         self.test.begin(alloc, case.func, values)?;
@@ -140,10 +151,13 @@ impl<'a, M: FlowMaker + Drop, W: Awaits> Engine<'a, M, W> {
         requires empty { rig_of (means M.functions M.Flow.functions M.Flow.meaning W.waiting W.held) self.old (K.content kernel.old)
             ≡ emptied (K.content kernel.old).state self.old.test.random (K.content kernel.old).counts }
         requires sound { is_sound_case (M.functions self.old.test.tasks.maker) (view_case case.now) ≡ true }
-        ensures begins { IfOk result (λ fault. faulted fault (rig_of (means M.functions M.Flow.functions M.Flow.meaning W.waiting W.held) self.new (K.content kernel.new))
-            ≡ test_begun (setup_of (means M.functions M.Flow.functions M.Flow.meaning W.waiting W.held) self.old) (view_case case.now) (rig_of (means M.functions M.Flow.functions M.Flow.meaning W.waiting W.held) self.old (K.content kernel.old))) }
+        ensures begins { IfOk result
+            (λ fault. faulted fault (rig_of (means M.functions M.Flow.functions M.Flow.meaning W.waiting W.held) self.new (K.content kernel.new))
+            ≡ test_begun (setup_of (means M.functions M.Flow.functions M.Flow.meaning W.waiting W.held) self.old) (view_case case.now)
+            (rig_of (means M.functions M.Flow.functions M.Flow.meaning W.waiting W.held) self.old (K.content kernel.old))) }
         ensures fits { OnOk result (FitsKernel (means M.functions M.Flow.functions M.Flow.meaning W.waiting W.held) self.new (K.content kernel.new)) }
-        ensures keeps { KeepsAll (means M.functions M.Flow.functions M.Flow.meaning W.waiting W.held) K.is_loaded K.content self.old self.new kernel.new }
+        ensures keeps { KeepsAll (means M.functions M.Flow.functions M.Flow.meaning W.waiting W.held)
+            K.is_loaded K.content self.old self.new kernel.new }
         ensures runs { self.new.runs_test ≡ self.old.runs_test }
     {
         match task_arguments(alloc, &case.args) {
@@ -153,9 +167,9 @@ impl<'a, M: FlowMaker + Drop, W: Awaits> Engine<'a, M, W> {
         }
     }
 
-    /// Begins a test: its own task is ready, its deadline is set, and its line is put. Before, no test runs and no start is planned. `Went` where that was
-    /// done, `Over` where an argument has no value or the time of the test is refused, `WriteFault` where the put failed, and `NoMemory` where memory is
-    /// short: after all but `Went` only `end_test` is called.
+    /// Begins a test: its own task is ready, its deadline is set, and its line is put. Before, no test runs and no start is planned. `Went` where
+    /// that was done, `Over` where an argument has no value or the time of the test is refused, `WriteFault` where the put failed, and `NoMemory`
+    /// where memory is short: after all but `Went` only `end_test` is called.
     pub fn begin_test<O: Sink, K: Gpi, L: Ledger>(
         &mut self,
         alloc: Global,
@@ -169,11 +183,12 @@ impl<'a, M: FlowMaker + Drop, W: Awaits> Engine<'a, M, W> {
         requires empty { rig_of (means M.functions M.Flow.functions M.Flow.meaning W.waiting W.held) self.old (K.content kernel.old)
             ≡ emptied (K.content kernel.old).state self.old.test.random (K.content kernel.old).counts }
         requires sound { is_sound_case (M.functions self.old.test.tasks.maker) (view_case case.now) ≡ true }
-        ensures begins { BeginsTo (sink_means O.Sink) (setup_of (means M.functions M.Flow.functions M.Flow.meaning W.waiting W.held) self.old) (view_case case.now)
-            (rig_of (means M.functions M.Flow.functions M.Flow.meaning W.waiting W.held) self.old (K.content kernel.old)) result
+        ensures begins { BeginsTo (sink_means O.Sink) (setup_of (means M.functions M.Flow.functions M.Flow.meaning W.waiting W.held) self.old)
+            (view_case case.now) (rig_of (means M.functions M.Flow.functions M.Flow.meaning W.waiting W.held) self.old (K.content kernel.old)) result
             (rig_of (means M.functions M.Flow.functions M.Flow.meaning W.waiting W.held) self.new (K.content kernel.new)) out.old out.new }
         ensures fits { OnOk result (FitsKernel (means M.functions M.Flow.functions M.Flow.meaning W.waiting W.held) self.new (K.content kernel.new)) }
-        ensures keeps { KeepsAll (means M.functions M.Flow.functions M.Flow.meaning W.waiting W.held) K.is_loaded K.content self.old self.new kernel.new }
+        ensures keeps { KeepsAll (means M.functions M.Flow.functions M.Flow.meaning W.waiting W.held)
+            K.is_loaded K.content self.old self.new kernel.new }
         ensures runs { runs_test self.new ≡ has_gone result }
     {
         self.runs_test = false;

@@ -42,7 +42,8 @@ impl<M: FlowMaker + Drop, W: Awaits> RunningTest<M, W> {
         requires low { IsTrue (is_whole low) }
         requires high { IsTrue (is_whole (low +ℤ pos span -ℤ pos 1)) }
         ensures leads { (setup : Setup) → (task : TaskNo) → (content : Content)
-            → LeadsTo setup task (Draw low span) (rig_of (means M.functions M.Flow.functions M.Flow.meaning W.waiting W.held) self.old content) result (rig_of (means M.functions M.Flow.functions M.Flow.meaning W.waiting W.held) self.new content) }
+            → LeadsTo setup task (Draw low span) (rig_of (means M.functions M.Flow.functions M.Flow.meaning W.waiting W.held) self.old content)
+            result (rig_of (means M.functions M.Flow.functions M.Flow.meaning W.waiting W.held) self.new content) }
         ensures fine { next_fault (Ok result) ≡ None }
         ensures queue { self.new.queue ≡ self.old.queue }
         ensures tasks { self.new.tasks ≡ self.old.tasks }

@@ -35,8 +35,8 @@ impl<M: FlowMaker + Drop, W: Awaits> RunningTest<M, W> {
     ghost use Rattle.engine.specs.TestFits.{HasRoom, Kept, StaysFit};
     ghost use Rattle.engine.specs.Parts.{means, rig_of};
 
-    /// A task kills another (cocotb 1.8, `Task.kill`), which leaves the ready tasks and those that wait; those who join it are served. One that has ended
-    /// stays as it is, and a task that would kill itself is given a RuntimeError. It takes no memory.
+    /// A task kills another (cocotb 1.8, `Task.kill`), which leaves the ready tasks and those that wait; those who join it are served. One that has
+    /// ended stays as it is, and a task that would kill itself is given a RuntimeError. It takes no memory.
     pub(crate) fn kill<K: Gpi, L: Ledger>(
         &mut self,
         kernel: &mut K,
@@ -47,12 +47,16 @@ impl<M: FlowMaker + Drop, W: Awaits> RunningTest<M, W> {
         requires loaded { K.is_loaded kernel.old }
         requires keeps { Keeps W.waiting W.held self.old.queue (K.content kernel.old) }
         requires room { HasRoom (means M.functions M.Flow.functions M.Flow.meaning W.waiting W.held) self.old }
-        requires stands { StandsIn (Some task) (rig_of (means M.functions M.Flow.functions M.Flow.meaning W.waiting W.held) self.old (K.content kernel.old)) }
+        requires stands { StandsIn (Some task)
+            (rig_of (means M.functions M.Flow.functions M.Flow.meaning W.waiting W.held) self.old (K.content kernel.old)) }
         requires other { other.0 < length self.old.tasks.ended }
-        ensures leads { (setup : Setup) → LeadsTo setup task (Kill other) (rig_of (means M.functions M.Flow.functions M.Flow.meaning W.waiting W.held) self.old (K.content kernel.old)) result (rig_of (means M.functions M.Flow.functions M.Flow.meaning W.waiting W.held) self.new (K.content kernel.new)) }
+        ensures leads { (setup : Setup) → LeadsTo setup task (Kill other)
+            (rig_of (means M.functions M.Flow.functions M.Flow.meaning W.waiting W.held) self.old (K.content kernel.old)) result
+            (rig_of (means M.functions M.Flow.functions M.Flow.meaning W.waiting W.held) self.new (K.content kernel.new)) }
         ensures fine { next_fault (Ok result) ≡ None }
         ensures room { HasRoom (means M.functions M.Flow.functions M.Flow.meaning W.waiting W.held) self.new }
-        ensures fits { StaysFit (means M.functions M.Flow.functions M.Flow.meaning W.waiting W.held) self.old (K.content kernel.old) self.new (K.content kernel.new) }
+        ensures fits { StaysFit (means M.functions M.Flow.functions M.Flow.meaning W.waiting W.held) self.old
+            (K.content kernel.old) self.new (K.content kernel.new) }
         ensures kept { Kept (means M.functions M.Flow.functions M.Flow.meaning W.waiting W.held) K.is_loaded K.content self.old self.new kernel.new }
     {
         if other.0 == task.0 {
@@ -77,11 +81,15 @@ impl<M: FlowMaker + Drop, W: Awaits> RunningTest<M, W> {
         requires loaded { K.is_loaded kernel.old }
         requires keeps { Keeps W.waiting W.held self.old.queue (K.content kernel.old) }
         requires room { HasRoom (means M.functions M.Flow.functions M.Flow.meaning W.waiting W.held) self.old }
-        requires stands { StandsIn (Some task) (rig_of (means M.functions M.Flow.functions M.Flow.meaning W.waiting W.held) self.old (K.content kernel.old)) }
-        ensures leads { (setup : Setup) → LeadsTo setup task (Done value) (rig_of (means M.functions M.Flow.functions M.Flow.meaning W.waiting W.held) self.old (K.content kernel.old)) result (rig_of (means M.functions M.Flow.functions M.Flow.meaning W.waiting W.held) self.new (K.content kernel.new)) }
+        requires stands { StandsIn (Some task)
+            (rig_of (means M.functions M.Flow.functions M.Flow.meaning W.waiting W.held) self.old (K.content kernel.old)) }
+        ensures leads { (setup : Setup) → LeadsTo setup task (Done value)
+            (rig_of (means M.functions M.Flow.functions M.Flow.meaning W.waiting W.held) self.old (K.content kernel.old)) result
+            (rig_of (means M.functions M.Flow.functions M.Flow.meaning W.waiting W.held) self.new (K.content kernel.new)) }
         ensures fine { next_fault (Ok result) ≡ None }
         ensures room { HasRoom (means M.functions M.Flow.functions M.Flow.meaning W.waiting W.held) self.new }
-        ensures fits { StaysFit (means M.functions M.Flow.functions M.Flow.meaning W.waiting W.held) self.old (K.content kernel.old) self.new (K.content kernel.new) }
+        ensures fits { StaysFit (means M.functions M.Flow.functions M.Flow.meaning W.waiting W.held) self.old
+            (K.content kernel.old) self.new (K.content kernel.new) }
         ensures kept { Kept (means M.functions M.Flow.functions M.Flow.meaning W.waiting W.held) K.is_loaded K.content self.old self.new kernel.new }
     {
         self.tasks.end(task, Ending::Returned(value));
@@ -110,11 +118,15 @@ impl<M: FlowMaker + Drop, W: Awaits> RunningTest<M, W> {
         requires keeps { Keeps W.waiting W.held self.old.queue (K.content kernel.old) }
         requires still { AreStill (W.waiting self.old.queue.awaits) }
         requires room { HasRoom (means M.functions M.Flow.functions M.Flow.meaning W.waiting W.held) self.old }
-        requires stands { StandsIn (Some task) (rig_of (means M.functions M.Flow.functions M.Flow.meaning W.waiting W.held) self.old (K.content kernel.old)) }
-        ensures leads { IfOk result (λ next. (setup : Setup) → LeadsTo setup task (Raised fault) (rig_of (means M.functions M.Flow.functions M.Flow.meaning W.waiting W.held) self.old (K.content kernel.old)) next (rig_of (means M.functions M.Flow.functions M.Flow.meaning W.waiting W.held) self.new (K.content kernel.new))) }
+        requires stands { StandsIn (Some task)
+            (rig_of (means M.functions M.Flow.functions M.Flow.meaning W.waiting W.held) self.old (K.content kernel.old)) }
+        ensures leads { IfOk result (λ next. (setup : Setup) → LeadsTo setup task (Raised fault)
+            (rig_of (means M.functions M.Flow.functions M.Flow.meaning W.waiting W.held) self.old (K.content kernel.old)) next
+            (rig_of (means M.functions M.Flow.functions M.Flow.meaning W.waiting W.held) self.new (K.content kernel.new))) }
         ensures fine { IfOk result (λ next. next_fault (Ok next) ≡ None) }
         ensures room { OnOk result (HasRoom (means M.functions M.Flow.functions M.Flow.meaning W.waiting W.held) self.new) }
-        ensures fits { StaysFit (means M.functions M.Flow.functions M.Flow.meaning W.waiting W.held) self.old (K.content kernel.old) self.new (K.content kernel.new) }
+        ensures fits { StaysFit (means M.functions M.Flow.functions M.Flow.meaning W.waiting W.held) self.old
+            (K.content kernel.old) self.new (K.content kernel.new) }
         ensures kept { Kept (means M.functions M.Flow.functions M.Flow.meaning W.waiting W.held) K.is_loaded K.content self.old self.new kernel.new }
     {
         let own = copy_fault(alloc, &fault)?;

@@ -21,12 +21,12 @@ use std::sync::ledger::Ledger;
 use task_model::FlowMaker;
 use wait_list::{Awaits, Steps};
 
-/// Runs tests on a design, one at a time: the tasks of a test (cocotb 1.8, "Coroutines and Tasks"), and the events of a simulator of the design, which is
-/// handed to each call. As in the loop of IEEE 1364-2005, 11.4, the simulator goes on only where no task is ready.
+/// Runs tests on a design, one at a time: the tasks of a test (cocotb 1.8, "Coroutines and Tasks"), and the events of a simulator of the design,
+/// which is handed to each call. As in the loop of IEEE 1364-2005, 11.4, the simulator goes on only where no task is ready.
 ///
-/// An engine and its simulator fit where the two stand together for a configuration of the design (`FitsKernel`). A new engine and a simulator that has
-/// just loaded the design fit. Each call that finds them fitting leaves them so, unless it answers `WriteFault` or `NoMemory`; then the registered keys are
-/// still the awaited ones, and `end_test` asks no more.
+/// An engine and its simulator fit where the two stand together for a configuration of the design (`FitsKernel`). A new engine and a simulator that
+/// has just loaded the design fit. Each call that finds them fitting leaves them so, unless it answers `WriteFault` or `NoMemory`; then the
+/// registered keys are still the awaited ones, and `end_test` asks no more.
 #[derive(Drop)]
 pub struct Engine<'a, M: FlowMaker + Drop, W: Awaits> {
     pub(crate) teller: Teller<'a>,
@@ -40,8 +40,8 @@ impl<'a, M: FlowMaker + Drop, W: Awaits> Engine<'a, M, W> {
     ghost use Rattle.engine.specs.Engine.{counting, rig_of, runs_test, setup_of};
     ghost use Rattle.engine.specs.Fits.{FitsKernel, KeepsAll};
 
-    /// An engine for the design, in which no test runs and no start is planned. Its random numbers are those of the seed. With `trace` it writes a line for
-    /// each told change of a signal. No task may wait in `awaits`, and it may hold no key. Only want of memory is an error.
+    /// An engine for the design, in which no test runs and no start is planned. Its random numbers are those of the seed. With `trace` it writes a
+    /// line for each told change of a signal. No task may wait in `awaits`, and it may hold no key. Only want of memory is an error.
     pub fn new(
         alloc: Global,
         maker: M,
@@ -54,7 +54,8 @@ impl<'a, M: FlowMaker + Drop, W: Awaits> Engine<'a, M, W> {
         requires held { AreAlike (W.held awaits) [] }
         ensures setup { IfOk result (λ engine. setup_of (means M.functions M.Flow.functions M.Flow.meaning W.waiting W.held) engine
             ≡ record { functions = M.functions maker; flat = flat.now; trace = trace }) }
-        ensures empty { IfOk result (λ engine. (content : Content) → rig_of (means M.functions M.Flow.functions M.Flow.meaning W.waiting W.held) engine content
+        ensures empty { IfOk result
+            (λ engine. (content : Content) → rig_of (means M.functions M.Flow.functions M.Flow.meaning W.waiting W.held) engine content
             ≡ emptied content.state (seeded seed) content.counts) }
         ensures fits { IfOk result (λ engine. IsSoundFlat flat.now → AreSoundFunctions (M.functions maker)
             → FitsKernel (means M.functions M.Flow.functions M.Flow.meaning W.waiting W.held) engine (opening flat.now)) }
@@ -83,8 +84,8 @@ impl<'a, M: FlowMaker + Drop, W: Awaits> Engine<'a, M, W> {
         self.teller.flat
     }
 
-    /// Drops all of the test, whether it has an outcome or not, and a planned start. No key is registered any more. What else the simulator holds stays but
-    /// for the counts, which are those of the drop where engine and simulator fitted. It takes no memory.
+    /// Drops all of the test, whether it has an outcome or not, and a planned start. No key is registered any more. What else the simulator holds
+    /// stays but for the counts, which are those of the drop where engine and simulator fitted. It takes no memory.
     pub fn end_test<K: Gpi, L: Ledger>(&mut self, kernel: &mut K, steps: &mut Steps<L>)
         requires loaded { K.is_loaded kernel.old }
         requires keys { Keeps W.waiting W.held self.old.test.queue (K.content kernel.old) }
@@ -92,7 +93,8 @@ impl<'a, M: FlowMaker + Drop, W: Awaits> Engine<'a, M, W> {
             ≡ ended (rig_of (means M.functions M.Flow.functions M.Flow.meaning W.waiting W.held) self.old (K.content kernel.old)) }
         ensures fits { FitsKernel (means M.functions M.Flow.functions M.Flow.meaning W.waiting W.held) self.old (K.content kernel.old)
             → FitsKernel (means M.functions M.Flow.functions M.Flow.meaning W.waiting W.held) self.new (K.content kernel.new) }
-        ensures keeps { KeepsAll (means M.functions M.Flow.functions M.Flow.meaning W.waiting W.held) K.is_loaded K.content self.old self.new kernel.new }
+        ensures keeps { KeepsAll (means M.functions M.Flow.functions M.Flow.meaning W.waiting W.held)
+            K.is_loaded K.content self.old self.new kernel.new }
         ensures none { AreKeys (K.content kernel.new).keys [] }
         ensures runs { runs_test self.new ≡ false }
     {
@@ -100,8 +102,8 @@ impl<'a, M: FlowMaker + Drop, W: Awaits> Engine<'a, M, W> {
         self.test.clear(kernel, steps);
     }
 
-    /// The next test is to begin in the next time step. No test runs, no start is planned, and now is below 2^63. Only want of memory is an error, and then
-    /// all is as it was but for the counts.
+    /// The next test is to begin in the next time step. No test runs, no start is planned, and now is below 2^63. Only want of memory is an error,
+    /// and then all is as it was but for the counts.
     pub fn plan_start<K: Gpi, L: Ledger>(
         &mut self,
         kernel: &mut K,
@@ -114,9 +116,11 @@ impl<'a, M: FlowMaker + Drop, W: Awaits> Engine<'a, M, W> {
         ensures planned { OnOk result (rig_of (means M.functions M.Flow.functions M.Flow.meaning W.waiting W.held) self.new (K.content kernel.new)
             ≡ start_planned (rig_of (means M.functions M.Flow.functions M.Flow.meaning W.waiting W.held) self.old (K.content kernel.old))) }
         ensures kept { OnErr result (rig_of (means M.functions M.Flow.functions M.Flow.meaning W.waiting W.held) self.new (K.content kernel.new)
-            ≡ counting (K.content kernel.new).counts (rig_of (means M.functions M.Flow.functions M.Flow.meaning W.waiting W.held) self.old (K.content kernel.old))) }
+            ≡ counting (K.content kernel.new).counts
+            (rig_of (means M.functions M.Flow.functions M.Flow.meaning W.waiting W.held) self.old (K.content kernel.old))) }
         ensures fits { FitsKernel (means M.functions M.Flow.functions M.Flow.meaning W.waiting W.held) self.new (K.content kernel.new) }
-        ensures keeps { KeepsAll (means M.functions M.Flow.functions M.Flow.meaning W.waiting W.held) K.is_loaded K.content self.old self.new kernel.new }
+        ensures keeps { KeepsAll (means M.functions M.Flow.functions M.Flow.meaning W.waiting W.held)
+            K.is_loaded K.content self.old self.new kernel.new }
         ensures runs { runs_test self.new ≡ runs_test self.old }
     {
         let due = kernel.now() + 1;

@@ -59,13 +59,17 @@ impl<'a, M: FlowMaker + Drop, W: Awaits> Engine<'a, M, W> {
         requires loaded { K.is_loaded kernel.old }
         requires fits { FitsKernel (means M.functions M.Flow.functions M.Flow.meaning W.waiting W.held) self.old (K.content kernel.old) }
         requires none { self.old.test.queue.ready.entries ≡ [] }
-        ensures turning { Turning (sink_means O.Sink) (TurnSteps (setup_of (means M.functions M.Flow.functions M.Flow.meaning W.waiting W.held) self.old))
+        ensures turning { Turning (sink_means O.Sink)
+            (TurnSteps (setup_of (means M.functions M.Flow.functions M.Flow.meaning W.waiting W.held) self.old))
             (setup_of (means M.functions M.Flow.functions M.Flow.meaning W.waiting W.held) self.old) fuel.old
             (rig_of (means M.functions M.Flow.functions M.Flow.meaning W.waiting W.held) self.old (K.content kernel.old)) out.old result fuel.new
             (rig_of (means M.functions M.Flow.functions M.Flow.meaning W.waiting W.held) self.new (K.content kernel.new)) out.new }
-        ensures fits { turn_fault result ≡ None → FitsKernel (means M.functions M.Flow.functions M.Flow.meaning W.waiting W.held) self.new (K.content kernel.new) }
-        ensures keeps { KeepsAll (means M.functions M.Flow.functions M.Flow.meaning W.waiting W.held) K.is_loaded K.content self.old self.new kernel.new }
-        ensures still { result ≡ Ok Turn.Spent → rig_of (means M.functions M.Flow.functions M.Flow.meaning W.waiting W.held) self.new (K.content kernel.new)
+        ensures fits { turn_fault result ≡ None
+            → FitsKernel (means M.functions M.Flow.functions M.Flow.meaning W.waiting W.held) self.new (K.content kernel.new) }
+        ensures keeps { KeepsAll (means M.functions M.Flow.functions M.Flow.meaning W.waiting W.held)
+            K.is_loaded K.content self.old self.new kernel.new }
+        ensures still { result ≡ Ok Turn.Spent
+            → rig_of (means M.functions M.Flow.functions M.Flow.meaning W.waiting W.held) self.new (K.content kernel.new)
             ≡ rig_of (means M.functions M.Flow.functions M.Flow.meaning W.waiting W.held) self.old (K.content kernel.old) }
         ensures runs { self.new.runs_test ≡ self.old.runs_test }
     {

@@ -101,14 +101,16 @@ impl<'a> Teller<'a> {
         steps: &mut Steps<L>,
     ) -> Option<SinkFault>
         requires loaded { K.is_loaded kernel.old }
-        requires amid { IsAmid self.now.flat.now queue.old.ready.room (ReadWrite ∷ []) (W.held queue.old.awaits) (queue_of W.waiting queue.old) (K.content kernel.old) }
+        requires amid { IsAmid self.now.flat.now queue.old.ready.room
+            (ReadWrite ∷ []) (W.held queue.old.awaits) (queue_of W.waiting queue.old) (K.content kernel.old) }
         requires held { is_any queue.old.staged ≡ true → among ReadWrite (W.held queue.old.awaits) ≡ true }
         requires open { is_end (K.content kernel.old).state.region ≡ false }
         ensures loaded { K.is_loaded kernel.new }
-        ensures serves { (functions : List Function) (counts : Counts)
-            → StandsAmid self.now.flat.now queue.old.ready.room (ReadWrite ∷ []) counts (W.held queue.old.awaits) (queue_of W.waiting queue.old) (K.content kernel.old)
-            → Serves (sink_means O.Sink) (flushed (setup_of functions self.now) queue.old.staged) self.now.flat.now queue.old.ready.room (ReadWrite ∷ []) counts
-            (queue_of W.waiting queue.old) (K.content kernel.old) (W.held queue.new.awaits) (queue_of W.waiting queue.new) (K.content kernel.new) fault out.old result out.new }
+        ensures serves { (functions : List Function) (counts : Counts) → StandsAmid self.now.flat.now queue.old.ready.room
+            (ReadWrite ∷ []) counts (W.held queue.old.awaits) (queue_of W.waiting queue.old) (K.content kernel.old)
+            → Serves (sink_means O.Sink) (flushed (setup_of functions self.now) queue.old.staged) self.now.flat.now queue.old.ready.room
+            (ReadWrite ∷ []) counts (queue_of W.waiting queue.old) (K.content kernel.old) (W.held queue.new.awaits)
+            (queue_of W.waiting queue.new) (K.content kernel.new) fault out.old result out.new }
         ensures room { queue.new.ready.room ≡ queue.old.ready.room }
         ensures staged { queue.new.staged ≡ [] }
         ensures deadline { queue.new.deadline ≡ queue.old.deadline }
@@ -134,15 +136,17 @@ impl<'a> Teller<'a> {
         steps: &mut Steps<L>,
     ) -> Option<SinkFault>
         requires loaded { K.is_loaded kernel.old }
-        requires amid { IsAmid self.now.flat.now queue.old.ready.room (fired_keys keys) (W.held queue.old.awaits) (queue_of W.waiting queue.old) (K.content kernel.old) }
+        requires amid { IsAmid self.now.flat.now queue.old.ready.room (fired_keys keys)
+            (W.held queue.old.awaits) (queue_of W.waiting queue.old) (K.content kernel.old) }
         requires held { is_any queue.old.staged ≡ true → among ReadWrite (W.held queue.old.awaits) ≡ true }
         requires open { among ReadWrite (fired_keys keys) ≡ true → is_end (K.content kernel.old).state.region ≡ false }
         requires alone { among ReadWrite (fired_keys keys) ≡ true → fired_keys keys ≡ ReadWrite ∷ [] }
         ensures loaded { K.is_loaded kernel.new }
-        ensures serves { (functions : List Function) (counts : Counts)
-            → StandsAmid self.now.flat.now queue.old.ready.room (fired_keys keys) counts (W.held queue.old.awaits) (queue_of W.waiting queue.old) (K.content kernel.old)
-            → Serves (sink_means O.Sink) (flushed_if (setup_of functions self.now) (among ReadWrite (fired_keys keys))) self.now.flat.now queue.old.ready.room (fired_keys keys) counts
-            (queue_of W.waiting queue.old) (K.content kernel.old) (W.held queue.new.awaits) (queue_of W.waiting queue.new) (K.content kernel.new) fault out.old result out.new }
+        ensures serves { (functions : List Function) (counts : Counts) → StandsAmid self.now.flat.now queue.old.ready.room
+            (fired_keys keys) counts (W.held queue.old.awaits) (queue_of W.waiting queue.old) (K.content kernel.old)
+            → Serves (sink_means O.Sink) (flushed_if (setup_of functions self.now) (among ReadWrite (fired_keys keys)))
+            self.now.flat.now queue.old.ready.room (fired_keys keys) counts (queue_of W.waiting queue.old) (K.content kernel.old)
+            (W.held queue.new.awaits) (queue_of W.waiting queue.new) (K.content kernel.new) fault out.old result out.new }
         ensures room { queue.new.ready.room ≡ queue.old.ready.room }
         ensures staged { among ReadWrite (fired_keys keys) ≡ true → queue.new.staged ≡ [] }
         ensures deadline { queue.new.deadline ≡ queue.old.deadline }
@@ -155,9 +159,9 @@ impl<'a> Teller<'a> {
         }
     }
 
-    /// The simulator does its next event (IEEE 1364-2005, clause 11), of which there is one: its change is told, the staged writes go out if it is the read-write
-    /// phase, and the keys are served that it fires. Whether the running test's time is over, and why a put failed, if one did. After `NoMemory` nothing has
-    /// changed.
+    /// The simulator does its next event (IEEE 1364-2005, clause 11), of which there is one: its change is told, the staged writes go out if it is
+    /// the read-write phase, and the keys are served that it fires. Whether the running test's time is over, and why a put failed, if one did. After
+    /// `NoMemory` nothing has changed.
     pub fn do_event<W: Awaits, K: Gpi, L: Ledger, O: Sink>(
         &self,
         alloc: Global,

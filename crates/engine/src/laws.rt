@@ -18,7 +18,8 @@ pub fn later_bound_is_wider()
 
 /// What a task wants keeps all times of a configuration within the bound.
 pub fn effect_is_timely()
-    ensures { (setup : Setup) (bound : ℕ) (task : TaskNo) (turned : Turned) (c : Rig) → IsTimely bound c → IsTimely bound (effect setup task turned c).rig }
+    ensures { (setup : Setup) (bound : ℕ) (task : TaskNo) (turned : Turned) (c : Rig)
+        → IsTimely bound c → IsTimely bound (effect setup task turned c).rig }
 {}
 
 /// So does a step, where all that may be waited for is within it.
@@ -43,7 +44,8 @@ pub fn plan_is_timely()
 
 /// A run has no more verdicts than tests.
 pub fn verdicts_are_few()
-    ensures { (setup : Setup) (seed : ℕ) (cases : List Case) (budget count : ℕ) → length (steps setup budget count (opening setup seed cases)).verdicts ≤ length cases }
+    ensures { (setup : Setup) (seed : ℕ) (cases : List Case) (budget count : ℕ)
+        → length (steps setup budget count (opening setup seed cases)).verdicts ≤ length cases }
 {}
 
 /// At each step of a run no time in its configuration is later than the latest that may be waited for, and one for each verdict.

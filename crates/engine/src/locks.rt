@@ -40,7 +40,8 @@ impl<M: FlowMaker + Drop, W: Awaits> RunningTest<M, W> {
     /// A task makes an event, or is given a RuntimeError where there are 65,536.
     pub(crate) fn new_event(&mut self) -> Result<Next, NoMemory>
         ensures leads { IfOk result (λ next. (setup : Setup) → (task : TaskNo) → (content : Content)
-            → LeadsTo setup task NewEvent (rig_of (means M.functions M.Flow.functions M.Flow.meaning W.waiting W.held) self.old content) next (rig_of (means M.functions M.Flow.functions M.Flow.meaning W.waiting W.held) self.new content)) }
+            → LeadsTo setup task NewEvent (rig_of (means M.functions M.Flow.functions M.Flow.meaning W.waiting W.held) self.old content) next
+            (rig_of (means M.functions M.Flow.functions M.Flow.meaning W.waiting W.held) self.new content)) }
         ensures fine { IfOk result (λ next. next_fault (Ok next) ≡ None) }
         ensures queue { self.new.queue ≡ self.old.queue }
         ensures tasks { self.new.tasks ≡ self.old.tasks }
@@ -55,7 +56,8 @@ impl<M: FlowMaker + Drop, W: Awaits> RunningTest<M, W> {
     /// A task makes a lock, or is given a RuntimeError where there are 65,536.
     pub(crate) fn new_lock(&mut self) -> Result<Next, NoMemory>
         ensures leads { IfOk result (λ next. (setup : Setup) → (task : TaskNo) → (content : Content)
-            → LeadsTo setup task NewLock (rig_of (means M.functions M.Flow.functions M.Flow.meaning W.waiting W.held) self.old content) next (rig_of (means M.functions M.Flow.functions M.Flow.meaning W.waiting W.held) self.new content)) }
+            → LeadsTo setup task NewLock (rig_of (means M.functions M.Flow.functions M.Flow.meaning W.waiting W.held) self.old content) next
+            (rig_of (means M.functions M.Flow.functions M.Flow.meaning W.waiting W.held) self.new content)) }
         ensures fine { IfOk result (λ next. next_fault (Ok next) ≡ None) }
         ensures queue { self.new.queue ≡ self.old.queue }
         ensures tasks { self.new.tasks ≡ self.old.tasks }
@@ -78,12 +80,16 @@ impl<M: FlowMaker + Drop, W: Awaits> RunningTest<M, W> {
         requires loaded { K.is_loaded kernel.old }
         requires keeps { Keeps W.waiting W.held self.old.queue (K.content kernel.old) }
         requires room { HasRoom (means M.functions M.Flow.functions M.Flow.meaning W.waiting W.held) self.old }
-        requires stands { StandsIn (Some task) (rig_of (means M.functions M.Flow.functions M.Flow.meaning W.waiting W.held) self.old (K.content kernel.old)) }
+        requires stands { StandsIn (Some task)
+            (rig_of (means M.functions M.Flow.functions M.Flow.meaning W.waiting W.held) self.old (K.content kernel.old)) }
         requires event { event.0 < length self.old.objects.events }
-        ensures leads { (setup : Setup) → LeadsTo setup task (SetEvent event) (rig_of (means M.functions M.Flow.functions M.Flow.meaning W.waiting W.held) self.old (K.content kernel.old)) result (rig_of (means M.functions M.Flow.functions M.Flow.meaning W.waiting W.held) self.new (K.content kernel.new)) }
+        ensures leads { (setup : Setup) → LeadsTo setup task (SetEvent event)
+            (rig_of (means M.functions M.Flow.functions M.Flow.meaning W.waiting W.held) self.old (K.content kernel.old)) result
+            (rig_of (means M.functions M.Flow.functions M.Flow.meaning W.waiting W.held) self.new (K.content kernel.new)) }
         ensures fine { next_fault (Ok result) ≡ None }
         ensures room { HasRoom (means M.functions M.Flow.functions M.Flow.meaning W.waiting W.held) self.new }
-        ensures fits { StaysFit (means M.functions M.Flow.functions M.Flow.meaning W.waiting W.held) self.old (K.content kernel.old) self.new (K.content kernel.new) }
+        ensures fits { StaysFit (means M.functions M.Flow.functions M.Flow.meaning W.waiting W.held) self.old
+            (K.content kernel.old) self.new (K.content kernel.new) }
         ensures kept { Kept (means M.functions M.Flow.functions M.Flow.meaning W.waiting W.held) K.is_loaded K.content self.old self.new kernel.new }
     {
         self.objects.set_event(event);
@@ -95,7 +101,8 @@ impl<M: FlowMaker + Drop, W: Awaits> RunningTest<M, W> {
     pub(crate) fn clear_event(&mut self, event: EventNo) -> Next
         requires { event.0 < length self.old.objects.events }
         ensures leads { (setup : Setup) → (task : TaskNo) → (content : Content)
-            → LeadsTo setup task (ClearEvent event) (rig_of (means M.functions M.Flow.functions M.Flow.meaning W.waiting W.held) self.old content) result (rig_of (means M.functions M.Flow.functions M.Flow.meaning W.waiting W.held) self.new content) }
+            → LeadsTo setup task (ClearEvent event) (rig_of (means M.functions M.Flow.functions M.Flow.meaning W.waiting W.held) self.old content)
+            result (rig_of (means M.functions M.Flow.functions M.Flow.meaning W.waiting W.held) self.new content) }
         ensures fine { next_fault (Ok result) ≡ None }
         ensures queue { self.new.queue ≡ self.old.queue }
         ensures tasks { self.new.tasks ≡ self.old.tasks }
@@ -104,8 +111,8 @@ impl<M: FlowMaker + Drop, W: Awaits> RunningTest<M, W> {
         Next::GoesOn(Given::Value(Value::Absent))
     }
 
-    /// A task releases a lock, which goes to the first task that waits for it, or is free. Where it isn't held the task is given a TriggerException. It
-    /// takes no memory.
+    /// A task releases a lock, which goes to the first task that waits for it, or is free. Where it isn't held the task is given a TriggerException.
+    /// It takes no memory.
     pub(crate) fn release<K: Gpi, L: Ledger>(
         &mut self,
         kernel: &mut K,
@@ -116,12 +123,16 @@ impl<M: FlowMaker + Drop, W: Awaits> RunningTest<M, W> {
         requires loaded { K.is_loaded kernel.old }
         requires keeps { Keeps W.waiting W.held self.old.queue (K.content kernel.old) }
         requires room { HasRoom (means M.functions M.Flow.functions M.Flow.meaning W.waiting W.held) self.old }
-        requires stands { StandsIn (Some task) (rig_of (means M.functions M.Flow.functions M.Flow.meaning W.waiting W.held) self.old (K.content kernel.old)) }
+        requires stands { StandsIn (Some task)
+            (rig_of (means M.functions M.Flow.functions M.Flow.meaning W.waiting W.held) self.old (K.content kernel.old)) }
         requires lock { lock.0 < length self.old.objects.locks }
-        ensures leads { (setup : Setup) → LeadsTo setup task (Release lock) (rig_of (means M.functions M.Flow.functions M.Flow.meaning W.waiting W.held) self.old (K.content kernel.old)) result (rig_of (means M.functions M.Flow.functions M.Flow.meaning W.waiting W.held) self.new (K.content kernel.new)) }
+        ensures leads { (setup : Setup) → LeadsTo setup task (Release lock)
+            (rig_of (means M.functions M.Flow.functions M.Flow.meaning W.waiting W.held) self.old (K.content kernel.old)) result
+            (rig_of (means M.functions M.Flow.functions M.Flow.meaning W.waiting W.held) self.new (K.content kernel.new)) }
         ensures fine { next_fault (Ok result) ≡ None }
         ensures room { HasRoom (means M.functions M.Flow.functions M.Flow.meaning W.waiting W.held) self.new }
-        ensures fits { StaysFit (means M.functions M.Flow.functions M.Flow.meaning W.waiting W.held) self.old (K.content kernel.old) self.new (K.content kernel.new) }
+        ensures fits { StaysFit (means M.functions M.Flow.functions M.Flow.meaning W.waiting W.held) self.old
+            (K.content kernel.old) self.new (K.content kernel.new) }
         ensures kept { Kept (means M.functions M.Flow.functions M.Flow.meaning W.waiting W.held) K.is_loaded K.content self.old self.new kernel.new }
     {
         if !self.objects.is_locked(lock) {

@@ -37,14 +37,16 @@ impl<'a> Teller<'a> {
         steps: &mut Steps<L>,
     ) -> Option<SinkFault>
         requires loaded { K.is_loaded kernel.old }
-        requires amid { IsAmidHeld self.now.flat.now queue.old.ready.room (W.held queue.old.awaits) (queue_of W.waiting queue.old) (K.content kernel.old) }
+        requires amid { IsAmidHeld self.now.flat.now queue.old.ready.room
+            (W.held queue.old.awaits) (queue_of W.waiting queue.old) (K.content kernel.old) }
         requires open { is_end (K.content kernel.old).state.region ≡ false }
         requires sound { IsSoundWrite self.now.flat.now.signals write }
         ensures loaded { K.is_loaded kernel.new }
-        ensures serves { (functions : List Function) (fired : List Key) (counts : Counts)
-            → StandsAmid self.now.flat.now queue.old.ready.room fired counts (W.held queue.old.awaits) (queue_of W.waiting queue.old) (K.content kernel.old)
-            → Serves (sink_means O.Sink) (deposit (setup_of functions self.now) write.sig write.bits) self.now.flat.now queue.old.ready.room fired counts
-            (queue_of W.waiting queue.old) (K.content kernel.old) (W.held queue.new.awaits) (queue_of W.waiting queue.new) (K.content kernel.new) fault out.old result out.new }
+        ensures serves { (functions : List Function) (fired : List Key) (counts : Counts) → StandsAmid self.now.flat.now
+            queue.old.ready.room fired counts (W.held queue.old.awaits) (queue_of W.waiting queue.old) (K.content kernel.old)
+            → Serves (sink_means O.Sink) (deposit (setup_of functions self.now) write.sig write.bits)
+            self.now.flat.now queue.old.ready.room fired counts (queue_of W.waiting queue.old) (K.content kernel.old)
+            (W.held queue.new.awaits) (queue_of W.waiting queue.new) (K.content kernel.new) fault out.old result out.new }
         ensures held { AreAlike (W.held queue.new.awaits) (W.held queue.old.awaits) }
         ensures region { (K.content kernel.new).state.region ≡ (K.content kernel.old).state.region }
         ensures room { queue.new.ready.room ≡ queue.old.ready.room }
@@ -61,8 +63,8 @@ impl<'a> Teller<'a> {
         fault
     }
 
-    /// A signal is written at once (cocotb 1.8, "Writing values"), outside of an event and of the read-only phase: its change is told, and the tasks are woken that
-    /// wait for it. Tells why the put of its line failed, if it did; all is served then too. It takes memory for the line alone.
+    /// A signal is written at once (cocotb 1.8, "Writing values"), outside of an event and of the read-only phase: its change is told, and the tasks
+    /// are woken that wait for it. Tells why the put of its line failed, if it did; all is served then too. It takes memory for the line alone.
     pub fn put_now<W: Awaits, K: Gpi, L: Ledger, O: Sink>(
         &self,
         alloc: Global,

@@ -34,16 +34,21 @@ impl<M: FlowMaker + Drop, W: Awaits> RunningTest<M, W> {
         args: Sequence<Value>,
     ) -> Result<TaskNo, NoMemory>
         requires room { HasRoom (means M.functions M.Flow.functions M.Flow.meaning W.waiting W.held) self.old }
-        requires few { length self.old.queue.ready.entries + length (W.waiting self.old.queue.awaits) ≤ length (live_in M.Flow.meaning self.old.tasks) }
+        requires few { length self.old.queue.ready.entries + length (W.waiting self.old.queue.awaits)
+            ≤ length (live_in M.Flow.meaning self.old.tasks) }
         requires func { func < length (M.functions self.old.tasks.maker) }
         requires live { length (live_in M.Flow.meaning self.old.tasks) < live_limit }
         requires started { length self.old.tasks.ended < start_limit }
         ensures number { IfOk result (λ number. number ≡ record { 0 = length self.old.tasks.ended }) }
-        ensures added { OnOk result ((content : Content) → rig_of (means M.functions M.Flow.functions M.Flow.meaning W.waiting W.held) self.new content
-            ≡ with_new_task (function_at (M.functions self.old.tasks.maker) func) args (rig_of (means M.functions M.Flow.functions M.Flow.meaning W.waiting W.held) self.old content)) }
-        ensures few { OnOk result (length self.new.queue.ready.entries + length (W.waiting self.new.queue.awaits) ≤ length (live_in M.Flow.meaning self.new.tasks)) }
+        ensures added { OnOk result
+            ((content : Content) → rig_of (means M.functions M.Flow.functions M.Flow.meaning W.waiting W.held) self.new content
+            ≡ with_new_task (function_at (M.functions self.old.tasks.maker) func) args
+            (rig_of (means M.functions M.Flow.functions M.Flow.meaning W.waiting W.held) self.old content)) }
+        ensures few { OnOk result
+            (length self.new.queue.ready.entries + length (W.waiting self.new.queue.awaits) ≤ length (live_in M.Flow.meaning self.new.tasks)) }
         ensures room { OnOk result (HasRoom (means M.functions M.Flow.functions M.Flow.meaning W.waiting W.held) self.new) }
-        ensures fits { (content : Content) → StaysFit (means M.functions M.Flow.functions M.Flow.meaning W.waiting W.held) self.old content self.new content }
+        ensures fits { (content : Content)
+            → StaysFit (means M.functions M.Flow.functions M.Flow.meaning W.waiting W.held) self.old content self.new content }
         ensures keeps { (content : Content) → Keeps W.waiting W.held self.old.queue content → Keeps W.waiting W.held self.new.queue content }
         ensures maker { self.new.tasks.maker ≡ self.old.tasks.maker }
     {
@@ -54,18 +59,21 @@ impl<M: FlowMaker + Drop, W: Awaits> RunningTest<M, W> {
         Ok(number)
     }
 
-    /// A test begins, in which no task was started: its own task, of that function with these values for its parameters, is live and ready. Only want of
-    /// memory is an error.
+    /// A test begins, in which no task was started: its own task, of that function with these values for its parameters, is live and ready. Only
+    /// want of memory is an error.
     pub fn begin(&mut self, alloc: Global, func: u32, args: Sequence<Value>) -> Result<(), NoMemory>
         requires room { HasRoom (means M.functions M.Flow.functions M.Flow.meaning W.waiting W.held) self.old }
         requires none { self.old.tasks.ended ≡ [] }
         requires ready { self.old.queue.ready.entries ≡ [] }
         requires waiting { W.waiting self.old.queue.awaits ≡ [] }
         requires func { func < length (M.functions self.old.tasks.maker) }
-        ensures added { OnOk result ((content : Content) → rig_of (means M.functions M.Flow.functions M.Flow.meaning W.waiting W.held) self.new content
-            ≡ with_new_task (function_at (M.functions self.old.tasks.maker) func) args (rig_of (means M.functions M.Flow.functions M.Flow.meaning W.waiting W.held) self.old content)) }
+        ensures added { OnOk result
+            ((content : Content) → rig_of (means M.functions M.Flow.functions M.Flow.meaning W.waiting W.held) self.new content
+            ≡ with_new_task (function_at (M.functions self.old.tasks.maker) func) args
+            (rig_of (means M.functions M.Flow.functions M.Flow.meaning W.waiting W.held) self.old content)) }
         ensures room { OnOk result (HasRoom (means M.functions M.Flow.functions M.Flow.meaning W.waiting W.held) self.new) }
-        ensures fits { (content : Content) → StaysFit (means M.functions M.Flow.functions M.Flow.meaning W.waiting W.held) self.old content self.new content }
+        ensures fits { (content : Content)
+            → StaysFit (means M.functions M.Flow.functions M.Flow.meaning W.waiting W.held) self.old content self.new content }
         ensures keeps { (content : Content) → Keeps W.waiting W.held self.old.queue content → Keeps W.waiting W.held self.new.queue content }
         ensures maker { self.new.tasks.maker ≡ self.old.tasks.maker }
     {
@@ -84,13 +92,17 @@ impl<M: FlowMaker + Drop, W: Awaits> RunningTest<M, W> {
         give_way: bool,
     ) -> Result<Next, NoMemory>
         requires room { HasRoom (means M.functions M.Flow.functions M.Flow.meaning W.waiting W.held) self.old }
-        requires stands { (content : Content) → StandsIn (Some task) (rig_of (means M.functions M.Flow.functions M.Flow.meaning W.waiting W.held) self.old content) }
+        requires stands { (content : Content)
+            → StandsIn (Some task) (rig_of (means M.functions M.Flow.functions M.Flow.meaning W.waiting W.held) self.old content) }
         requires func { func < length (M.functions self.old.tasks.maker) }
         ensures leads { IfOk result (λ next. (setup : Setup) → (content : Content) → setup.functions ≡ M.functions self.old.tasks.maker
-            → LeadsTo setup task (Start func args give_way) (rig_of (means M.functions M.Flow.functions M.Flow.meaning W.waiting W.held) self.old content) next (rig_of (means M.functions M.Flow.functions M.Flow.meaning W.waiting W.held) self.new content)) }
+            → LeadsTo setup task (Start func args give_way)
+            (rig_of (means M.functions M.Flow.functions M.Flow.meaning W.waiting W.held) self.old content) next
+            (rig_of (means M.functions M.Flow.functions M.Flow.meaning W.waiting W.held) self.new content)) }
         ensures fine { IfOk result (λ next. next_fault (Ok next) ≡ None) }
         ensures room { OnOk result (HasRoom (means M.functions M.Flow.functions M.Flow.meaning W.waiting W.held) self.new) }
-        ensures fits { (content : Content) → StaysFit (means M.functions M.Flow.functions M.Flow.meaning W.waiting W.held) self.old content self.new content }
+        ensures fits { (content : Content)
+            → StaysFit (means M.functions M.Flow.functions M.Flow.meaning W.waiting W.held) self.old content self.new content }
         ensures keeps { (content : Content) → Keeps W.waiting W.held self.old.queue content → Keeps W.waiting W.held self.new.queue content }
         ensures maker { self.new.tasks.maker ≡ self.old.tasks.maker }
     {

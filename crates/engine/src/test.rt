@@ -30,8 +30,8 @@ use task_model::{FlowMaker, Turned};
 use test_tasks::TestTasks;
 use wait_list::{Awaits, Steps};
 
-/// A test that runs, or none: its tasks, what is ready, waits and is awaited, its events and locks, and the random numbers of the run. Contracts see it,
-/// together with a simulator, as the configuration `rig_of` of `specs/Parts.antt`.
+/// A test that runs, or none: its tasks, what is ready, waits and is awaited, its events and locks, and the random numbers of the run. Contracts see
+/// it, together with a simulator, as the configuration `rig_of` of `specs/Parts.antt`.
 #[derive(Drop)]
 pub struct RunningTest<M: FlowMaker + Drop, W: Awaits> {
     /// What is ready, waits and is awaited.
@@ -50,10 +50,12 @@ impl<M: FlowMaker + Drop, W: Awaits> RunningTest<M, W> {
         requires waiting { W.waiting awaits ≡ [] }
         requires held { AreAlike (W.held awaits) [] }
         ensures maker { IfOk result (λ test. test.tasks.maker ≡ maker) }
-        ensures parts { IfOk result (λ test. parts_of (means M.functions M.Flow.functions M.Flow.meaning W.waiting W.held) test ≡ record { tasks = []; endings = []; objects = none; random = seeded seed }) }
+        ensures parts { IfOk result (λ test. parts_of (means M.functions M.Flow.functions M.Flow.meaning W.waiting W.held) test
+            ≡ record { tasks = []; endings = []; objects = none; random = seeded seed }) }
         ensures queue { IfOk result (λ test. queue_of W.waiting test.queue ≡ nothing_queued) }
         ensures room { IfOk result (λ test. HasRoom (means M.functions M.Flow.functions M.Flow.meaning W.waiting W.held) test) }
-        ensures fits { IfOk result (λ test. (flat : Flat) → (content : Content) → IsBare flat content → Fits flat W.waiting W.held test.queue content) }
+        ensures fits { IfOk result
+            (λ test. (flat : Flat) → (content : Content) → IsBare flat content → Fits flat W.waiting W.held test.queue content) }
     {
         Ok(RunningTest {
             queue: RunQueue::new(alloc, awaits)?,
@@ -71,8 +73,8 @@ impl<M: FlowMaker + Drop, W: Awaits> RunningTest<M, W> {
         self.tasks.told(alloc, given)
     }
 
-    /// Polls the live task of that number: the next thing that it wants, where it is given the answer to the last one. What it sees must know what the
-    /// tasks hold and what this one is given. The fuel falls by what the steps cost, and `Spent` comes where it doesn't suffice for the next one.
+    /// Polls the live task of that number: the next thing that it wants, where it is given the answer to the last one. What it sees must know what
+    /// the tasks hold and what this one is given. The fuel falls by what the steps cost, and `Spent` comes where it doesn't suffice for the next one.
     pub fn poll<K: Gpi>(
         &mut self,
         alloc: Global,
@@ -87,15 +89,17 @@ impl<M: FlowMaker + Drop, W: Awaits> RunningTest<M, W> {
         requires loaded { K.is_loaded kernel.now }
         requires design { IsOf flat.now names.now (K.content kernel.now).state }
         requires lives { IsSome (task_at task (live_in M.Flow.meaning self.old.tasks)) }
-        requires known { KnowsTasks (M.functions self.old.tasks.maker) (view_of flat.now (K.content kernel.now).state self.old.objects self.old.tasks.ended)
-            (live_in M.Flow.meaning self.old.tasks) }
+        requires known { KnowsTasks (M.functions self.old.tasks.maker)
+            (view_of flat.now (K.content kernel.now).state self.old.objects self.old.tasks.ended) (live_in M.Flow.meaning self.old.tasks) }
         requires answer { KnowsGiven (view_of flat.now (K.content kernel.now).state self.old.objects self.old.tasks.ended) given }
         ensures falls { fuel.new ≤ fuel.old }
         ensures left { LeavesOne (live_in M.Flow.meaning self.old.tasks) task (live_in M.Flow.meaning self.new.tasks) }
         ensures polls { IfOk result (λ turned. PollsOne (M.functions self.old.tasks.maker)
             (view_of flat.now (K.content kernel.now).state self.old.objects self.old.tasks.ended) fuel.old
             (live_in M.Flow.meaning self.old.tasks) task given turned fuel.new (live_in M.Flow.meaning self.new.tasks)) }
-        ensures rest { parts_of (means M.functions M.Flow.functions M.Flow.meaning W.waiting W.held) self.new ≡ record (parts_of (means M.functions M.Flow.functions M.Flow.meaning W.waiting W.held) self.old) { tasks = live_in M.Flow.meaning self.new.tasks } }
+        ensures rest { parts_of (means M.functions M.Flow.functions M.Flow.meaning W.waiting W.held) self.new
+            ≡ record (parts_of (means M.functions M.Flow.functions M.Flow.meaning W.waiting W.held) self.old)
+            { tasks = live_in M.Flow.meaning self.new.tasks } }
         ensures room { HasRoom (means M.functions M.Flow.functions M.Flow.meaning W.waiting W.held) self.new }
         ensures maker { self.new.tasks.maker ≡ self.old.tasks.maker }
         ensures queue { self.new.queue ≡ self.old.queue }
@@ -103,19 +107,21 @@ impl<M: FlowMaker + Drop, W: Awaits> RunningTest<M, W> {
         self.tasks.poll(alloc, kernel, flat, names, &self.objects, task, given, fuel)
     }
 
-    /// Drops all of the test: its tasks, its events and locks, and all that is queued; no key is registered any more. The random numbers go on where they
-    /// are. It takes no memory.
+    /// Drops all of the test: its tasks, its events and locks, and all that is queued; no key is registered any more. The random numbers go on where
+    /// they are. It takes no memory.
     pub fn clear<K: Gpi, L: Ledger>(&mut self, kernel: &mut K, steps: &mut Steps<L>)
         requires loaded { K.is_loaded kernel.old }
         requires keeps { Keeps W.waiting W.held self.old.queue (K.content kernel.old) }
-        ensures parts { parts_of (means M.functions M.Flow.functions M.Flow.meaning W.waiting W.held) self.new ≡ record { tasks = []; endings = []; objects = none; random = self.old.random } }
+        ensures parts { parts_of (means M.functions M.Flow.functions M.Flow.meaning W.waiting W.held) self.new
+            ≡ record { tasks = []; endings = []; objects = none; random = self.old.random } }
         ensures queue { queue_of W.waiting self.new.queue ≡ nothing_queued }
         ensures leads { Leads dropping (queue_of W.waiting self.old.queue) (K.content kernel.old) nothing_queued (K.content kernel.new) }
         ensures bare { AreKeys (K.content kernel.new).keys [] }
         ensures loaded { K.is_loaded kernel.new }
         ensures stays { Stays (K.content kernel.old) (K.content kernel.new) }
         ensures keeps { Keeps W.waiting W.held self.new.queue (K.content kernel.new) }
-        ensures fits { (flat : Flat) → Fits flat W.waiting W.held self.old.queue (K.content kernel.old) → Fits flat W.waiting W.held self.new.queue (K.content kernel.new) }
+        ensures fits { (flat : Flat) → Fits flat W.waiting W.held self.old.queue (K.content kernel.old)
+            → Fits flat W.waiting W.held self.new.queue (K.content kernel.new) }
         ensures room { HasRoom (means M.functions M.Flow.functions M.Flow.meaning W.waiting W.held) self.new }
         ensures maker { self.new.tasks.maker ≡ self.old.tasks.maker }
     {

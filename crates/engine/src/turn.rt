@@ -39,12 +39,15 @@ impl<'a, M: FlowMaker + Drop, W: Awaits> Engine<'a, M, W> {
         requires none { self.old.test.queue.planned ≡ None }
         requires known { KnowsGiven (view_of (setup_of (means M.functions M.Flow.functions M.Flow.meaning W.waiting W.held) self.old)
             (rig_of (means M.functions M.Flow.functions M.Flow.meaning W.waiting W.held) self.old (K.content kernel.old))) given }
-        ensures turning { Turning (sink_means O.Sink) (FitSteps in_turn (setup_of (means M.functions M.Flow.functions M.Flow.meaning W.waiting W.held) self.old))
-            (setup_of (means M.functions M.Flow.functions M.Flow.meaning W.waiting W.held) self.old) fuel.old
-            (goes_on task (Some given) (rig_of (means M.functions M.Flow.functions M.Flow.meaning W.waiting W.held) self.old (K.content kernel.old))) out.old result fuel.new
+        ensures turning { Turning (sink_means O.Sink)
+            (FitSteps in_turn (setup_of (means M.functions M.Flow.functions M.Flow.meaning W.waiting W.held) self.old))
+            (setup_of (means M.functions M.Flow.functions M.Flow.meaning W.waiting W.held) self.old) fuel.old (goes_on task (Some given)
+            (rig_of (means M.functions M.Flow.functions M.Flow.meaning W.waiting W.held) self.old (K.content kernel.old))) out.old result fuel.new
             (rig_of (means M.functions M.Flow.functions M.Flow.meaning W.waiting W.held) self.new (K.content kernel.new)) out.new }
-        ensures fits { turn_fault result ≡ None → FitsKernel (means M.functions M.Flow.functions M.Flow.meaning W.waiting W.held) self.new (K.content kernel.new) }
-        ensures keeps { KeepsAll (means M.functions M.Flow.functions M.Flow.meaning W.waiting W.held) K.is_loaded K.content self.old self.new kernel.new }
+        ensures fits { turn_fault result ≡ None
+            → FitsKernel (means M.functions M.Flow.functions M.Flow.meaning W.waiting W.held) self.new (K.content kernel.new) }
+        ensures keeps { KeepsAll (means M.functions M.Flow.functions M.Flow.meaning W.waiting W.held)
+            K.is_loaded K.content self.old self.new kernel.new }
         ensures runs { self.new.runs_test ≡ self.old.runs_test }
     {
         let mut given = given;
@@ -83,12 +86,15 @@ impl<'a, M: FlowMaker + Drop, W: Awaits> Engine<'a, M, W> {
         requires loaded { K.is_loaded kernel.old }
         requires fits { FitsKernel (means M.functions M.Flow.functions M.Flow.meaning W.waiting W.held) self.old (K.content kernel.old) }
         requires alone { (self.old.test.queue.planned ≡ None) ⊎ (self.old.test.queue.ready.entries ≡ []) }
-        ensures turning { Turning (sink_means O.Sink) (TurnSteps (setup_of (means M.functions M.Flow.functions M.Flow.meaning W.waiting W.held) self.old))
+        ensures turning { Turning (sink_means O.Sink)
+            (TurnSteps (setup_of (means M.functions M.Flow.functions M.Flow.meaning W.waiting W.held) self.old))
             (setup_of (means M.functions M.Flow.functions M.Flow.meaning W.waiting W.held) self.old) fuel.old
             (rig_of (means M.functions M.Flow.functions M.Flow.meaning W.waiting W.held) self.old (K.content kernel.old)) out.old result fuel.new
             (rig_of (means M.functions M.Flow.functions M.Flow.meaning W.waiting W.held) self.new (K.content kernel.new)) out.new }
-        ensures fits { turn_fault result ≡ None → FitsKernel (means M.functions M.Flow.functions M.Flow.meaning W.waiting W.held) self.new (K.content kernel.new) }
-        ensures keeps { KeepsAll (means M.functions M.Flow.functions M.Flow.meaning W.waiting W.held) K.is_loaded K.content self.old self.new kernel.new }
+        ensures fits { turn_fault result ≡ None
+            → FitsKernel (means M.functions M.Flow.functions M.Flow.meaning W.waiting W.held) self.new (K.content kernel.new) }
+        ensures keeps { KeepsAll (means M.functions M.Flow.functions M.Flow.meaning W.waiting W.held)
+            K.is_loaded K.content self.old self.new kernel.new }
         ensures still { self.old.test.queue.ready.entries ≡ [] → result ≡ Ok Turn.Spent
             → rig_of (means M.functions M.Flow.functions M.Flow.meaning W.waiting W.held) self.new (K.content kernel.new)
             ≡ rig_of (means M.functions M.Flow.functions M.Flow.meaning W.waiting W.held) self.old (K.content kernel.old) }
@@ -103,15 +109,15 @@ impl<'a, M: FlowMaker + Drop, W: Awaits> Engine<'a, M, W> {
         }
     }
 
-    /// Does one turn: the first task that is ready runs until it waits, ends or gives way, or where none is ready the simulator does one event, and the
-    /// tasks are woken that wait for a key that it fires. Where the read-write phase (cocotb 1.8, "Triggers", `ReadWrite`) is among these keys, the staged
-    /// writes go out before, the oldest first, each with the wakes of the keys that it fires. With `trace` each change that the simulator tells gives a
-    /// line.
+    /// Does one turn: the first task that is ready runs until it waits, ends or gives way, or where none is ready the simulator does one event, and
+    /// the tasks are woken that wait for a key that it fires. Where the read-write phase (cocotb 1.8, "Triggers", `ReadWrite`) is among these keys,
+    /// the staged writes go out before, the oldest first, each with the wakes of the keys that it fires. With `trace` each change that the simulator
+    /// tells gives a line.
     ///
-    /// The fuel falls by one for each statement, condition and question of a loop that begins, and for each event. The lines are put in order, one put each.
-    /// `Due` comes exactly where the planned start fired. `Spent` comes exactly where the next step costs more than the fuel that is left, and no task is
-    /// lost then; where none is ready, nothing has changed. `Over` comes where the test gets its outcome, with its parts left in place until `end_test`;
-    /// `WriteFault` where the put of the next line fails, and nothing is put after it.
+    /// The fuel falls by one for each statement, condition and question of a loop that begins, and for each event. The lines are put in order, one
+    /// put each. `Due` comes exactly where the planned start fired. `Spent` comes exactly where the next step costs more than the fuel that is left,
+    /// and no task is lost then; where none is ready, nothing has changed. `Over` comes where the test gets its outcome, with its parts left in
+    /// place until `end_test`; `WriteFault` where the put of the next line fails, and nothing is put after it.
     /// A test runs, or a start is planned. After `Over`, `Due`, `Spent`, `WriteFault` or `NoMemory` no turn follows.
     pub fn turn<O: Sink, K: Gpi, L: Ledger>(
         &mut self,
@@ -124,12 +130,15 @@ impl<'a, M: FlowMaker + Drop, W: Awaits> Engine<'a, M, W> {
         requires loaded { K.is_loaded kernel.old }
         requires fits { FitsKernel (means M.functions M.Flow.functions M.Flow.meaning W.waiting W.held) self.old (K.content kernel.old) }
         requires alone { (self.old.test.queue.planned ≡ None) ⊎ (self.old.test.queue.ready.entries ≡ []) }
-        ensures turning { Turning (sink_means O.Sink) (TurnSteps (setup_of (means M.functions M.Flow.functions M.Flow.meaning W.waiting W.held) self.old))
+        ensures turning { Turning (sink_means O.Sink)
+            (TurnSteps (setup_of (means M.functions M.Flow.functions M.Flow.meaning W.waiting W.held) self.old))
             (setup_of (means M.functions M.Flow.functions M.Flow.meaning W.waiting W.held) self.old) fuel.old
             (rig_of (means M.functions M.Flow.functions M.Flow.meaning W.waiting W.held) self.old (K.content kernel.old)) out.old result fuel.new
             (rig_of (means M.functions M.Flow.functions M.Flow.meaning W.waiting W.held) self.new (K.content kernel.new)) out.new }
-        ensures fits { turn_fault result ≡ None → FitsKernel (means M.functions M.Flow.functions M.Flow.meaning W.waiting W.held) self.new (K.content kernel.new) }
-        ensures keeps { KeepsAll (means M.functions M.Flow.functions M.Flow.meaning W.waiting W.held) K.is_loaded K.content self.old self.new kernel.new }
+        ensures fits { turn_fault result ≡ None
+            → FitsKernel (means M.functions M.Flow.functions M.Flow.meaning W.waiting W.held) self.new (K.content kernel.new) }
+        ensures keeps { KeepsAll (means M.functions M.Flow.functions M.Flow.meaning W.waiting W.held)
+            K.is_loaded K.content self.old self.new kernel.new }
         ensures still { self.old.test.queue.ready.entries ≡ [] → result ≡ Ok Turn.Spent
             → rig_of (means M.functions M.Flow.functions M.Flow.meaning W.waiting W.held) self.new (K.content kernel.new)
             ≡ rig_of (means M.functions M.Flow.functions M.Flow.meaning W.waiting W.held) self.old (K.content kernel.old) }

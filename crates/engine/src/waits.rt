@@ -24,8 +24,8 @@ impl<M: FlowMaker + Drop, W: Awaits> RunningTest<M, W> {
     ghost use Rattle.engine.specs.Parts.{means, rig_of};
     ghost use Rattle.engine.specs.Waits.{KnowsWait};
 
-    /// The task waits for the trigger (cocotb 1.8, "Triggers"), or goes on at once: with the fault of a leaf that may not begin, or with the result of a
-    /// trigger that is done.
+    /// The task waits for the trigger (cocotb 1.8, "Triggers"), or goes on at once: with the fault of a leaf that may not begin, or with the result
+    /// of a trigger that is done.
     pub(crate) fn wait<K: Gpi, L: Ledger>(
         &mut self,
         alloc: Global,
@@ -37,13 +37,18 @@ impl<M: FlowMaker + Drop, W: Awaits> RunningTest<M, W> {
         requires loaded { K.is_loaded kernel.old }
         requires keeps { Keeps W.waiting W.held self.old.queue (K.content kernel.old) }
         requires room { HasRoom (means M.functions M.Flow.functions M.Flow.meaning W.waiting W.held) self.old }
-        requires stands { StandsIn (Some task) (rig_of (means M.functions M.Flow.functions M.Flow.meaning W.waiting W.held) self.old (K.content kernel.old)) }
+        requires stands { StandsIn (Some task)
+            (rig_of (means M.functions M.Flow.functions M.Flow.meaning W.waiting W.held) self.old (K.content kernel.old)) }
         requires time { (K.content kernel.old).state.time ≤ latest_time }
-        requires known { KnowsWait (rig_of (means M.functions M.Flow.functions M.Flow.meaning W.waiting W.held) self.old (K.content kernel.old)) trig }
-        ensures leads { IfOk result (λ next. (setup : Setup) → LeadsTo setup task (Await trig) (rig_of (means M.functions M.Flow.functions M.Flow.meaning W.waiting W.held) self.old (K.content kernel.old)) next (rig_of (means M.functions M.Flow.functions M.Flow.meaning W.waiting W.held) self.new (K.content kernel.new))) }
+        requires known { KnowsWait (rig_of (means M.functions M.Flow.functions M.Flow.meaning W.waiting W.held) self.old (K.content kernel.old))
+            trig }
+        ensures leads { IfOk result (λ next. (setup : Setup) → LeadsTo setup task (Await trig)
+            (rig_of (means M.functions M.Flow.functions M.Flow.meaning W.waiting W.held) self.old (K.content kernel.old)) next
+            (rig_of (means M.functions M.Flow.functions M.Flow.meaning W.waiting W.held) self.new (K.content kernel.new))) }
         ensures fine { IfOk result (λ next. next_fault (Ok next) ≡ None) }
         ensures room { OnOk result (HasRoom (means M.functions M.Flow.functions M.Flow.meaning W.waiting W.held) self.new) }
-        ensures fits { StaysFit (means M.functions M.Flow.functions M.Flow.meaning W.waiting W.held) self.old (K.content kernel.old) self.new (K.content kernel.new) }
+        ensures fits { StaysFit (means M.functions M.Flow.functions M.Flow.meaning W.waiting W.held) self.old
+            (K.content kernel.old) self.new (K.content kernel.new) }
         ensures kept { Kept (means M.functions M.Flow.functions M.Flow.meaning W.waiting W.held) K.is_loaded K.content self.old self.new kernel.new }
     {
         let mut tree = match Tree::of(alloc, &trig, kernel.now(), kernel.region()) {

@@ -71,8 +71,8 @@ impl<M: FlowMaker + Drop, W: Awaits> RunningTest<M, W> {
     ghost use Rattle.engine.specs.TestFits.{HasRoom, Kept};
     ghost use Rattle.engine.specs.Parts.{means, rig_of};
 
-    /// A task stages a write (cocotb 1.8, "Writing values to signals"). In the read-only phase no signal may be written: such a write ends the test, and
-    /// nothing is staged.
+    /// A task stages a write (cocotb 1.8, "Writing values to signals"). In the read-only phase no signal may be written: such a write ends the test,
+    /// and nothing is staged.
     pub(crate) fn stage_write<K: Gpi, L: Ledger>(
         &mut self,
         kernel: &mut K,
@@ -83,7 +83,9 @@ impl<M: FlowMaker + Drop, W: Awaits> RunningTest<M, W> {
         requires loaded { K.is_loaded kernel.old }
         requires keeps { Keeps W.waiting W.held self.old.queue (K.content kernel.old) }
         requires room { HasRoom (means M.functions M.Flow.functions M.Flow.meaning W.waiting W.held) self.old }
-        ensures leads { IfOk result (λ next. (setup : Setup) → (task : TaskNo) → LeadsTo setup task (turned.Stage sig bits) (rig_of (means M.functions M.Flow.functions M.Flow.meaning W.waiting W.held) self.old (K.content kernel.old)) next (rig_of (means M.functions M.Flow.functions M.Flow.meaning W.waiting W.held) self.new (K.content kernel.new))) }
+        ensures leads { IfOk result (λ next. (setup : Setup) → (task : TaskNo) → LeadsTo setup task (turned.Stage sig bits)
+            (rig_of (means M.functions M.Flow.functions M.Flow.meaning W.waiting W.held) self.old (K.content kernel.old)) next
+            (rig_of (means M.functions M.Flow.functions M.Flow.meaning W.waiting W.held) self.new (K.content kernel.new))) }
         ensures fine { IfOk result (λ next. next_fault (Ok next) ≡ None) }
         ensures room { OnOk result (HasRoom (means M.functions M.Flow.functions M.Flow.meaning W.waiting W.held) self.new) }
         ensures fits { (flat : Flat) → IsSoundWrite flat.signals (record { sig = sig; bits = bits })
@@ -111,10 +113,14 @@ impl<M: FlowMaker + Drop, W: Awaits> RunningTest<M, W> {
         requires fits { Fits teller.now.flat.now W.waiting W.held self.old.queue (K.content kernel.old) }
         requires sound { IsSoundWrite teller.now.flat.now.signals write }
         requires room { HasRoom (means M.functions M.Flow.functions M.Flow.meaning W.waiting W.held) self.old }
-        ensures leads { IfOk result (λ next. (functions : List Function) → (task : TaskNo)
-            → LeadsTo (setup_of functions teller.now) task (turned.Put write.sig write.bits) (rig_of (means M.functions M.Flow.functions M.Flow.meaning W.waiting W.held) self.old (K.content kernel.old)) next (rig_of (means M.functions M.Flow.functions M.Flow.meaning W.waiting W.held) self.new (K.content kernel.new))) }
-        ensures puts { (functions : List Function) → (task : TaskNo) → PutsTo (sink_means O.Sink) out.old
-            (effect (setup_of functions teller.now) task (turned.Put write.sig write.bits) (rig_of (means M.functions M.Flow.functions M.Flow.meaning W.waiting W.held) self.old (K.content kernel.old))).lines (next_fault result) out.new }
+        ensures leads { IfOk result
+            (λ next. (functions : List Function) → (task : TaskNo) → LeadsTo (setup_of functions teller.now) task (turned.Put write.sig write.bits)
+            (rig_of (means M.functions M.Flow.functions M.Flow.meaning W.waiting W.held) self.old (K.content kernel.old)) next
+            (rig_of (means M.functions M.Flow.functions M.Flow.meaning W.waiting W.held) self.new (K.content kernel.new))) }
+        ensures puts { (functions : List Function) → (task : TaskNo)
+            → PutsTo (sink_means O.Sink) out.old (effect (setup_of functions teller.now) task (turned.Put write.sig write.bits)
+            (rig_of (means M.functions M.Flow.functions M.Flow.meaning W.waiting W.held) self.old (K.content kernel.old))).lines
+            (next_fault result) out.new }
         ensures room { OnOk result (HasRoom (means M.functions M.Flow.functions M.Flow.meaning W.waiting W.held) self.new) }
         ensures fits { Fits teller.now.flat.now W.waiting W.held self.new.queue (K.content kernel.new) }
         ensures kept { Kept (means M.functions M.Flow.functions M.Flow.meaning W.waiting W.held) K.is_loaded K.content self.old self.new kernel.new }

@@ -90,7 +90,8 @@ fn claim(children: &Sequence<(Name, Spot)>, node: u32, parents: &mut [Option<u32
 fn claim_one(child: Spot, node: u32, parents: &mut [Option<u32>]) -> bool
     ensures count { length parents.new ≡ length parents.old }
     ensures once { IsTrue result ↔ ((v : ℕ) → v < length parents.old → is_child v child ≡ true → slice_get parents.old v ≡ Some None) }
-    ensures is { IsTrue result → (v : ℕ) → v < length parents.old → slice_get parents.new v ≡ (if is_child v child then Some (Some node) else slice_get parents.old v) }
+    ensures is { IsTrue result → (v : ℕ) → v < length parents.old
+        → slice_get parents.new v ≡ (if is_child v child then Some (Some node) else slice_get parents.old v) }
 {
     match child {
         Spot::Inner(inner) if (inner as usize) < parents.len() => {

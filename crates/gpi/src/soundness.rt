@@ -170,7 +170,8 @@ impl Target {
 /// Whether an assignment of a value to a target is sound.
 fn fits(target: &Target, value: &Term, table: &WidthTable<'_>) -> bool
     requires { IsWidthTable table.now }
-    ensures { IsTrue result ↔ (IsSoundTarget target.now (widths table.now.signals.now) × IsSound value.now (widths table.now.signals.now) × (width value.now ≡ target_width target.now)) }
+    ensures { IsTrue result ↔ (IsSoundTarget target.now (widths table.now.signals.now)
+        × IsSound value.now (widths table.now.signals.now) × (width value.now ≡ target_width target.now)) }
 {
     match (target.width_in(table), value.width_in(table)) {
         (Some(there), Some(given)) => given == there,
@@ -205,7 +206,8 @@ fn are_labels(labels: &Sequence<Label>, w: u8, items: usize, table: &WidthTable<
 /// Whether the value and the labels of a case statement are sound, with so many items.
 fn is_choice(value: &Term, labels: &Sequence<Label>, items: usize, table: &WidthTable<'_>) -> bool
     requires { IsWidthTable table.now }
-    ensures { IsTrue result ↔ (IsSound value.now (widths table.now.signals.now) × AreLabels labels.now (width value.now) (widths table.now.signals.now) × AreItems labels.now items) }
+    ensures { IsTrue result ↔ (IsSound value.now (widths table.now.signals.now)
+        × AreLabels labels.now (width value.now) (widths table.now.signals.now) × AreItems labels.now items) }
 {
     match value.width_in(table) {
         Some(w) => are_labels(labels, w, items, table),

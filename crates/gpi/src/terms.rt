@@ -3,7 +3,21 @@ ghost use Rattle.std.specs.Prelude.{◌≡◌, ℕ, ◌+◌, ◌*◌, ◌<◌, �
 ghost use Rattle.four_value.specs.Limits.{most_digits};
 ghost use Rattle.gpi.specs.Limits.{most_elements};
 ghost use Rattle.gpi.specs.Terms.{value, width, IsSound, read, widths_of, copies};
-ghost use Rattle.gpi.specs.Made.{MakesWord, MakesSelect, MakesUnary, MakesArith, MakesCompare, MakesLogic, MakesReduce, MakesShift, MakesCond, MakesConcat, MakesRepeat, MakesResize, IsCopy};
+ghost use Rattle.gpi.specs.Made.{
+  MakesWord,
+  MakesSelect,
+  MakesUnary,
+  MakesArith,
+  MakesCompare,
+  MakesLogic,
+  MakesReduce,
+  MakesShift,
+  MakesCond,
+  MakesConcat,
+  MakesRepeat,
+  MakesResize,
+  IsCopy,
+};
 
 use crate::both_ok::both_ok;
 use crate::operators::{Arith, Compare, Logic, Reduce, Shift, Unary, chosen};

@@ -29,7 +29,8 @@ impl Flat {
 
     /// Whether no list is too long, and the step is at least 1.
     fn are_short(&self) -> bool
-        ensures { IsTrue result ↔ ((length self.now.signals ≤ most_elements) × (length self.now.nodes ≤ most_elements) × (length self.now.processes ≤ most_elements) × (1 ≤ self.now.step_fs)) }
+        ensures { IsTrue result ↔ ((length self.now.signals ≤ most_elements) × (length self.now.nodes ≤ most_elements)
+            × (length self.now.processes ≤ most_elements) × (1 ≤ self.now.step_fs)) }
     {
         self.signals.len() <= MOST_ELEMENTS
             && self.nodes.len() <= MOST_ELEMENTS
@@ -70,7 +71,8 @@ fn are_processes(processes: &Sequence<Process>, table: &WidthTable<'_>) -> bool
 #[tactic(auto, using(crate::proofs::Sound::signals))]
 fn is_process(process: &Process, table: &WidthTable<'_>) -> bool
     requires { IsWidthTable table.now }
-    ensures { IsTrue result ↔ (IsSound process.now.body (widths table.now.signals.now) × IsTrue (are_wakes process.now.wakes (length (widths table.now.signals.now)))) }
+    ensures { IsTrue result
+        ↔ (IsSound process.now.body (widths table.now.signals.now) × IsTrue (are_wakes process.now.wakes (length (widths table.now.signals.now)))) }
 {
     process.body.is_sound(table) && are_wakes(&process.wakes, table.signals.len())
 }

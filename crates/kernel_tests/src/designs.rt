@@ -2,7 +2,21 @@
 
 ghost use Rattle.std.specs.Prelude.{◌≡◌, [], ◌∷◌, IfOk};
 ghost use Rattle.gpi.specs.Soundness.{IsSoundFlat};
-ghost use Rattle.kernel_tests.specs.Designs.{IsDesign, IsEnabledInverse, IsFeedback, IsOscillator, design_named, clocked_copy, flip_flops, one_process, reg, value_of, wake, whole, wire};
+ghost use Rattle.kernel_tests.specs.Designs.{
+  IsDesign,
+  IsEnabledInverse,
+  IsFeedback,
+  IsOscillator,
+  design_named,
+  clocked_copy,
+  flip_flops,
+  one_process,
+  reg,
+  value_of,
+  wake,
+  whole,
+  wire,
+};
 
 use four_value::Digit;
 use gpi::{

@@ -1,5 +1,27 @@
 //! The registered keys, and the counts.
-ghost use Rattle.std.specs.Prelude.{◌≡◌, ℕ, ◌<◌, ◌≤◌, ◌||◌, ◌&&◌, ◌++◌, ◌∷◌, [], IsTrue, not, Option, true, false, length, OnOk, OnErr, IfOk, replicate, IsErr, if◌then◌else◌};
+ghost use Rattle.std.specs.Prelude.{
+  ◌≡◌,
+  ℕ,
+  ◌<◌,
+  ◌≤◌,
+  ◌||◌,
+  ◌&&◌,
+  ◌++◌,
+  ◌∷◌,
+  [],
+  IsTrue,
+  not,
+  Option,
+  true,
+  false,
+  length,
+  OnOk,
+  OnErr,
+  IfOk,
+  replicate,
+  IsErr,
+  if◌then◌else◌,
+};
 ghost use Rattle.gpi.specs.Keys.{has, no_keys, is_time, least, same_key, holds, among, fired_of, raised, lesser, IsWith, IsWithout};
 ghost use Rattle.gpi.specs.Events.{edge_keys, if_has};
 ghost use Rattle.gpi.specs.Content.{no_counts};

@@ -1,5 +1,26 @@
 //! The plain simulator.
-ghost use Rattle.std.specs.Prelude.{◌≡◌, ℕ, ◌<◌, ◌≤◌, ◌+◌, ◌++◌, ◌∷◌, [], true, false, length, OnOk, OnErr, IfOk, IsTrue, MatchOption, vec_capacity, None, List, slice_get};
+ghost use Rattle.std.specs.Prelude.{
+  ◌≡◌,
+  ℕ,
+  ◌<◌,
+  ◌≤◌,
+  ◌+◌,
+  ◌++◌,
+  ◌∷◌,
+  [],
+  true,
+  false,
+  length,
+  OnOk,
+  OnErr,
+  IfOk,
+  IsTrue,
+  MatchOption,
+  vec_capacity,
+  None,
+  List,
+  slice_get,
+};
 ghost use Rattle.gpi.specs.Limits.{most_elements};
 ghost use Rattle.gpi.specs.Design.{procs_of, proc_of, start_map, starters};
 ghost use Rattle.gpi.specs.Soundness.{IsSoundFlat, AreProcesses, are_wakes, are_wide};
@@ -9,7 +30,23 @@ ghost use Rattle.gpi.specs.Keys.{has, fired_of, holds};
 ghost use Rattle.gpi.specs.Events.{event, put, value_at, report_case, due_case, active_case, later_case, settle_case, end_case, tells, edge_keys};
 ghost use Rattle.gpi.specs.Content.{Content, opening, no_design, Does, IsRunning};
 ghost use Rattle.list_kernel.specs.Lists.{own_of, is_empty};
-ghost use Rattle.list_kernel.specs.Kernel.{content_of, IsLoaded, Stays, TellsIt, Answered, ran, with_run, ended, from_time, from_end, from_settle, from_later, from_active, from_due, from_reports};
+ghost use Rattle.list_kernel.specs.Kernel.{
+  content_of,
+  IsLoaded,
+  Stays,
+  TellsIt,
+  Answered,
+  ran,
+  with_run,
+  ended,
+  from_time,
+  from_end,
+  from_settle,
+  from_later,
+  from_active,
+  from_due,
+  from_reports,
+};
 
 use crate::book::{Book, Watch, in_order};
 use crate::run::activate;
@@ -74,8 +111,11 @@ impl ListKernel {
         requires loaded { IsLoaded self.old }
         requires sig { report.now.sig.0 < length self.old.signals.items }
         ensures stays { Stays self.old self.new }
-        ensures is { let c = content_of self.old in
-            TellsIt c (record { state = record c.state { region = Region.Active }; told = tells report.now; fired = edge_keys report.now c.keys }) result (content_of self.new) }
+        ensures is { let c = content_of self.old in TellsIt c (record {
+          state = record c.state { region = Region.Active };
+          told = tells report.now;
+          fired = edge_keys report.now c.keys;
+        }) result (content_of self.new) }
     {
         self.region = Region::Active;
         let fired = self.book.change(report);
@@ -107,7 +147,8 @@ impl ListKernel {
     fn report_first(&mut self) -> Option<Moved>
         requires { IsLoaded self.old }
         ensures stays { Stays self.old self.new }
-        ensures is { Answered (content_of self.old) (report_case (content_of self.old).state (content_of self.old).keys (content_of self.old).state.reports) result (content_of self.new) }
+        ensures is { Answered (content_of self.old)
+            (report_case (content_of self.old).state (content_of self.old).keys (content_of self.old).state.reports) result (content_of self.new) }
         ensures none { result ≡ None → self.new.reports.items ≡ [] }
     {
         let report = take_first(&mut self.reports)?;
@@ -147,7 +188,8 @@ impl ListKernel {
         requires loaded { IsLoaded self.old }
         requires quiet { self.old.reports.items ≡ [] }
         ensures stays { Stays self.old self.new }
-        ensures is { let c = content_of self.old in IfOk result (λ answer. Answered c (active_case c.procs c.state c.state.active) answer (content_of self.new)) }
+        ensures is { let c = content_of self.old in IfOk result
+            (λ answer. Answered c (active_case c.procs c.state c.state.active) answer (content_of self.new)) }
         ensures kept { OnErr result (content_of self.new ≡ content_of self.old) }
         ensures due { self.new.due.items ≡ self.old.due.items }
         ensures cause { OnErr result (0 < length self.old.active.items) }
@@ -199,7 +241,8 @@ impl ListKernel {
         ensures loaded { IsLoaded self.new }
         ensures procs { self.new.processes.items ≡ self.old.processes.items }
         ensures book { self.new.book ≡ self.old.book }
-        ensures is { let c = content_of self.old in (content_of self.new).state ≡ ended c.procs c.state self.old.before.items p (slice_get c.procs p) }
+        ensures is { let c = content_of self.old in (content_of self.new).state
+            ≡ ended c.procs c.state self.old.before.items p (slice_get c.procs p) }
     {
         tell_changes(&self.before, &self.signals, &mut self.reports);
         let process = &self.processes[p as usize];
@@ -333,7 +376,8 @@ impl ListKernel {
     fn settle(&mut self) -> Option<Moved>
         requires { IsLoaded self.old }
         ensures stays { Stays self.old self.new }
-        ensures is { Answered (content_of self.old) (settle_case (content_of self.old).state (content_of self.old).keys) result (content_of self.new) }
+        ensures is { Answered (content_of self.old)
+            (settle_case (content_of self.old).state (content_of self.old).keys) result (content_of self.new) }
     {
         if self.region == Region::End || !self.book.has(Key::ReadWrite) {
             return None;
@@ -486,7 +530,8 @@ fn copy_processes(alloc: Global, processes: &Sequence<Process>) -> Result<Vec<Pr
 
 /// A copy of a process, which means the same.
 fn copy_process(alloc: Global, process: &Process) -> Result<Process, NoMemory>
-    ensures { IfOk result (λ copy. (proc_of copy ≡ proc_of process.now) × (copy.wakes ≡ process.now.wakes) × ((ws : List ℕ) → IsSound process.now.body ws → IsSound copy.body ws)) }
+    ensures { IfOk result (λ copy. (proc_of copy ≡ proc_of process.now) × (copy.wakes ≡ process.now.wakes)
+        × ((ws : List ℕ) → IsSound process.now.body ws → IsSound copy.body ws)) }
 {
     let wakes = copy_wakes(alloc, &process.wakes)?;
     let body = process.body.copy(alloc)?;

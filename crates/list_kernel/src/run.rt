@@ -25,7 +25,8 @@ pub fn activate(
     ensures widths { widths_of signals.new.items ≡ widths_of signals.old.items }
     ensures fits { AreFitting updates.new.items (widths_of signals.old.items) }
     ensures signals { OnOk result (signals.new.items ≡ (activation act.now (record { signals = signals.old.items; updates = [] })).signals) }
-    ensures updates { OnOk result (updates.new.items ≡ updates.old.items ++ (activation act.now (record { signals = signals.old.items; updates = [] })).updates) }
+    ensures updates { OnOk result
+        (updates.new.items ≡ updates.old.items ++ (activation act.now (record { signals = signals.old.items; updates = [] })).updates) }
     ensures kept { OnErr result ((signals.new.items ≡ signals.old.items) × (updates.new.items ≡ updates.old.items)) }
 {
     before.copy_from_slice(signals);

@@ -76,7 +76,8 @@ impl<F: Flow> LiveTasks<F> {
         requires room { length self.old < tasks.start_limit }
         ensures ok { OnOk result (self.new ≡ self.old ++ Some flow ∷ []) }
         ensures tasks { OnOk result (tasks.tasks_of F.meaning self.new ≡ tasks.tasks_of F.meaning self.old ++ F.meaning flow ∷ []) }
-        ensures file { OnOk result ((file : List Function) → F.functions flow ≡ file → tasks.AreOf F.functions file self.old → tasks.AreOf F.functions file self.new) }
+        ensures file { OnOk result
+            ((file : List Function) → F.functions flow ≡ file → tasks.AreOf F.functions file self.old → tasks.AreOf F.functions file self.new) }
         ensures err { OnErr result (self.new ≡ self.old) }
     {
         let place = Place::new(alloc, flow)?;

@@ -31,7 +31,8 @@ fn numbers<'a>(start: Integer, stop: Integer, step: Integer) -> Result<Left<'a>,
 /// The span of three operands by their numbers. A kind without a number is a TypeError, and only then an x or z digit or a step of 0 a
 /// ValueError.
 fn of_numbers<'a>(start: Number, stop: Number, step: Number) -> Result<Left<'a>, FaultKind>
-    ensures { answer_map left_in result ≡ and_then (meaning.three_numbers (means start) (means stop) (means step)) (λ p. meaning.numbers p.0 p.1 p.2) }
+    ensures { answer_map left_in result
+        ≡ and_then (meaning.three_numbers (means start) (means stop) (means step)) (λ p. meaning.numbers p.0 p.1 p.2) }
 {
     match (start, stop, step) {
         (Number::Missing, _, _) | (_, Number::Missing, _) | (_, _, Number::Missing) => {
@@ -74,7 +75,8 @@ pub fn of_start_stop_step<'a>(
     step: &Value,
 ) -> Result<Left<'a>, FaultKind>
     ensures { answer_map left_in result
-        ≡ and_then (meaning.three_numbers (number.number_of start.now) (number.number_of stop.now) (number.number_of step.now)) (λ p. meaning.numbers p.0 p.1 p.2) }
+        ≡ and_then (meaning.three_numbers (number.number_of start.now) (number.number_of stop.now) (number.number_of step.now))
+        (λ p. meaning.numbers p.0 p.1 p.2) }
 {
     of_numbers(number_of(start), number_of(stop), number_of(step))
 }

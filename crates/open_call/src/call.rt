@@ -166,8 +166,8 @@ impl<'a> OpenCall<'a> {
         Ok(self.go_on())
     }
 
-    /// The step ends, and the call goes on with the statements of a block and behind them a mark before the rest; the block is that of the mark, where
-    /// this has one. Only want of memory is an error.
+    /// The step ends, and the call goes on with the statements of a block and behind them a mark before the rest; the block is that of the mark,
+    /// where this has one. Only want of memory is an error.
     pub fn enter_marked(&mut self, block: &'a [Item], mark: Mark<'a>) -> Result<Wish, NoMemory>
         ensures { IfOk result (λ wish. Goes self.old self.new wish
             ((block_todo block.now ++ mark_in mark.entry (block_of block.now) ∷ []) ++ todos_in self.old.todo)) }

@@ -92,7 +92,8 @@ impl<'a> Slots<'a> {
     #[tactic(auto, using(crate::proofs::Naming::passed_more, crate::proofs::Naming::passed_found, crate::proofs::Naming::passed_all))]
     fn place(&self, name: &Name) -> Option<usize>
         ensures within { IfSome result (λ at. at < length self.now.slots.items) }
-        ensures is { (value : Option Value) → with_local (names_in self.now) name.now value ≡ map local_in (valued self.now.slots.items result value) }
+        ensures is { (value : Option Value)
+            → with_local (names_in self.now) name.now value ≡ map local_in (valued self.now.slots.items result value) }
     {
         for at in 0..self.slots.len() {
             if self.slots[at].name.bytes() == name.bytes() {

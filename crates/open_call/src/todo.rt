@@ -201,7 +201,8 @@ impl<'a> TodoStack<'a> {
     /// Takes the first thing to do off; None where nothing is to do.
     #[tactic(auto, using(crate::proofs::Unwound::taken_item, crate::proofs::Unwound::taken_mark, crate::proofs::Unwound::taken_nothing))]
     pub fn take(&mut self) -> Option<Todo<'a>>
-        ensures { MatchOption result ((todos_in self.old ≡ []) × (todos_in self.new ≡ [])) (λ todo. todos_in self.old ≡ todo_of todo ∷ todos_in self.new) }
+        ensures { MatchOption result ((todos_in self.old ≡ []) × (todos_in self.new ≡ []))
+            (λ todo. todos_in self.old ≡ todo_of todo ∷ todos_in self.new) }
     {
         while let Some(part) = self.parts.pop() {
             if part.next < part.block.len() {

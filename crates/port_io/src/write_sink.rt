@@ -43,7 +43,8 @@ impl<W: Outlet> Sink for WriteSink<W> {
 
     ghost takes_told = { λ before piece after taken. whole_told W.takes W.told W.takes_told before.writer piece after.writer taken.whole };
 
-    ghost breaks_told = { λ before piece after broken. broken_told W.takes W.told W.takes_told W.fails W.fails_told before.writer piece after.writer broken.broken };
+    ghost breaks_told = { λ before piece after broken.
+        broken_told W.takes W.told W.takes_told W.fails W.fails_told before.writer piece after.writer broken.broken };
 
     ghost takes_count = { λ before piece after taken. same_count before.faults after.faults taken.counted };
 

@@ -4,7 +4,20 @@ ghost use Rattle.std.specs.List.{list_all};
 ghost use Rattle.table_rows.specs.Rows.{decimal as number, part_at};
 ghost use Rattle.table_rows.specs.Shown.{latin};
 ghost use Rattle.port_tests.specs.Calls.{told};
-ghost use Rattle.port_tests.specs.Files.{Reads, ShowsCurrent, ShowsFolder, after_read, bytes_text, counted_text, is_x, read_at, read_text, store_text, two_files, which_text};
+ghost use Rattle.port_tests.specs.Files.{
+  Reads,
+  ShowsCurrent,
+  ShowsFolder,
+  after_read,
+  bytes_text,
+  counted_text,
+  is_x,
+  read_at,
+  read_text,
+  store_text,
+  two_files,
+  which_text,
+};
 
 use port_io::{DirStore, Folder, MemStore, NoMemory, Store, StoreFault};
 use std::alloc::Global;

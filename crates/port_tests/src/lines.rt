@@ -3,7 +3,22 @@ ghost use Rattle.std.specs.Prelude.{◌≡◌, ◌<◌, ◌++◌, codes, fold, m
 ghost use Rattle.std.specs.List.{flat_map, slice_split};
 ghost use Rattle.table_rows.specs.Rows.{decimal as number, is_byte};
 ghost use Rattle.port_tests.specs.Calls.{told};
-ghost use Rattle.port_tests.specs.Lines.{PutsAs, ShowsPut, after_put, line_at, name_text, number_text, numbers_text, place_text, position_text, put_word, sink_text, sequence_text, third_fails, word_of};
+ghost use Rattle.port_tests.specs.Lines.{
+  PutsAs,
+  ShowsPut,
+  after_put,
+  line_at,
+  name_text,
+  number_text,
+  numbers_text,
+  place_text,
+  position_text,
+  put_word,
+  sink_text,
+  sequence_text,
+  third_fails,
+  word_of,
+};
 
 use port_io::{MemSink, Name, NoMemory, Sequence, Sink, SinkFault, WriteSink, line_of};
 use std::alloc::{AllocError, Global};

@@ -106,7 +106,8 @@ fn function_call(
 /// The object of which a tree is the attribute of this name.
 #[tactic(auto, unfolding(crate::specs::Reading::owner_of))]
 fn owner(tree: Box<Expression>, wanted: &[u8]) -> Option<Box<Expression>>
-    ensures { MatchOption result (Reading.owner_of wanted.now (view tree.value) ≡ None) (λ e. Reading.owner_of wanted.now (view tree.value) ≡ Some (view e.value)) }
+    ensures { MatchOption result (Reading.owner_of wanted.now (view tree.value) ≡ None)
+        (λ e. Reading.owner_of wanted.now (view tree.value) ≡ Some (view e.value)) }
 {
     match split(Box::into_inner(tree)) {
         Some((base, name)) if name.bytes() == wanted => Some(base),

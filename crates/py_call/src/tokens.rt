@@ -39,7 +39,8 @@ pub fn after_call<'a>(wanted: &[u8], tokens: &'a [Token]) -> Option<&'a [Token]>
 
 /// The tokens after `owner.name(`.
 pub fn after_member<'a>(owner: &[u8], wanted: &[u8], tokens: &'a [Token]) -> Option<&'a [Token]>
-    ensures { MatchOption result (Words.after_member owner.now wanted.now tokens.now ≡ None) (λ x. Words.after_member owner.now wanted.now tokens.now ≡ Some x.now) }
+    ensures { MatchOption result (Words.after_member owner.now wanted.now tokens.now ≡ None)
+        (λ x. Words.after_member owner.now wanted.now tokens.now ≡ Some x.now) }
 {
     let (name, rest) = name_at(tokens)?;
     let rest = after(Mark::Operator(Operator::Dot), rest)?;

@@ -79,7 +79,8 @@ fn attribute_of<N: Locals, V: Look>(
     next: &mut u64,
 ) -> Result<Value, OperationFault>
     requires { KnowsNames (V.view view.now) (N.names names.now) }
-    ensures { told.Evaluated (told.scope task (N.names names.now) (V.view view.now)) (tree.Attribute (tree.view base.now) name.now) next.old result next.new }
+    ensures { told.Evaluated (told.scope task (N.names names.now) (V.view view.now))
+        (tree.Attribute (tree.view base.now) name.now) next.old result next.new }
 {
     let v = value_of(alloc, base, names, view, task, next)?;
     attribute(alloc, view, &v, name)
@@ -97,7 +98,8 @@ fn subscript<N: Locals, V: Look>(
     next: &mut u64,
 ) -> Result<Value, OperationFault>
     requires { KnowsNames (V.view view.now) (N.names names.now) }
-    ensures { told.Evaluated (told.scope task (N.names names.now) (V.view view.now)) (tree.Subscript (tree.view base.now) (tree.view index.now)) next.old result next.new }
+    ensures { told.Evaluated (told.scope task (N.names names.now) (V.view view.now))
+        (tree.Subscript (tree.view base.now) (tree.view index.now)) next.old result next.new }
 {
     let v = boxed(alloc, value_of(alloc, base, names, view, task, next)?)?;
     let index = value_of(alloc, index, names, view, task, next)?;
@@ -116,7 +118,8 @@ fn call<N: Locals, V: Look>(
     next: &mut u64,
 ) -> Result<Value, OperationFault>
     requires { KnowsNames (V.view view.now) (N.names names.now) }
-    ensures { told.Evaluated (told.scope task (N.names names.now) (V.view view.now)) (tree.Call function (rows.trees_of arguments.now)) next.old result next.new }
+    ensures { told.Evaluated (told.scope task (N.names names.now) (V.view view.now))
+        (tree.Call function (rows.trees_of arguments.now)) next.old result next.new }
 {
     let values = values_of(alloc, arguments, names, view, task, next)?;
     called(alloc, view, task, function, &values, next)
@@ -133,7 +136,8 @@ fn values_of<N: Locals, V: Look>(
     next: &mut u64,
 ) -> Result<Vec<Value>, OperationFault>
     requires { KnowsNames (V.view view.now) (N.names names.now) }
-    ensures ends { EndsAs result (λ values. values.items) next.new (eval_row (told.scope task (N.names names.now) (V.view view.now)) (rows.trees_of arguments.now) next.old) }
+    ensures ends { EndsAs result (λ values. values.items) next.new
+        (eval_row (told.scope task (N.names names.now) (V.view view.now)) (rows.trees_of arguments.now) next.old) }
     ensures known { IfOk result (λ values. KnowsAll (V.view view.now) values.items) }
     ensures rises { next.old ≤ next.new }
     ensures want { IfWant result (RowWants (told.scope task (N.names names.now) (V.view view.now)) (rows.trees_of arguments.now) next.old next.new) }
@@ -158,7 +162,8 @@ fn method_call<N: Locals, V: Look>(
     next: &mut u64,
 ) -> Result<Value, OperationFault>
     requires { KnowsNames (V.view view.now) (N.names names.now) }
-    ensures { told.Evaluated (told.scope task (N.names names.now) (V.view view.now)) (tree.MethodCall (tree.view base.now) method) next.old result next.new }
+    ensures { told.Evaluated (told.scope task (N.names names.now) (V.view view.now))
+        (tree.MethodCall (tree.view base.now) method) next.old result next.new }
 {
     let v = value_of(alloc, base, names, view, task, next)?;
     Ok(method_value(view, task, &v, method, next)?)
@@ -176,7 +181,8 @@ fn unary<N: Locals, V: Look>(
     next: &mut u64,
 ) -> Result<Value, OperationFault>
     requires { KnowsNames (V.view view.now) (N.names names.now) }
-    ensures { told.Evaluated (told.scope task (N.names names.now) (V.view view.now)) (tree.Unary op (tree.view operand.now)) next.old result next.new }
+    ensures { told.Evaluated (told.scope task (N.names names.now) (V.view view.now))
+        (tree.Unary op (tree.view operand.now)) next.old result next.new }
 {
     let v = value_of(alloc, operand, names, view, task, next)?;
     Ok(unary_value(view, op, v)?)
@@ -195,7 +201,8 @@ fn binary<N: Locals, V: Look>(
     next: &mut u64,
 ) -> Result<Value, OperationFault>
     requires { KnowsNames (V.view view.now) (N.names names.now) }
-    ensures { told.Evaluated (told.scope task (N.names names.now) (V.view view.now)) (tree.Infix (operation.Binary op) (tree.view left.now) (tree.view right.now)) next.old result next.new }
+    ensures { told.Evaluated (told.scope task (N.names names.now) (V.view view.now))
+        (tree.Infix (operation.Binary op) (tree.view left.now) (tree.view right.now)) next.old result next.new }
 {
     let a = boxed(alloc, value_of(alloc, left, names, view, task, next)?)?;
     let b = value_of(alloc, right, names, view, task, next)?;
@@ -215,7 +222,8 @@ fn choice<N: Locals, V: Look>(
     next: &mut u64,
 ) -> Result<Value, OperationFault>
     requires { KnowsNames (V.view view.now) (N.names names.now) }
-    ensures { told.Evaluated (told.scope task (N.names names.now) (V.view view.now)) (tree.Infix (operation.Bool op) (tree.view left.now) (tree.view right.now)) next.old result next.new }
+    ensures { told.Evaluated (told.scope task (N.names names.now) (V.view view.now))
+        (tree.Infix (operation.Bool op) (tree.view left.now) (tree.view right.now)) next.old result next.new }
 {
     let v = value_of(alloc, left, names, view, task, next)?;
     match (op, truth(&v)) {
@@ -237,7 +245,8 @@ fn format_string<N: Locals, V: Look>(
     next: &mut u64,
 ) -> Result<Value, OperationFault>
     requires { KnowsNames (V.view view.now) (N.names names.now) }
-    ensures { told.Evaluated (told.scope task (N.names names.now) (V.view view.now)) (tree.FormatString (rows.parts_of parts.now)) next.old result next.new }
+    ensures { told.Evaluated (told.scope task (N.names names.now) (V.view view.now))
+        (tree.FormatString (rows.parts_of parts.now)) next.old result next.new }
 {
     let text = text_of(alloc, parts, names, view, task, next)?;
     text_value(alloc, &text)
@@ -254,7 +263,8 @@ fn text_of<N: Locals, V: Look>(
     next: &mut u64,
 ) -> Result<Vec<u8>, OperationFault>
     requires { KnowsNames (V.view view.now) (N.names names.now) }
-    ensures ends { EndsAs result (λ text. text.items) next.new (eval_parts (told.scope task (N.names names.now) (V.view view.now)) (rows.parts_of parts.now) next.old) }
+    ensures ends { EndsAs result (λ text. text.items) next.new
+        (eval_parts (told.scope task (N.names names.now) (V.view view.now)) (rows.parts_of parts.now) next.old) }
     ensures rises { next.old ≤ next.new }
     ensures want { IfWant result (PartsWant (told.scope task (N.names names.now) (V.view view.now)) (rows.parts_of parts.now) next.old next.new) }
 {

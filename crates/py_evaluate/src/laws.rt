@@ -23,11 +23,13 @@ pub fn want_lies_on_the_way()
 /// then it is the task's, and its number is at least the old next one and below the new one. So a test that holds of all of those holds of
 /// each trigger in the value.
 pub fn triggers_are_old_or_new()
-    ensures { (test : TrigId → Bool) (s : Scope) (e : Tree) (k : ℕ) → EachName test s.names → EachNumber test s.task k (eval s e k).next → IfOk (eval s e k).answer (Each test) }
+    ensures { (test : TrigId → Bool) (s : Scope) (e : Tree) (k : ℕ) → EachName test s.names
+        → EachNumber test s.task k (eval s e k).next → IfOk (eval s e k).answer (Each test) }
 {}
 
 /// Where the numbers of the task's triggers in the names lie below its next one, those in the value of an expression lie below the next one
 /// behind it.
 pub fn numbers_stay_below()
-    ensures { (s : Scope) (e : Tree) (k : ℕ) → EachName (is_below s.task k) s.names → IfOk (eval s e k).answer (Each (is_below s.task (eval s e k).next)) }
+    ensures { (s : Scope) (e : Tree) (k : ℕ) → EachName (is_below s.task k) s.names
+        → IfOk (eval s e k).answer (Each (is_below s.task (eval s e k).next)) }
 {}

@@ -48,7 +48,8 @@ fn brackets<'a>(
     inner: Measured,
     tokens: &'a [Token],
 ) -> Result<Spot<'a>, ReadError>
-    ensures { Gives spot_in result (Reading.close_of height_limit (stack_in stack.items) least (opened_in Opened.Brackets) (measured inner) tokens.now) }
+    ensures { Gives spot_in result
+        (Reading.close_of height_limit (stack_in stack.items) least (opened_in Opened.Brackets) (measured inner) tokens.now) }
 {
     match after(Mark::Close(Bracket::Round), tokens) {
         Some(rest) => {
@@ -69,7 +70,8 @@ fn subscript<'a>(
     index: Measured,
     tokens: &'a [Token],
 ) -> Result<Spot<'a>, ReadError>
-    ensures { Gives spot_in result (Reading.close_of height_limit (stack_in stack.items) least (opened_in (Opened.Subscript base)) (measured index) tokens.now) }
+    ensures { Gives spot_in result
+        (Reading.close_of height_limit (stack_in stack.items) least (opened_in (Opened.Subscript base)) (measured index) tokens.now) }
 {
     match after(Mark::Close(Bracket::Square), tokens) {
         Some(rest) => {
@@ -89,7 +91,8 @@ fn formatted<'a>(
     expression: Measured,
     tokens: &'a [Token],
 ) -> Result<Spot<'a>, ReadError>
-    ensures { Gives spot_in result (Reading.close_of height_limit (stack_in stack.items) least (opened_in (Opened.Format parts)) (measured expression) tokens.now) }
+    ensures { Gives spot_in result
+        (Reading.close_of height_limit (stack_in stack.items) least (opened_in (Opened.Format parts)) (measured expression) tokens.now) }
 {
     match after_format_close(tokens) {
         Some(rest) => Ok(Spot {
@@ -111,7 +114,8 @@ fn close<'a>(
     operand: Measured,
     rest: &'a [Token],
 ) -> Result<Spot<'a>, ReadError>
-    ensures { Gives spot_in result (Reading.close_of height_limit (stack_in stack.items) frame.least (opened_in frame.opened) (measured operand) rest.now) }
+    ensures { Gives spot_in result
+        (Reading.close_of height_limit (stack_in stack.items) frame.least (opened_in frame.opened) (measured operand) rest.now) }
 {
     let Frame { opened, least } = frame;
     let (operand, level) = match opened {

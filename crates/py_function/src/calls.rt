@@ -103,7 +103,8 @@ fn call<V: Look>(
     requires { KnowsAll (V.view view.now) values.now }
     ensures ends { Ends result next.new (meaning.called task (V.view view.now) function values.now next.old) }
     ensures rises { next.old ≤ next.new }
-    ensures want { IfWant result (meaning.MayWant function values.now next.old next.new (meaning.called task (V.view view.now) function values.now next.old)) }
+    ensures want { IfWant result
+        (meaning.MayWant function values.now next.old next.new (meaning.called task (V.view view.now) function values.now next.old)) }
 {
     match function {
         Function::Str => str_call(alloc, view, values),

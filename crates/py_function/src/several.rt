@@ -93,7 +93,8 @@ pub(crate) fn first(
 ) -> Result<Value, OperationFault>
     ensures ends { Ends result next.new (meaning.several task trigger.First values.now next.old) }
     ensures rises { next.old ≤ next.new }
-    ensures want { IfWant result (IsTrue (list_all meaning.is_waitable values.now) × (next.new ≤ (meaning.several task trigger.First values.now next.old).next)) }
+    ensures want { IfWant result
+        (IsTrue (list_all meaning.is_waitable values.now) × (next.new ≤ (meaning.several task trigger.First values.now next.old).next)) }
 {
     let parts = parts(alloc, task, values, next)?;
     Ok(trigger_value(new_tree(task, Form::First(parts), next))?)
@@ -108,7 +109,8 @@ pub(crate) fn combine(
 ) -> Result<Value, OperationFault>
     ensures ends { Ends result next.new (meaning.several task trigger.Combine values.now next.old) }
     ensures rises { next.old ≤ next.new }
-    ensures want { IfWant result (IsTrue (list_all meaning.is_waitable values.now) × (next.new ≤ (meaning.several task trigger.Combine values.now next.old).next)) }
+    ensures want { IfWant result
+        (IsTrue (list_all meaning.is_waitable values.now) × (next.new ≤ (meaning.several task trigger.Combine values.now next.old).next)) }
 {
     let parts = parts(alloc, task, values, next)?;
     Ok(trigger_value(new_tree(task, Form::Combine(parts), next))?)

@@ -29,7 +29,14 @@ impl Model for Position {
 
     ghost Value = { Place };
 
-    ghost view = { λ a. record { mode = a.mode; at_front = a.at_front; is_fresh = a.is_fresh; spaces = a.spaces; line = a.line.0; open_brackets = a.open_brackets.items } };
+    ghost view = { λ a. record {
+      mode = a.mode;
+      at_front = a.at_front;
+      is_fresh = a.is_fresh;
+      spaces = a.spaces;
+      line = a.line.0;
+      open_brackets = a.open_brackets.items;
+    } };
 }
 
 fn is_line_end(piece: &Piece) -> bool

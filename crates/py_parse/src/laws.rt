@@ -12,7 +12,8 @@ ghost use Rattle.py_syntax.specs.Outline.{Placed, SpellsOutline, at_start};
 
 /// The lines of a text stand in their places in one way alone, however deep and high.
 pub fn one_outline()
-    ensures { (text : List Line) (lines others : List Placed) → SpellsOutline at_start lines text → SpellsOutline at_start others text → lines ≡ others }
+    ensures { (text : List Line) (lines others : List Placed) → SpellsOutline at_start lines text
+        → SpellsOutline at_start others text → lines ≡ others }
 {}
 
 /// Lines are those of at most one module.
@@ -27,6 +28,6 @@ pub fn one_module()
 
 /// Bytes have at most one module, however deep and high.
 pub fn one_module_of_bytes()
-    ensures { (bytes : List ℕ) (pieces others : List Piece) (m n : List ModuleItem) → IsSpelled first_place pieces bytes → IsSpelled first_place others bytes
-        → SpellsModule m (lines_of pieces) → SpellsModule n (lines_of others) → m ≡ n }
+    ensures { (bytes : List ℕ) (pieces others : List Piece) (m n : List ModuleItem) → IsSpelled first_place pieces bytes
+        → IsSpelled first_place others bytes → SpellsModule m (lines_of pieces) → SpellsModule n (lines_of others) → m ≡ n }
 {}

@@ -136,7 +136,8 @@ fn nested(alloc: Global, lines: Vec<PlacedLine>) -> Result<Module, NoMemory>
 /// The module whose lines these are. The only error is want of memory.
 pub fn module_of(alloc: Global, lines: Vec<PlacedLine>) -> Result<Module, NoMemory>
     // Where they stand in their places in a text, the module spells that text, and these are its lines.
-    ensures spells { IfOk result (λ m. (text : List Line) → SpellsOutline at_start (map view_placed lines.items) text → SpellsModule (view_module m) text × (module_lines (view_module m) ≡ map view_placed lines.items)) }
+    ensures spells { IfOk result (λ m. (text : List Line) → SpellsOutline at_start (map view_placed lines.items) text
+        → SpellsModule (view_module m) text × (module_lines (view_module m) ≡ map view_placed lines.items)) }
     // A module with these lines is this one.
     ensures only { (m : List trees.ModuleItem) → AreItems m → module_lines m ≡ map view_placed lines.items → IfOk result (λ x. view_module x ≡ m) }
 {

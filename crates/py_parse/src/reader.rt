@@ -111,7 +111,8 @@ fn lines_in_place(alloc: Global, lines: &[LogicalLine]) -> Result<Vec<PlacedLine
 /// The lines of a text in their places, as far as they have one: the first line that breaks a rule is the fault.
 pub fn outline(alloc: Global, lines: &Lines) -> Result<Vec<PlacedLine>, PyFault>
     ensures gives { Gives lines_in result (Reading.outline_of lines.now) }
-    ensures found { IfOk result (λ placed. SpellsOutline at_start (map view_placed placed.items) lines.now × AreWithinLimits (map view_placed placed.items)) }
+    ensures found { IfOk result
+        (λ placed. SpellsOutline at_start (map view_placed placed.items) lines.now × AreWithinLimits (map view_placed placed.items)) }
     ensures only { (placed : List Placed) → SpellsOutline at_start placed lines.now → AreWithinLimits placed → AreFound placed result }
     ensures refused { IfErr result (λ fault. IsBroken lines.now fault) }
     ensures only_refused { (refusal : Refusal) → Refused at_start lines.now refusal → IsRefused refusal result }

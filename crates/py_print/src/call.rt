@@ -4,7 +4,18 @@ ghost use Rattle.std.specs.Prelude.{◌≡◌, IfOk, codes, map};
 ghost use Rattle.std.specs.List.{flat_map};
 ghost use Rattle.py_syntax.specs.ExpressionTrees.{view};
 ghost use Rattle.py_syntax.specs.StatementTrees.{RandomInt, WithTimeout, optional, view_argument, view_awaited, view_right, view_started, view_timed};
-ghost use Rattle.py_print.specs.CallText.{argument_text, await_text, awaited_text, call_text, given_text, optional_text, right_text, start_text, started_text, timed_text};
+ghost use Rattle.py_print.specs.CallText.{
+  argument_text,
+  await_text,
+  awaited_text,
+  call_text,
+  given_text,
+  optional_text,
+  right_text,
+  start_text,
+  started_text,
+  timed_text,
+};
 
 use crate::expression::{expression_text, member_text, pair_text, spaced_text};
 use crate::piece::joined;

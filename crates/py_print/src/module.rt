@@ -5,7 +5,18 @@ ghost use Rattle.std.specs.List.{flat_map};
 ghost use Rattle.py_syntax.specs.BlockTrees.{FunctionAt, block_of, view_module, view_module_item};
 ghost use Rattle.py_syntax.specs.ModuleTrees as tree;
 ghost use Rattle.py_syntax.specs.ModuleTrees.{view_module_line};
-ghost use Rattle.py_print.specs.ModuleText.{affix_text, default_text, factory_call, function_text, line_text, module_item_text, module_text, parameter_text, setting_text, spaced_name};
+ghost use Rattle.py_print.specs.ModuleText.{
+  affix_text,
+  default_text,
+  factory_call,
+  function_text,
+  line_text,
+  module_item_text,
+  module_text,
+  parameter_text,
+  setting_text,
+  spaced_name,
+};
 
 use crate::block::block_text;
 use crate::expression::{constant_text, pair_text};

@@ -4,9 +4,31 @@ ghost use Rattle.std.specs.Prelude.{◌≡◌, ◌++◌, ◌∷◌, [], IfOk, co
 ghost use Rattle.std.specs.List.{concat, flat_map};
 ghost use Rattle.py_syntax.specs.ExpressionTrees.{view};
 ghost use Rattle.py_syntax.specs.StatementTrees as node;
-ghost use Rattle.py_syntax.specs.StatementTrees.{optional, view_awaited, view_caught, view_header, view_logger, view_right, view_span, view_statement};
+ghost use Rattle.py_syntax.specs.StatementTrees.{
+  optional,
+  view_awaited,
+  view_caught,
+  view_header,
+  view_logger,
+  view_right,
+  view_span,
+  view_statement,
+};
 ghost use Rattle.py_print.specs.CallText.{spaced_text};
-ghost use Rattle.py_print.specs.StatementText.{alone, caught_text, constants_text, header_text, logger_text, member_call, raised_text, returned_text, span_text, spaced_constant, spaced_kind, statement_text};
+ghost use Rattle.py_print.specs.StatementText.{
+  alone,
+  caught_text,
+  constants_text,
+  header_text,
+  logger_text,
+  member_call,
+  raised_text,
+  returned_text,
+  span_text,
+  spaced_constant,
+  spaced_kind,
+  statement_text,
+};
 
 use crate::call::{await_text, optional_text, right_text, start_text};
 use crate::expression::{

@@ -35,7 +35,8 @@ fn simple(
     alloc: Global,
     read: Result<(Box<Statement>, usize), ReadError>,
 ) -> Result<(Box<BodyLine>, usize), ReadError>
-    ensures { (o : Option (StatementTrees.Statement × ℕ)) → Gives (tall (inside view_statement)) read o → Gives (tall (inside view_line)) result (Reading.simple o) }
+    ensures { (o : Option (StatementTrees.Statement × ℕ)) → Gives (tall (inside view_statement)) read o
+        → Gives (tall (inside view_line)) result (Reading.simple o) }
 {
     let (statement, height) = read?;
     let line = BodyLine::Statement(Box::into_inner(statement));
@@ -47,7 +48,8 @@ fn heads(
     alloc: Global,
     read: Result<(Box<Header>, usize), ReadError>,
 ) -> Result<(Box<BodyLine>, usize), ReadError>
-    ensures { (o : Option (StatementTrees.Header × ℕ)) → Gives (tall (inside view_header)) read o → Gives (tall (inside view_line)) result (Reading.heads o) }
+    ensures { (o : Option (StatementTrees.Header × ℕ)) → Gives (tall (inside view_header)) read o
+        → Gives (tall (inside view_line)) result (Reading.heads o) }
 {
     let (header, height) = read?;
     let line = BodyLine::Header(Box::into_inner(header));

@@ -30,7 +30,8 @@ fn assigned_to(
     signal: (Box<Expression>, usize),
     tokens: &[Token],
 ) -> Result<(Box<Statement>, usize), ReadError>
-    ensures { Gives (tall (inside view_statement)) result (made (of_two StatementTrees.AssignValue (tall (inside view) signal)) (right_of height_limit tokens.now)) }
+    ensures { Gives (tall (inside view_statement)) result
+        (made (of_two StatementTrees.AssignValue (tall (inside view) signal)) (right_of height_limit tokens.now)) }
 {
     let (side, height) = right_side(alloc, tokens)?;
     let statement = Statement::AssignValue(Box::into_inner(signal.0), Box::into_inner(side));
@@ -169,7 +170,8 @@ fn logged(
     values: (Vec<Expression>, usize),
     rest: &[Token],
 ) -> Result<(Box<Statement>, usize), ReadError>
-    ensures { Gives (tall (inside view_statement)) result (Reading.logged_by (tall (inside view_logger) logger) level ((map view values.0.items, values.1), rest.now)) }
+    ensures { Gives (tall (inside view_statement)) result
+        (Reading.logged_by (tall (inside view_logger) logger) level ((map view values.0.items, values.1), rest.now)) }
 {
     let Some((message, others)) = first(values.0) else {
         return Err(ReadError::Wrong);
@@ -300,7 +302,8 @@ fn behind(
     height: usize,
     tokens: &[Token],
 ) -> Result<(Box<Statement>, usize), ReadError>
-    ensures { Gives (tall (inside view_statement)) result (Reading.behind_of height_limit (record { tree = view tree.value; height = height }, tokens.now)) }
+    ensures { Gives (tall (inside view_statement)) result
+        (Reading.behind_of height_limit (record { tree = view tree.value; height = height }, tokens.now)) }
 {
     if let Some(rest) = after(Mark::Operator(Operator::Assign), tokens) {
         return assigned(alloc, tree, height, rest);

@@ -1,7 +1,22 @@
 //! Expressions.
 
 ghost use Rattle.std.specs.Prelude.{◌≡◌, ℕ, ◌≤◌, MatchOption, Some, None};
-ghost use Rattle.py_syntax.specs.ExpressionTables.{binary_level, level_of, left_level, prefix_level, function_name, function_of, least_arguments, option_name, takes_any, takes_argument, has_enough, name_at, method_name, method_of};
+ghost use Rattle.py_syntax.specs.ExpressionTables.{
+  binary_level,
+  level_of,
+  left_level,
+  prefix_level,
+  function_name,
+  function_of,
+  least_arguments,
+  option_name,
+  takes_any,
+  takes_argument,
+  has_enough,
+  name_at,
+  method_name,
+  method_of,
+};
 
 use crate::Const;
 use port_io::Name;

@@ -5,7 +5,19 @@ ghost use Rattle.py_syntax.specs.Line.{Line};
 ghost use Rattle.py_lex.specs.Answer.{IsAnswered};
 ghost use Rattle.py_parse.specs.Found.{IsBroken};
 ghost use Rattle.table_rows.specs.Rows.{part_at};
-ghost use Rattle.python_tests.specs.Answers.{ShowsAsked, ShowsBroken, ShowsLines, ShowsParsed, ShowsRefusal, ShowsRow, ShowsSource, asked_by, at_line, shown_module, source_of};
+ghost use Rattle.python_tests.specs.Answers.{
+  ShowsAsked,
+  ShowsBroken,
+  ShowsLines,
+  ShowsParsed,
+  ShowsRefusal,
+  ShowsRow,
+  ShowsSource,
+  asked_by,
+  at_line,
+  shown_module,
+  source_of,
+};
 
 use crate::lines::lines_text;
 use crate::row::repeated;

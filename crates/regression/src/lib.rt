@@ -1,5 +1,6 @@
-//! The run over the tests of a file on a design: [`run_all`] begins them one after the other, gives the engine its turns, and puts the verdicts, the lines of
-//! skipped tests and the closing line. It answers a [`Status`]. What a turn does is left to `engine`, and what the texts say to the crates above.
+//! The run over the tests of a file on a design: [`run_all`] begins them one after the other, gives the engine its turns, and puts the verdicts, the
+//! lines of skipped tests and the closing line. It answers a [`Status`]. What a turn does is left to `engine`, and what the texts say to the crates
+//! above.
 #![tactic(auto)]
 
 mod lines;

@@ -17,7 +17,19 @@ ghost use Rattle.engine.specs.Engine.{rig_of, runs_test, setup_of};
 ghost use Rattle.engine.specs.Fits.{FitsKernel, KeepsAll};
 ghost use Rattle.regression.specs.Leaves.{Leaves};
 ghost use Rattle.regression.specs.Runs.{RunsTo, status_in};
-ghost use Rattle.regression.specs.Stages.{AfterEnd, HasCome, HasPlace, IsEmpty, IsEnded, IsPending, IsWaiting, Judges, StagesTo, cases_of, stage_status};
+ghost use Rattle.regression.specs.Stages.{
+  AfterEnd,
+  HasCome,
+  HasPlace,
+  IsEmpty,
+  IsEnded,
+  IsPending,
+  IsWaiting,
+  Judges,
+  StagesTo,
+  cases_of,
+  stage_status,
+};
 
 use crate::lines::{close, end_short, put_end, skip_tests};
 use crate::progress::{Progress, Stage};
@@ -50,11 +62,15 @@ fn end_case<O: Sink, K: Gpi, L: Ledger, M: FlowMaker + Drop, W: Awaits>(
     requires within { progress.at < length cases.now }
     requires few { length cases.now ≤ most_cases }
     requires place { HasPlace progress }
-    ensures judges { (case : declared_case) → slice_get cases.now progress.at ≡ Some case → Judges (sink_means O.Sink) (rig_of (means M.functions M.Flow.functions M.Flow.meaning W.waiting W.held) engine.old (K.content kernel.old)).sim.time cases.now progress (view_case case)
-        (meaning.reason_of (setup_of (means M.functions M.Flow.functions M.Flow.meaning W.waiting W.held) engine.old).flat (view_case case) outcome.now) result out.old out.new }
-    ensures ended { (rig_of (means M.functions M.Flow.functions M.Flow.meaning W.waiting W.held) engine.new (K.content kernel.new)) ≡ ended (rig_of (means M.functions M.Flow.functions M.Flow.meaning W.waiting W.held) engine.old (K.content kernel.old)) }
+    ensures judges { (case : declared_case) → slice_get cases.now progress.at ≡ Some case → Judges (sink_means O.Sink)
+        (rig_of (means M.functions M.Flow.functions M.Flow.meaning W.waiting W.held) engine.old (K.content kernel.old)).sim.time cases.now progress
+        (view_case case) (meaning.reason_of (setup_of (means M.functions M.Flow.functions M.Flow.meaning W.waiting W.held) engine.old).flat
+        (view_case case) outcome.now) result out.old out.new }
+    ensures ended { (rig_of (means M.functions M.Flow.functions M.Flow.meaning W.waiting W.held) engine.new (K.content kernel.new))
+        ≡ ended (rig_of (means M.functions M.Flow.functions M.Flow.meaning W.waiting W.held) engine.old (K.content kernel.old)) }
     ensures fits { FitsKernel (means M.functions M.Flow.functions M.Flow.meaning W.waiting W.held) engine.new (K.content kernel.new) }
-    ensures keeps { KeepsAll (means M.functions M.Flow.functions M.Flow.meaning W.waiting W.held) K.is_loaded K.content engine.old engine.new kernel.new }
+    ensures keeps { KeepsAll (means M.functions M.Flow.functions M.Flow.meaning W.waiting W.held)
+        K.is_loaded K.content engine.old engine.new kernel.new }
     ensures idle { runs_test engine.new ≡ false }
 {
     let case = cases.get(progress.at);
@@ -82,9 +98,15 @@ fn wait_start<O: Sink, K: Gpi, L: Ledger, M: FlowMaker + Drop, W: Awaits>(
     requires fits { FitsKernel (means M.functions M.Flow.functions M.Flow.meaning W.waiting W.held) engine.old (K.content kernel.old) }
     requires between { IsBetween (rig_of (means M.functions M.Flow.functions M.Flow.meaning W.waiting W.held) engine.old (K.content kernel.old)) }
     requires within { progress.at < length cases.now }
-    ensures stages { (seed : ℕ) (first : O) → IsWaiting (sink_means O.Sink) (setup_of (means M.functions M.Flow.functions M.Flow.meaning W.waiting W.held) engine.old) seed cases.now budget progress fuel.old (rig_of (means M.functions M.Flow.functions M.Flow.meaning W.waiting W.held) engine.old (K.content kernel.old)) first out.old
-        → StagesTo (sink_means O.Sink) (setup_of (means M.functions M.Flow.functions M.Flow.meaning W.waiting W.held) engine.old) seed cases.now budget progress.at result fuel.new (rig_of (means M.functions M.Flow.functions M.Flow.meaning W.waiting W.held) engine.new (K.content kernel.new)) (K.content kernel.new) first out.new }
-    ensures leaves { Leaves (means M.functions M.Flow.functions M.Flow.meaning W.waiting W.held) K.is_loaded K.content (stage_status result) engine.old engine.new kernel.new }
+    ensures stages { (seed : ℕ) (first : O) → IsWaiting (sink_means O.Sink)
+        (setup_of (means M.functions M.Flow.functions M.Flow.meaning W.waiting W.held) engine.old) seed cases.now budget progress fuel.old
+        (rig_of (means M.functions M.Flow.functions M.Flow.meaning W.waiting W.held) engine.old (K.content kernel.old)) first out.old
+        → StagesTo (sink_means O.Sink) (setup_of (means M.functions M.Flow.functions M.Flow.meaning W.waiting W.held) engine.old)
+        seed cases.now budget progress.at result fuel.new
+        (rig_of (means M.functions M.Flow.functions M.Flow.meaning W.waiting W.held) engine.new (K.content kernel.new))
+        (K.content kernel.new) first out.new }
+    ensures leaves { Leaves (means M.functions M.Flow.functions M.Flow.meaning W.waiting W.held) K.is_loaded K.content
+        (stage_status result) engine.old engine.new kernel.new }
 {
     match take_turns(alloc, engine, kernel, out, fuel, steps)? {
         Turn::Due => Ok(Stage::Goes(progress)),
@@ -110,10 +132,17 @@ fn wait_next<O: Sink, K: Gpi, L: Ledger, M: FlowMaker + Drop, W: Awaits>(
     requires fits { FitsKernel (means M.functions M.Flow.functions M.Flow.meaning W.waiting W.held) engine.old (K.content kernel.old) }
     requires empty { IsEmpty (rig_of (means M.functions M.Flow.functions M.Flow.meaning W.waiting W.held) engine.old (K.content kernel.old)) }
     requires idle { runs_test engine.old ≡ false }
-    requires early { (rig_of (means M.functions M.Flow.functions M.Flow.meaning W.waiting W.held) engine.old (K.content kernel.old)).sim.time < latest_time }
-    ensures stages { (seed : ℕ) (first : O) → IsEnded (sink_means O.Sink) (setup_of (means M.functions M.Flow.functions M.Flow.meaning W.waiting W.held) engine.old) seed cases.now budget progress fuel.old (rig_of (means M.functions M.Flow.functions M.Flow.meaning W.waiting W.held) engine.old (K.content kernel.old)) first out.old
-        → StagesTo (sink_means O.Sink) (setup_of (means M.functions M.Flow.functions M.Flow.meaning W.waiting W.held) engine.old) seed cases.now budget progress.at result fuel.new (rig_of (means M.functions M.Flow.functions M.Flow.meaning W.waiting W.held) engine.new (K.content kernel.new)) (K.content kernel.new) first out.new }
-    ensures leaves { Leaves (means M.functions M.Flow.functions M.Flow.meaning W.waiting W.held) K.is_loaded K.content (stage_status result) engine.old engine.new kernel.new }
+    requires early { (rig_of (means M.functions M.Flow.functions M.Flow.meaning W.waiting W.held) engine.old (K.content kernel.old)).sim.time
+        < latest_time }
+    ensures stages { (seed : ℕ) (first : O) → IsEnded (sink_means O.Sink)
+        (setup_of (means M.functions M.Flow.functions M.Flow.meaning W.waiting W.held) engine.old) seed cases.now budget progress fuel.old
+        (rig_of (means M.functions M.Flow.functions M.Flow.meaning W.waiting W.held) engine.old (K.content kernel.old)) first out.old
+        → StagesTo (sink_means O.Sink) (setup_of (means M.functions M.Flow.functions M.Flow.meaning W.waiting W.held) engine.old)
+        seed cases.now budget progress.at result fuel.new
+        (rig_of (means M.functions M.Flow.functions M.Flow.meaning W.waiting W.held) engine.new (K.content kernel.new))
+        (K.content kernel.new) first out.new }
+    ensures leaves { Leaves (means M.functions M.Flow.functions M.Flow.meaning W.waiting W.held) K.is_loaded K.content
+        (stage_status result) engine.old engine.new kernel.new }
 {
     if progress.at >= cases.len() {
         return Ok(Stage::Goes(progress));
@@ -140,11 +169,17 @@ fn go_on<O: Sink, K: Gpi, L: Ledger, M: FlowMaker + Drop, W: Awaits>(
     requires fits { FitsKernel (means M.functions M.Flow.functions M.Flow.meaning W.waiting W.held) engine.old (K.content kernel.old) }
     requires empty { IsEmpty (rig_of (means M.functions M.Flow.functions M.Flow.meaning W.waiting W.held) engine.old (K.content kernel.old)) }
     requires idle { runs_test engine.old ≡ false }
-    requires early { (rig_of (means M.functions M.Flow.functions M.Flow.meaning W.waiting W.held) engine.old (K.content kernel.old)).sim.time < latest_time }
-    ensures stages { (seed : ℕ) (first : O) (least : ℕ) → IfOk ended (λ progress. least ≤ progress.at)
-        → AfterEnd (sink_means O.Sink) (setup_of (means M.functions M.Flow.functions M.Flow.meaning W.waiting W.held) engine.old) seed cases.now budget ended fuel.old (rig_of (means M.functions M.Flow.functions M.Flow.meaning W.waiting W.held) engine.old (K.content kernel.old)) first out.old
-        → StagesTo (sink_means O.Sink) (setup_of (means M.functions M.Flow.functions M.Flow.meaning W.waiting W.held) engine.old) seed cases.now budget least result fuel.new (rig_of (means M.functions M.Flow.functions M.Flow.meaning W.waiting W.held) engine.new (K.content kernel.new)) (K.content kernel.new) first out.new }
-    ensures leaves { Leaves (means M.functions M.Flow.functions M.Flow.meaning W.waiting W.held) K.is_loaded K.content (stage_status result) engine.old engine.new kernel.new }
+    requires early { (rig_of (means M.functions M.Flow.functions M.Flow.meaning W.waiting W.held) engine.old (K.content kernel.old)).sim.time
+        < latest_time }
+    ensures stages { (seed : ℕ) (first : O) (least : ℕ) → IfOk ended (λ progress. least ≤ progress.at) → AfterEnd (sink_means O.Sink)
+        (setup_of (means M.functions M.Flow.functions M.Flow.meaning W.waiting W.held) engine.old) seed cases.now budget ended fuel.old
+        (rig_of (means M.functions M.Flow.functions M.Flow.meaning W.waiting W.held) engine.old (K.content kernel.old)) first out.old
+        → StagesTo (sink_means O.Sink) (setup_of (means M.functions M.Flow.functions M.Flow.meaning W.waiting W.held) engine.old)
+        seed cases.now budget least result fuel.new
+        (rig_of (means M.functions M.Flow.functions M.Flow.meaning W.waiting W.held) engine.new (K.content kernel.new))
+        (K.content kernel.new) first out.new }
+    ensures leaves { Leaves (means M.functions M.Flow.functions M.Flow.meaning W.waiting W.held) K.is_loaded K.content
+        (stage_status result) engine.old engine.new kernel.new }
 {
     match ended {
         Ok(progress) => wait_next(
@@ -172,11 +207,20 @@ fn run_case<O: Sink, K: Gpi, L: Ledger, M: FlowMaker + Drop, W: Awaits>(
     requires empty { IsEmpty (rig_of (means M.functions M.Flow.functions M.Flow.meaning W.waiting W.held) engine.old (K.content kernel.old)) }
     requires within { progress.at < length cases.now }
     requires few { length cases.now ≤ most_cases }
-    requires sound { list_all (is_sound_case (setup_of (means M.functions M.Flow.functions M.Flow.meaning W.waiting W.held) engine.old).functions) (cases_of cases.now) ≡ true }
-    requires come { HasCome (sink_means O.Sink) (setup_of (means M.functions M.Flow.functions M.Flow.meaning W.waiting W.held) engine.old) cases.now budget progress fuel.old (rig_of (means M.functions M.Flow.functions M.Flow.meaning W.waiting W.held) engine.old (K.content kernel.old)) out.old }
-    ensures stages { (seed : ℕ) (first : O) → IsPending (sink_means O.Sink) (setup_of (means M.functions M.Flow.functions M.Flow.meaning W.waiting W.held) engine.old) seed cases.now budget progress fuel.old (rig_of (means M.functions M.Flow.functions M.Flow.meaning W.waiting W.held) engine.old (K.content kernel.old)) first out.old
-        → StagesTo (sink_means O.Sink) (setup_of (means M.functions M.Flow.functions M.Flow.meaning W.waiting W.held) engine.old) seed cases.now budget (progress.at + 1) result fuel.new (rig_of (means M.functions M.Flow.functions M.Flow.meaning W.waiting W.held) engine.new (K.content kernel.new)) (K.content kernel.new) first out.new }
-    ensures leaves { Leaves (means M.functions M.Flow.functions M.Flow.meaning W.waiting W.held) K.is_loaded K.content (stage_status result) engine.old engine.new kernel.new }
+    requires sound { list_all (is_sound_case (setup_of (means M.functions M.Flow.functions M.Flow.meaning W.waiting W.held) engine.old).functions)
+        (cases_of cases.now) ≡ true }
+    requires come { HasCome (sink_means O.Sink)
+        (setup_of (means M.functions M.Flow.functions M.Flow.meaning W.waiting W.held) engine.old) cases.now budget progress fuel.old
+        (rig_of (means M.functions M.Flow.functions M.Flow.meaning W.waiting W.held) engine.old (K.content kernel.old)) out.old }
+    ensures stages { (seed : ℕ) (first : O) → IsPending (sink_means O.Sink)
+        (setup_of (means M.functions M.Flow.functions M.Flow.meaning W.waiting W.held) engine.old) seed cases.now budget progress fuel.old
+        (rig_of (means M.functions M.Flow.functions M.Flow.meaning W.waiting W.held) engine.old (K.content kernel.old)) first out.old
+        → StagesTo (sink_means O.Sink) (setup_of (means M.functions M.Flow.functions M.Flow.meaning W.waiting W.held) engine.old)
+        seed cases.now budget (progress.at + 1) result fuel.new
+        (rig_of (means M.functions M.Flow.functions M.Flow.meaning W.waiting W.held) engine.new (K.content kernel.new))
+        (K.content kernel.new) first out.new }
+    ensures leaves { Leaves (means M.functions M.Flow.functions M.Flow.meaning W.waiting W.held) K.is_loaded K.content
+        (stage_status result) engine.old engine.new kernel.new }
 {
     match run_test(
         alloc,
@@ -215,11 +259,20 @@ fn run_from<O: Sink, K: Gpi, L: Ledger, M: FlowMaker + Drop, W: Awaits>(
     requires empty { IsEmpty (rig_of (means M.functions M.Flow.functions M.Flow.meaning W.waiting W.held) engine.old (K.content kernel.old)) }
     requires idle { runs_test engine.old ≡ false }
     requires few { length cases.now ≤ most_cases }
-    requires sound { list_all (is_sound_case (setup_of (means M.functions M.Flow.functions M.Flow.meaning W.waiting W.held) engine.old).functions) (cases_of cases.now) ≡ true }
-    requires come { HasCome (sink_means O.Sink) (setup_of (means M.functions M.Flow.functions M.Flow.meaning W.waiting W.held) engine.old) cases.now budget progress budget (rig_of (means M.functions M.Flow.functions M.Flow.meaning W.waiting W.held) engine.old (K.content kernel.old)) out.old }
-    ensures runs { (seed : ℕ) (first : O) → IsPending (sink_means O.Sink) (setup_of (means M.functions M.Flow.functions M.Flow.meaning W.waiting W.held) engine.old) seed cases.now budget progress budget (rig_of (means M.functions M.Flow.functions M.Flow.meaning W.waiting W.held) engine.old (K.content kernel.old)) first out.old
-        → RunsTo (sink_means O.Sink) (setup_of (means M.functions M.Flow.functions M.Flow.meaning W.waiting W.held) engine.old) seed (cases_of cases.now) budget (status_in result) (rig_of (means M.functions M.Flow.functions M.Flow.meaning W.waiting W.held) engine.new (K.content kernel.new)) (K.content kernel.new) first out.new }
-    ensures leaves { Leaves (means M.functions M.Flow.functions M.Flow.meaning W.waiting W.held) K.is_loaded K.content (status_in result) engine.old engine.new kernel.new }
+    requires sound { list_all (is_sound_case (setup_of (means M.functions M.Flow.functions M.Flow.meaning W.waiting W.held) engine.old).functions)
+        (cases_of cases.now) ≡ true }
+    requires come { HasCome (sink_means O.Sink)
+        (setup_of (means M.functions M.Flow.functions M.Flow.meaning W.waiting W.held) engine.old) cases.now budget progress budget
+        (rig_of (means M.functions M.Flow.functions M.Flow.meaning W.waiting W.held) engine.old (K.content kernel.old)) out.old }
+    ensures runs { (seed : ℕ) (first : O) → IsPending (sink_means O.Sink)
+        (setup_of (means M.functions M.Flow.functions M.Flow.meaning W.waiting W.held) engine.old) seed cases.now budget progress budget
+        (rig_of (means M.functions M.Flow.functions M.Flow.meaning W.waiting W.held) engine.old (K.content kernel.old)) first out.old
+        → RunsTo (sink_means O.Sink) (setup_of (means M.functions M.Flow.functions M.Flow.meaning W.waiting W.held) engine.old) seed
+        (cases_of cases.now) budget (status_in result)
+        (rig_of (means M.functions M.Flow.functions M.Flow.meaning W.waiting W.held) engine.new (K.content kernel.new))
+        (K.content kernel.new) first out.new }
+    ensures leaves { Leaves (means M.functions M.Flow.functions M.Flow.meaning W.waiting W.held) K.is_loaded K.content
+        (status_in result) engine.old engine.new kernel.new }
 {
     let mut so_far = progress;
     let mut fuel = budget;
@@ -246,13 +299,20 @@ fn run_tests<O: Sink, K: Gpi, L: Ledger, M: FlowMaker + Drop, W: Awaits>(
 ) -> Result<Status, NoMemory>
     requires loaded { K.is_loaded kernel.old }
     requires fits { FitsKernel (means M.functions M.Flow.functions M.Flow.meaning W.waiting W.held) engine.old (K.content kernel.old) }
-    requires opening { (seed : ℕ) × ((rig_of (means M.functions M.Flow.functions M.Flow.meaning W.waiting W.held) engine.old (K.content kernel.old)) ≡ emptied (opening_sim (setup_of (means M.functions M.Flow.functions M.Flow.meaning W.waiting W.held) engine.old)) (seeded seed) no_counts) }
+    requires opening { (seed : ℕ) × ((rig_of (means M.functions M.Flow.functions M.Flow.meaning W.waiting W.held) engine.old (K.content kernel.old))
+        ≡ emptied (opening_sim (setup_of (means M.functions M.Flow.functions M.Flow.meaning W.waiting W.held) engine.old)) (seeded seed) no_counts) }
     requires idle { runs_test engine.old ≡ false }
     requires few { length cases.now ≤ most_cases }
-    requires sound { list_all (is_sound_case (setup_of (means M.functions M.Flow.functions M.Flow.meaning W.waiting W.held) engine.old).functions) (cases_of cases.now) ≡ true }
-    ensures runs { (seed : ℕ) → (rig_of (means M.functions M.Flow.functions M.Flow.meaning W.waiting W.held) engine.old (K.content kernel.old)) ≡ emptied (opening_sim (setup_of (means M.functions M.Flow.functions M.Flow.meaning W.waiting W.held) engine.old)) (seeded seed) no_counts
-        → RunsTo (sink_means O.Sink) (setup_of (means M.functions M.Flow.functions M.Flow.meaning W.waiting W.held) engine.old) seed (cases_of cases.now) budget (status_in result) (rig_of (means M.functions M.Flow.functions M.Flow.meaning W.waiting W.held) engine.new (K.content kernel.new)) (K.content kernel.new) out.old out.new }
-    ensures leaves { Leaves (means M.functions M.Flow.functions M.Flow.meaning W.waiting W.held) K.is_loaded K.content (status_in result) engine.old engine.new kernel.new }
+    requires sound { list_all (is_sound_case (setup_of (means M.functions M.Flow.functions M.Flow.meaning W.waiting W.held) engine.old).functions)
+        (cases_of cases.now) ≡ true }
+    ensures runs { (seed : ℕ) → (rig_of (means M.functions M.Flow.functions M.Flow.meaning W.waiting W.held) engine.old (K.content kernel.old))
+        ≡ emptied (opening_sim (setup_of (means M.functions M.Flow.functions M.Flow.meaning W.waiting W.held) engine.old)) (seeded seed) no_counts
+        → RunsTo (sink_means O.Sink) (setup_of (means M.functions M.Flow.functions M.Flow.meaning W.waiting W.held) engine.old) seed
+        (cases_of cases.now) budget (status_in result)
+        (rig_of (means M.functions M.Flow.functions M.Flow.meaning W.waiting W.held) engine.new (K.content kernel.new))
+        (K.content kernel.new) out.old out.new }
+    ensures leaves { Leaves (means M.functions M.Flow.functions M.Flow.meaning W.waiting W.held) K.is_loaded K.content
+        (status_in result) engine.old engine.new kernel.new }
 {
     match skip_tests(alloc, kernel.now(), cases, Progress::new(), out) {
         Ok(progress) => run_from(alloc, cases, progress, engine, kernel, out, budget, steps),
@@ -261,17 +321,17 @@ fn run_tests<O: Sink, K: Gpi, L: Ledger, M: FlowMaker + Drop, W: Awaits>(
     }
 }
 
-/// Runs the tests of a file in order within a budget of statements, conditions, questions of loops and events (cocotb 1.8, "Writing Testbenches"): each test
-/// that isn't skipped begins, runs and gets its verdict, the first at once and each further one in the time step after the end of the one before it, and each
-/// that is skipped gets its line when its turn comes. All lines are put in order, one put each, with the closing line behind them. `Passed` comes where no
-/// test failed, else `Failed`. `Budget` comes where the next step doesn't fit what is left of the budget, with the line `BUDGET <budget>` in place of what
-/// would follow. `WriteFault` comes where the put of the next line fails, and nothing is put after it. `NoMemory` comes where memory is short, and then a
-/// front of the lines was put.
+/// Runs the tests of a file in order within a budget of statements, conditions, questions of loops and events (cocotb 1.8, "Writing Testbenches"):
+/// each test that isn't skipped begins, runs and gets its verdict, the first at once and each further one in the time step after the end of the one
+/// before it, and each that is skipped gets its line when its turn comes. All lines are put in order, one put each, with the closing line behind
+/// them. `Passed` comes where no test failed, else `Failed`. `Budget` comes where the next step doesn't fit what is left of the budget, with the
+/// line `BUDGET <budget>` in place of what would follow. `WriteFault` comes where the put of the next line fails, and nothing is put after it.
+/// `NoMemory` comes where memory is short, and then a front of the lines was put.
 ///
-/// Before, nothing of a test is left in the engine, no random number was drawn, and the simulator is in the opening state of the design. Each test names a
-/// function with a parameter for each of its arguments besides the first, and there are at most 65,536 of them. Whatever the status is, no test runs
-/// afterwards, the simulator holds a design, and the registered keys are exactly the awaited ones: `end_test` asks no more. After `Passed`, `Failed` and
-/// `Budget` engine and simulator stand for the place where the run stops.
+/// Before, nothing of a test is left in the engine, no random number was drawn, and the simulator is in the opening state of the design. Each test
+/// names a function with a parameter for each of its arguments besides the first, and there are at most 65,536 of them. Whatever the status is, no
+/// test runs afterwards, the simulator holds a design, and the registered keys are exactly the awaited ones: `end_test` asks no more. After
+/// `Passed`, `Failed` and `Budget` engine and simulator stand for the place where the run stops.
 pub fn run_all<O: Sink, K: Gpi, L: Ledger, M: FlowMaker + Drop, W: Awaits>(
     alloc: Global,
     file: &TestFile,
@@ -283,13 +343,20 @@ pub fn run_all<O: Sink, K: Gpi, L: Ledger, M: FlowMaker + Drop, W: Awaits>(
 ) -> Status
     requires loaded { K.is_loaded kernel.old }
     requires fits { FitsKernel (means M.functions M.Flow.functions M.Flow.meaning W.waiting W.held) engine.old (K.content kernel.old) }
-    requires opening { (seed : ℕ) × ((rig_of (means M.functions M.Flow.functions M.Flow.meaning W.waiting W.held) engine.old (K.content kernel.old)) ≡ emptied (opening_sim (setup_of (means M.functions M.Flow.functions M.Flow.meaning W.waiting W.held) engine.old)) (seeded seed) no_counts) }
+    requires opening { (seed : ℕ) × ((rig_of (means M.functions M.Flow.functions M.Flow.meaning W.waiting W.held) engine.old (K.content kernel.old))
+        ≡ emptied (opening_sim (setup_of (means M.functions M.Flow.functions M.Flow.meaning W.waiting W.held) engine.old)) (seeded seed) no_counts) }
     requires idle { runs_test engine.old ≡ false }
     requires few { length file.now.cases ≤ most_cases }
-    requires sound { list_all (is_sound_case (setup_of (means M.functions M.Flow.functions M.Flow.meaning W.waiting W.held) engine.old).functions) (cases_of file.now.cases) ≡ true }
-    ensures runs { (seed : ℕ) → (rig_of (means M.functions M.Flow.functions M.Flow.meaning W.waiting W.held) engine.old (K.content kernel.old)) ≡ emptied (opening_sim (setup_of (means M.functions M.Flow.functions M.Flow.meaning W.waiting W.held) engine.old)) (seeded seed) no_counts
-        → RunsTo (sink_means O.Sink) (setup_of (means M.functions M.Flow.functions M.Flow.meaning W.waiting W.held) engine.old) seed (cases_of file.now.cases) budget result (rig_of (means M.functions M.Flow.functions M.Flow.meaning W.waiting W.held) engine.new (K.content kernel.new)) (K.content kernel.new) out.old out.new }
-    ensures leaves { Leaves (means M.functions M.Flow.functions M.Flow.meaning W.waiting W.held) K.is_loaded K.content result engine.old engine.new kernel.new }
+    requires sound { list_all (is_sound_case (setup_of (means M.functions M.Flow.functions M.Flow.meaning W.waiting W.held) engine.old).functions)
+        (cases_of file.now.cases) ≡ true }
+    ensures runs { (seed : ℕ) → (rig_of (means M.functions M.Flow.functions M.Flow.meaning W.waiting W.held) engine.old (K.content kernel.old))
+        ≡ emptied (opening_sim (setup_of (means M.functions M.Flow.functions M.Flow.meaning W.waiting W.held) engine.old)) (seeded seed) no_counts
+        → RunsTo (sink_means O.Sink) (setup_of (means M.functions M.Flow.functions M.Flow.meaning W.waiting W.held) engine.old) seed
+        (cases_of file.now.cases) budget result
+        (rig_of (means M.functions M.Flow.functions M.Flow.meaning W.waiting W.held) engine.new (K.content kernel.new))
+        (K.content kernel.new) out.old out.new }
+    ensures leaves { Leaves (means M.functions M.Flow.functions M.Flow.meaning W.waiting W.held)
+        K.is_loaded K.content result engine.old engine.new kernel.new }
 {
     match run_tests(alloc, &file.cases, engine, kernel, out, budget, steps) {
         Ok(status) => status,

@@ -31,12 +31,22 @@ pub(crate) fn take_turns<O: Sink, K: Gpi, L: Ledger, M: FlowMaker + Drop, W: Awa
 ) -> Result<Turn, NoMemory>
     requires loaded { K.is_loaded kernel.old }
     requires fits { FitsKernel (means M.functions M.Flow.functions M.Flow.meaning W.waiting W.held) engine.old (K.content kernel.old) }
-    requires place { ((rig_of (means M.functions M.Flow.functions M.Flow.meaning W.waiting W.held) engine.old (K.content kernel.old)).planned ≡ None) ⊎ IsBetween (rig_of (means M.functions M.Flow.functions M.Flow.meaning W.waiting W.held) engine.old (K.content kernel.old)) }
-    ensures turning { Turning (sink_means O.Sink) (FitSteps anywhere (setup_of (means M.functions M.Flow.functions M.Flow.meaning W.waiting W.held) engine.old)) (setup_of (means M.functions M.Flow.functions M.Flow.meaning W.waiting W.held) engine.old) fuel.old (rig_of (means M.functions M.Flow.functions M.Flow.meaning W.waiting W.held) engine.old (K.content kernel.old)) out.old result fuel.new (rig_of (means M.functions M.Flow.functions M.Flow.meaning W.waiting W.held) engine.new (K.content kernel.new)) out.new }
-    ensures waits { IsBetween (rig_of (means M.functions M.Flow.functions M.Flow.meaning W.waiting W.held) engine.old (K.content kernel.old)) → WaitTurns (sink_means O.Sink) (setup_of (means M.functions M.Flow.functions M.Flow.meaning W.waiting W.held) engine.old) fuel.old (rig_of (means M.functions M.Flow.functions M.Flow.meaning W.waiting W.held) engine.old (K.content kernel.old)) out.old result fuel.new (rig_of (means M.functions M.Flow.functions M.Flow.meaning W.waiting W.held) engine.new (K.content kernel.new)) out.new }
+    requires place { ((rig_of (means M.functions M.Flow.functions M.Flow.meaning W.waiting W.held) engine.old (K.content kernel.old)).planned ≡ None)
+        ⊎ IsBetween (rig_of (means M.functions M.Flow.functions M.Flow.meaning W.waiting W.held) engine.old (K.content kernel.old)) }
+    ensures turning { Turning (sink_means O.Sink)
+        (FitSteps anywhere (setup_of (means M.functions M.Flow.functions M.Flow.meaning W.waiting W.held) engine.old))
+        (setup_of (means M.functions M.Flow.functions M.Flow.meaning W.waiting W.held) engine.old) fuel.old
+        (rig_of (means M.functions M.Flow.functions M.Flow.meaning W.waiting W.held) engine.old (K.content kernel.old)) out.old result fuel.new
+        (rig_of (means M.functions M.Flow.functions M.Flow.meaning W.waiting W.held) engine.new (K.content kernel.new)) out.new }
+    ensures waits { IsBetween (rig_of (means M.functions M.Flow.functions M.Flow.meaning W.waiting W.held) engine.old (K.content kernel.old))
+        → WaitTurns (sink_means O.Sink) (setup_of (means M.functions M.Flow.functions M.Flow.meaning W.waiting W.held) engine.old) fuel.old
+        (rig_of (means M.functions M.Flow.functions M.Flow.meaning W.waiting W.held) engine.old (K.content kernel.old)) out.old result fuel.new
+        (rig_of (means M.functions M.Flow.functions M.Flow.meaning W.waiting W.held) engine.new (K.content kernel.new)) out.new }
     ensures stops { result ≢ Ok Turn.Went }
-    ensures fits { turn_fault result ≡ None → FitsKernel (means M.functions M.Flow.functions M.Flow.meaning W.waiting W.held) engine.new (K.content kernel.new) }
-    ensures keeps { KeepsAll (means M.functions M.Flow.functions M.Flow.meaning W.waiting W.held) K.is_loaded K.content engine.old engine.new kernel.new }
+    ensures fits { turn_fault result ≡ None
+        → FitsKernel (means M.functions M.Flow.functions M.Flow.meaning W.waiting W.held) engine.new (K.content kernel.new) }
+    ensures keeps { KeepsAll (means M.functions M.Flow.functions M.Flow.meaning W.waiting W.held)
+        K.is_loaded K.content engine.old engine.new kernel.new }
     ensures idle { runs_test engine.new ≡ false }
 {
     'turns: loop {
@@ -61,10 +71,16 @@ pub(crate) fn run_test<O: Sink, K: Gpi, L: Ledger, M: FlowMaker + Drop, W: Await
     requires loaded { K.is_loaded kernel.old }
     requires fits { FitsKernel (means M.functions M.Flow.functions M.Flow.meaning W.waiting W.held) engine.old (K.content kernel.old) }
     requires empty { IsEmpty (rig_of (means M.functions M.Flow.functions M.Flow.meaning W.waiting W.held) engine.old (K.content kernel.old)) }
-    requires sound { is_sound_case (setup_of (means M.functions M.Flow.functions M.Flow.meaning W.waiting W.held) engine.old).functions (view_case case.now) ≡ true }
-    ensures tests { TestsTo (sink_means O.Sink) (setup_of (means M.functions M.Flow.functions M.Flow.meaning W.waiting W.held) engine.old) (view_case case.now) fuel.old (rig_of (means M.functions M.Flow.functions M.Flow.meaning W.waiting W.held) engine.old (K.content kernel.old)) out.old result fuel.new (rig_of (means M.functions M.Flow.functions M.Flow.meaning W.waiting W.held) engine.new (K.content kernel.new)) out.new }
-    ensures fits { turn_fault result ≡ None → FitsKernel (means M.functions M.Flow.functions M.Flow.meaning W.waiting W.held) engine.new (K.content kernel.new) }
-    ensures keeps { KeepsAll (means M.functions M.Flow.functions M.Flow.meaning W.waiting W.held) K.is_loaded K.content engine.old engine.new kernel.new }
+    requires sound { is_sound_case (setup_of (means M.functions M.Flow.functions M.Flow.meaning W.waiting W.held)
+        engine.old).functions (view_case case.now) ≡ true }
+    ensures tests { TestsTo (sink_means O.Sink)
+        (setup_of (means M.functions M.Flow.functions M.Flow.meaning W.waiting W.held) engine.old) (view_case case.now) fuel.old
+        (rig_of (means M.functions M.Flow.functions M.Flow.meaning W.waiting W.held) engine.old (K.content kernel.old)) out.old result fuel.new
+        (rig_of (means M.functions M.Flow.functions M.Flow.meaning W.waiting W.held) engine.new (K.content kernel.new)) out.new }
+    ensures fits { turn_fault result ≡ None
+        → FitsKernel (means M.functions M.Flow.functions M.Flow.meaning W.waiting W.held) engine.new (K.content kernel.new) }
+    ensures keeps { KeepsAll (means M.functions M.Flow.functions M.Flow.meaning W.waiting W.held)
+        K.is_loaded K.content engine.old engine.new kernel.new }
     ensures idle { runs_test engine.new ≡ false }
 {
     match engine.begin_test(alloc, kernel, case, out, steps)? {

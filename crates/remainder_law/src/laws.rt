@@ -6,8 +6,8 @@ pub fn remainder_of_a_step()
     ensures { StepRemainder }
 {}
 
-/// Where no step of a run begins the rest of a function, nor would the next one, the run of a file in which the function ends otherwise gives the same: what is
-/// written, the verdicts, the cost and the counts of keys.
+/// Where no step of a run begins the rest of a function, nor would the next one, the run of a file in which the function ends otherwise gives the
+/// same: what is written, the verdicts, the cost and the counts of keys.
 pub fn remainder_of_a_run()
     ensures { RunRemainder }
 {}

@@ -11,7 +11,20 @@ ghost use Rattle.run_model.specs.Rig.{Rig, Setup};
 ghost use Rattle.run_model.specs.Run.{IsRun, IsStart, Run, step, step_cost, written};
 ghost use Rattle.run_model.specs.Step.{rig_step};
 ghost use Rattle.run_model.specs.TestRows.{Budgets, Deadlines, Exact_budget, Least_run, No_test, Options, Read_only_end, Stalled_test, Verdicts};
-ghost use Rattle.run_model.specs.WaitRows.{Clock_cycles, Just_killed, Kill_in_combine, Kill_of_woken, Largest_time, No_past_edge, Phase_last, Read_only_write, Repeated_writes, Rise_first, Ties, With_timeout};
+ghost use Rattle.run_model.specs.WaitRows.{
+  Clock_cycles,
+  Just_killed,
+  Kill_in_combine,
+  Kill_of_woken,
+  Largest_time,
+  No_past_edge,
+  Phase_last,
+  Read_only_write,
+  Repeated_writes,
+  Rise_first,
+  Ties,
+  With_timeout,
+};
 
 /// A run stops under every budget: it is over, or its next step doesn't fit what is left of the budget.
 pub fn run_exists()
@@ -56,8 +69,8 @@ pub fn fired_is_served()
     ensures { (setup : Setup) (c : Rig) → (rig_step setup c).rig.fired ≡ c.fired }
 {}
 
-/// A step keeps what is known of a configuration, where each signal stays as wide as it is: each value, trigger and number in it is of the design, or was
-/// made in the test.
+/// A step keeps what is known of a configuration, where each signal stays as wide as it is: each value, trigger and number in it is of the design,
+/// or was made in the test.
 pub fn step_keeps_known()
     ensures { (setup : Setup) (run : Run) → IsKnown setup run.rig → AreAsWide run.rig (step setup run).rig → IsKnown setup (step setup run).rig }
 {}

@@ -1,9 +1,9 @@
 //! The definition of a run of a tests file.
 //!
-//! Begin with `specs/Run.antt`: a run does one step after the other, up to a budget. A step is one of a task (`task_model`), one event of the simulator
-//! (`gpi`), or the begin or the end of a test. `Rig` says what a configuration holds, `Effect` what each thing does that a task wants, `Serve` whom fired
-//! keys wake, `Verdict` what the report says of a test. [`Outcome`] is how a test ended, and [`Verdict`] what the report says of it. The engine that keeps
-//! this definition is left to the crates above.
+//! Begin with `specs/Run.antt`: a run does one step after the other, up to a budget. A step is one of a task (`task_model`), one event of the
+//! simulator (`gpi`), or the begin or the end of a test. `Rig` says what a configuration holds, `Effect` what each thing does that a task wants,
+//! `Serve` whom fired keys wake, `Verdict` what the report says of a test. [`Outcome`] is how a test ended, and [`Verdict`] what the report says of
+//! it. The engine that keeps this definition is left to the crates above.
 #![tactic(auto)]
 
 mod laws;

@@ -1,6 +1,6 @@
-//! The parts of a test that runs, as the runner keeps them, and the configuration that they and a simulator stand for: definitions, which the crates above
-//! share, and their laws: what a configuration is made of, when a simulator stands for it, where the tasks of a test stand, and that steps which fit a fuel
-//! are steps of a run.
+//! The parts of a test that runs, as the runner keeps them, and the configuration that they and a simulator stand for: definitions, which the crates
+//! above share, and their laws: what a configuration is made of, when a simulator stands for it, where the tasks of a test stand, and that steps
+//! which fit a fuel are steps of a run.
 #![tactic(auto)]
 
 mod laws;

@@ -72,8 +72,8 @@ impl<W: Awaits> RunQueue<W> {
         }
     }
 
-    /// Drops all, as one effect: nothing is ready, waits or is staged, there is no deadline and no planned start, and no key is registered any more. It takes
-    /// no memory.
+    /// Drops all, as one effect: nothing is ready, waits or is staged, there is no deadline and no planned start, and no key is registered any more.
+    /// It takes no memory.
     pub fn clear<K: Gpi, L: Ledger>(&mut self, kernel: &mut K, steps: &mut Steps<L>)
         requires loaded { K.is_loaded kernel.old }
         requires keeps { Keeps W.waiting W.held self.old (K.content kernel.old) }
@@ -83,7 +83,8 @@ impl<W: Awaits> RunQueue<W> {
         ensures loaded { K.is_loaded kernel.new }
         ensures stays { Stays (K.content kernel.old) (K.content kernel.new) }
         ensures keeps { Keeps W.waiting W.held self.new (K.content kernel.new) }
-        ensures fits { (flat : Flat) → Fits flat W.waiting W.held self.old (K.content kernel.old) → Fits flat W.waiting W.held self.new (K.content kernel.new) }
+        ensures fits { (flat : Flat) → Fits flat W.waiting W.held self.old (K.content kernel.old)
+            → Fits flat W.waiting W.held self.new (K.content kernel.new) }
         ensures room { self.new.ready.room ≡ self.old.ready.room }
     {
         self.ready.clear();

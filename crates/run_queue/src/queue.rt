@@ -12,12 +12,12 @@ use signal_port::WriteStage;
 use std::alloc::Global;
 use wait_list::{Awaits, Ready};
 
-/// What is ready, what waits, and what the runner itself awaits. Of a simulator that is handed to its calls the registered keys are the awaited ones: those
-/// of the waiting tasks, the read-write phase while a write is staged, and the times of a deadline and of a planned start. The ring has room for each task
-/// that is ready or waits, so that waking one takes no memory.
+/// What is ready, what waits, and what the runner itself awaits. Of a simulator that is handed to its calls the registered keys are the awaited
+/// ones: those of the waiting tasks, the read-write phase while a write is staged, and the times of a deadline and of a planned start. The ring has
+/// room for each task that is ready or waits, so that waking one takes no memory.
 ///
-/// Each call asks that the two stand so, and leaves them so, whatever it answers. What the simulator holds besides keys and counts stays. Want of memory is
-/// the only error, and then the queue is as it was.
+/// Each call asks that the two stand so, and leaves them so, whatever it answers. What the simulator holds besides keys and counts stays. Want of
+/// memory is the only error, and then the queue is as it was.
 #[derive(Drop)]
 pub struct RunQueue<W: Awaits> {
     /// The tasks that wait, and the keys that the runner holds.
@@ -55,7 +55,8 @@ impl<W: Awaits> RunQueue<W> {
     /// Makes room for at least so many tasks that are ready or wait.
     pub fn make_room(&mut self, tasks: u32) -> Result<(), NoMemory>
         ensures is { queue_of W.waiting self.new ≡ queue_of W.waiting self.old }
-        ensures fits { (flat : Flat) → (content : Content) → Fits flat W.waiting W.held self.old content → Fits flat W.waiting W.held self.new content }
+        ensures fits { (flat : Flat) → (content : Content) → Fits flat W.waiting W.held self.old content
+            → Fits flat W.waiting W.held self.new content }
         ensures room { OnOk result (tasks ≤ self.new.ready.room) }
         ensures grows { self.old.ready.room ≤ self.new.ready.room }
         ensures awaits { self.new.awaits ≡ self.old.awaits }
@@ -67,7 +68,8 @@ impl<W: Awaits> RunQueue<W> {
     pub fn put(&mut self, task: TaskNo, given: Given)
         requires room { length self.old.ready.entries + length (W.waiting self.old.awaits) < self.old.ready.room }
         ensures is { queue_of W.waiting self.new ≡ with_ready task given (queue_of W.waiting self.old) }
-        ensures fits { (flat : Flat) → (content : Content) → Fits flat W.waiting W.held self.old content → Fits flat W.waiting W.held self.new content }
+        ensures fits { (flat : Flat) → (content : Content) → Fits flat W.waiting W.held self.old content
+            → Fits flat W.waiting W.held self.new content }
         ensures room { self.new.ready.room ≡ self.old.ready.room }
         ensures awaits { self.new.awaits ≡ self.old.awaits }
     {
@@ -79,7 +81,8 @@ impl<W: Awaits> RunQueue<W> {
         ensures first { MatchOption result
             ((self.old.ready.entries ≡ []) × (queue_of W.waiting self.new ≡ queue_of W.waiting self.old))
             (λ entry. queue_of W.waiting self.old ≡ with_first entry.0 entry.1 (queue_of W.waiting self.new)) }
-        ensures fits { (flat : Flat) → (content : Content) → Fits flat W.waiting W.held self.old content → Fits flat W.waiting W.held self.new content }
+        ensures fits { (flat : Flat) → (content : Content) → Fits flat W.waiting W.held self.old content
+            → Fits flat W.waiting W.held self.new content }
         ensures room { self.new.ready.room ≡ self.old.ready.room }
         ensures awaits { self.new.awaits ≡ self.old.awaits }
     {

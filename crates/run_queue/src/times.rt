@@ -51,8 +51,8 @@ impl<W: Awaits> RunQueue<W> {
         Ok(())
     }
 
-    /// The test is to be given up then (cocotb 1.8, `cocotb.test`, `timeout_time`). It has no deadline yet. The time, in steps, is later than now, and at
-    /// most 2^63.
+    /// The test is to be given up then (cocotb 1.8, `cocotb.test`, `timeout_time`). It has no deadline yet. The time, in steps, is later than now,
+    /// and at most 2^63.
     pub fn set_deadline<K: Gpi, L: Ledger>(
         &mut self,
         kernel: &mut K,
@@ -70,7 +70,8 @@ impl<W: Awaits> RunQueue<W> {
         ensures loaded { K.is_loaded kernel.new }
         ensures stays { Stays (K.content kernel.old) (K.content kernel.new) }
         ensures keeps { Keeps W.waiting W.held self.new (K.content kernel.new) }
-        ensures fits { (flat : Flat) → Fits flat W.waiting W.held self.old (K.content kernel.old) → Fits flat W.waiting W.held self.new (K.content kernel.new) }
+        ensures fits { (flat : Flat) → Fits flat W.waiting W.held self.old (K.content kernel.old)
+            → Fits flat W.waiting W.held self.new (K.content kernel.new) }
         ensures room { self.new.ready.room ≡ self.old.ready.room }
     {
         self.hold_time(kernel, due, steps)?;
@@ -96,7 +97,8 @@ impl<W: Awaits> RunQueue<W> {
         ensures loaded { K.is_loaded kernel.new }
         ensures stays { Stays (K.content kernel.old) (K.content kernel.new) }
         ensures keeps { Keeps W.waiting W.held self.new (K.content kernel.new) }
-        ensures fits { (flat : Flat) → Fits flat W.waiting W.held self.old (K.content kernel.old) → Fits flat W.waiting W.held self.new (K.content kernel.new) }
+        ensures fits { (flat : Flat) → Fits flat W.waiting W.held self.old (K.content kernel.old)
+            → Fits flat W.waiting W.held self.new (K.content kernel.new) }
         ensures room { self.new.ready.room ≡ self.old.ready.room }
     {
         self.hold_time(kernel, due, steps)?;

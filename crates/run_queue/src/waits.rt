@@ -21,8 +21,8 @@ use std::sync::ledger::Ledger;
 use wait_list::{Awaits, Steps};
 
 impl<W: Awaits> RunQueue<W> {
-    /// The task begins to wait, as the last (cocotb 1.8, "Triggers"). It doesn't wait yet, fewer than 65,536 tasks wait, the tree was begun and isn't done,
-    /// its keys may be registered, and there is room for one task more.
+    /// The task begins to wait, as the last (cocotb 1.8, "Triggers"). It doesn't wait yet, fewer than 65,536 tasks wait, the tree was begun and
+    /// isn't done, its keys may be registered, and there is room for one task more.
     pub fn wait<K: Gpi, L: Ledger>(
         &mut self,
         kernel: &mut K,
@@ -43,15 +43,16 @@ impl<W: Awaits> RunQueue<W> {
         ensures loaded { K.is_loaded kernel.new }
         ensures stays { Stays (K.content kernel.old) (K.content kernel.new) }
         ensures keeps { Keeps W.waiting W.held self.new (K.content kernel.new) }
-        ensures fits { (flat : Flat) → Fits flat W.waiting W.held self.old (K.content kernel.old) → Fits flat W.waiting W.held self.new (K.content kernel.new) }
+        ensures fits { (flat : Flat) → Fits flat W.waiting W.held self.old (K.content kernel.old)
+            → Fits flat W.waiting W.held self.new (K.content kernel.new) }
         ensures room { self.new.ready.room ≡ self.old.ready.room }
     {
         self.awaits.begin(kernel, task, tree, steps)?;
         Ok(())
     }
 
-    /// An event was set or a task has ended: all leaves on it are reached, and whom that wakes is ready, in the order in which they began to wait. Tells
-    /// whether a waiting task has such a leaf; where none has, nothing has changed. It takes no memory.
+    /// An event was set or a task has ended: all leaves on it are reached, and whom that wakes is ready, in the order in which they began to wait.
+    /// Tells whether a waiting task has such a leaf; where none has, nothing has changed. It takes no memory.
     pub fn wake<K: Gpi, L: Ledger>(
         &mut self,
         kernel: &mut K,
@@ -63,13 +64,15 @@ impl<W: Awaits> RunQueue<W> {
         requires room { length self.old.ready.entries + length (W.waiting self.old.awaits) ≤ self.old.ready.room }
         requires cause { IsNoKey cause }
         ensures answer { result ≡ is_reached cause (W.waiting self.old.awaits) }
-        ensures leads { Leads (waking cause) (queue_of W.waiting self.old) (K.content kernel.old) (queue_of W.waiting self.new) (K.content kernel.new) }
+        ensures leads { Leads (waking cause) (queue_of W.waiting self.old)
+            (K.content kernel.old) (queue_of W.waiting self.new) (K.content kernel.new) }
         ensures none { AreStill (W.waiting self.old.awaits) → result ≡ false
             → (queue_of W.waiting self.new ≡ queue_of W.waiting self.old) × ((K.content kernel.new).counts ≡ (K.content kernel.old).counts) }
         ensures loaded { K.is_loaded kernel.new }
         ensures stays { Stays (K.content kernel.old) (K.content kernel.new) }
         ensures keeps { Keeps W.waiting W.held self.new (K.content kernel.new) }
-        ensures fits { (flat : Flat) → Fits flat W.waiting W.held self.old (K.content kernel.old) → Fits flat W.waiting W.held self.new (K.content kernel.new) }
+        ensures fits { (flat : Flat) → Fits flat W.waiting W.held self.old (K.content kernel.old)
+            → Fits flat W.waiting W.held self.new (K.content kernel.new) }
         ensures room { self.new.ready.room ≡ self.old.ready.room }
     {
         self.awaits.wake(kernel, cause, &mut self.ready, steps) > 0
@@ -86,13 +89,15 @@ impl<W: Awaits> RunQueue<W> {
         requires keeps { Keeps W.waiting W.held self.old (K.content kernel.old) }
         requires room { length self.old.ready.entries + length (W.waiting self.old.awaits) ≤ self.old.ready.room }
         ensures answer { result ≡ is_wanted lock (W.waiting self.old.awaits) }
-        ensures leads { Leads (granting lock) (queue_of W.waiting self.old) (K.content kernel.old) (queue_of W.waiting self.new) (K.content kernel.new) }
+        ensures leads { Leads (granting lock) (queue_of W.waiting self.old)
+            (K.content kernel.old) (queue_of W.waiting self.new) (K.content kernel.new) }
         ensures none { result ≡ false
             → (queue_of W.waiting self.new ≡ queue_of W.waiting self.old) × ((K.content kernel.new).counts ≡ (K.content kernel.old).counts) }
         ensures loaded { K.is_loaded kernel.new }
         ensures stays { Stays (K.content kernel.old) (K.content kernel.new) }
         ensures keeps { Keeps W.waiting W.held self.new (K.content kernel.new) }
-        ensures fits { (flat : Flat) → Fits flat W.waiting W.held self.old (K.content kernel.old) → Fits flat W.waiting W.held self.new (K.content kernel.new) }
+        ensures fits { (flat : Flat) → Fits flat W.waiting W.held self.old (K.content kernel.old)
+            → Fits flat W.waiting W.held self.new (K.content kernel.new) }
         ensures room { self.new.ready.room ≡ self.old.ready.room }
     {
         self.awaits.grant(kernel, lock, &mut self.ready, steps)
@@ -103,11 +108,13 @@ impl<W: Awaits> RunQueue<W> {
         requires loaded { K.is_loaded kernel.old }
         requires keeps { Keeps W.waiting W.held self.old (K.content kernel.old) }
         requires room { length self.old.ready.entries + length (W.waiting self.old.awaits) ≤ self.old.ready.room }
-        ensures leads { Leads (killing task) (queue_of W.waiting self.old) (K.content kernel.old) (queue_of W.waiting self.new) (K.content kernel.new) }
+        ensures leads { Leads (killing task) (queue_of W.waiting self.old)
+            (K.content kernel.old) (queue_of W.waiting self.new) (K.content kernel.new) }
         ensures loaded { K.is_loaded kernel.new }
         ensures stays { Stays (K.content kernel.old) (K.content kernel.new) }
         ensures keeps { Keeps W.waiting W.held self.new (K.content kernel.new) }
-        ensures fits { (flat : Flat) → Fits flat W.waiting W.held self.old (K.content kernel.old) → Fits flat W.waiting W.held self.new (K.content kernel.new) }
+        ensures fits { (flat : Flat) → Fits flat W.waiting W.held self.old (K.content kernel.old)
+            → Fits flat W.waiting W.held self.new (K.content kernel.new) }
         ensures room { self.new.ready.room ≡ self.old.ready.room }
     {
         self.ready.take_out(task);

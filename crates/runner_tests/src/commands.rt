@@ -61,7 +61,8 @@ fn run<L: Ledger>(
     requires name { blank.name ≡ L.name }
     requires parts { blank.parts ≡ L.parts }
     requires some { 0 < blank.parts }
-    ensures answer { Answered file_means line_means (map string_bytes words.now) result store.old store.new (content_of kernel.new) sink.old sink.new ⊎ Quit result sink.old sink.new }
+    ensures answer { Answered file_means line_means (map string_bytes words.now) result store.old store.new (content_of kernel.new) sink.old sink.new
+        ⊎ Quit result sink.old sink.new }
     ensures leaves { LeavesKernel IsLoaded result kernel.old kernel.new }
 {
     let mut steps = Steps::<L>::new(blank);
@@ -95,7 +96,8 @@ fn row_ended(
     row: &Row<'_>,
     kernel: &mut ListKernel,
 ) -> Result<(Status, MemSink), NoMemory>
-    ensures ends { IfOk result (λ ended. Ends (part_at 2 row.now) (store_at row.now) (sink_failing (decimal_at 6 row.now)) (content_of kernel.new) ended.0 ended.1) }
+    ensures ends { IfOk result
+        (λ ended. Ends (part_at 2 row.now) (store_at row.now) (sink_failing (decimal_at 6 row.now)) (content_of kernel.new) ended.0 ended.1) }
     ensures leaves { IfOk result (λ ended. LeavesKernel IsLoaded ended.0 kernel.old kernel.new) }
     ensures err { OnErr result (kernel.new ≡ kernel.old) }
 {

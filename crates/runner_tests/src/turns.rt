@@ -53,7 +53,10 @@ fn turns_told<O: Sink, K: Gpi, L: Ledger, M: FlowMaker + Drop, W: Awaits>(
     requires loaded { K.is_loaded kernel.old }
     requires fits { FitsKernel (means M.functions M.Flow.functions M.Flow.meaning W.waiting W.held) engine.old (K.content kernel.old) }
     requires none { (rig_of (means M.functions M.Flow.functions M.Flow.meaning W.waiting W.held) engine.old (K.content kernel.old)).planned ≡ None }
-    ensures { IfOk result (λ text. (count : ℕ) × TellsTurns (sink_means O.Sink) (setup_of (means M.functions M.Flow.functions M.Flow.meaning W.waiting W.held) engine.old) count turns_budget (rig_of (means M.functions M.Flow.functions M.Flow.meaning W.waiting W.held) engine.old (K.content kernel.old)) out.old (string_bytes text)) }
+    ensures { IfOk result (λ text. (count : ℕ) × TellsTurns (sink_means O.Sink)
+        (setup_of (means M.functions M.Flow.functions M.Flow.meaning W.waiting W.held) engine.old) count turns_budget
+        (rig_of (means M.functions M.Flow.functions M.Flow.meaning W.waiting W.held) engine.old (K.content kernel.old))
+        out.old (string_bytes text)) }
 {
     let mut text = String::new(alloc);
     let mut fuel = TURNS_BUDGET;
@@ -80,8 +83,12 @@ fn begun_told<O: Sink, K: Gpi, L: Ledger, M: FlowMaker + Drop, W: Awaits>(
     requires loaded { K.is_loaded kernel.old }
     requires fits { FitsKernel (means M.functions M.Flow.functions M.Flow.meaning W.waiting W.held) engine.old (K.content kernel.old) }
     requires empty { IsEmpty (rig_of (means M.functions M.Flow.functions M.Flow.meaning W.waiting W.held) engine.old (K.content kernel.old)) }
-    requires sound { is_sound_case (setup_of (means M.functions M.Flow.functions M.Flow.meaning W.waiting W.held) engine.old).functions (view_case case.now) ≡ true }
-    ensures { IfOk result (λ text. TellsTest (sink_means O.Sink) (setup_of (means M.functions M.Flow.functions M.Flow.meaning W.waiting W.held) engine.old) (view_case case.now) (rig_of (means M.functions M.Flow.functions M.Flow.meaning W.waiting W.held) engine.old (K.content kernel.old)) out.old (string_bytes text)) }
+    requires sound { is_sound_case
+        (setup_of (means M.functions M.Flow.functions M.Flow.meaning W.waiting W.held) engine.old).functions (view_case case.now) ≡ true }
+    ensures { IfOk result (λ text. TellsTest (sink_means O.Sink)
+        (setup_of (means M.functions M.Flow.functions M.Flow.meaning W.waiting W.held) engine.old) (view_case case.now)
+        (rig_of (means M.functions M.Flow.functions M.Flow.meaning W.waiting W.held) engine.old (K.content kernel.old))
+        out.old (string_bytes text)) }
 {
     match engine.begin_test(alloc, kernel, case, out, steps)? {
         Turn::Went => turns_told(alloc, engine, kernel, out, steps),
@@ -102,7 +109,8 @@ fn test_told<O: Sink, K: Gpi, L: Ledger>(
     requires flat { IsSoundFlat flat.now }
     requires file { is_sound (view_file file.now) ≡ true }
     requires case { is_sound_case (map view_function file.now.functions) (view_case case.now) ≡ true }
-    ensures { IfOk result (λ text. TellsTest (sink_means O.Sink) (setup_with false flat.now (view_file file.now)) (view_case case.now) (opening_rig (setup_with false flat.now (view_file file.now))) out.old (string_bytes text)) }
+    ensures { IfOk result (λ text. TellsTest (sink_means O.Sink) (setup_with false flat.now (view_file file.now))
+        (view_case case.now) (opening_rig (setup_with false flat.now (view_file file.now))) out.old (string_bytes text)) }
 {
     kernel.load(alloc, flat)?;
     let maker = TreeMaker::new(file);
@@ -125,7 +133,8 @@ fn test_shown<L: Ledger>(
     requires flat { IsSoundFlat flat.now }
     requires file { is_sound (view_file file.now) ≡ true }
     requires case { is_sound_case (map view_function file.now.functions) (view_case case.now) ≡ true }
-    ensures { IfOk result (λ text. (out : Lines) × TellsTest line_means (setup_with false flat.now (view_file file.now)) (view_case case.now) (opening_rig (setup_with false flat.now (view_file file.now))) out (string_bytes text)) }
+    ensures { IfOk result (λ text. (out : Lines) × TellsTest line_means (setup_with false flat.now (view_file file.now))
+        (view_case case.now) (opening_rig (setup_with false flat.now (view_file file.now))) out (string_bytes text)) }
 {
     let mut kernel = ListKernel::new(alloc);
     let mut sink = MemSink::new(alloc);

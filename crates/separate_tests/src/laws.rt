@@ -6,8 +6,8 @@ pub fn nothing_is_left_between_tests()
     ensures { NothingBetween }
 {}
 
-/// Two runs of one setup that agree between tests in the state of the simulator, the random numbers, the planned start and the tests left: step by step they add
-/// the same lines and verdicts at the same cost from then on, as long as neither meets its budget.
+/// Two runs of one setup that agree between tests in the state of the simulator, the random numbers, the planned start and the tests left: step by
+/// step they add the same lines and verdicts at the same cost from then on, as long as neither meets its budget.
 pub fn tests_are_separate()
     ensures { SeparateTests }
 {}

@@ -101,8 +101,8 @@ fn at_stop<'a>(call: &mut OpenCall<'a>, jump: Jump, stop: Stop<'a>) -> Result<Wi
 }
 
 /// Leaves blocks by a fault, `return`, `break` or `continue` up to the first mark that counts, and does what is to be done there (the language
-/// reference, 7.6, 7.9, 7.10, 8.4, 8.9.3); behind the last one the call ends. The number of the next trigger stays, whatever the task and what it sees.
-/// Only want of memory is an error.
+/// reference, 7.6, 7.9, 7.10, 8.4, 8.9.3); behind the last one the call ends. The number of the next trigger stays, whatever the task and what it
+/// sees. Only want of memory is an error.
 pub fn drop_mark<'a>(call: &mut OpenCall<'a>, jump: Jump) -> Result<Wish, NoMemory>
     ensures { IfOk result (λ wish. (task : number.TaskNo) (view : View) (next : ℕ)
         → Moved (meaning.drop_mark (jump_in jump) (todos_in call.old.todo) (at task next (names_in call.old.slots) view)) call.new next wish) }

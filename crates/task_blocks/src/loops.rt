@@ -27,7 +27,8 @@ fn go_round<'a>(
     element: Element<'a>,
     block: &'a [Item],
 ) -> Result<Wish, NoMemory>
-    ensures { IfOk result (IsStep (meaning.each name.now (Ok element.entry.value) (left_in element.entry.left) (block_of block.now)) call.old call.new) }
+    ensures { IfOk result
+        (IsStep (meaning.each name.now (Ok element.entry.value) (left_in element.entry.left) (block_of block.now)) call.old call.new) }
 {
     call.name(name, Some(element.value));
     call.enter_marked(block, Mark::Each(name, element.left))

@@ -46,8 +46,8 @@ fn end_held<'a>(call: &mut OpenCall<'a>, lock: LockNo) -> Wish
     call.want(Turned::Release(lock))
 }
 
-/// A mark that comes to be done, and for which no value was given (the language reference, 8): a loop asks its next question, the name of an `except` is
-/// unassigned, the lock of an `async with` is released, and nothing is done at all others. Only want of memory is an error.
+/// A mark that comes to be done, and for which no value was given (the language reference, 8): a loop asks its next question, the name of an
+/// `except` is unassigned, the lock of an `async with` is released, and nothing is done at all others. Only want of memory is an error.
 pub fn do_mark<'a, V: Look>(
     alloc: Global,
     call: &mut OpenCall<'a>,
@@ -57,8 +57,8 @@ pub fn do_mark<'a, V: Look>(
     next: &mut u64,
 ) -> Result<Wish, NoMemory>
     requires { KnowsNames (V.view view.now) (names_in call.old.slots) }
-    ensures moved { IfOk result (Moved
-        (meaning.do_first (mark_in marked.entry.mark (block_of marked.entry.block.now)) (at_in task (V.view view.now) call.old next.old)) call.new next.new) }
+    ensures moved { IfOk result (Moved (meaning.do_first (mark_in marked.entry.mark (block_of marked.entry.block.now))
+        (at_in task (V.view view.now) call.old next.old)) call.new next.new) }
     ensures rises { next.old ≤ next.new }
 {
     match marked.mark {

@@ -20,10 +20,10 @@ pub trait Flow: Drop {
     /// What the task has still to do.
     ghost meaning: { Self → Task };
 
-    /// The next thing that the task wants, where it is given the answer to the last one: `Begin` at first. The fuel falls by what the steps on the way
-    /// cost; `Spent` comes exactly where it is 0 before a step that costs. `NoMemory` is the only error: the task keeps its number and its functions
-    /// then, and the fuel hasn't risen. After `Done`, `Raised`, `Spent` or `NoMemory` no poll follows. The view must know what the task holds and what it
-    /// is given; it then knows what the task wants and holds.
+    /// The next thing that the task wants, where it is given the answer to the last one: `Begin` at first. The fuel falls by what the steps on the
+    /// way cost; `Spent` comes exactly where it is 0 before a step that costs. `NoMemory` is the only error: the task keeps its number and its
+    /// functions then, and the fuel hasn't risen. After `Done`, `Raised`, `Spent` or `NoMemory` no poll follows. The view must know what the task
+    /// holds and what it is given; it then knows what the task wants and holds.
     fn poll<V: Look>(
         &mut self,
         alloc: Global,

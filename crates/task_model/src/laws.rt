@@ -2,7 +2,17 @@
 ghost use Rattle.std.specs.Prelude.{◌≡◌, ◌<◌, ◌≤◌, ℕ, List, [], length, Option, None, Some, IfSome};
 ghost use Rattle.py_attribute.specs.Look.{View};
 ghost use Rattle.test_body.specs.BodyTrees.{Function};
-ghost use Rattle.task_model.specs.ControlRows.{Acts, Calls_and_names, Handler_names, Left_loops, Nested_handlers, Refused_release, Results, Spans, Writes};
+ghost use Rattle.task_model.specs.ControlRows.{
+  Acts,
+  Calls_and_names,
+  Handler_names,
+  Left_loops,
+  Nested_handlers,
+  Refused_release,
+  Results,
+  Spans,
+  Writes,
+};
 ghost use Rattle.task_model.specs.Cost.{next_cost};
 ghost use Rattle.task_model.specs.FaultRows.{Clock_starts, Far_numbers, Which_faults};
 ghost use Rattle.task_model.specs.Frame.{Course, Task, Todo};
@@ -26,8 +36,8 @@ pub fn free_step_falls()
         → frames_weight (next functions task g view).task.frames < frames_weight (frames_given g task.frames) }
 {}
 
-/// So does one that costs nothing and wants something, whatever is given next: only finitely many steps in a row cost nothing, as long as the task has an
-/// open call.
+/// So does one that costs nothing and wants something, whatever is given next: only finitely many steps in a row cost nothing, as long as the task
+/// has an open call.
 pub fn free_wish_falls()
     ensures { (functions : List Function) (task : Task) (g : Option Given) (view : View) (turned : Turned) (next_given : Option Given)
         → next_cost task g ≡ 0 → (task.frames ≡ [] → ⊥) → (next functions task g view).turned ≡ Some turned
@@ -68,8 +78,9 @@ pub fn poll_exists()
 
 /// Two polls of one task, alike in all that goes in, come to the same end.
 pub fn poll_is_one()
-    ensures { (functions : List Function) (view : View) (fuel : ℕ) (task : Task) (g : Option Given) (one other : Turned) (left over : ℕ) (rest end : Task)
-        → Polled functions view fuel task g one left rest → Polled functions view fuel task g other over end → (one ≡ other) × (left ≡ over) × (rest ≡ end) }
+    ensures { (functions : List Function) (view : View) (fuel : ℕ) (task : Task) (g : Option Given)
+        (one other : Turned) (left over : ℕ) (rest end : Task) → Polled functions view fuel task g one left rest
+        → Polled functions view fuel task g other over end → (one ≡ other) × (left ≡ over) × (rest ≡ end) }
 {}
 
 /// A poll keeps the task's number.
@@ -78,8 +89,8 @@ pub fn poll_keeps_number()
         → Polled functions view fuel task g turned left rest → rest.number ≡ task.number }
 {}
 
-/// Where a view knows what a task holds and what it is given, and what the names of its design stand for, it knows what a poll leaves of the task, and
-/// what it answers.
+/// Where a view knows what a task holds and what it is given, and what the names of its design stand for, it knows what a poll leaves of the task,
+/// and what it answers.
 pub fn poll_is_known()
     ensures { (functions : List Function) (view : View) (fuel : ℕ) (task : Task) (g : Option Given) (turned : Turned) (left : ℕ) (rest : Task)
         → KnowsDesign view → KnowsWhole functions view task → IfSome g (KnowsGiven view) → Polled functions view fuel task g turned left rest

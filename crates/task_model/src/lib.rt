@@ -1,9 +1,9 @@
 //! The definition of a task.
 //!
-//! Begin with `specs/Step.antt`: `next` is one step of a task, which has open calls (`Frame`) with names, statements and marks. `Poll` says what the steps
-//! are up to the first that wants something of the runner. [`Turned`] is what a task wants, and [`Given`] what it is given. A [`Flow`] is a task that
-//! keeps this definition, and a [`FlowMaker`] makes such tasks; how they do so is left to the crates above, and what the runner does with what a task
-//! wants too.
+//! Begin with `specs/Step.antt`: `next` is one step of a task, which has open calls (`Frame`) with names, statements and marks. `Poll` says what the
+//! steps are up to the first that wants something of the runner. [`Turned`] is what a task wants, and [`Given`] what it is given. A [`Flow`] is a
+//! task that keeps this definition, and a [`FlowMaker`] makes such tasks; how they do so is left to the crates above, and what the runner does with
+//! what a task wants too.
 #![tactic(auto)]
 
 mod flow;

@@ -23,8 +23,8 @@ pub enum Turned {
         sig: SigId,
         bits: Bits,
     },
-    /// To start a task of the function of that number, with these values for its parameters, in order (cocotb 1.8, "Coroutines and Tasks"). It is given
-    /// the task. With `give_way` the new task runs before this one goes on.
+    /// To start a task of the function of that number, with these values for its parameters, in order (cocotb 1.8, "Coroutines and Tasks"). It is
+    /// given the task. With `give_way` the new task runs before this one goes on.
     Start {
         func: u32,
         args: Sequence<Value>,

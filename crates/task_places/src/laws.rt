@@ -14,14 +14,16 @@ ghost use Rattle.task_places.specs.Places.{AreInPlace, AreLive, IsOut, KeepEndin
 ghost use Rattle.task_places.specs.Unmet.{JoinTheLiving, WaitsInNeed};
 ghost use Rattle.task_places.specs.Reached.{IsReached, IsSoundSetup};
 
-/// Of a sound design and a sound file the opening configuration is known: each value, trigger and number in it is of the design, or was made in the test.
+/// Of a sound design and a sound file the opening configuration is known: each value, trigger and number in it is of the design, or was made in the
+/// test.
 pub fn opening_is_known()
     ensures { (setup : Setup) (seed : ℕ) (cases : List Case) → IsSoundSetup setup → IsKnown setup (opening setup seed cases).rig }
 {}
 
 /// So is each configuration that a run reaches.
 pub fn reached_is_known()
-    ensures { (setup : Setup) (seed : ℕ) (cases : List Case) (run : Run) → IsSoundSetup setup → IsReached setup seed cases run → IsKnown setup run.rig }
+    ensures { (setup : Setup) (seed : ℕ) (cases : List Case) (run : Run)
+        → IsSoundSetup setup → IsReached setup seed cases run → IsKnown setup run.rig }
 {}
 
 /// There each signal is as wide as the design says.
@@ -35,8 +37,8 @@ pub fn awaited_are_needed()
     ensures { (setup : Setup) (seed : ℕ) (cases : List Case) (run : Run) → IsReached setup seed cases run → AwaitsNeeded run.rig }
 {}
 
-/// Each task that was started has one place: it has its turn, has one entry among those that are ready, has one tree among those that wait, or has ended. Only
-/// the task whose write in the read-only phase has ended the test has none.
+/// Each task that was started has one place: it has its turn, has one entry among those that are ready, has one tree among those that wait, or has
+/// ended. Only the task whose write in the read-only phase has ended the test has none.
 pub fn tasks_are_in_place()
     ensures { (setup : Setup) (seed : ℕ) (cases : List Case) (run : Run) → IsReached setup seed cases run → AreInPlace run.rig }
 {}

@@ -49,8 +49,8 @@ pub(crate) fn eval_operated<N: Locals, V: Look>(
     next: &mut u64,
 ) -> Result<Value, OperationFault>
     requires { KnowsNames (V.view view.now) (N.names names.now) }
-    ensures { Evaluation result (λ v. v) next.old next.new
-        (meaning.eval (scope task (N.names names.now) (V.view view.now)) (tree.Infix (operation.Binary op) (tree.Name name.now) (tree.view e.now)) next.old) }
+    ensures { Evaluation result (λ v. v) next.old next.new (meaning.eval (scope task (N.names names.now) (V.view view.now))
+        (tree.Infix (operation.Binary op) (tree.Name name.now) (tree.view e.now)) next.old) }
 {
     match names.local(name) {
         Some(left) => {
@@ -169,8 +169,8 @@ pub(crate) fn eval_log<N: Locals, V: Look>(
     next: &mut u64,
 ) -> Result<Name, OperationFault>
     requires { KnowsNames (V.view view.now) (N.names names.now) }
-    ensures { Evaluation result (λ text. text) next.old next.new
-        (outcomes.eval_log (scope task (N.names names.now) (V.view view.now)) (view_logger logger.now) (tree.view e.now) (map tree.view es.now) next.old) }
+    ensures { Evaluation result (λ text. text) next.old next.new (outcomes.eval_log (scope task (N.names names.now) (V.view view.now))
+        (view_logger logger.now) (tree.view e.now) (map tree.view es.now) next.old) }
 {
     eval_logged(alloc, logger, names, view, task, next)?;
     let v = boxed(alloc, eval(alloc, e, names, view, task, next)?)?;

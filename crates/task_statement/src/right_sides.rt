@@ -58,7 +58,8 @@ pub(crate) fn assign_operated<'a, V: Look>(
     next: &mut u64,
 ) -> Result<Wish, NoMemory>
     requires { KnowsNames (V.view view.now) (names_in call.old.slots) }
-    ensures { Stepped (do_statement (body.AugmentedAssign name.now op (tree.view e.now))) task (V.view view.now) call.old call.new next.old next.new result }
+    ensures { Stepped (do_statement (body.AugmentedAssign name.now op (tree.view e.now))) task
+        (V.view view.now) call.old call.new next.old next.new result }
 {
     match eval_operated(alloc, name, op, e, &call.slots, view, task, next) {
         Ok(value) => use_value(alloc, Use::Assigns(name), value, call, view, task, next),
@@ -161,7 +162,8 @@ pub(crate) fn right_side<'a, V: Look>(
     next: &mut u64,
 ) -> Result<Wish, NoMemory>
     requires { KnowsNames (V.view view.now) (names_in call.old.slots) }
-    ensures { Stepped (meaning.right_side (view_right side.now) (use_in what.entry)) task (V.view view.now) call.old call.new next.old next.new result }
+    ensures { Stepped (meaning.right_side (view_right side.now) (use_in what.entry)) task
+        (V.view view.now) call.old call.new next.old next.new result }
 {
     match side {
         RightSide::Value(e) => value_side(alloc, e, what, call, view, task, next),

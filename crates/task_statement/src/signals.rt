@@ -28,7 +28,8 @@ pub(crate) fn stage<'a, V: Look>(
     next: &mut u64,
 ) -> Result<Wish, NoMemory>
     requires { KnowsNames (V.view view.now) (names_in call.old.slots) }
-    ensures { Stepped (meaning.use_value (frame.Writes (tree.view target.now)) value.now) task (V.view view.now) call.old call.new next.old next.new result }
+    ensures { Stepped (meaning.use_value (frame.Writes (tree.view target.now)) value.now) task
+        (V.view view.now) call.old call.new next.old next.new result }
 {
     match eval_stage(alloc, target, value, &call.slots, view, task, next) {
         Ok(write) => Ok(call.want(Turned::Stage {

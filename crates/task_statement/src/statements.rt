@@ -17,8 +17,8 @@ use py_value::{TaskNo, Value};
 use std::alloc::Global;
 use test_body::Statement;
 
-/// Does a statement of one line (the language reference, 7; cocotb 1.8, "Writing values", "Triggers", "Logging"), which was taken off the call before.
-/// Only want of memory is an error; a fault of the task is raised in the call.
+/// Does a statement of one line (the language reference, 7; cocotb 1.8, "Writing values", "Triggers", "Logging"), which was taken off the call
+/// before. Only want of memory is an error; a fault of the task is raised in the call.
 pub fn statement<'a, V: Look>(
     alloc: Global,
     statement: &'a Statement,

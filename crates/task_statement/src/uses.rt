@@ -15,8 +15,8 @@ use py_attribute::Look;
 use py_value::{TaskNo, Value};
 use std::alloc::Global;
 
-/// Does what was to be done with a value, now that it is there (the language reference, 7.2 and 7.6; cocotb 1.8, "Writing values", `with_timeout`): its
-/// mark was taken off the call before. Only want of memory is an error; a fault of the task is raised in the call.
+/// Does what was to be done with a value, now that it is there (the language reference, 7.2 and 7.6; cocotb 1.8, "Writing values", `with_timeout`):
+/// its mark was taken off the call before. Only want of memory is an error; a fault of the task is raised in the call.
 pub fn use_value<'a, V: Look>(
     alloc: Global,
     what: Use<'a>,

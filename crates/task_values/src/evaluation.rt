@@ -25,7 +25,8 @@ pub fn eval<N: Locals, V: Look>(
     next: &mut u64,
 ) -> Result<Value, OperationFault>
     requires { KnowsNames (V.view view.now) (N.names names.now) }
-    ensures is { Evaluation result (λ v. v) next.old next.new (meaning.eval (scope task (N.names names.now) (V.view view.now)) (tree.view e.now) next.old) }
+    ensures is { Evaluation result (λ v. v) next.old next.new
+        (meaning.eval (scope task (N.names names.now) (V.view view.now)) (tree.view e.now) next.old) }
     ensures known { IfOk result (Knows (V.view view.now)) }
 {
     match evaluate(alloc, e, names, view, task, next) {

@@ -82,8 +82,8 @@ pub fn eval_limit<N: Locals, V: Look>(
     next: &mut u64,
 ) -> Result<Trig, OperationFault>
     requires { KnowsNames (V.view view.now) (N.names names.now) }
-    ensures { Evaluation result (λ t. t) next.old next.new
-        (waits.eval_limit (scope task (N.names names.now) (V.view view.now)) (tree.view e.now) (tree.view time.now) (option_map tree.view unit.now) next.old) }
+    ensures { Evaluation result (λ t. t) next.old next.new (waits.eval_limit (scope task (N.names names.now) (V.view view.now))
+        (tree.view e.now) (tree.view time.now) (option_map tree.view unit.now) next.old) }
 {
     let v = boxed(alloc, eval(alloc, e, names, view, task, next)?)?;
     let time = eval_time(alloc, time, unit, names, view, task, next)?;
@@ -106,8 +106,8 @@ pub fn eval_timed_call<N: Locals, V: Look>(
     next: &mut u64,
 ) -> Result<TimedCall, OperationFault>
     requires { KnowsNames (V.view view.now) (N.names names.now) }
-    ensures { Evaluation result waits.timed_in next.old next.new
-        (waits.eval_timed_call (scope task (N.names names.now) (V.view view.now)) (view_call call.now) (tree.view time.now) (option_map tree.view unit.now) next.old) }
+    ensures { Evaluation result waits.timed_in next.old next.new (waits.eval_timed_call (scope task (N.names names.now) (V.view view.now))
+        (view_call call.now) (tree.view time.now) (option_map tree.view unit.now) next.old) }
 {
     let called = eval_call(alloc, call, names, view, task, next)?;
     let time = eval_time(alloc, time, unit, names, view, task, next)?;

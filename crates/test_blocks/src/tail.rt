@@ -73,8 +73,11 @@ impl Tail {
         condition: Expression,
         block: Vec<Item>,
     ) -> Result<Tail, NoMemory>
-        ensures { IfOk result (λ tail. tail_in tail
-            ≡ record { items = (tail_in self).items; other = Then (If (view condition) (block_of block.items) (tail_in self).other) NoItem; handlers = NoHandler }) }
+        ensures { IfOk result (λ tail. tail_in tail ≡ record {
+          items = (tail_in self).items;
+          other = Then (If (view condition) (block_of block.items) (tail_in self).other) NoItem;
+          handlers = NoHandler;
+        }) }
     {
         let Tail { items, other, .. } = self;
         let mut outer = Vec::new(alloc);
@@ -120,8 +123,11 @@ impl Tail {
         caught: Caught,
         block: Vec<Item>,
     ) -> Result<Tail, NoMemory>
-        ensures { IfOk result (λ tail. tail_in tail
-            ≡ record { items = (tail_in self).items; other = NoItem; handlers = Catch (view_caught caught) (block_of block.items) (tail_in self).handlers }) }
+        ensures { IfOk result (λ tail. tail_in tail ≡ record {
+          items = (tail_in self).items;
+          other = NoItem;
+          handlers = Catch (view_caught caught) (block_of block.items) (tail_in self).handlers;
+        }) }
     {
         let Tail {
             items,

@@ -64,7 +64,8 @@ pub(crate) fn limit(
     time: Option<&Const>,
     unit: Option<&Const>,
 ) -> Result<Option<(Const, Const)>, NoMemory>
-    ensures { IfOk result (λ made. option_map view_limit made ≡ limit (option_copied time.entry) (unwrap_or (option_copied unit.entry) (Text (codes "step")))) }
+    ensures { IfOk result
+        (λ made. option_map view_limit made ≡ limit (option_copied time.entry) (unwrap_or (option_copied unit.entry) (Text (codes "step")))) }
 {
     match time {
         Some(time) => {

@@ -23,7 +23,8 @@ pub enum Kind {
 
 /// The name that a line outside of functions defines as one of this kind.
 fn line_defined(kind: Kind, line: &ModuleLine) -> Option<&[u8]>
-    ensures { MatchOption result (line_defined kind (view_module_line line.now) ≡ None) (λ found. line_defined kind (view_module_line line.now) ≡ Some found.now) }
+    ensures { MatchOption result (line_defined kind (view_module_line line.now) ≡ None)
+        (λ found. line_defined kind (view_module_line line.now) ≡ Some found.now) }
 {
     match (line, kind) {
         (ModuleLine::Constant(name, _), Kind::Constant) => Some(name.bytes()),
@@ -34,7 +35,8 @@ fn line_defined(kind: Kind, line: &ModuleLine) -> Option<&[u8]>
 
 /// The name that an item defines as one of this kind.
 pub fn defined(kind: Kind, item: &ModuleItem) -> Option<&[u8]>
-    ensures { MatchOption result (defined kind (view_module_item item.now) ≡ None) (λ found. defined kind (view_module_item item.now) ≡ Some found.now) }
+    ensures { MatchOption result (defined kind (view_module_item item.now) ≡ None)
+        (λ found. defined kind (view_module_item item.now) ≡ Some found.now) }
 {
     match (item, kind) {
         (ModuleItem::Line { line, .. }, _) => line_defined(kind, line),

@@ -31,7 +31,8 @@ pub fn names_are_defined()
 
 /// The function of a name has the parameters of the first item that defines the name as one.
 pub fn functions_have_parameters()
-    ensures { (xs : List ModuleItem) (n : Name) → option_map (λ d. d.parameters) (function (file_of xs) n) ≡ option_map parameters_of (find (is_defined kind.Function n) xs) }
+    ensures { (xs : List ModuleItem) (n : Name)
+        → option_map (λ d. d.parameters) (function (file_of xs) n) ≡ option_map parameters_of (find (is_defined kind.Function n) xs) }
 {}
 
 /// An item passes a test exactly where there is a place of the first that does.
@@ -41,7 +42,8 @@ pub fn any_by_place()
 
 /// One of the first `k` items passes a test exactly where the place of the first of all that does is below `k`.
 pub fn above_by_place()
-    ensures { (p : ModuleItem → Bool) (xs : List ModuleItem) (k : ℕ) → list_any p (take k xs) ≡ option_map_or (λ i. nat_lt i k) (position_from p 0 xs) false }
+    ensures { (p : ModuleItem → Bool) (xs : List ModuleItem) (k : ℕ)
+        → list_any p (take k xs) ≡ option_map_or (λ i. nat_lt i k) (position_from p 0 xs) false }
 {}
 
 /// The first item that passes a test stands at the first place at which one passes.

@@ -22,7 +22,8 @@ fn note(
     item: &ModuleItem,
     place: usize,
 ) -> Result<(), NoMemory>
-    ensures ok { OnOk result ((n : List ℕ) → first_place names.new n ≡ noted_at place n (defined kind (view_module_item item.now)) (first_place names.old n)) }
+    ensures ok { OnOk result
+        ((n : List ℕ) → first_place names.new n ≡ noted_at place n (defined kind (view_module_item item.now)) (first_place names.old n)) }
     ensures err { OnErr result (names.new ≡ names.old) }
 {
     match defined(kind, item) {

@@ -29,7 +29,8 @@ fn repeats_a_parameter(alloc: Global, item: &ModuleItem) -> Result<bool, NoMemor
 /// The names that the items above define, with those of an item; none where the item breaks DuplicateName: where it defines a name that an item
 /// above or the item itself before has defined, or two of its parameters have one name. Only want of memory is an error.
 pub fn with_item(alloc: Global, above: Names, item: &ModuleItem) -> Result<Option<Names>, NoMemory>
-    ensures { IfOk result (λ names. (xs : List tree.ModuleItem) → AreNames (flat_map names_of xs) above → IsBelow xs (view_module_item item.now) names) }
+    ensures { IfOk result
+        (λ names. (xs : List tree.ModuleItem) → AreNames (flat_map names_of xs) above → IsBelow xs (view_module_item item.now) names) }
 {
     if repeats_a_parameter(alloc, item)? {
         return Ok(None);

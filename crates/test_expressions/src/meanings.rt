@@ -23,7 +23,8 @@ pub trait Meanings {
 
     /// The value that takes the place of a name in an expression, where it is a constant's; none where the name stays.
     fn fixed(&self, name: &[u8]) -> Option<&Const>
-        ensures { MatchOption result (name_in (inside self.now) name.now ≡ Name name.now) (λ c. name_in (inside self.now) name.now ≡ Constant c.now) };
+        ensures { MatchOption result (name_in (inside self.now) name.now ≡ Name name.now)
+            (λ c. name_in (inside self.now) name.now ≡ Constant c.now) };
 
     /// What a constant stands for: where it is the name of a constant of the file, the value of that one, and else itself.
     fn value_of<'a>(&'a self, constant: &'a Const) -> &'a Const

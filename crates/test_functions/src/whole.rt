@@ -24,7 +24,8 @@ pub(crate) struct Whole<'a, 'b> {
     pub places: &'a Names,
     /// Of each function's name its number among the functions.
     pub numbers: &'a FunctionNumbers,
-    ghost are_places: { (n : Name) → first_place places.now n ≡ position_from (is_defined kind.Function n) 0 (map view_module_item values.now.items.now) },
+    ghost are_places: { (n : Name)
+        → first_place places.now n ≡ position_from (is_defined kind.Function n) 0 (map view_module_item values.now.items.now) },
     ghost are_numbers: { AreFunctionNumbers (map view_module_item values.now.items.now) numbers.now },
 }
 

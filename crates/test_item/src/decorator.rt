@@ -37,7 +37,8 @@ fn starts_with_function(items: &[ModuleItem]) -> bool
 
 /// Whether an item is a decorator, and what stands below it doesn't begin with a function.
 pub fn is_stray(item: &ModuleItem, below: &[ModuleItem]) -> bool
-    ensures { (above : List tree.ModuleItem) → result ≡ is_stray (record { item = view_module_item item.now; above = above; below = map view_module_item below.now }) }
+    ensures { (above : List tree.ModuleItem)
+        → result ≡ is_stray (record { item = view_module_item item.now; above = above; below = map view_module_item below.now }) }
 {
     is_decorator(item) && !starts_with_function(below)
 }

@@ -5,9 +5,34 @@ ghost use Rattle.std.specs.List.{list_any};
 ghost use Rattle.std.specs.Option.{option_or};
 ghost use Rattle.py_syntax.specs.BlockTrees.{Block, FunctionAt, ModuleItem};
 ghost use Rattle.py_syntax.specs.declared.module.Parameter.{Parameter};
-ghost use Rattle.test_rules.specs.File.{File, Place, file_of, is_decorator, is_function, is_made_name, is_test, line_of, next_function, parameters_of, places};
+ghost use Rattle.test_rules.specs.File.{
+  File,
+  Place,
+  file_of,
+  is_decorator,
+  is_function,
+  is_made_name,
+  is_test,
+  line_of,
+  next_function,
+  parameters_of,
+  places,
+};
 ghost use Rattle.test_rules.specs.Names.{Name};
-ghost use Rattle.test_rules.specs.Rules.{defines_twice, first_broken, has_misfit, has_right_options, is_overfull, is_stray, is_unknown_import, lacks_parameters, one_test, refused_at, tests_among, tests_at};
+ghost use Rattle.test_rules.specs.Rules.{
+  defines_twice,
+  first_broken,
+  has_misfit,
+  has_right_options,
+  is_overfull,
+  is_stray,
+  is_unknown_import,
+  lacks_parameters,
+  one_test,
+  refused_at,
+  tests_among,
+  tests_at,
+};
 ghost use Rattle.test_rules.specs.Uses.{inner_lines, own_uses, with_names};
 ghost use Rattle.test_uses.specs.Answer.{answer};
 ghost use Rattle.test_item.specs.Functions.{function_name, is_decorated_behind};
@@ -15,7 +40,8 @@ ghost use Rattle.test_item.specs.OwnLine.{first_rule, lines_below, own_rule};
 
 /// The first rule that an item's own line breaks, from which of them it breaks.
 pub fn own_rule_by_parts()
-    ensures { (f : File) (p : Place) → own_rule f p ≡ first_rule (is_unknown_import p.item) (answer f (with_names (file_of p.above) []) (own_uses p.item))
+    ensures { (f : File) (p : Place) → own_rule f p
+        ≡ first_rule (is_unknown_import p.item) (answer f (with_names (file_of p.above) []) (own_uses p.item))
         (is_stray p || has_misfit f p) (defines_twice p) (not (has_right_options f (file_of p.above) p.item)) (is_overfull f p) }
 {}
 
@@ -47,7 +73,8 @@ pub fn first_by_items()
 
 /// The tests of a file at some items and one more are those at these items and those at that one: with these it is overfull or not.
 pub fn tests_with_item()
-    ensures { (f : File) (xs : List ModuleItem) (x : ModuleItem) → tests_among f (places (xs ++ x ∷ [])) ≡ tests_among f (places xs) + tests_at f (file_of xs) x }
+    ensures { (f : File) (xs : List ModuleItem) (x : ModuleItem)
+        → tests_among f (places (xs ++ x ∷ [])) ≡ tests_among f (places xs) + tests_at f (file_of xs) x }
 {}
 
 /// One of the functions of some items and of one more is a test exactly where one of these items' is, or that item is a function that is: a decorator

@@ -28,7 +28,8 @@ pub fn made_at(item: &ModuleItem) -> Option<&[u8]>
 
 /// These names with that of the function which an item makes a factory for. Only want of memory is an error.
 fn with_made(alloc: Global, before: Names, item: &ModuleItem) -> Result<Names, NoMemory>
-    ensures { IfOk result (λ after. (n : Name) → is_some (first_place after n) ≡ (is_some (first_place before n) || makes n (view_module_item item.now))) }
+    ensures { IfOk result
+        (λ after. (n : Name) → is_some (first_place after n) ≡ (is_some (first_place before n) || makes n (view_module_item item.now))) }
 {
     match made_at(item) {
         Some(function) => {

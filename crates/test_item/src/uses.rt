@@ -35,7 +35,8 @@ fn of_body(
     parameters: &[Parameter],
     body: &[BlockItem],
 ) -> Result<Option<Refusal>, NoMemory>
-    ensures { IfOk result (λ refusal. refusal ≡ first_broken (file_in scope.now) (block_lines (with_names (around_in scope.now).above (own_names parameters.now (block_of body.now))) false (block_of body.now))) }
+    ensures { IfOk result (λ refusal. refusal ≡ first_broken (file_in scope.now)
+        (block_lines (with_names (around_in scope.now).above (own_names parameters.now (block_of body.now))) false (block_of body.now))) }
 {
     let own = locals(alloc, parameters, body)?;
     let inner = FileScope {
@@ -54,7 +55,8 @@ pub fn of_inner_lines(
     scope: &FileScope<'_>,
     item: &ModuleItem,
 ) -> Result<Option<Refusal>, NoMemory>
-    ensures { IfOk result (λ refusal. refusal ≡ first_broken (file_in scope.now) (inner_lines (around_in scope.now).above (view_module_item item.now))) }
+    ensures { IfOk result
+        (λ refusal. refusal ≡ first_broken (file_in scope.now) (inner_lines (around_in scope.now).above (view_module_item item.now))) }
 {
     match item {
         ModuleItem::Function {

@@ -37,7 +37,8 @@ impl Added {
 
     /// Adds an option with so many values. Only want of memory is an error; then nothing was added.
     pub fn add(&mut self, alloc: Global, option: &[u8], value_count: usize) -> Result<(), NoMemory>
-        ensures ok { OnOk result ((cs : List Choice) (g : Bool) (vs : List Const) → length vs ≡ value_count → IsAdded cs g self.old → IsAdded (cs ++ record { name = option.now; values = vs } ∷ []) g self.new) }
+        ensures ok { OnOk result ((cs : List Choice) (g : Bool) (vs : List Const) → length vs ≡ value_count
+            → IsAdded cs g self.old → IsAdded (cs ++ record { name = option.now; values = vs } ∷ []) g self.new) }
         ensures err { OnErr result (self.new ≡ self.old) }
     {
         self.options.note(alloc, option, 0)?;

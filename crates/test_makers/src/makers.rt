@@ -111,7 +111,8 @@ impl Makers {
         option: &[u8],
         value_count: usize,
     ) -> Result<Makers, NoMemory>
-        ensures { IfOk result (λ after. (cs : Name → List Choice) (g : Name → Bool) (vs : List Const) → length vs ≡ value_count → AreAdded cs g self → AreAdded (with_choice factory.now (record { name = option.now; values = vs }) cs) g after) }
+        ensures { IfOk result (λ after. (cs : Name → List Choice) (g : Name → Bool) (vs : List Const) → length vs ≡ value_count
+            → AreAdded cs g self → AreAdded (with_choice factory.now (record { name = option.now; values = vs }) cs) g after) }
     {
         let (makers, number) = self.numbered(alloc, factory)?;
         let Makers { numbers, mut added } = makers;
@@ -121,7 +122,8 @@ impl Makers {
 
     /// With the tests of a factory generated. Only want of memory is an error.
     fn with_tests(self, alloc: Global, factory: &[u8]) -> Result<Makers, NoMemory>
-        ensures { IfOk result (λ after. (cs : Name → List Choice) (g : Name → Bool) → AreAdded cs g self → AreAdded cs (with_tests factory.now g) after) }
+        ensures { IfOk result
+            (λ after. (cs : Name → List Choice) (g : Name → Bool) → AreAdded cs g self → AreAdded cs (with_tests factory.now g) after) }
     {
         let (makers, number) = self.numbered(alloc, factory)?;
         let Makers { numbers, mut added } = makers;
@@ -131,7 +133,8 @@ impl Makers {
 
     /// With what a line adds. Only want of memory is an error.
     fn with_line(self, alloc: Global, line: &ModuleLine) -> Result<Makers, NoMemory>
-        ensures { IfOk result (λ after. (xs : List tree.ModuleItem) (l : ℕ) → StandsFor xs self → StandsFor (xs ++ tree.LineAt l (view_module_line line.now) ∷ []) after) }
+        ensures { IfOk result (λ after. (xs : List tree.ModuleItem) (l : ℕ) → StandsFor xs self
+            → StandsFor (xs ++ tree.LineAt l (view_module_line line.now) ∷ []) after) }
     {
         match line {
             ModuleLine::AddOption(factory, option, values) => {

@@ -55,7 +55,8 @@ impl Makers {
     /// Whether an option may be added to a factory whose function has these parameters: it is a further one, it wasn't added yet, and no tests
     /// were generated.
     fn may_be_added(&self, factory: &[u8], option: &[u8], parameters: &[Parameter]) -> bool
-        ensures { result ≡ (is_among option.now (parameter_names (further parameters.now)) && not (has_option self.now factory.now option.now) && not (is_generated self.now factory.now)) }
+        ensures { result ≡ (is_among option.now (parameter_names (further parameters.now))
+            && not (has_option self.now factory.now option.now) && not (is_generated self.now factory.now)) }
     {
         has_parameter(further(parameters), option)
             && !self.has_option(factory, option)
@@ -64,7 +65,8 @@ impl Makers {
 
     /// Whether an option may be added to a factory on a line; yes where no function of its stands above.
     fn is_open_option(&self, scope: &FileScope<'_>, factory: &[u8], option: &[u8]) -> bool
-        ensures { StandsAbove scope.now self.now → result ≡ is_open_option (file_in scope.now) (around_in scope.now).above factory.now option.now (made_by (around_in scope.now).above factory.now) }
+        ensures { StandsAbove scope.now self.now → result ≡ is_open_option (file_in scope.now)
+            (around_in scope.now).above factory.now option.now (made_by (around_in scope.now).above factory.now) }
     {
         match made_parameters(scope, factory) {
             Some(parameters) => self.may_be_added(factory, option, parameters),
@@ -81,7 +83,8 @@ impl Makers {
 
     /// Whether the tests of a factory may be generated on a line; yes where no function of its stands above.
     fn is_complete(&self, scope: &FileScope<'_>, factory: &[u8]) -> bool
-        ensures { StandsAbove scope.now self.now → result ≡ is_complete (file_in scope.now) (around_in scope.now).above factory.now (made_by (around_in scope.now).above factory.now) }
+        ensures { StandsAbove scope.now self.now
+            → result ≡ is_complete (file_in scope.now) (around_in scope.now).above factory.now (made_by (around_in scope.now).above factory.now) }
     {
         match made_parameters(scope, factory) {
             Some(parameters) => self.may_generate(factory, parameters),
@@ -92,7 +95,8 @@ impl Makers {
     /// Whether a line that adds an option to a factory or generates its tests may do so (cocotb 1.8, `TestFactory`); yes for any other line, a
     /// decorator too, for which others answer.
     fn line_has_right_options(&self, scope: &FileScope<'_>, line: &ModuleLine) -> bool
-        ensures { (l : ℕ) → StandsAbove scope.now self.now → result ≡ (is_decorator (tree.LineAt l (view_module_line line.now)) || has_right_options (file_in scope.now) (around_in scope.now).above (tree.LineAt l (view_module_line line.now))) }
+        ensures { (l : ℕ) → StandsAbove scope.now self.now → result ≡ (is_decorator (tree.LineAt l (view_module_line line.now))
+            || has_right_options (file_in scope.now) (around_in scope.now).above (tree.LineAt l (view_module_line line.now))) }
     {
         match line {
             ModuleLine::AddOption(factory, option, _) => {
@@ -106,7 +110,8 @@ impl Makers {
     /// Whether an item that adds an option to a factory or generates its tests may do so (else BadOption; cocotb 1.8, `TestFactory`); yes for any
     /// other item, a decorator too, for which others answer.
     pub fn has_right_options(&self, scope: &FileScope<'_>, item: &ModuleItem) -> bool
-        ensures { StandsAbove scope.now self.now → result ≡ (is_decorator (view_module_item item.now) || has_right_options (file_in scope.now) (around_in scope.now).above (view_module_item item.now)) }
+        ensures { StandsAbove scope.now self.now → result ≡ (is_decorator (view_module_item item.now)
+            || has_right_options (file_in scope.now) (around_in scope.now).above (view_module_item item.now)) }
     {
         match item {
             ModuleItem::Line { line, .. } => self.line_has_right_options(scope, line),

@@ -23,7 +23,8 @@ impl Makers {
 
     /// How many tests a line generates, where one above the limit stands for all that are more.
     fn tests_of_line(&self, line: &ModuleLine) -> usize
-        ensures { (f : File) (xs : List tree.ModuleItem) (l : ℕ) → StandsFor xs self.now → result ≡ cut (tests_at f (file_of xs) (tree.LineAt l (view_module_line line.now))) }
+        ensures { (f : File) (xs : List tree.ModuleItem) (l : ℕ) → StandsFor xs self.now
+            → result ≡ cut (tests_at f (file_of xs) (tree.LineAt l (view_module_line line.now))) }
     {
         match line {
             ModuleLine::GenerateTests(factory, ..) => self.case_count(factory.bytes()),
@@ -34,7 +35,8 @@ impl Makers {
     /// How many tests stand at the item below, which may be a function that is a test: one above the limit stands for all that are more. A
     /// factory generates a test for each choice of one value for each option (cocotb 1.8, `TestFactory`).
     pub fn tests_at(&self, is_test: bool, item: &ModuleItem) -> usize
-        ensures { (f : File) (xs : List tree.ModuleItem) → StandsFor xs self.now → IsTestAt f xs (view_module_item item.now) is_test → result ≡ cut (tests_at f (file_of xs) (view_module_item item.now)) }
+        ensures { (f : File) (xs : List tree.ModuleItem) → StandsFor xs self.now → IsTestAt f xs (view_module_item item.now) is_test
+            → result ≡ cut (tests_at f (file_of xs) (view_module_item item.now)) }
     {
         match item {
             ModuleItem::Docstring { .. } => 0,

@@ -1,7 +1,17 @@
 //! Worked rows.
 
 ghost use Rattle.test_meaning.specs.Rows.{Refused_rows, Whole_row, Product_rows, Name_rows, Option_rows, Order_row};
-ghost use Rattle.test_meaning.specs.BodyRows.{Constant_rows, Call_rows, Sound_rows, Statement_rows, If_rows, Block_rows, Stray_rows, Function_rows, Clock_row};
+ghost use Rattle.test_meaning.specs.BodyRows.{
+  Constant_rows,
+  Call_rows,
+  Sound_rows,
+  Statement_rows,
+  If_rows,
+  Block_rows,
+  Stray_rows,
+  Function_rows,
+  Clock_row,
+};
 
 /// What the check answers for five files that break a rule.
 pub fn refused_rows()

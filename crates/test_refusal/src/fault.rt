@@ -24,7 +24,8 @@ use test_values::literal_places;
 
 /// The first line that breaks a rule; and what stands in the whole file, where there is none. Only want of memory is an error.
 fn pass(alloc: Global, whole: &Whole<'_>) -> Result<Step, NoMemory>
-    ensures { IfOk result (IsStepTo (file_of_whole whole.now) (view_module whole.now.file.now) (first_broken (file_of_whole whole.now) (file_lines (file_of_whole whole.now)))) }
+    ensures { IfOk result (IsStepTo (file_of_whole whole.now) (view_module whole.now.file.now)
+        (first_broken (file_of_whole whole.now) (file_lines (file_of_whole whole.now)))) }
 {
     let mut seen = Seen::nothing(alloc);
     for above in 0..whole.file.items.len() {

@@ -59,7 +59,8 @@ pub(crate) fn is_generation(item: &ModuleItem) -> bool
 
 /// The options of a decorator; none of another item.
 pub(crate) fn settings(item: &ModuleItem) -> Option<&[Setting]>
-    ensures { MatchOption result (is_decorator (view_module_item item.now) ≡ false) (λ found. (f above : File) → has_right_options f above (view_module_item item.now) ≡ are_right_settings f found.now) }
+    ensures { MatchOption result (is_decorator (view_module_item item.now) ≡ false)
+        (λ found. (f above : File) → has_right_options f above (view_module_item item.now) ≡ are_right_settings f found.now) }
 {
     match item {
         ModuleItem::Line { line, .. } => match line {

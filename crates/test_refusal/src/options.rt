@@ -21,7 +21,8 @@ pub(crate) fn has_right_options(
     makers: &Makers,
 ) -> Result<bool, NoMemory>
     requires { StandsFor (place_of place.now).above makers.now }
-    ensures { IfOk result (λ yes. yes ≡ has_right_options (file_of_whole place.now.whole.now) (file_of (place_of place.now).above) (place_of place.now).item) }
+    ensures { IfOk result
+        (λ yes. yes ≡ has_right_options (file_of_whole place.now.whole.now) (file_of (place_of place.now).above) (place_of place.now).item) }
 {
     let values = ModuleValues {
         items: &place.whole.file.items,

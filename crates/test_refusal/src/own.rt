@@ -20,7 +20,9 @@ use test_uses::first_of;
 
 /// Whether an item is a function that lacks parameters, where a decorator stands directly above it or doesn't.
 fn has_misfit(place: &Place<'_, '_>, is_decorated: bool) -> bool
-    ensures { result ≡ (is_function (place_of place.now).item && lacks_parameters is_decorated (is_made_name (file_of_whole place.now.whole.now) (function_name (place_of place.now).item)) (parameters_of (place_of place.now).item)) }
+    ensures { result ≡ (is_function (place_of place.now).item
+        && lacks_parameters is_decorated (is_made_name (file_of_whole place.now.whole.now) (function_name (place_of place.now).item))
+        (parameters_of (place_of place.now).item)) }
 {
     is_function(place.item)
         && lacks_parameters(
@@ -41,7 +43,8 @@ fn is_misplaced(place: &Place<'_, '_>, is_decorated: bool) -> bool
 
 /// Whether an item is a function that is a test outside of factories, where a decorator stands directly above it or doesn't.
 pub(crate) fn is_test(place: &Place<'_, '_>, is_decorated: bool) -> bool
-    ensures { result ≡ (is_function (place_of place.now).item && (is_decorated && not (is_made_name (file_of_whole place.now.whole.now) (function_name (place_of place.now).item)))) }
+    ensures { result ≡ (is_function (place_of place.now).item
+        && (is_decorated && not (is_made_name (file_of_whole place.now.whole.now) (function_name (place_of place.now).item)))) }
 {
     is_function(place.item) && (is_decorated && !place.whole.is_made(function_name(place.item)))
 }

@@ -35,7 +35,9 @@ fn tests_so_far(place: &Place<'_, '_>, seen: &Seen) -> usize
 
 /// Whether a test outside of factories stands at an item or above it, or tests are generated there, if only none.
 fn has_tests_so_far(place: &Place<'_, '_>, seen: &Seen) -> bool
-    ensures { result ≡ ((seen.now.has_tests || (is_function (place_of place.now).item && (seen.now.is_decorated && not (is_made_name (file_of_whole place.now.whole.now) (function_name (place_of place.now).item))))) || is_generation (place_of place.now).item) }
+    ensures { result ≡ ((seen.now.has_tests || (is_function (place_of place.now).item
+        && (seen.now.is_decorated && not (is_made_name (file_of_whole place.now.whole.now) (function_name (place_of place.now).item)))))
+        || is_generation (place_of place.now).item) }
 {
     seen.has_tests || is_test(place, seen.is_decorated) || is_generation(place.item)
 }
@@ -52,7 +54,8 @@ fn below(
     requires names { AreNames (flat_map names_of (items_to place.now)) names }
     requires makers { StandsFor (place_of place.now).above makers }
     requires tests { tests ≡ cut (tests_among (file_of_whole place.now.whole.now) (places (items_to place.now))) }
-    requires has_tests { has_tests ≡ (list_any (is_test (file_of_whole place.now.whole.now)) (file_of (items_to place.now)).functions || list_any is_generation (items_to place.now)) }
+    requires has_tests { has_tests ≡ (list_any (is_test (file_of_whole place.now.whole.now)) (file_of (items_to place.now)).functions
+        || list_any is_generation (items_to place.now)) }
     ensures { IfOk result (IsSeen (file_of_whole place.now.whole.now) (items_to place.now)) }
 {
     let makers = makers.with_item(alloc, place.item)?;
@@ -70,7 +73,8 @@ fn below(
 fn defined_step(alloc: Global, place: &Place<'_, '_>, seen: Seen) -> Result<Step, NoMemory>
     requires stands { Stands place.now }
     requires seen { IsSeen (file_of_whole place.now.whole.now) (place_of place.now).above seen }
-    ensures { IfOk result (IsStepTo (file_of_whole place.now.whole.now) (items_to place.now) (refused_at (line_of (place_of place.now).item) (defined_rule (file_of_whole place.now.whole.now) (place_of place.now)))) }
+    ensures { IfOk result (IsStepTo (file_of_whole place.now.whole.now) (items_to place.now)
+        (refused_at (line_of (place_of place.now).item) (defined_rule (file_of_whole place.now.whole.now) (place_of place.now)))) }
 {
     let tests = tests_so_far(place, &seen);
     let later = later_rule(alloc, place, &seen, tests)?;
@@ -97,7 +101,8 @@ fn defined_step(alloc: Global, place: &Place<'_, '_>, seen: Seen) -> Result<Step
 fn own_step(alloc: Global, place: &Place<'_, '_>, seen: Seen) -> Result<Step, NoMemory>
     requires stands { Stands place.now }
     requires seen { IsSeen (file_of_whole place.now.whole.now) (place_of place.now).above seen }
-    ensures { IfOk result (IsStepTo (file_of_whole place.now.whole.now) (items_to place.now) (refused_at (line_of (place_of place.now).item) (own_rule (file_of_whole place.now.whole.now) (place_of place.now)))) }
+    ensures { IfOk result (IsStepTo (file_of_whole place.now.whole.now) (items_to place.now)
+        (refused_at (line_of (place_of place.now).item) (own_rule (file_of_whole place.now.whole.now) (place_of place.now)))) }
 {
     let found = placed_rule(alloc, place, seen.is_decorated)?;
     match found {
@@ -109,7 +114,8 @@ fn own_step(alloc: Global, place: &Place<'_, '_>, seen: Seen) -> Result<Step, No
 /// The first line of an item's block that breaks a rule; and this, where there is none. Only want of memory is an error.
 fn inner_step(alloc: Global, place: &Place<'_, '_>, seen: Seen) -> Result<Step, NoMemory>
     requires { IsSeen (file_of_whole place.now.whole.now) (items_to place.now) seen }
-    ensures { IfOk result (IsStepTo (file_of_whole place.now.whole.now) (items_to place.now) (first_broken (file_of_whole place.now.whole.now) (inner_lines (file_of (place_of place.now).above) (place_of place.now).item))) }
+    ensures { IfOk result (IsStepTo (file_of_whole place.now.whole.now) (items_to place.now)
+        (first_broken (file_of_whole place.now.whole.now) (inner_lines (file_of (place_of place.now).above) (place_of place.now).item))) }
 {
     let found = of_inner_lines(alloc, &place.scope(), place.item)?;
     match found {
@@ -123,7 +129,8 @@ fn inner_step(alloc: Global, place: &Place<'_, '_>, seen: Seen) -> Result<Step, 
 pub(crate) fn step(alloc: Global, place: &Place<'_, '_>, seen: Seen) -> Result<Step, NoMemory>
     requires stands { Stands place.now }
     requires seen { IsSeen (file_of_whole place.now.whole.now) (place_of place.now).above seen }
-    ensures { IfOk result (IsStepTo (file_of_whole place.now.whole.now) (items_to place.now) (first_of_item (file_of_whole place.now.whole.now) (place_of place.now))) }
+    ensures { IfOk result (IsStepTo (file_of_whole place.now.whole.now) (items_to place.now)
+        (first_of_item (file_of_whole place.now.whole.now) (place_of place.now))) }
 {
     let own = own_step(alloc, place, seen)?;
     match own {

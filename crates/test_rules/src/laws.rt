@@ -1,6 +1,22 @@
 //! Worked rows.
 
-ghost use Rattle.test_rules.specs.Rows.{Refused_rows, Kept_rows, Import_rows, Name_rows, Place_rows, Form_rows, Above_rows, Call_rows, Loop_rows, Decorator_rows, Duplicate_rows, Option_rows, Factory_rows, Count_rows, Order_rows};
+ghost use Rattle.test_rules.specs.Rows.{
+  Refused_rows,
+  Kept_rows,
+  Import_rows,
+  Name_rows,
+  Place_rows,
+  Form_rows,
+  Above_rows,
+  Call_rows,
+  Loop_rows,
+  Decorator_rows,
+  Duplicate_rows,
+  Option_rows,
+  Factory_rows,
+  Count_rows,
+  Order_rows,
+};
 
 /// Seven files, one for each rule, are refused by that rule at its line.
 pub fn refused_rows()

@@ -57,7 +57,8 @@ fn is_given(settings: &[Setting], name: &[u8]) -> bool
 
 /// Whether there is no unit, or its time.
 fn has_time(settings: &[Setting]) -> bool
-    ensures { result ≡ (is_among (codes "timeout_time") (setting_names settings.now) || not (is_among (codes "timeout_unit") (setting_names settings.now))) }
+    ensures { result
+        ≡ (is_among (codes "timeout_time") (setting_names settings.now) || not (is_among (codes "timeout_unit") (setting_names settings.now))) }
 {
     is_given(settings, b"timeout_time") || !is_given(settings, b"timeout_unit")
 }

@@ -2,7 +2,16 @@
 
 ghost use Rattle.std.specs.Prelude.{◌≡◌, Some, map, option_map, IfOk};
 ghost use Rattle.py_syntax.specs.ExpressionTrees.{view};
-ghost use Rattle.py_syntax.specs.StatementTrees.{ClockStart, WithTimeout, optional, view_argument, view_awaited as view_waiting, view_right as view_side, view_started, view_timed as view_limited};
+ghost use Rattle.py_syntax.specs.StatementTrees.{
+  ClockStart,
+  WithTimeout,
+  optional,
+  view_argument,
+  view_awaited as view_waiting,
+  view_right as view_side,
+  view_started,
+  view_timed as view_limited,
+};
 ghost use Rattle.test_body.specs.BodyTrees as body;
 ghost use Rattle.test_body.specs.Views.{view_awaited, view_call, view_right, view_timed};
 ghost use Rattle.test_meaning.specs.Bodies.{awaited_in, call_in, called, clock_parameters, operands_in, right_in, timed_in, tree_in};
@@ -48,7 +57,8 @@ fn numbered_call<M: Meanings>(
     parameters: &[Parameter],
     arguments: &[Argument],
 ) -> Result<Call, NoMemory>
-    ensures { IfOk result (λ made. view_call made ≡ body.FunctionCall number (operands_in (M.inside meanings.now) parameters.now (map view_argument arguments.now))) }
+    ensures { IfOk result
+        (λ made. view_call made ≡ body.FunctionCall number (operands_in (M.inside meanings.now) parameters.now (map view_argument arguments.now))) }
 {
     let number = function_number(number)?;
     let operands = operands(alloc, meanings, parameters, arguments)?;
@@ -62,7 +72,8 @@ fn function_call<M: Meanings>(
     name: &[u8],
     arguments: &[Argument],
 ) -> Result<Call, NoMemory>
-    ensures { IfOk result (λ made. view_call made ≡ called (M.inside meanings.now) (map view_argument arguments.now) (function (M.inside meanings.now).file name.now)) }
+    ensures { IfOk result (λ made. view_call made
+        ≡ called (M.inside meanings.now) (map view_argument arguments.now) (function (M.inside meanings.now).file name.now)) }
 {
     match meanings.function(name) {
         Some(CalledFunction { number, parameters }) => numbered_call(
@@ -146,7 +157,8 @@ fn with_timeout<M: Meanings>(
     time: &Expression,
     unit: &Option<Expression>,
 ) -> Result<Awaited, NoMemory>
-    ensures { IfOk result (λ made. view_awaited made ≡ awaited_in (M.inside meanings.now) (WithTimeout (view_limited limited.now) (view time.now) (optional view unit.now))) }
+    ensures { IfOk result (λ made. view_awaited made
+        ≡ awaited_in (M.inside meanings.now) (WithTimeout (view_limited limited.now) (view time.now) (optional view unit.now))) }
 {
     let limited = timed(alloc, meanings, limited)?;
     let time = expression(alloc, meanings, time)?;

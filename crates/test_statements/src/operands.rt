@@ -23,7 +23,8 @@ pub(crate) fn given_operands<M: Meanings>(
     parameters: &[Parameter],
     arguments: &[Argument],
 ) -> Result<Vec<Operand>, NoMemory>
-    ensures { IfOk result (λ operands. map view_operand operands.items ≡ given_operands (M.inside meanings.now) parameters.now 0 (map view_argument arguments.now)) }
+    ensures { IfOk result
+        (λ operands. map view_operand operands.items ≡ given_operands (M.inside meanings.now) parameters.now 0 (map view_argument arguments.now)) }
 {
     let names = numbers(alloc, parameters)?;
     let mut operands = Vec::new(alloc);

@@ -21,7 +21,8 @@ fn optional_side<M: Meanings>(
     meanings: &M,
     side: &Option<syntax::RightSide>,
 ) -> Result<Option<RightSide>, NoMemory>
-    ensures { IfOk result (λ made. option_map view_right made ≡ option_map (right_in (M.inside meanings.now)) (syntax_tree.optional syntax_tree.view_right side.now)) }
+    ensures { IfOk result
+        (λ made. option_map view_right made ≡ option_map (right_in (M.inside meanings.now)) (syntax_tree.optional syntax_tree.view_right side.now)) }
 {
     match side {
         Some(side) => Ok(Some(right_side(alloc, meanings, side)?)),
@@ -54,7 +55,8 @@ fn log<M: Meanings>(
     text: &Expression,
     values: &[Expression],
 ) -> Result<Statement, NoMemory>
-    ensures { IfOk result (λ made. view_statement made ≡ statement_in (M.inside meanings.now) (syntax_tree.Log (syntax_tree.view_logger source.now) level (view text.now) (map view values.now))) }
+    ensures { IfOk result (λ made. view_statement made
+        ≡ statement_in (M.inside meanings.now) (syntax_tree.Log (syntax_tree.view_logger source.now) level (view text.now) (map view values.now))) }
 {
     let source = logger(alloc, meanings, source)?;
     let text = expression(alloc, meanings, text)?;
@@ -68,7 +70,8 @@ fn assign<M: Meanings>(
     name: &[u8],
     side: &syntax::RightSide,
 ) -> Result<Statement, NoMemory>
-    ensures { IfOk result (λ made. view_statement made ≡ statement_in (M.inside meanings.now) (syntax_tree.Assign name.now (syntax_tree.view_right side.now))) }
+    ensures { IfOk result
+        (λ made. view_statement made ≡ statement_in (M.inside meanings.now) (syntax_tree.Assign name.now (syntax_tree.view_right side.now))) }
 {
     let name = Name::of(alloc, name)?;
     Ok(Statement::Assign(name, right_side(alloc, meanings, side)?))
@@ -82,7 +85,8 @@ fn augmented<M: Meanings>(
     op: BinOp,
     value: &Expression,
 ) -> Result<Statement, NoMemory>
-    ensures { IfOk result (λ made. view_statement made ≡ statement_in (M.inside meanings.now) (syntax_tree.AugmentedAssign name.now op (view value.now))) }
+    ensures { IfOk result
+        (λ made. view_statement made ≡ statement_in (M.inside meanings.now) (syntax_tree.AugmentedAssign name.now op (view value.now))) }
 {
     let name = Name::of(alloc, name)?;
     Ok(Statement::AugmentedAssign(name, op, expression(alloc, meanings, value)?))
@@ -95,7 +99,8 @@ fn assign_value<M: Meanings>(
     signal: &Expression,
     side: &syntax::RightSide,
 ) -> Result<Statement, NoMemory>
-    ensures { IfOk result (λ made. view_statement made ≡ statement_in (M.inside meanings.now) (syntax_tree.AssignValue (view signal.now) (syntax_tree.view_right side.now))) }
+    ensures { IfOk result (λ made. view_statement made
+        ≡ statement_in (M.inside meanings.now) (syntax_tree.AssignValue (view signal.now) (syntax_tree.view_right side.now))) }
 {
     let signal = expression(alloc, meanings, signal)?;
     Ok(Statement::AssignValue(signal, right_side(alloc, meanings, side)?))
@@ -108,7 +113,8 @@ fn set_immediate<M: Meanings>(
     signal: &Expression,
     value: &Expression,
 ) -> Result<Statement, NoMemory>
-    ensures { IfOk result (λ made. view_statement made ≡ statement_in (M.inside meanings.now) (syntax_tree.SetImmediateValue (view signal.now) (view value.now))) }
+    ensures { IfOk result
+        (λ made. view_statement made ≡ statement_in (M.inside meanings.now) (syntax_tree.SetImmediateValue (view signal.now) (view value.now))) }
 {
     let signal = expression(alloc, meanings, signal)?;
     Ok(Statement::SetImmediateValue(signal, expression(alloc, meanings, value)?))
@@ -121,7 +127,8 @@ fn assertion<M: Meanings>(
     condition: &Expression,
     value: &Option<Expression>,
 ) -> Result<Statement, NoMemory>
-    ensures { IfOk result (λ made. view_statement made ≡ statement_in (M.inside meanings.now) (syntax_tree.Assert (view condition.now) (syntax_tree.optional view value.now))) }
+    ensures { IfOk result (λ made. view_statement made
+        ≡ statement_in (M.inside meanings.now) (syntax_tree.Assert (view condition.now) (syntax_tree.optional view value.now))) }
 {
     let condition = expression(alloc, meanings, condition)?;
     Ok(Statement::Assert(condition, optional(alloc, meanings, value)?))

@@ -120,10 +120,10 @@ impl<M: FlowMaker + Drop> TestTasks<M> {
         Ok(number)
     }
 
-    /// Polls the live task of that number, where it is given the answer to what it wanted last. It sees the simulator, which runs this design with these
-    /// names, the events and locks, and how tasks have ended, and must know there what the tasks hold and what this one is given. The fuel falls by what
-    /// the steps cost, and `Spent` comes where it doesn't suffice for the next one. After want of memory the task keeps its number, what it has still to do
-    /// may be anything, the fuel hasn't risen, and all else is as before.
+    /// Polls the live task of that number, where it is given the answer to what it wanted last. It sees the simulator, which runs this design with
+    /// these names, the events and locks, and how tasks have ended, and must know there what the tasks hold and what this one is given. The fuel
+    /// falls by what the steps cost, and `Spent` comes where it doesn't suffice for the next one. After want of memory the task keeps its number,
+    /// what it has still to do may be anything, the fuel hasn't risen, and all else is as before.
     pub fn poll<K: Gpi>(
         &mut self,
         alloc: Global,
@@ -144,8 +144,9 @@ impl<M: FlowMaker + Drop> TestTasks<M> {
         requires answer { KnowsGiven (view_of flat.now (K.content kernel.now).state objects.now self.old.ended) given }
         ensures falls { fuel.new ≤ fuel.old }
         ensures left { LeavesOne (live_in M.Flow.meaning self.old) task (live_in M.Flow.meaning self.new) }
-        ensures polls { IfOk result (λ turned. PollsOne (M.functions self.old.maker) (view_of flat.now (K.content kernel.now).state objects.now self.old.ended)
-            fuel.old (live_in M.Flow.meaning self.old) task given turned fuel.new (live_in M.Flow.meaning self.new)) }
+        ensures polls { IfOk result
+            (λ turned. PollsOne (M.functions self.old.maker) (view_of flat.now (K.content kernel.now).state objects.now self.old.ended) fuel.old
+            (live_in M.Flow.meaning self.old) task given turned fuel.new (live_in M.Flow.meaning self.new)) }
         ensures ended { self.new.ended ≡ self.old.ended }
         ensures whole { IsWhole M.functions (meanings M.Flow.functions M.Flow.meaning) self.new }
         ensures maker { self.new.maker ≡ self.old.maker }

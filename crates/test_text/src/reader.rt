@@ -79,7 +79,8 @@ fn module_of(alloc: Global, text: &[u8]) -> Result<Module, TestsFault>
 
 /// The tests file of a module.
 fn file_of(alloc: Global, tree: Module) -> Result<TestFile, TestsFault>
-    ensures found { (text : List ℕ) → length text ≤ most_bytes → IsModuleOf text (view_module tree) → IfOk result (λ file. IsTests text (view_file file)) }
+    ensures found { (text : List ℕ) → length text ≤ most_bytes → IsModuleOf text (view_module tree)
+        → IfOk result (λ file. IsTests text (view_file file)) }
     ensures sound { (text : List ℕ) → IsModuleOf text (view_module tree) → IfOk result (λ file. is_sound (view_file file) ≡ true) }
     ensures refused { (text : List ℕ) → length text ≤ most_bytes → IsModuleOf text (view_module tree) → IfErr result (λ fault. IsFault fault text) }
 {

@@ -63,7 +63,8 @@ fn of_function_call<S: Scope>(
     name: &[u8],
     arguments: &[Argument],
 ) -> Result<Option<FileRule>, NoMemory>
-    ensures { IfOk result (λ rule. rule ≡ answer (S.file scope.now) (S.around scope.now) (Calls name.now (map (λ a. a.name) arguments.now) ∷ flat_map (λ a. tree_uses (view a.value)) arguments.now)) }
+    ensures { IfOk result (λ rule. rule ≡ answer (S.file scope.now) (S.around scope.now)
+        (Calls name.now (map (λ a. a.name) arguments.now) ∷ flat_map (λ a. tree_uses (view a.value)) arguments.now)) }
 {
     let called = scope.calls(alloc, name, arguments)?;
     Ok(first_of(called, of_arguments(scope, arguments)))
@@ -118,7 +119,8 @@ fn of_timeout<S: Scope>(
     time: &Expression,
     unit: &Option<Expression>,
 ) -> Result<Option<FileRule>, NoMemory>
-    ensures { IfOk result (λ rule. rule ≡ answer (S.file scope.now) (S.around scope.now) (awaited_uses (WithTimeout (view_timed timed.now) (view time.now) (optional view unit.now)))) }
+    ensures { IfOk result (λ rule. rule ≡ answer (S.file scope.now) (S.around scope.now)
+        (awaited_uses (WithTimeout (view_timed timed.now) (view time.now) (optional view unit.now)))) }
 {
     let timed = of_timed(alloc, scope, timed)?;
     let limited = first_of(timed, of_tree(scope, time));

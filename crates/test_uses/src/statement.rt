@@ -54,7 +54,8 @@ fn of_signal_value<S: Scope>(
     signal: &Expression,
     right: &RightSide,
 ) -> Result<Option<FileRule>, NoMemory>
-    ensures { IfOk result (λ rule. rule ≡ answer (S.file scope.now) (S.around scope.now) (tree_uses (view signal.now) ++ right_uses (view_right right.now))) }
+    ensures { IfOk result
+        (λ rule. rule ≡ answer (S.file scope.now) (S.around scope.now) (tree_uses (view signal.now) ++ right_uses (view_right right.now))) }
 {
     let given = of_right(alloc, scope, right)?;
     Ok(first_of(of_tree(scope, signal), given))

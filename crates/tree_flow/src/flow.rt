@@ -15,8 +15,8 @@ use std::alloc::Global;
 use task_model::{Flow, Turned};
 use test_body::Function;
 
-/// A task of a tests file (cocotb 1.8, "Coroutines and Tasks"), as its open calls. After want of memory, which is the only error of its calls, no poll
-/// follows.
+/// A task of a tests file (cocotb 1.8, "Coroutines and Tasks"), as its open calls. After want of memory, which is the only error of its calls, no
+/// poll follows.
 #[derive(Drop)]
 pub struct TreeFlow<'a> {
     /// The functions of the file, by number.

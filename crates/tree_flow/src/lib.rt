@@ -1,9 +1,9 @@
 //! Tasks of a tests file as their open calls.
 //!
-//! [`TreeFlow`] is a task, which keeps [`Flow`](task_model::Flow) of `task_model`: it has its open calls, each of which borrows the file, and a poll does
-//! its steps up to the first that wants something. [`TreeMaker`] makes such tasks, and keeps [`FlowMaker`](task_model::FlowMaker). A step takes the first
-//! thing to do off the innermost call, whatever its function's length. How tasks are kept, and what is done with what they want, is left to the crates
-//! above.
+//! [`TreeFlow`] is a task, which keeps [`Flow`](task_model::Flow) of `task_model`: it has its open calls, each of which borrows the file, and a poll
+//! does its steps up to the first that wants something. [`TreeMaker`] makes such tasks, and keeps [`FlowMaker`](task_model::FlowMaker). A step takes
+//! the first thing to do off the innermost call, whatever its function's length. How tasks are kept, and what is done with what they want, is left
+//! to the crates above.
 #![tactic(auto)]
 
 mod course;

@@ -46,8 +46,8 @@ fn put<T: Drop>(place: &mut T, value: T)
 }
 
 impl<'a> TreeFlow<'a> {
-    /// A call within the innermost one, where fewer calls are open than may be; else RuntimeError is raised where it stands. Only want of memory is an
-    /// error.
+    /// A call within the innermost one, where fewer calls are open than may be; else RuntimeError is raised where it stands. Only want of memory is
+    /// an error.
     fn open(
         &mut self,
         alloc: Global,

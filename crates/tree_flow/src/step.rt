@@ -77,8 +77,8 @@ fn use_at<'a, V: Look>(
     next: &mut u64,
 ) -> Result<Wish, NoMemory>
     requires { KnowsNames (V.view view.now) (names_in call.old.slots) }
-    ensures { IfOk result (Moved
-        (use_first value (mark_in marked.entry.mark (block_of marked.entry.block.now)) (at_in task (V.view view.now) call.old next.old)) call.new next.new) }
+    ensures { IfOk result (Moved (use_first value (mark_in marked.entry.mark (block_of marked.entry.block.now))
+        (at_in task (V.view view.now) call.old next.old)) call.new next.new) }
 {
     match marked.mark {
         Mark::Uses(what) => use_value(alloc, what, value, call, view, task, next),

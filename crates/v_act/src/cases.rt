@@ -5,7 +5,19 @@ ghost use Rattle.gpi.specs.Activation.{acts_of};
 ghost use Rattle.v_context.specs.Contexts.{IsLowered};
 ghost use Rattle.v_flat.specs.Statements.{agreement_of};
 ghost use Rattle.v_act.specs.Cases.{ChecksCase, ChecksDefault, ChecksItem, ChecksMoreLabels, ChecksNoCase, ChecksNoLabel};
-ghost use Rattle.v_act.specs.MadeCases.{AddsItem, AddsLabels, AreCaseStatements, AreMoreDefaults, AreMoreItems, AreMoreLabels, AreNumbered, HasDefault, HasItem, HasLabel, MakesCaseStatement};
+ghost use Rattle.v_act.specs.MadeCases.{
+  AddsItem,
+  AddsLabels,
+  AreCaseStatements,
+  AreMoreDefaults,
+  AreMoreItems,
+  AreMoreLabels,
+  AreNumbered,
+  HasDefault,
+  HasItem,
+  HasLabel,
+  MakesCaseStatement,
+};
 
 use crate::waiting::{beside, both_ok, in_place_of, with_last};
 use gpi::{Act, Acts, CaseKind as Agreement, Label, Term};

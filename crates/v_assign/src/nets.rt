@@ -52,7 +52,8 @@ pub fn net_name(
     driven: &mut DrivenDigits,
 ) -> Result<Found<CheckedTarget>, NoMemory>
     requires { AreProper (means scope.now) }
-    ensures ok { IfOk result (λ found. IsContinuous place (means scope.now) (NamedTarget operand.now.at operand.now.name (view_selects operand.now.selects)) driven.old found driven.new) }
+    ensures ok { IfOk result (λ found. IsContinuous place (means scope.now)
+        (NamedTarget operand.now.at operand.now.name (view_selects operand.now.selects)) driven.old found driven.new) }
     ensures err { OnErr result (KeepsSame driven.old driven.new) }
 {
     let selects = fixed_selects(alloc, scope, &operand.selects)?;

@@ -36,7 +36,8 @@ pub(crate) struct Connection<'a> {
 /// What is found in a connection for which there is no port: BadPort is broken, and its value is checked. Only want of memory is an error.
 fn nowhere(alloc: Global, scope: &Scope, connection: &Connection<'_>) -> Result<Found<()>, NoMemory>
     requires { AreProper (means scope.now) }
-    ensures { IfOk result (λ found. found ≡ lost (at rule.BadPort connection.now.name) (value_checked (means scope.now) (value_in connection.now.value))) }
+    ensures { IfOk result
+        (λ found. found ≡ lost (at rule.BadPort connection.now.name) (value_checked (means scope.now) (value_in connection.now.value))) }
 {
     let fault = Broken {
         rule: ElabRule::BadPort,
@@ -72,7 +73,8 @@ fn to_port(
     driven: &mut DrivenDigits,
 ) -> Result<Found<()>, NoMemory>
     requires { AreProper (means scope.now) }
-    ensures ok { IfOk result (λ found. Connects (means scope.now) connection.now.place connection.now.name (Some (port_in port.entry)) (value_in connection.now.value) driven.old joints.old.items found joints.new.items driven.new) }
+    ensures ok { IfOk result (λ found. Connects (means scope.now) connection.now.place connection.now.name
+        (Some (port_in port.entry)) (value_in connection.now.value) driven.old joints.old.items found joints.new.items driven.new) }
     ensures grows { KeepsOrGrows driven.old driven.new }
 {
     match connection.value {
@@ -102,7 +104,8 @@ fn connect(
     driven: &mut DrivenDigits,
 ) -> Result<Found<()>, NoMemory>
     requires { AreProper (means scope.now) }
-    ensures ok { IfOk result (λ found. Connects (means scope.now) connection.now.place connection.now.name (option_map port_in port.entry) (value_in connection.now.value) driven.old joints.old.items found joints.new.items driven.new) }
+    ensures ok { IfOk result (λ found. Connects (means scope.now) connection.now.place connection.now.name
+        (option_map port_in port.entry) (value_in connection.now.value) driven.old joints.old.items found joints.new.items driven.new) }
     ensures grows { KeepsOrGrows driven.old driven.new }
 {
     match port {
@@ -123,7 +126,8 @@ pub(crate) fn then_connect(
     driven: &mut DrivenDigits,
 ) -> Result<Found<()>, NoMemory>
     requires { AreProper (means scope.now) }
-    ensures ok { IfOk result (λ more. ThenConnects (means scope.now) connection.now.place connection.now.name (option_map port_in port.entry) (value_in connection.now.value) found driven.old joints.old.items more joints.new.items driven.new) }
+    ensures ok { IfOk result (λ more. ThenConnects (means scope.now) connection.now.place connection.now.name
+        (option_map port_in port.entry) (value_in connection.now.value) found driven.old joints.old.items more joints.new.items driven.new) }
     ensures grows { KeepsOrGrows driven.old driven.new }
 {
     match found {

@@ -80,7 +80,8 @@ pub fn joint_count(
     connections: Option<&Connections>,
     ports: &Ports,
 ) -> Result<usize, NoMemory>
-    ensures { IfOk result (λ count. count ≡ joint_count (option_map (λ (c : Bor connections_data.Connections). view_connections c.now) connections.entry) ports.now) }
+    ensures { IfOk result
+        (λ count. count ≡ joint_count (option_map (λ (c : Bor connections_data.Connections). view_connections c.now) connections.entry) ports.now) }
 {
     match connections {
         None => Ok(0),

@@ -53,7 +53,8 @@ fn valued(
 ) -> Result<Found<Bits>, NoMemory>
     requires least { least ≤ most_digits }
     requires found { IsChecked (means scope.now) (view expression.now) found }
-    ensures { IfOk result (λ value. value ≡ constant_in (max least) (means scope.now) (view expression.now) (checked (means scope.now) (view expression.now))) }
+    ensures { IfOk result
+        (λ value. value ≡ constant_in (max least) (means scope.now) (view expression.now) (checked (means scope.now) (view expression.now))) }
 {
     let place = expression.first();
     let made = is_made(scope, expression);

@@ -17,7 +17,8 @@ pub(crate) struct JoinedPorts {
 
 /// From now on this name has this value. Only want of memory is an error.
 fn set<V: Drop>(table: &mut HashMap<Vec<u8>, V>, name: Vec<u8>, value: V) -> Result<(), NoMemory>
-    ensures { OnOk result ((n : List ℕ) → get_by (λ k. bytes_eq n k.items) table.new ≡ (if bytes_eq n name.items then Some value else get_by (λ k. bytes_eq n k.items) table.old)) }
+    ensures { OnOk result ((n : List ℕ)
+        → get_by (λ k. bytes_eq n k.items) table.new ≡ (if bytes_eq n name.items then Some value else get_by (λ k. bytes_eq n k.items) table.old)) }
 {
     table.insert(name, value)?;
     Ok(())
@@ -35,7 +36,8 @@ impl JoinedPorts {
 
     /// From now on the port of this joint is joined to what it says. Only want of memory is an error.
     fn put(&mut self, joint: Joint) -> Result<(), NoMemory>
-        ensures { OnOk result ((n : List ℕ) → joined_at self.new n ≡ (if bytes_eq n joint.port.items then Some joint.joined else joined_at self.old n)) }
+        ensures { OnOk result
+            ((n : List ℕ) → joined_at self.new n ≡ (if bytes_eq n joint.port.items then Some joint.joined else joined_at self.old n)) }
     {
         set(&mut self.by_name, joint.port, joint.joined)
     }

@@ -60,7 +60,8 @@ pub(crate) fn control_wakes(
     statement: &Statement,
 ) -> Result<Found<Sequence<Wake>>, NoMemory>
     requires { AreProper (means scope.old) }
-    ensures waits { IfOk result (λ found. (d : Design) → length d.signals ≡ signals → found ≡ awaited (means scope.old) (view_control control.now) (view_statement statement.now) d) }
+    ensures waits { IfOk result (λ found. (d : Design) → length d.signals ≡ signals
+        → found ≡ awaited (means scope.old) (view_control control.now) (view_statement statement.now) d) }
     ensures scope { means scope.new ≡ means scope.old }
 {
     match control {

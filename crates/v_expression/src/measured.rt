@@ -3,7 +3,28 @@
 //! Each stands behind a `Box`, so that what reads on while it waits has little to let go.
 
 ghost use Rattle.std.specs.Prelude.{◌≡◌, ◌+◌, ◌≤◌, max, [], ◌∷◌, ◌++◌, IfOk};
-ghost use Rattle.v_syntax.specs.ExpressionTrees.{view, views, view_select, view_selects, Number, Named, Bracketed, Unary, Binary, Conditional, Concatenation, Replication, Bit, Part, IndexedPart, Whole, One, OfWord, none, more};
+ghost use Rattle.v_syntax.specs.ExpressionTrees.{
+  view,
+  views,
+  view_select,
+  view_selects,
+  Number,
+  Named,
+  Bracketed,
+  Unary,
+  Binary,
+  Conditional,
+  Concatenation,
+  Replication,
+  Bit,
+  Part,
+  IndexedPart,
+  Whole,
+  One,
+  OfWord,
+  none,
+  more,
+};
 ghost use Rattle.v_expression.specs.Lists.{and_last};
 
 use four_value::Bits;
@@ -131,7 +152,8 @@ pub fn conditional(
     requires condition { condition.height ≤ 1000 }
     requires first { yes.height ≤ 1000 }
     requires second { no.height ≤ 1000 }
-    ensures tree { IfOk result (λ x. view x.expression.value ≡ Conditional (view condition.expression.value) (view yes.expression.value) (view no.expression.value)) }
+    ensures tree { IfOk result
+        (λ x. view x.expression.value ≡ Conditional (view condition.expression.value) (view yes.expression.value) (view no.expression.value)) }
     ensures height { IfOk result (λ x. x.height ≡ 1 + max condition.height (max yes.height no.height)) }
 {
     let height = 1 + condition.height.max(yes.height.max(no.height));

@@ -5,7 +5,21 @@ ghost use Rattle.v_syntax.specs.ExpressionTrees.{view, height};
 ghost use Rattle.v_syntax.specs.ExpressionOperators;
 ghost use Rattle.v_phrase.specs.Stops.{Gives};
 ghost use Rattle.v_expression.specs.Reading;
-ghost use Rattle.v_expression.specs.Reading.{below, layer, prefix_of, infix_of, from_level, whole_of, choose_of, branches_of, climb_of, steps_of, operand_of, unary_of, prefixed_of};
+ghost use Rattle.v_expression.specs.Reading.{
+  below,
+  layer,
+  prefix_of,
+  infix_of,
+  from_level,
+  whole_of,
+  choose_of,
+  branches_of,
+  climb_of,
+  steps_of,
+  operand_of,
+  unary_of,
+  prefixed_of,
+};
 ghost use Rattle.v_expression.specs.Measures.{IsMeasured};
 
 use crate::measured::{Measured, binary, conditional, unary};
@@ -35,7 +49,8 @@ fn down_from(
     here: &[Token],
 ) -> Result<usize, ReadError>
     requires { IsMeasured (room + 1) first.now }
-    ensures gives { Gives (λ r. layer total r (below total r)) result (Reading.down_from room (below total room) (view first.now.expression.value) here.now) }
+    ensures gives { Gives (λ r. layer total r (below total r)) result
+        (Reading.down_from room (below total room) (view first.now.expression.value) here.now) }
     ensures less { IfOk result (λ r. (r + 1 ≡ room) × (first.now.height ≤ room)) }
 {
     if first.height > room {
@@ -72,7 +87,8 @@ fn choose_at(
 ) -> Result<(Measured, &[Token]), ReadError>
     requires room { room < 1000 }
     requires height { IsMeasured (room + 1) first }
-    ensures gives { Gives (λ x. (view x.0.expression.value, x.1.now)) result (choose_of room (below total room) (view first.expression.value) tokens.now) }
+    ensures gives { Gives (λ x. (view x.0.expression.value, x.1.now)) result
+        (choose_of room (below total room) (view first.expression.value) tokens.now) }
     ensures height { IfOk result (λ x. IsMeasured (room + 1) x.0) }
 {
     match behind(Mark::Question, tokens) {
@@ -93,7 +109,8 @@ fn branches_at<'a>(
 ) -> Result<(Measured, &'a [Token]), ReadError>
     requires room { room < 1000 }
     requires height { IsMeasured (room + 1) condition }
-    ensures gives { Gives (λ x. (view x.0.expression.value, x.1.now)) result (branches_of room (below total room) (view condition.expression.value) here.now behind.now) }
+    ensures gives { Gives (λ x. (view x.0.expression.value, x.1.now)) result
+        (branches_of room (below total room) (view condition.expression.value) here.now behind.now) }
     ensures height { IfOk result (λ x. IsMeasured (room + 1) x.0) }
 {
     let below = down_from(total, room, &condition, here)?;
@@ -133,7 +150,8 @@ fn steps_at(
 ) -> Result<(Measured, &[Token]), ReadError>
     requires room { room < 1000 }
     requires height { IsMeasured (room + 1) first }
-    ensures gives { Gives (λ x. (view x.0.expression.value, x.1.now)) result (steps_of room (below total room) min (length tokens.now) (view first.expression.value) tokens.now) }
+    ensures gives { Gives (λ x. (view x.0.expression.value, x.1.now)) result
+        (steps_of room (below total room) min (length tokens.now) (view first.expression.value) tokens.now) }
     ensures height { IfOk result (λ x. IsMeasured (room + 1) x.0) }
 {
     let mut left = first;
@@ -165,7 +183,8 @@ fn operand_at<'a>(
 ) -> Result<(Measured, &'a [Token]), ReadError>
     requires room { room < 1000 }
     requires height { IsMeasured (room + 1) left }
-    ensures gives { Gives (λ x. (view x.0.expression.value, x.1.now)) result (operand_of room (below total room) operator (view left.expression.value) here.now behind.now) }
+    ensures gives { Gives (λ x. (view x.0.expression.value, x.1.now)) result
+        (operand_of room (below total room) operator (view left.expression.value) here.now behind.now) }
     ensures height { IfOk result (λ x. IsMeasured (room + 1) x.0) }
 {
     let below = down_from(total, room, &left, here)?;
@@ -205,7 +224,8 @@ fn prefixed_at<'a>(
     behind: &'a [Token],
 ) -> Result<(Measured, &'a [Token]), ReadError>
     requires { room < 1000 }
-    ensures gives { Gives (λ x. (view x.0.expression.value, x.1.now)) result (prefixed_of total room (below total room) operator here.now behind.now) }
+    ensures gives { Gives (λ x. (view x.0.expression.value, x.1.now)) result
+        (prefixed_of total room (below total room) operator here.now behind.now) }
     ensures height { IfOk result (λ x. IsMeasured (room + 1) x.0) }
 {
     let below = down(total, room, here)?;

@@ -4,7 +4,18 @@ ghost use Rattle.std.specs.Prelude.{◌≡◌, ◌+◌, ◌<◌, ◌≤◌, IfOk
 ghost use Rattle.v_syntax.specs.ExpressionTrees.{view, views, height, trees_height};
 ghost use Rattle.v_phrase.specs.Stops.{Gives};
 ghost use Rattle.v_expression.specs.Reading;
-ghost use Rattle.v_expression.specs.Reading.{below, layer, primary_of, named_of, bracketed_of, braced_of, inside_of, replication_of, concatenation_of, parts_of};
+ghost use Rattle.v_expression.specs.Reading.{
+  below,
+  layer,
+  primary_of,
+  named_of,
+  bracketed_of,
+  braced_of,
+  inside_of,
+  replication_of,
+  concatenation_of,
+  parts_of,
+};
 ghost use Rattle.v_expression.specs.Measures.{IsMeasured, IsMeasuredParts};
 
 use crate::measured::{
@@ -113,7 +124,8 @@ fn inside_at(
 ) -> Result<(Measured, &[Token]), ReadError>
     requires room { below < 1000 }
     requires height { IsMeasured (below + 1) first }
-    ensures gives { Gives (λ x. (view x.0.expression.value, x.1.now)) result (inside_of at (layer total below (Reading.below total below)) (view first.expression.value) tokens.now) }
+    ensures gives { Gives (λ x. (view x.0.expression.value, x.1.now)) result
+        (inside_of at (layer total below (Reading.below total below)) (view first.expression.value) tokens.now) }
     ensures height { IfOk result (λ x. IsMeasured (below + 2) x.0) }
 {
     match behind(Mark::OpenBrace, tokens) {
@@ -137,7 +149,8 @@ fn replication_at(
 ) -> Result<(Measured, &[Token]), ReadError>
     requires room { below < 1000 }
     requires height { IsMeasured (below + 1) count }
-    ensures gives { Gives (λ x. (view x.0.expression.value, x.1.now)) result (replication_of at (layer total below (Reading.below total below)) (view count.expression.value) tokens.now) }
+    ensures gives { Gives (λ x. (view x.0.expression.value, x.1.now)) result
+        (replication_of at (layer total below (Reading.below total below)) (view count.expression.value) tokens.now) }
     ensures height { IfOk result (λ x. IsMeasured (below + 2) x.0) }
 {
     let (first, rest) = expression_at(alloc, total, below, tokens)?;
@@ -157,7 +170,8 @@ fn parts_at(
 ) -> Result<(MeasuredParts, &[Token]), ReadError>
     requires room { below < 1000 }
     requires height { IsMeasured (below + 1) first }
-    ensures gives { Gives (λ x. (views x.0.parts.items, x.1.now)) result (parts_of (layer total below (Reading.below total below)) (view first.expression.value) tokens.now) }
+    ensures gives { Gives (λ x. (views x.0.parts.items, x.1.now)) result
+        (parts_of (layer total below (Reading.below total below)) (view first.expression.value) tokens.now) }
     ensures height { IfOk result (λ x. IsMeasuredParts (below + 1) x.0) }
 {
     let mut all = MeasuredParts::of(alloc, first)?;

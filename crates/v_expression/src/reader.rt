@@ -29,7 +29,8 @@ pub fn expression(
     // What is read is an expression that spells the tokens up to those that are given, within the height.
     ensures found { IfOk result (λ x. Spans total (view x.0.value) tokens.now x.1.now × (height (view x.0.value) ≤ room + 1)) }
     // An expression within the height that nothing goes on with is read, unless memory runs out.
-    ensures only { (e : Tree) (rest : List Token) → Spans total e tokens.now rest → height e ≤ room + 1 → follow rest ≡ 0 → IsRead (λ x. (view x.0.value ≡ e) × (x.1.now ≡ rest)) result }
+    ensures only { (e : Tree) (rest : List Token) → Spans total e tokens.now rest → height e ≤ room + 1
+        → follow rest ≡ 0 → IsRead (λ x. (view x.0.value ≡ e) × (x.1.now ≡ rest)) result }
     // A refusal is at the first token that no partial expression within the height spells.
     ensures refused { IfErr result (λ e. IsRefusal (λ n rest. Begins total n 1 tokens.now rest) (room + 1) e) }
 {
@@ -83,9 +84,11 @@ pub fn target(
     requires { room < 1000 }
     ensures gives { Gives (λ x. (view_target x.0.value, x.1.now)) result (target_of total room tokens.now) }
     // What is read is a target that spells the tokens up to those that are given, within the height.
-    ensures found { IfOk result (λ x. TargetSpans total (view_target x.0.value) tokens.now x.1.now × (target_height (view_target x.0.value) ≤ room + 1)) }
+    ensures found { IfOk result
+        (λ x. TargetSpans total (view_target x.0.value) tokens.now x.1.now × (target_height (view_target x.0.value) ≤ room + 1)) }
     // A target within the height behind which no `[` stands is read, unless memory runs out.
-    ensures only { (t : TargetTree) (rest : List Token) → TargetSpans total t tokens.now rest → target_height t ≤ room + 1 → follow rest < 13 → IsRead (λ x. (view_target x.0.value ≡ t) × (x.1.now ≡ rest)) result }
+    ensures only { (t : TargetTree) (rest : List Token) → TargetSpans total t tokens.now rest → target_height t ≤ room + 1
+        → follow rest < 13 → IsRead (λ x. (view_target x.0.value ≡ t) × (x.1.now ≡ rest)) result }
     // A refusal is at the first token that no partial target within the height spells.
     ensures refused { IfErr result (λ e. IsRefusal (λ n rest. TargetBegins total n tokens.now rest) (room + 1) e) }
 {

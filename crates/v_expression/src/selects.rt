@@ -48,7 +48,8 @@ fn further_at(
 ) -> Result<(MeasuredSelects, &[Token]), ReadError>
     requires room { room < 1000 }
     requires height { IsMeasuredSelect room first }
-    ensures gives { Gives (λ x. (view_selects x.0.selects.value, x.1.now)) result (further_of total room (below total room) (view_select first.select.value) tokens.now) }
+    ensures gives { Gives (λ x. (view_selects x.0.selects.value, x.1.now)) result
+        (further_of total room (below total room) (view_select first.select.value) tokens.now) }
     ensures height { IfOk result (λ x. IsMeasuredSelects (room + 1) x.0) }
 {
     let MeasuredSelect { select, height } = first;
@@ -97,7 +98,8 @@ fn bound_at(
 ) -> Result<(MeasuredSelect, &[Token]), ReadError>
     requires room { below < 1000 }
     requires height { IsMeasured (below + 1) first }
-    ensures gives { Gives (λ x. (view_select x.0.select.value, x.1.now)) result (bound_of at (layer total below (Reading.below total below)) (view first.expression.value) tokens.now) }
+    ensures gives { Gives (λ x. (view_select x.0.select.value, x.1.now)) result
+        (bound_of at (layer total below (Reading.below total below)) (view first.expression.value) tokens.now) }
     ensures height { IfOk result (λ x. IsMeasuredSelect (below + 1) x.0) }
 {
     match behind(Mark::CloseBracket, tokens) {
@@ -118,7 +120,8 @@ fn range_at(
 ) -> Result<(MeasuredSelect, &[Token]), ReadError>
     requires room { below < 1000 }
     requires height { IsMeasured (below + 1) first }
-    ensures gives { Gives (λ x. (view_select x.0.select.value, x.1.now)) result (range_of at (layer total below (Reading.below total below)) (view first.expression.value) tokens.now) }
+    ensures gives { Gives (λ x. (view_select x.0.select.value, x.1.now)) result
+        (range_of at (layer total below (Reading.below total below)) (view first.expression.value) tokens.now) }
     ensures height { IfOk result (λ x. IsMeasuredSelect (below + 1) x.0) }
 {
     match behind(Mark::Colon, tokens) {

@@ -86,7 +86,8 @@ fn target_parts_at(
     tokens: &[Token],
 ) -> Result<(Vec<Target>, &[Token]), ReadError>
     requires { below < 1000 }
-    ensures { Gives (λ x. (view_targets x.0.items, x.1.now)) result (target_parts_of (layer total below (Reading.below total below)) (view_target first.value) tokens.now) }
+    ensures { Gives (λ x. (view_targets x.0.items, x.1.now)) result
+        (target_parts_of (layer total below (Reading.below total below)) (view_target first.value) tokens.now) }
 {
     let mut all = Vec::new(alloc);
     all.push(Box::into_inner(first))?;

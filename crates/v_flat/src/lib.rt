@@ -3,8 +3,8 @@
 //! Nearly all of it are definitions, in `specs/`, over the trees of `v_syntax`: `flatten` in `Design`, and below it what a
 //! module declares (`Headers`, `Declarations`), what statements do (`Statements`), what targets drive and get (`Targets`), what
 //! is broken in an expression (`Checks`) and what its value is (`Expressions`). Of the code there are the classes of operators,
-//! [`unary_class`] and [`binary_class`], which objects an assignment may be to ([`Manner`]), and functions that carry laws of the definitions. The code that elaborates is left to
-//! the crates above.
+//! [`unary_class`] and [`binary_class`], which objects an assignment may be to ([`Manner`]), and functions that carry laws of the definitions. The
+//! code that elaborates is left to the crates above.
 #![tactic(auto)]
 
 mod laws;

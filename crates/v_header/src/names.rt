@@ -4,7 +4,17 @@
 
 ghost use Rattle.std.specs.Prelude.{◌≡◌, ℕ, List, map, IfOk, OnOk};
 ghost use Rattle.v_scope.specs.Scope.{means};
-ghost use Rattle.v_syntax.specs.SourceTrees.{HeaderPortTree, NetTree, RegisterTree, view_header_port, view_item, view_module, view_net, view_ports, view_register};
+ghost use Rattle.v_syntax.specs.SourceTrees.{
+  HeaderPortTree,
+  NetTree,
+  RegisterTree,
+  view_header_port,
+  view_item,
+  view_module,
+  view_net,
+  view_ports,
+  view_register,
+};
 ghost use Rattle.v_flat.specs.Headers as tree;
 ghost use Rattle.v_flat.specs.Headers.{all_names, header_names, later, name_of, names_in, net_name, register_name};
 ghost use Rattle.v_header.specs.Names.{and_later, header_port_name, item_names, parameter_name};

@@ -43,7 +43,8 @@ fn add_header<'a>(
     found: &mut Vec<Parameter<'a>>,
     parameters: &'a [HeaderParameter],
 ) -> Result<(), NoMemory>
-    ensures { OnOk result (parameters_in found.new.items ≡ parameters_in found.old.items ++ header_parameters None (map view_header_parameter parameters.now)) }
+    ensures { OnOk result
+        (parameters_in found.new.items ≡ parameters_in found.old.items ++ header_parameters None (map view_header_parameter parameters.now)) }
 {
     let mut range = None;
     for parameter in parameters {
@@ -65,7 +66,8 @@ fn add_line<'a>(
     range: Option<&'a Range>,
     assignments: &'a [ParameterAssignment],
 ) -> Result<(), NoMemory>
-    ensures { OnOk result (parameters_in found.new.items ≡ parameters_in found.old.items ++ map (in_line kind (range_in range.entry)) (map view_parameter assignments.now)) }
+    ensures { OnOk result (parameters_in found.new.items
+        ≡ parameters_in found.old.items ++ map (in_line kind (range_in range.entry)) (map view_parameter assignments.now)) }
 {
     for assignment in assignments {
         found.push(Parameter {

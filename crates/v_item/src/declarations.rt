@@ -9,7 +9,18 @@ ghost use Rattle.v_phrase.specs.Stops.{Gives};
 ghost use Rattle.v_phrase.specs.Readers;
 ghost use Rattle.v_phrase.specs.Readers.{maybe, token_of};
 ghost use Rattle.v_item.specs.Firsts as firsts;
-ghost use Rattle.v_item.specs.Reading.{value_of, ports_of, net_of, nets_of, tail_of, register_of, registers_of, integers_of, parameter_of, parameters_of};
+ghost use Rattle.v_item.specs.Reading.{
+  value_of,
+  ports_of,
+  net_of,
+  nets_of,
+  tail_of,
+  register_of,
+  registers_of,
+  integers_of,
+  parameter_of,
+  parameters_of,
+};
 
 use crate::kinds::{nets_kind, parameters_kind, ports_kind, registers_kind};
 use crate::parts::{line, maybe_range, port_head, range, value};
@@ -50,7 +61,8 @@ fn maybe_value(
     tokens: &[Token],
 ) -> Result<(Option<Box<Expression>>, &[Token]), ReadError>
     requires { room < 1000 }
-    ensures { Gives (λ x. (option_map (λ b. ExpressionTrees.view b.value) x.0, x.1.now)) result (maybe (Readers.starts_mark mark.Assign) (value_of total room) tokens.now) }
+    ensures { Gives (λ x. (option_map (λ b. ExpressionTrees.view b.value) x.0, x.1.now)) result
+        (maybe (Readers.starts_mark mark.Assign) (value_of total room) tokens.now) }
 {
     if !starts_mark(Mark::Assign, tokens) {
         return Ok((None, tokens));

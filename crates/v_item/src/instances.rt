@@ -10,7 +10,15 @@ ghost use Rattle.v_phrase.specs.Stops.{Gives};
 ghost use Rattle.v_phrase.specs.Readers;
 ghost use Rattle.v_phrase.specs.Readers.{maybe};
 ghost use Rattle.v_item.specs.Firsts as firsts;
-ghost use Rattle.v_item.specs.Reading.{bracketed_value_of, connection_of, connections_of, overrides_of, bracketed_connections_of, instance_tail_of, instance_of};
+ghost use Rattle.v_item.specs.Reading.{
+  bracketed_value_of,
+  connection_of,
+  connections_of,
+  overrides_of,
+  bracketed_connections_of,
+  instance_tail_of,
+  instance_of,
+};
 
 use crate::kinds::instance_kind;
 use port_io::{boxed, unboxed};
@@ -28,7 +36,8 @@ fn maybe_expression(
     tokens: &[Token],
 ) -> Result<(Option<Box<Expression>>, &[Token]), ReadError>
     requires { room < 1000 }
-    ensures { Gives (λ x. (option_map (λ b. ExpressionTrees.view b.value) x.0, x.1.now)) result (maybe Starts.starts_expression (expression_of total room) tokens.now) }
+    ensures { Gives (λ x. (option_map (λ b. ExpressionTrees.view b.value) x.0, x.1.now)) result
+        (maybe Starts.starts_expression (expression_of total room) tokens.now) }
 {
     if !starts_expression(tokens) {
         return Ok((None, tokens));
@@ -133,7 +142,8 @@ fn maybe_connections(
     tokens: &[Token],
 ) -> Result<(Option<Box<Connections>>, &[Token]), ReadError>
     requires { room < 1000 }
-    ensures { Gives (λ x. (option_map (λ b. view_connections b.value) x.0, x.1.now)) result (maybe firsts.starts_connections (connections_of total room) tokens.now) }
+    ensures { Gives (λ x. (option_map (λ b. view_connections b.value) x.0, x.1.now)) result
+        (maybe firsts.starts_connections (connections_of total room) tokens.now) }
 {
     if !starts_connections(tokens) {
         return Ok((None, tokens));
@@ -168,7 +178,8 @@ fn maybe_overrides(
     tokens: &[Token],
 ) -> Result<(Option<Box<Connections>>, &[Token]), ReadError>
     requires { room < 1000 }
-    ensures { Gives (λ x. (option_map (λ b. view_connections b.value) x.0, x.1.now)) result (maybe (Readers.starts_mark mark.Hash) (overrides_of total room) tokens.now) }
+    ensures { Gives (λ x. (option_map (λ b. view_connections b.value) x.0, x.1.now)) result
+        (maybe (Readers.starts_mark mark.Hash) (overrides_of total room) tokens.now) }
 {
     if !starts_mark(Mark::Hash, tokens) {
         return Ok((None, tokens));

@@ -111,7 +111,8 @@ pub fn item(
     // What is read is an item that spells the tokens up to those that are given, within the height.
     ensures found { IfOk result (λ x. (Items.item total (suc room)).whole (view_item x.0.value) tokens.now x.1.now) }
     // An item within the height is read, unless memory runs out, where no `else` follows it.
-    ensures only { (i : ItemTree) (rest : List Token) → (Items.item total (suc room)).whole i tokens.now rest → starts_word word.Else rest ≡ false → IsRead (λ x. (view_item x.0.value ≡ i) × (x.1.now ≡ rest)) result }
+    ensures only { (i : ItemTree) (rest : List Token) → (Items.item total (suc room)).whole i tokens.now rest
+        → starts_word word.Else rest ≡ false → IsRead (λ x. (view_item x.0.value ≡ i) × (x.1.now ≡ rest)) result }
     // A refusal is at the first token that no partial item within the height spells.
     ensures refused { IfErr result (λ e. IsRefusal (λ n rest. (Items.item total (suc n)).front tokens.now rest) room e) }
 {

@@ -4,7 +4,25 @@
 
 ghost use Rattle.std.specs.Prelude.{◌≡◌, map, option_map};
 ghost use Rattle.v_syntax.specs.StatementTrees;
-ghost use Rattle.v_syntax.specs.SourceTrees.{view_range, view_head, view_net, view_register, view_parameter, view_control, view_connections, view_kind, view_item, Ports, Nets, Registers, Parameters, Always, Initial, Instance, ItemAt};
+ghost use Rattle.v_syntax.specs.SourceTrees.{
+  view_range,
+  view_head,
+  view_net,
+  view_register,
+  view_parameter,
+  view_control,
+  view_connections,
+  view_kind,
+  view_item,
+  Ports,
+  Nets,
+  Registers,
+  Parameters,
+  Always,
+  Initial,
+  Instance,
+  ItemAt,
+};
 
 use port_io::unboxed;
 use v_syntax::{
@@ -75,7 +93,8 @@ pub fn instance_kind(
     name: Identifier,
     ports: Option<Box<Connections>>,
 ) -> ItemKind
-    ensures { view_kind result ≡ Instance of (option_map (λ b. view_connections b.value) parameters) name (option_map (λ b. view_connections b.value) ports) }
+    ensures { view_kind result
+        ≡ Instance of (option_map (λ b. view_connections b.value) parameters) name (option_map (λ b. view_connections b.value) ports) }
 {
     let parameters = unboxed(parameters);
     let ports = unboxed(ports);

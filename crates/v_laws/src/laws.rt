@@ -4,7 +4,14 @@ ghost use Rattle.v_laws.specs.Drivers.{One_driver, Processes_keep_to_their_kind,
 ghost use Rattle.v_laws.specs.Instances.{Names_differ, Names_have_their_paths};
 ghost use Rattle.v_laws.specs.Joints.{Joints_are_counted};
 ghost use Rattle.v_laws.specs.Least.{First_faults_count, First_faults_end_procedures};
-ghost use Rattle.v_laws.specs.Reads.{Assignments_wait_for_enough, Expressions_read_enough, Implicit_controls_wait_for_enough, Procedures_wait_for_enough, Statements_read_enough, Targets_read_enough};
+ghost use Rattle.v_laws.specs.Reads.{
+  Assignments_wait_for_enough,
+  Expressions_read_enough,
+  Implicit_controls_wait_for_enough,
+  Procedures_wait_for_enough,
+  Statements_read_enough,
+  Targets_read_enough,
+};
 
 /// Each digit that a continuous assignment updates lies in a drive that is recorded for its target, and in none that was recorded before
 /// (IEEE 1364-2005, clause 6.1).
@@ -29,7 +36,8 @@ pub fn names_differ()
     ensures { Names_differ }
 {}
 
-/// A rule that is broken in an operand is hidden by none that is broken later in the expression: what counts in the whole is that rule, or an earlier.
+/// A rule that is broken in an operand is hidden by none that is broken later in the expression: what counts in the whole is that rule, or an
+/// earlier.
 pub fn first_faults_count()
     ensures { First_faults_count }
 {}

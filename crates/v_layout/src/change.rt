@@ -44,7 +44,8 @@ fn again(
     old: Declared,
     declared: Declared,
 ) -> Found<Declared>
-    ensures is { each (named_declared name.now) result ≡ again_found (place_in place.now) at (named_declared name.now old) (named_declared name.now declared) }
+    ensures is { each (named_declared name.now) result
+        ≡ again_found (place_in place.now) at (named_declared name.now old) (named_declared name.now declared) }
     ensures words { ForValue (λ d. old.words ≡ d.words) result }
 {
     let whole = old.whole(declared);
@@ -62,7 +63,8 @@ fn either(
     declared: Declared,
     so_far: &DeclaredNames,
 ) -> Found<Declared>
-    ensures is { each (named_declared name.now) result ≡ either_found (place_in place.now) at (named_declared name.now declared) so_far.now (find_declared name.now so_far.now) }
+    ensures is { each (named_declared name.now) result
+        ≡ either_found (place_in place.now) at (named_declared name.now declared) so_far.now (find_declared name.now so_far.now) }
     ensures words { ForValue (λ d. KeepsWords (named_declared name.now d) so_far.now) result }
 {
     match so_far.find(name) {

@@ -57,7 +57,8 @@ fn declare_header(
 
 /// A name of a header that only names its ports didn't stand there before, and has a direction.
 fn name_checked(place: &Place<'_>, seen: &Names, name: &Identifier) -> Found<()>
-    ensures { result ≡ needs (is_none (first_place seen.now name.now.name) && find_direction name.now.name place.now.ports.now) rule.BadPort name.now.at fine }
+    ensures { result
+        ≡ needs (is_none (first_place seen.now name.now.name) && find_direction name.now.name place.now.ports.now) rule.BadPort name.now.at fine }
 {
     let bytes = name.name.bytes();
     let is_new = seen.find(bytes).is_none();

@@ -3,7 +3,19 @@
 ghost use Rattle.std.specs.Prelude.{◌≡◌, None, Some, IfOk, map, option_map};
 ghost use Rattle.v_scope.specs.Found.{and_then};
 ghost use Rattle.v_syntax.specs.SourceTrees.{view_kind, view_net, view_register, view_tail};
-ghost use Rattle.v_flat.specs.Declarations.{Integer, Wire, declare, declare_all, declare_line, declare_ports, declare_register, declare_registers, integer_bounds, net_identifier, sort_of};
+ghost use Rattle.v_flat.specs.Declarations.{
+  Integer,
+  Wire,
+  declare,
+  declare_all,
+  declare_line,
+  declare_ports,
+  declare_register,
+  declare_registers,
+  integer_bounds,
+  net_identifier,
+  sort_of,
+};
 ghost use Rattle.v_layout.specs.Kept.{named_declared, sort_in};
 ghost use Rattle.v_header.specs.Heads.{head_in};
 ghost use Rattle.v_parameter.specs.Constants.{AreConstants};
@@ -49,7 +61,8 @@ fn declare_all(
 ) -> Result<Found<DeclaredNames>, NoMemory>
     requires constants { AreConstants place.now.constants.now }
     requires words { declared.words ≡ None }
-    ensures { IfOk result (λ more. more ≡ declare_all (place_in place.now) declared.direction (option_map sort_in declared.sort) declared.bounds names.now so_far) }
+    ensures { IfOk result
+        (λ more. more ≡ declare_all (place_in place.now) declared.direction (option_map sort_in declared.sort) declared.bounds names.now so_far) }
 {
     let mut found = Found::Sound(so_far);
     for name in names {
@@ -67,7 +80,8 @@ fn declare_nets(
     so_far: DeclaredNames,
 ) -> Result<Found<DeclaredNames>, NoMemory>
     requires { AreConstants place.now.constants.now }
-    ensures { IfOk result (λ more. more ≡ declare_all (place_in place.now) None (Some Wire) bounds (map net_identifier (map view_net nets.now)) so_far) }
+    ensures { IfOk result
+        (λ more. more ≡ declare_all (place_in place.now) None (Some Wire) bounds (map net_identifier (map view_net nets.now)) so_far) }
 {
     let declared = Declared {
         direction: None,
@@ -91,7 +105,8 @@ fn declare_register(
     so_far: DeclaredNames,
 ) -> Result<Found<DeclaredNames>, NoMemory>
     requires { AreConstants place.now.constants.now }
-    ensures { IfOk result (λ more. more ≡ declare_register (place_in place.now) bounds register.now.name (option_map view_tail register.now.tail) so_far) }
+    ensures { IfOk result
+        (λ more. more ≡ declare_register (place_in place.now) bounds register.now.name (option_map view_tail register.now.tail) so_far) }
 {
     match &register.tail {
         Some(RegisterTail::Words(words)) => {
@@ -118,7 +133,8 @@ fn then_register(
     found: Found<DeclaredNames>,
 ) -> Result<Found<DeclaredNames>, NoMemory>
     requires { AreConstants place.now.constants.now }
-    ensures { IfOk result (λ more. more ≡ and_then found (declare_register (place_in place.now) bounds register.now.name (option_map view_tail register.now.tail))) }
+    ensures { IfOk result
+        (λ more. more ≡ and_then found (declare_register (place_in place.now) bounds register.now.name (option_map view_tail register.now.tail))) }
 {
     match found {
         Found::Sound(so_far) => Ok(declare_register(alloc, place, bounds, register, so_far)?),
@@ -168,7 +184,8 @@ fn ports_in(
     so_far: DeclaredNames,
 ) -> Result<Found<DeclaredNames>, NoMemory>
     requires { AreConstants place.now.constants.now }
-    ensures { IfOk result (λ more. more ≡ declare_all (place_in place.now) (Some head.entry.direction) (sort_of head.entry.kind) bounds names.now so_far) }
+    ensures { IfOk result
+        (λ more. more ≡ declare_all (place_in place.now) (Some head.entry.direction) (sort_of head.entry.kind) bounds names.now so_far) }
 {
     let declared = Declared {
         direction: Some(head.direction),
@@ -208,7 +225,8 @@ fn nets_in(
     so_far: DeclaredNames,
 ) -> Result<Found<DeclaredNames>, NoMemory>
     requires { AreConstants place.now.constants.now }
-    ensures { IfOk result (λ more. more ≡ and_then range (λ b. declare_all (place_in place.now) None (Some Wire) b (map net_identifier (map view_net nets.now)) so_far)) }
+    ensures { IfOk result (λ more. more
+        ≡ and_then range (λ b. declare_all (place_in place.now) None (Some Wire) b (map net_identifier (map view_net nets.now)) so_far)) }
 {
     match range {
         Found::Sound(bounds) => Ok(declare_nets(alloc, place, bounds, nets, so_far)?),

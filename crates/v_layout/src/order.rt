@@ -47,7 +47,8 @@ fn add_ports<'a>(
 
 /// The declared name at a place, unless it is that of a port.
 fn other_line<'a>(ports: &Ports, declared: &'a DeclaredNames, index: usize) -> Option<Line<'a>>
-    ensures { (d : Declared) → slice_get declared.now index ≡ Some d → listed (option_map line_in result) ≡ other_lines (map port_name ports.now) (d ∷ []) }
+    ensures { (d : Declared) → slice_get declared.now index ≡ Some d
+        → listed (option_map line_in result) ≡ other_lines (map port_name ports.now) (d ∷ []) }
 {
     match declared.get(index) {
         Some(line) => {

@@ -39,7 +39,8 @@ impl Place<'_> {
 
     /// Whether a name may be declared so as far as ports go: one with a direction is that of a port, and an input is no register.
     pub(crate) fn may_be(&self, name: &[u8], declared: Declared) -> bool
-        ensures { result ≡ (is_port declared.direction name.now self.now.ports.now && not (is_input_reg declared.direction (option_map sort_in declared.sort))) }
+        ensures { result
+            ≡ (is_port declared.direction name.now self.now.ports.now && not (is_input_reg declared.direction (option_map sort_in declared.sort))) }
     {
         (declared.direction.is_none() || self.ports.contains(name)) && !declared.is_input_reg()
     }

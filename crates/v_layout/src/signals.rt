@@ -128,8 +128,10 @@ pub fn add_signals(
     signals: &mut Sequence<Signal>,
 ) -> Result<(), NoMemory>
     requires { All IsProperDeclared (lines_in lines.now) }
-    ensures ok { (p : Path) (first : ℕ) → HasText p path.now → OnOk result (signals.new ≡ signals.old ++ map signal_of (all_signals p first (lines_in lines.now))) }
-    ensures err { (p : Path) (first : ℕ) → HasText p path.now → OnErr result (AddsSome signals.old (map signal_of (all_signals p first (lines_in lines.now))) signals.new) }
+    ensures ok { (p : Path) (first : ℕ) → HasText p path.now
+        → OnOk result (signals.new ≡ signals.old ++ map signal_of (all_signals p first (lines_in lines.now))) }
+    ensures err { (p : Path) (first : ℕ) → HasText p path.now
+        → OnErr result (AddsSome signals.old (map signal_of (all_signals p first (lines_in lines.now))) signals.new) }
 {
     add_lines(alloc, path, lines, signals)
 }

@@ -19,8 +19,8 @@ pub fn one_row()
 /// before it say (`stands`); what isn't taken holds no token, and no directive but those of conditionals (`skipped`). A name is
 /// defined where the last `define` or `undef` of it says so, and COCOTB_SIM where there is none (`defined`). Of a conditional the
 /// first branch is taken where what stands around the conditional is and its condition holds (`first`); a further one where
-/// besides none before it was, and an `else` has no condition (`further`): so at most one is (`at_most_one`). Inside of what isn't taken nothing is (`inside`), and
-/// behind whole conditionals what is taken is as before them (`closed`). Just the rows whose parts are unbroken and whose
+/// besides none before it was, and an `else` has no condition (`further`): so at most one is (`at_most_one`). Inside of what isn't taken nothing is
+/// (`inside`), and behind whole conditionals what is taken is as before them (`closed`). Just the rows whose parts are unbroken and whose
 /// conditionals are whole break no rule (`balanced`), and whole conditionals are closed ones (`grouped`).
 pub fn conditionals()
     ensures stands { (before : List Part) (part : Part) (rest : List Part) (text : List ℕ)

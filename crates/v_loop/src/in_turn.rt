@@ -71,7 +71,8 @@ pub(crate) fn next_in_turn(
     requires proper { AreProper (means scope.old) }
     requires counter { find header.now.initial.name.name (means scope.old) ≡ Some (Object object) }
     requires width { length value ≡ width_of object.bounds }
-    ensures value { IfOk result (λ answer. answer ≡ next_value (width_of object.bounds) (view header.now.condition) (view header.now.step.value) (turn header.now.initial.name.name object value (means scope.old))) }
+    ensures value { IfOk result (λ answer. answer ≡ next_value (width_of object.bounds) (view header.now.condition)
+        (view header.now.step.value) (turn header.now.initial.name.name object value (means scope.old))) }
     ensures width { IfOk result (λ answer. IfOk answer (λ next. IfSome next (λ value. length value ≡ width_of object.bounds))) }
     ensures scope { means scope.new ≡ means scope.old }
 {
@@ -95,7 +96,8 @@ pub(crate) fn step_in_turn(
     requires proper { AreProper (means scope.old) }
     requires counter { find header.now.initial.name.name (means scope.old) ≡ Some (Object object) }
     requires width { length value ≡ width_of object.bounds }
-    ensures value { IfOk result (λ answer. answer ≡ ended (step_checked (turn header.now.initial.name.name object value (means scope.old)) (view header.now.step.value))) }
+    ensures value { IfOk result
+        (λ answer. answer ≡ ended (step_checked (turn header.now.initial.name.name object value (means scope.old)) (view header.now.step.value))) }
     ensures scope { means scope.new ≡ means scope.old }
 {
     let name = header.initial.name.name.bytes();

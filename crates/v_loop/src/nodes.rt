@@ -3,7 +3,18 @@
 ghost use Rattle.std.specs.Prelude.{◌≤◌, [], ◌∷◌, map, OnOk};
 ghost use Rattle.v_syntax.specs.ExpressionTrees.{view, view_select, view_selects, view_target, view_targets, views};
 ghost use Rattle.v_syntax.specs.StatementTrees.{case_trees, view as view_statement, view_case};
-ghost use Rattle.v_loop.specs.Unrolled.{Counts, all_nodes, labels_nodes, most_unrolled, nodes, own_nodes, select_nodes, selects_nodes, target_nodes, targets_nodes};
+ghost use Rattle.v_loop.specs.Unrolled.{
+  Counts,
+  all_nodes,
+  labels_nodes,
+  most_unrolled,
+  nodes,
+  own_nodes,
+  select_nodes,
+  selects_nodes,
+  target_nodes,
+  targets_nodes,
+};
 
 use crate::Unrolled;
 use port_io::NoMemory;

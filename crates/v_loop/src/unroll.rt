@@ -34,7 +34,8 @@ fn first_value(
 ) -> Result<Result<Bits, Broken>, NoMemory>
     requires proper { AreProper (means scope.old) }
     requires counter { find header.now.initial.name.name (means scope.old) ≡ Some (Object object) }
-    ensures value { IfOk result (λ answer. answer ≡ ended (first_value header.now.initial.name.name object (view header.now.initial.value) (view header.now.condition) (means scope.old))) }
+    ensures value { IfOk result (λ answer. answer
+        ≡ ended (first_value header.now.initial.name.name object (view header.now.initial.value) (view header.now.condition) (means scope.old))) }
     ensures width { IfOk result (λ answer. IfOk answer (λ value. length value ≡ width_of object.bounds)) }
     ensures scope { means scope.new ≡ means scope.old }
 {
@@ -60,7 +61,8 @@ fn checked_step(
     requires proper { AreProper (means scope.old) }
     requires counter { find header.now.initial.name.name (means scope.old) ≡ Some (Object object) }
     requires width { length first ≡ width_of object.bounds }
-    ensures value { IfOk result (λ answer. answer ≡ ended (and_then (same_counter header.now.initial.name header.now.step.name (means scope.old)) (λ u. step_checked (turn header.now.initial.name.name object first (means scope.old)) (view header.now.step.value)))) }
+    ensures value { IfOk result (λ answer. answer ≡ ended (and_then (same_counter header.now.initial.name header.now.step.name (means scope.old))
+        (λ u. step_checked (turn header.now.initial.name.name object first (means scope.old)) (view header.now.step.value)))) }
     ensures scope { means scope.new ≡ means scope.old }
 {
     match same_counter(scope, &header.initial.name, &header.step.name) {
@@ -84,7 +86,8 @@ fn turns_from(
     requires proper { AreProper (means scope.old) }
     requires counter { find header.now.initial.name.name (means scope.old) ≡ Some (Object object) }
     requires width { length first ≡ width_of object.bounds }
-    ensures value { IfOk result (λ found. found ≡ turns_from most place header.now.initial.name.name object (view header.now.condition) (view header.now.step.value) (means scope.old) first) }
+    ensures value { IfOk result (λ found. found ≡ turns_from most place header.now.initial.name.name object
+        (view header.now.condition) (view header.now.step.value) (means scope.old) first) }
     ensures scope { means scope.new ≡ means scope.old }
 {
     let name = header.initial.name.name.bytes();
@@ -130,7 +133,10 @@ fn turns_behind(
     requires proper { AreProper (means scope.old) }
     requires counter { find header.now.initial.name.name (means scope.old) ≡ Some (Object object) }
     requires width { length first ≡ width_of object.bounds }
-    ensures value { IfOk result (λ found. found ≡ and_then (same_counter header.now.initial.name header.now.step.name (means scope.old)) (λ u. and_then (step_checked (turn header.now.initial.name.name object first (means scope.old)) (view header.now.step.value)) (λ w. turns_from most_turns place header.now.initial.name.name object (view header.now.condition) (view header.now.step.value) (means scope.old) first))) }
+    ensures value { IfOk result (λ found. found ≡ and_then (same_counter header.now.initial.name header.now.step.name (means scope.old))
+        (λ u. and_then (step_checked (turn header.now.initial.name.name object first (means scope.old)) (view header.now.step.value))
+        (λ w. turns_from most_turns place header.now.initial.name.name object
+        (view header.now.condition) (view header.now.step.value) (means scope.old) first))) }
     ensures scope { means scope.new ≡ means scope.old }
 {
     match checked_step(alloc, scope, header, object, first)? {

@@ -5,7 +5,18 @@ ghost use Rattle.gpi.specs.Terms.{IsWidth};
 ghost use Rattle.v_scope.specs.Scope.{means, width_of};
 ghost use Rattle.v_scope.specs.declared.meaning.Meaning.TheVariants.{Object};
 ghost use Rattle.v_names.specs.Proper.{AreProper, IsProper};
-ghost use Rattle.v_names.specs.Made.{AreParts, AreWordParts, AreWordsOf, MakesPart, MakesWord, MakesWordPart, MemoryMade, NamesObject, VectorMade, WordMade};
+ghost use Rattle.v_names.specs.Made.{
+  AreParts,
+  AreWordParts,
+  AreWordsOf,
+  MakesPart,
+  MakesWord,
+  MakesWordPart,
+  MemoryMade,
+  NamesObject,
+  VectorMade,
+  WordMade,
+};
 ghost use Rattle.v_names.specs.Selects.{ChecksName, twice_at};
 
 use crate::bounds::{range, width, words};

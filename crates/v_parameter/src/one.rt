@@ -31,7 +31,8 @@ fn value(
     parameter: &Parameter<'_>,
 ) -> Result<Found<Bits>, NoMemory>
     requires { AreProper (means scope.now) }
-    ensures { IfOk result (λ found. found ≡ given_value parameter.now.name.now.name given.now (constant_of (means scope.now) (view parameter.now.value.now))) }
+    ensures { IfOk result
+        (λ found. found ≡ given_value parameter.now.name.now.name given.now (constant_of (means scope.now) (view parameter.now.value.now))) }
 {
     match given.find(parameter.name.name.bytes()) {
         Some(value) => Ok(Found::Sound(value)),
@@ -92,7 +93,8 @@ pub(crate) fn found_value(
     parameter: &Parameter<'_>,
 ) -> Result<Result<Value, Broken>, NoMemory>
     requires { AreProper (means scope.now) }
-    ensures { IfOk result (IsFoundValue (parameter_in parameter.now) (ended (parameter_found (parameter_in parameter.now) given.now (means scope.now)))) }
+    ensures { IfOk result
+        (IsFoundValue (parameter_in parameter.now) (ended (parameter_found (parameter_in parameter.now) given.now (means scope.now)))) }
 {
     match found(alloc, scope, given, parameter)?.ended() {
         Ok(found) => {

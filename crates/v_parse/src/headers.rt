@@ -2,7 +2,16 @@
 
 ghost use Rattle.std.specs.Prelude.{◌≡◌, ◌<◌, map, option_map};
 ghost use Rattle.v_syntax.specs.ExpressionTrees;
-ghost use Rattle.v_syntax.specs.SourceTrees.{HeaderParameterOf, view_parameter_head, HeaderParameterTree, view_header_parameter, view_head, HeaderPortTree, view_header_port, view_ports};
+ghost use Rattle.v_syntax.specs.SourceTrees.{
+  HeaderParameterOf,
+  view_parameter_head,
+  HeaderParameterTree,
+  view_header_parameter,
+  view_head,
+  HeaderPortTree,
+  view_header_port,
+  view_ports,
+};
 ghost use Rattle.v_syntax.specs.declared.mark.Mark.TheVariants as mark;
 ghost use Rattle.v_syntax.specs.declared.word.Keyword.TheVariants as word;
 ghost use Rattle.v_phrase.specs.Stops.{Gives};
@@ -11,7 +20,18 @@ ghost use Rattle.v_phrase.specs.Readers.{maybe};
 ghost use Rattle.v_item.specs.Firsts as item_firsts;
 ghost use Rattle.v_item.specs.Reading.{port_head_of};
 ghost use Rattle.v_parse.specs.Firsts as firsts;
-ghost use Rattle.v_parse.specs.Reading.{parameter_head_of, first_parameter_of, next_parameter_of, parameter_list_of, header_parameters_of, first_port_of, next_port_of, declared_ports_of, ports_of, port_list_of};
+ghost use Rattle.v_parse.specs.Reading.{
+  parameter_head_of,
+  first_parameter_of,
+  next_parameter_of,
+  parameter_list_of,
+  header_parameters_of,
+  first_port_of,
+  next_port_of,
+  declared_ports_of,
+  ports_of,
+  port_list_of,
+};
 
 use port_io::{boxed, unboxed};
 use std::alloc::Global;
@@ -52,7 +72,8 @@ fn maybe_parameter_head(
     tokens: &[Token],
 ) -> Result<(Option<Box<ParameterHead>>, &[Token]), ReadError>
     requires { room < 1000 }
-    ensures { Gives (λ x. (option_map (λ b. view_parameter_head b.value) x.0, x.1.now)) result (maybe (Readers.starts_word word.Parameter) (parameter_head_of total room) tokens.now) }
+    ensures { Gives (λ x. (option_map (λ b. view_parameter_head b.value) x.0, x.1.now)) result
+        (maybe (Readers.starts_word word.Parameter) (parameter_head_of total room) tokens.now) }
 {
     if !starts_word(Keyword::Parameter, tokens) {
         return Ok((None, tokens));
@@ -67,7 +88,8 @@ fn parameter_with(
     name: Identifier,
     value: Box<Expression>,
 ) -> HeaderParameter
-    ensures { view_header_parameter result ≡ HeaderParameterOf (option_map (λ b. view_parameter_head b.value) head) name (ExpressionTrees.view value.value) }
+    ensures { view_header_parameter result
+        ≡ HeaderParameterOf (option_map (λ b. view_parameter_head b.value) head) name (ExpressionTrees.view value.value) }
 {
     let head = unboxed(head);
     let value = Box::into_inner(value);
@@ -171,7 +193,8 @@ pub fn maybe_parameters(
     tokens: &[Token],
 ) -> Result<(Option<Vec<HeaderParameter>>, &[Token]), ReadError>
     requires { room < 1000 }
-    ensures { Gives (λ x. (option_map (λ v. map view_header_parameter v.items) x.0, x.1.now)) result (maybe (Readers.starts_mark mark.Hash) (header_parameters_of total room) tokens.now) }
+    ensures { Gives (λ x. (option_map (λ v. map view_header_parameter v.items) x.0, x.1.now)) result
+        (maybe (Readers.starts_mark mark.Hash) (header_parameters_of total room) tokens.now) }
 {
     if !starts_mark(Mark::Hash, tokens) {
         return Ok((None, tokens));
@@ -190,7 +213,8 @@ fn maybe_port_head(
     tokens: &[Token],
 ) -> Result<(Option<Box<PortHead>>, &[Token]), ReadError>
     requires { room < 1000 }
-    ensures { Gives (λ x. (option_map (λ b. view_head b.value) x.0, x.1.now)) result (maybe item_firsts.starts_direction (port_head_of total room) tokens.now) }
+    ensures { Gives (λ x. (option_map (λ b. view_head b.value) x.0, x.1.now)) result
+        (maybe item_firsts.starts_direction (port_head_of total room) tokens.now) }
 {
     if !starts_direction(tokens) {
         return Ok((None, tokens));
@@ -328,7 +352,8 @@ pub fn maybe_ports(
     tokens: &[Token],
 ) -> Result<(Option<Option<Box<HeaderPorts>>>, &[Token]), ReadError>
     requires { room < 1000 }
-    ensures { Gives (λ x. (option_map (option_map (λ b. view_ports b.value)) x.0, x.1.now)) result (maybe (Readers.starts_mark mark.OpenParenthesis) (port_list_of total room) tokens.now) }
+    ensures { Gives (λ x. (option_map (option_map (λ b. view_ports b.value)) x.0, x.1.now)) result
+        (maybe (Readers.starts_mark mark.OpenParenthesis) (port_list_of total room) tokens.now) }
 {
     if !starts_mark(Mark::OpenParenthesis, tokens) {
         return Ok((None, tokens));

@@ -53,7 +53,8 @@ fn module_with(
     ports: Option<Option<Box<HeaderPorts>>>,
     items: Vec<Item>,
 ) -> Module
-    ensures { view_module result ≡ module_tree name (option_map (λ v. map view_header_parameter v.items) parameters) (option_map (option_map (λ b. view_ports b.value)) ports) (map view_item items.items) }
+    ensures { view_module result ≡ module_tree name (option_map (λ v. map view_header_parameter v.items) parameters)
+        (option_map (option_map (λ b. view_ports b.value)) ports) (map view_item items.items) }
 {
     let parameters = match parameters {
         Some(all) => all,

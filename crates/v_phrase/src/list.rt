@@ -21,7 +21,8 @@ pub fn others<'a, T: Element>(
     tokens: &'a [Token],
 ) -> Result<(Vec<T::Value>, &'a [Token]), ReadError>
     requires { room < 1000 }
-    ensures { Gives (λ x. (map T.tree x.0.items, x.1.now)) result (with_front (T.tree first ∷ []) (many (Readers.starts_mark mark.Comma) (sign mark.Comma ▹ T.reading total room) tokens.now)) }
+    ensures { Gives (λ x. (map T.tree x.0.items, x.1.now)) result
+        (with_front (T.tree first ∷ []) (many (Readers.starts_mark mark.Comma) (sign mark.Comma ▹ T.reading total room) tokens.now)) }
 {
     let mut all = Vec::new(alloc);
     all.push(first)?;

@@ -57,7 +57,8 @@ pub fn initial(
     statement: &Statement,
 ) -> Result<Found<Process>, NoMemory>
     requires { AreProper (means scope.old) }
-    ensures found { IfOk result (IsFoundProcess Initial [] (means scope.old) (view statement.now) (statement_checked (means scope.old) (view statement.now))) }
+    ensures found { IfOk result
+        (IsFoundProcess Initial [] (means scope.old) (view statement.now) (statement_checked (means scope.old) (view statement.now))) }
     ensures scope { means scope.new ≡ means scope.old }
 {
     let body = found_in(alloc, scope, unrolled, statement)?;

@@ -75,7 +75,8 @@ pub fn register(
     value: &Expression,
 ) -> Result<Found<Process>, NoMemory>
     requires { AreProper (means scope.now) }
-    ensures { IfOk result (IsFoundProcess Initial [] (means scope.now) (Assignment Blocking (whole_of name.now) (view value.now)) (done (checked (means scope.now) (view value.now)))) }
+    ensures { IfOk result (IsFoundProcess Initial [] (means scope.now)
+        (Assignment Blocking (whole_of name.now) (view value.now)) (done (checked (means scope.now) (view value.now)))) }
 {
     let value = check(alloc, scope, value)?;
     let target = whole(scope, name.name.bytes());

@@ -5,7 +5,17 @@ ghost use Rattle.std.specs.Prelude.{◌≡◌, All, length, map, IfOk, None, Som
 ghost use Rattle.v_scope.specs.declared.meaning.Meaning.TheVariants.{Object};
 ghost use Rattle.v_scope.specs.Scope.{find, means, width_of};
 ghost use Rattle.v_syntax.specs.StatementTrees.{For, case_trees, statement_trees, view as view_statement, view_case, view_header};
-ghost use Rattle.v_flat.specs.Statements.{case_read, cases_read, known_turns, read_in_turns, statement_reads, statements_read, turn, turns, with_counter};
+ghost use Rattle.v_flat.specs.Statements.{
+  case_read,
+  cases_read,
+  known_turns,
+  read_in_turns,
+  statement_reads,
+  statements_read,
+  turn,
+  turns,
+  with_counter,
+};
 ghost use Rattle.v_names.specs.Proper.{AreProper};
 ghost use Rattle.v_reads.specs.Reads.{Adds, spans_of};
 
@@ -89,7 +99,8 @@ fn add_all(
     statements: &[Statement],
 ) -> Result<(), NoMemory>
     requires { AreProper (means scope.old) }
-    ensures added { Adds spans.old.items spans.new.items (statements_read (means scope.old) (statement_trees (map view_statement statements.now))) result }
+    ensures added { Adds spans.old.items spans.new.items
+        (statements_read (means scope.old) (statement_trees (map view_statement statements.now))) result }
     ensures scope { means scope.new ≡ means scope.old }
 {
     for statement in statements {
@@ -155,7 +166,8 @@ fn add_turn(
     requires proper { AreProper (means scope.old) }
     requires counter { find name.now (means scope.old) ≡ Some (Object object) }
     requires width { length value ≡ width_of object.bounds }
-    ensures added { Adds spans.old.items spans.new.items (statement_reads (turn name.now object value (means scope.old)) (view_statement body.now)) result }
+    ensures added { Adds spans.old.items spans.new.items
+        (statement_reads (turn name.now object value (means scope.old)) (view_statement body.now)) result }
     ensures scope { means scope.new ≡ means scope.old }
 {
     enter_turn(scope, name, object, value);
@@ -180,7 +192,8 @@ fn add_turns(
     requires proper { AreProper (means scope.old) }
     requires counter { find name.now (means scope.old) ≡ Some (Object object) }
     requires widths { All (λ v. length v ≡ width_of object.bounds) values.now }
-    ensures added { Adds spans.old.items spans.new.items (read_in_turns (λ v. statement_reads (turn name.now object v (means scope.old)) (view_statement body.now)) values.now) result }
+    ensures added { Adds spans.old.items spans.new.items
+        (read_in_turns (λ v. statement_reads (turn name.now object v (means scope.old)) (view_statement body.now)) values.now) result }
     ensures scope { means scope.new ≡ means scope.old }
 {
     for value in values {
@@ -204,7 +217,9 @@ fn add_counted(
 ) -> Result<(), NoMemory>
     requires proper { AreProper (means scope.old) }
     requires counter { find header.now.initial.name.name (means scope.old) ≡ Some (Object object) }
-    ensures added { Adds spans.old.items spans.new.items (read_in_turns (λ v. statement_reads (turn header.now.initial.name.name object v (means scope.old)) (view_statement body.now)) (known_turns (turns place (view_header header.now) (means scope.old) object)).0) result }
+    ensures added { Adds spans.old.items spans.new.items
+        (read_in_turns (λ v. statement_reads (turn header.now.initial.name.name object v (means scope.old)) (view_statement body.now))
+        (known_turns (turns place (view_header header.now) (means scope.old) object)).0) result }
     ensures scope { means scope.new ≡ means scope.old }
 {
     let name = header.initial.name.name.bytes();
@@ -248,7 +263,8 @@ fn add_loop(
     body: &Statement,
 ) -> Result<(), NoMemory>
     requires { AreProper (means scope.old) }
-    ensures added { Adds spans.old.items spans.new.items (statement_reads (means scope.old) (For place (view_header header.now) (view_statement body.now))) result }
+    ensures added { Adds spans.old.items spans.new.items
+        (statement_reads (means scope.old) (For place (view_header header.now) (view_statement body.now))) result }
     ensures scope { means scope.new ≡ means scope.old }
 {
     match counter(scope, header.initial.name.name.bytes()) {

@@ -30,6 +30,6 @@ pub fn signals_fit()
 /// No two signals of a design have one path, where a word of a memory has its index too (IEEE 1364-2005, clause 12.4): signals at two numbers
 /// have two paths, or are two words of one memory.
 pub fn paths_differ()
-    ensures { (ms : List ModuleTree) (top : Option (List ℕ))
-        → HoldsOk (λ (d : Design). (i j : ℕ) (x y : SignalAt) → slice_get d.signals i ≡ Some x → slice_get d.signals j ≡ Some y → x.path ≡ y.path → x.word ≡ y.word → i ≡ j) (flat_design ms top) }
+    ensures { (ms : List ModuleTree) (top : Option (List ℕ)) → HoldsOk (λ (d : Design). (i j : ℕ) (x y : SignalAt)
+        → slice_get d.signals i ≡ Some x → slice_get d.signals j ≡ Some y → x.path ≡ y.path → x.word ≡ y.word → i ≡ j) (flat_design ms top) }
 {}

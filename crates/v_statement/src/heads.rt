@@ -4,7 +4,21 @@ ghost use Rattle.std.specs.Prelude.{◌≡◌, ◌<◌, map, option_map};
 ghost use Rattle.v_syntax.specs.ExpressionTrees;
 ghost use Rattle.v_syntax.specs.StatementTrees.{view, view_header};
 ghost use Rattle.v_phrase.specs.Stops.{Gives};
-ghost use Rattle.v_statement.specs.Reading.{label_of, maybe_label_of, block_head_of, delay_below_of, maybe_delay_of, last_delay_of, block_end_of, condition_of, case_head_of, choices_of, default_of, matched_of, for_head_of};
+ghost use Rattle.v_statement.specs.Reading.{
+  label_of,
+  maybe_label_of,
+  block_head_of,
+  delay_below_of,
+  maybe_delay_of,
+  last_delay_of,
+  block_end_of,
+  condition_of,
+  case_head_of,
+  choices_of,
+  default_of,
+  matched_of,
+  for_head_of,
+};
 
 use crate::kinds::case_kind;
 use crate::levels::below;

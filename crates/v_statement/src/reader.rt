@@ -31,7 +31,8 @@ pub fn statement(
     // What is read is a statement that spells the tokens up to those that are given, within the height.
     ensures found { IfOk result (λ x. (Statements.statement total (room + 1) place).whole (view x.0.value) tokens.now x.1.now) }
     // A statement within the height is read, unless memory runs out, where an `else` that follows belongs to no part of it.
-    ensures only { (s : StatementTree) (rest : List Token) → (Statements.statement total (room + 1) place).whole s tokens.now rest → (IsTrue (starts_word word.Else rest) → IsClosed s) → IsRead (λ x. (view x.0.value ≡ s) × (x.1.now ≡ rest)) result }
+    ensures only { (s : StatementTree) (rest : List Token) → (Statements.statement total (room + 1) place).whole s tokens.now rest
+        → (IsTrue (starts_word word.Else rest) → IsClosed s) → IsRead (λ x. (view x.0.value ≡ s) × (x.1.now ≡ rest)) result }
     // A refusal is at the first token that no partial statement within the height spells.
     ensures refused { IfErr result (λ e. IsRefusal (λ n rest. (Statements.statement total n place).front tokens.now rest) (room + 1) e) }
 {
@@ -40,5 +41,6 @@ pub fn statement(
 
 /// A text has at most one statement.
 pub fn one_statement()
-    ensures { (place : StatementPlace) (n m : ℕ) (s t : StatementTree) (text : List Token) → (Statements.statement (length text) n place).whole s text [] → (Statements.statement (length text) m place).whole t text [] → s ≡ t }
+    ensures { (place : StatementPlace) (n m : ℕ) (s t : StatementTree) (text : List Token)
+        → (Statements.statement (length text) n place).whole s text [] → (Statements.statement (length text) m place).whole t text [] → s ≡ t }
 {}

@@ -4,7 +4,18 @@ ghost use Rattle.std.specs.Prelude.{◌≡◌, ◌<◌, map, option_map};
 ghost use Rattle.v_syntax.specs.StatementTrees.{view, view_case};
 ghost use Rattle.v_syntax.specs.Statements;
 ghost use Rattle.v_phrase.specs.Stops.{Gives};
-ghost use Rattle.v_statement.specs.Reading.{lower, statement_of, statements_of, block_of, conditional_of, otherwise_of, case_item_of, case_items_of, case_of, for_of};
+ghost use Rattle.v_statement.specs.Reading.{
+  lower,
+  statement_of,
+  statements_of,
+  block_of,
+  conditional_of,
+  otherwise_of,
+  case_item_of,
+  case_items_of,
+  case_of,
+  for_of,
+};
 
 use crate::forms::{form, starts_case, starts_statement};
 use crate::heads::{block_end, block_head, case_head, choices, condition, for_head};

@@ -7,7 +7,22 @@ ghost use Rattle.await_tree.specs.Whole.{tree_in};
 ghost use Rattle.wait_list.specs.Begun.{IsBegun};
 ghost use Rattle.wait_list.specs.Keys.{AreAlike, AreAsked, AreFired, AreKeys, AreKeysBut, KeepsKeys, Rekeyed, without, without_all};
 ghost use Rattle.wait_list.specs.Limits.{waiting_limit};
-ghost use Rattle.wait_list.specs.Waiting.{IsNoKey, Waiting, all_waiting, all_woken, fired_keys, granted, is_waiting, is_wanted, named, reached_tasks, still_waiting, tree_keys, without_task, woken};
+ghost use Rattle.wait_list.specs.Waiting.{
+  IsNoKey,
+  Waiting,
+  all_waiting,
+  all_woken,
+  fired_keys,
+  granted,
+  is_waiting,
+  is_wanted,
+  named,
+  reached_tasks,
+  still_waiting,
+  tree_keys,
+  without_task,
+  woken,
+};
 
 use crate::ready::Ready;
 use crate::steps::Steps;
