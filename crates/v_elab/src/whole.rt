@@ -13,8 +13,8 @@ use v_syntax::Source;
 
 /// The flat design that a text stands for, under the top of this name, or else under the only module that no module instantiates (IEEE 1364-2005,
 /// clause 12.1.1); or the rule that is broken first, with the byte of its token. NoTop is told at byte 0, and so is a token for which the source
-/// has no place. `OutOfMemory` says nothing of the text; it is the answer, too, where loops are unrolled to more than 1,048,576 statements and
-/// turns in the whole design.
+/// has no place. `OutOfMemory` says nothing of the text; it is the answer, too, where loops are unrolled to more than 16,777,216 nodes
+/// of statements, expressions and targets in the whole design.
 pub fn elaborate(alloc: Global, source: &Source, top: Option<&str>) -> Result<Flat, ElabFault>
     ensures elaborates { Elaborates (text_of source.now) (option_copied top.entry) result }
     // Only a step of 0 makes it unsound.
