@@ -1,18 +1,17 @@
-#!/usr/bin/env python3
-"""Runs the script `./cocorun` with a stand-in for the program, which puts a line and ends with a status, and looks at what the script says.
+"""Cases of the script `./cocorun`, with a stand-in for the program, which puts a line and ends with a status (`tools/suite.py` goes through them).
 
-    tools/script_cases.py [SHELL]
-
-Each case has the stand-in's status and line, the words, and what standard error must hold; standard output and the status must be the stand-in's.
-Besides, the script must find fault with exactly those words of the rows of `crates/word_tests` that have no reading there. The status is 1 where
-one of these doesn't hold. SHELL is the shell that runs the script, `sh` where none is named.
+A case has the stand-in's status and line, the words, and what standard error must hold; standard output and the status must be the stand-in's.
+The script must also find fault with exactly those words of the rows of `word_tests` that have no reading there. Other cases change what lies
+around the script: its sources, the release, a program of these sources, what builds one.
 """
+import functools
+import hashlib
 import os
 import re
+import shutil
 import subprocess
-import sys
 import tempfile
-import time
+from collections import namedtuple
 from pathlib import Path
 
 TOP = Path(__file__).resolve().parent.parent
@@ -56,6 +55,13 @@ WORDS = [
     ("--top top --made 0", "--made stands without --top"),
 ]
 
+ODD_WORDS = [
+    (["", "t.py"], "the name of a file is empty"),
+    (["--top", "", "d.v", "t.py"], "the value of --top is empty"),
+    ([b"d\xc3.v", "t.py"], "this word is no UTF-8: d?.v"),
+    (["d.v", "t.py", "--top", b"\xed\xa0\x80"], "this word is no UTF-8: ???"),
+]
+
 # A refusal's status and line, the words, and what is shown.
 REFUSALS = [
     (3, "error: d.v: TwoDrivers at 3:10", ["d.v", "t.py"], "  assign y = a;\n         ^\n"),
@@ -78,66 +84,222 @@ REFUSALS = [
     (8, "BUDGET 5", ["--budget", "5", "d.v", "t.py"], ""),
 ]
 
+# What the script says after other statuses.
+ENDS = [
+    (6, "a line could not be written to standard output, so nothing was written after it"),
+    (7, "there was not enough memory to go on, or the loops of the design unroll to more than 16,777,216 nodes"),
+]
 
-def lay_out(folder):
-    """The script in a folder of its own, with the stand-in as a program that was built, and the files of the cases."""
-    out = folder / "crates" / "cocorun" / "out"
-    out.mkdir(parents=True)
-    (folder / "crates.txt").write_text("cocorun:\n")
-    for path, text in ((folder / "cocorun", (TOP / "cocorun").read_text()), (out / "cocorun", STAND_IN)):
-        path.write_text(text)
-        path.chmod(0o755)
-    stamp = out / "cocorun.stamp"
-    stamp.touch()
-    os.utime(stamp, (time.time() + 60, time.time() + 60))
-    for name, text in FILES.items():
-        (folder / name).write_bytes(text)
+# said: what standard error must hold; for a row of words whether it must hold anything; for a case of `AROUND` its name
+ScriptCase = namedtuple("ScriptCase", "name words status line said")
 
 
 def row_words(parts):
     """The words of a row, in which `\\` and two digits stand for a byte."""
-    return [re.sub(rb"\\(..)", lambda found: bytes([int(found[1], 16)]), part.encode()) for part in parts]
+    return [re.sub(rb"\\(..)", lambda found: bytes([int(found[1], 16)]), part) for part in parts]
 
 
-def run(folder, shell, words, status, line):
-    """What the script says on standard error; the rest has to be the stand-in's."""
-    here = dict(os.environ, STAND_IN_STATUS=str(status), STAND_IN_LINE=line)
-    done = subprocess.run([shell, str(folder / "cocorun"), *words], env=here, cwd=folder, capture_output=True)
-    if done.returncode != status or done.stdout.decode() != line:
-        return f"status {done.returncode}, {done.stdout}"
-    return done.stderr.decode()
-
-
-def cases(folder, shell):
-    """Each case with what is said and what must be."""
+def cases(word_rows):
+    """Each case of the script; of the rows of words with their answers those have a reading whose answer isn't `usage`."""
     for words, fault in WORDS:
-        yield words, run(folder, shell, words.split(), 2, USAGE), f"cocorun: {fault}\n"
-    yield "an empty file", run(folder, shell, ["", "t.py"], 2, USAGE), "cocorun: the name of a file is empty\n"
-    yield "an empty top", run(folder, shell, ["--top", "", "d.v", "t.py"], 2, USAGE), "cocorun: the value of --top is empty\n"
+        yield ScriptCase(f"script: {words}", words.split(), 2, USAGE, f"cocorun: {fault}\n")
+    for words, fault in ODD_WORDS:
+        yield ScriptCase(f"script: {words}", words, 2, USAGE, f"cocorun: {fault}\n")
     for status, line, words, shown in REFUSALS:
-        yield line, run(folder, shell, words, status, line + "\n"), shown
-    rows = (TOP / "crates" / "word_tests" / "stdin").read_text().splitlines()
-    answers = (TOP / "crates" / "word_tests" / "stdout").read_text().splitlines()
-    for row, answer in zip(rows, answers, strict=True):
-        rule, _, *words = row.split("\t")
-        said = run(folder, shell, row_words(words), 2, USAGE)
-        yield rule, said == "", not answer.endswith(": usage")
+        yield ScriptCase(f"script: {line}", words, status, line + "\n", shown)
+    for status, told in ENDS:
+        yield ScriptCase(f"script: status {status}", ["d.v", "t.py"], status, "0 TEST t\n", f"cocorun: {told}\n")
+    for (rule, _, *words), answer in word_rows:
+        yield ScriptCase(f"script: words: {rule.decode('latin-1')}", row_words(words), 2, USAGE, answer.endswith(b": usage"))
+    for call in AROUND:
+        yield ScriptCase(f"script: {call.__doc__.splitlines()[0]}", [], None, None, call.__name__)
 
 
-def main():
-    shell = sys.argv[1] if len(sys.argv) > 1 else "sh"
-    count = wrong = 0
-    with tempfile.TemporaryDirectory() as name:
-        folder = Path(name)
-        lay_out(folder)
-        for rule, found, wanted in cases(folder, shell):
-            count += 1
-            if found != wanted:
-                wrong += 1
-                print(f"{rule}: {found!r}, not {wanted!r}")
-    print(f"{count - wrong} of {count} cases hold")
-    return 1 if wrong else 0
+def program_in(folder, text, sources):
+    """Puts a program into a folder, with a SOURCES that names it."""
+    folder.mkdir(parents=True, exist_ok=True)
+    (folder / "cocorun").write_text(text)
+    (folder / "cocorun").chmod(0o755)
+    (folder / "SOURCES").write_text(f"kit stand-in\nsources {sources}\nprogram {hashlib.sha256(text.encode()).hexdigest()}\n")
 
 
-if __name__ == "__main__":
-    sys.exit(main())
+def sources_of(folder):
+    return subprocess.run([folder / "tools" / "sources"], check=True, stdout=subprocess.PIPE, text=True).stdout.strip()
+
+
+def laid_out(folder):
+    """The script in a folder of its own, with sources, the stand-in as their release, and the files of the cases."""
+    (folder / "tools").mkdir(parents=True)
+    for name in ("cocorun", "tools/sources"):
+        shutil.copy(TOP / name, folder / name)
+    (folder / "crates.txt").write_text("below:\nbeside:\ncocorun: below anyhow\n")
+    for name in ("below", "beside", "cocorun"):
+        (folder / "crates" / name / "src").mkdir(parents=True)
+        (folder / "crates" / name / "src" / "main.rt").write_text("// one\n")
+    program_in(folder / "release", STAND_IN, sources_of(folder))
+    for name, text in FILES.items():
+        (folder / name).write_bytes(text)
+    return folder
+
+
+@functools.lru_cache(maxsize=None)
+def folder_of(process):
+    """The folder of the cases that change nothing."""
+    return laid_out(Path(tempfile.mkdtemp()) / "a checkout")
+
+
+def ran(folder, words=(), status=0, line="", script=None, **env):
+    """The status of the script, its standard output and what it says on standard error."""
+    here = {**os.environ, "STAND_IN_STATUS": str(status), "STAND_IN_LINE": line, "COCORUN_BUILD": "", "COCORUN_WHICH": "", **env}
+    how = {"cwd": folder, "stdin": subprocess.DEVNULL, "stdout": subprocess.PIPE, "stderr": subprocess.PIPE}
+    done = subprocess.run([script or folder / "cocorun", *words], env=here, **how)
+    return done.returncode, done.stdout.decode(), done.stderr.decode()
+
+
+def looked_at(case):
+    """A case's name, what is wanted where something else was found, and that."""
+    if case.status is None:
+        with tempfile.TemporaryDirectory() as name:
+            wanted, found = next(call for call in AROUND if call.__name__ == case.said)(laid_out(Path(name) / "checkout"))
+    else:
+        found = ran(folder_of(os.getpid()), case.words, case.status, case.line)
+        if isinstance(case.said, bool):
+            found = (*found[:2], found[2] != "")
+        wanted = (case.status, case.line, case.said)
+    return (case.name, None, None) if found == wanted else (case.name, wanted, found)
+
+
+# ---- what lies around the script
+
+CHANGED = "cocorun: the sources have changed since the release, which runs all the same; with COCORUN_BUILD=1 these are proved and built\n"
+OTHER = '#!/bin/sh\necho other\n'
+
+
+def change(folder, path="crates/below/src/main.rt", text="// two\n"):
+    (folder / path).parent.mkdir(parents=True, exist_ok=True)
+    (folder / path).write_text(text)
+
+
+def runs_from_elsewhere(folder):
+    """it runs from another folder, and by a link"""
+    (folder / "link").symlink_to(folder / "cocorun")
+    elsewhere = folder / "a folder"
+    elsewhere.mkdir()
+    found = [ran(elsewhere, script=script, line="x") for script in (folder / "cocorun", "../cocorun", folder / "link", "../link")]
+    return [(0, "x", "")] * 4, found
+
+
+def sums_once(folder):
+    """the sources are summed once, and not again while they stay as they are"""
+    first = ran(folder)
+    (folder / "tools" / "sources").write_text("#!/bin/sh\nexit 1\n")
+    return [(0, "", "")] * 2, [first, ran(folder)]
+
+
+def tells_a_change(folder):
+    """a changed comment is told each time, until it is taken back"""
+    before = ran(folder)
+    change(folder)
+    found = [before, ran(folder, line="x", status=1), ran(folder)]
+    change(folder, text="// one\n")
+    return [(0, "", ""), (1, "x", CHANGED), (0, "", CHANGED), (0, "", "")], [*found, ran(folder)]
+
+
+def tells_an_old_change(folder):
+    """a change is told whose time is set back"""
+    before = ran(folder)
+    change(folder)
+    os.utime(folder / "crates" / "below" / "src" / "main.rt", (0, 0))
+    return [(0, "", ""), (0, "", CHANGED)], [before, ran(folder)]
+
+
+def tells_new_and_lost_files(folder):
+    """a file that is new or lost is told, and one that no build reads isn't"""
+    found = [ran(folder)]
+    change(folder, "crates/below/specs/out/Lib.antt", "")
+    found.append(ran(folder))
+    shutil.rmtree(folder / "crates" / "below" / "specs")
+    found.append(ran(folder))
+    (folder / "crates" / "below" / "src" / "main.rt").unlink()
+    found.append(ran(folder))
+    change(folder, text="// one\n")
+    for path in ("crates/below/README.md", "crates/below/out/src/main.rt", "crates/beside/src/main.rt"):
+        change(folder, path)
+        found.append(ran(folder))
+    return [(0, "", told) for told in ("", CHANGED, "", CHANGED, "", "", "")], found
+
+
+def tells_the_commit(folder):
+    """the commit of the release is told"""
+    if not shutil.which("git"):
+        return 0, 0
+    who = ["git", "-c", "user.name=cases", "-c", "user.email=cases@localhost"]
+    subprocess.run([*who, "init", "-q"], cwd=folder, check=True)
+    subprocess.run([*who, "add", "-A"], cwd=folder, check=True)
+    subprocess.run([*who, "commit", "-q", "-m", "a release"], cwd=folder, check=True)
+    commit = subprocess.run(["git", "rev-parse", "--short", "HEAD"], cwd=folder, check=True, stdout=subprocess.PIPE, text=True).stdout.strip()
+    change(folder)
+    return (0, "", CHANGED.replace("release,", f"release of commit {commit},")), ran(folder)
+
+
+def refuses_a_spoiled_release(folder):
+    """a release that isn't the one that is named isn't run, nor is one that isn't there"""
+    before = ran(folder)
+    (folder / "release" / "cocorun").write_text(OTHER)
+    found = [before, ran(folder)]
+    (folder / "release" / "cocorun").unlink()
+    spoiled = "cocorun: release/cocorun is not the program that release/SOURCES names; git checkout -- release brings both back\n"
+    lost = "cocorun: there is no release/cocorun; with COCORUN_BUILD=1 the program is proved and built\n"
+    return [(0, "", ""), (70, "", spoiled), (70, "", lost)], [*found, ran(folder)]
+
+
+def runs_what_was_built(folder):
+    """a program that was built of these sources is run where the release isn't of them, and where it is asked for"""
+    program_in(folder / "release" / "out", OTHER, sources_of(folder))
+    found = [ran(folder, line="x"), ran(folder, COCORUN_BUILD="1")]
+    change(folder)
+    found.append(ran(folder))
+    program_in(folder / "release" / "out", OTHER, sources_of(folder))
+    return [(0, "x", ""), (0, "other\n", ""), (0, "", CHANGED), (0, "other\n", "")], [*found, ran(folder)]
+
+
+def builds_when_asked(folder):
+    """with COCORUN_BUILD=1 the program is built, once, or the script says why it can't"""
+    (folder / "bin").mkdir()
+    change(folder)
+    path = "/usr/bin:/bin"
+    found = [ran(folder, PATH=path, COCORUN_BUILD="1") if not shutil.which("rt", path=path) else None]
+    for name, text in (("bin/rt", ""), ("tools/release", 'echo building >&2\ncp -R built/. "$1"\n')):
+        (folder / name).write_text("#!/bin/sh\n" + text)
+        (folder / name).chmod(0o755)
+    failed = ran(folder, PATH=f"{folder}/bin:{path}", COCORUN_BUILD="1")
+    program_in(folder / "built", OTHER, sources_of(folder))
+    found += [(failed[0], failed[2].splitlines()[-1]), *[ran(folder, PATH=f"{folder}/bin:{path}", COCORUN_BUILD="1") for _ in range(2)]]
+    lacks = "cocorun: the toolchain's command rt is not in the path; README.md says which toolchain this needs\n"
+    fails = "cocorun: the program was not built, as release/out/build.log tells"
+    return [found[0] and (70, "", lacks), (70, fails), (0, "other\n", "building\n"), (0, "other\n", "")], found
+
+
+def runs_where_nothing_can_be_written(folder):
+    """it runs where no stamp can be left"""
+    (folder / "release" / "out").write_text("")
+    return [(0, "", "")] * 2, [ran(folder), ran(folder)]
+
+
+def names_the_program(folder):
+    """with COCORUN_WHICH=1 it names the program, and runs nothing"""
+    return (0, f"{folder}/release/cocorun\n", ""), ran(folder, COCORUN_WHICH="1", line="x")
+
+
+def tells_another_machine(folder):
+    """a program that can't be run here is told"""
+    (folder / "release" / "cocorun").chmod(0o644)
+    status, _, said = ran(folder)
+    told = "does not run on this machine: it is for Linux on x86-64 with glibc 2.34 or later"
+    return (126, told), (status, said.splitlines()[-1].partition("cocorun ")[2])
+
+
+AROUND = [
+    runs_from_elsewhere, sums_once, tells_a_change, tells_an_old_change, tells_new_and_lost_files, tells_the_commit, refuses_a_spoiled_release,
+    runs_what_was_built, builds_when_asked, runs_where_nothing_can_be_written, names_the_program, tells_another_machine,
+]

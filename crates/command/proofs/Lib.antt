@@ -6,3 +6,4 @@ pub mod Words
 pub mod AnswerLaws
 pub mod AlikeRuns
 pub mod OneReading
+pub mod ProcessEnds

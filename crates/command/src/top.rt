@@ -34,7 +34,7 @@ fn put_line<O: Sink>(alloc: Global, own: Status, line: &[u8], out: &mut O) -> St
 }
 
 /// Puts the usage line.
-fn refuse_words<O: Sink>(alloc: Global, out: &mut O) -> Status
+pub(crate) fn refuse_words<O: Sink>(alloc: Global, out: &mut O) -> Status
     ensures { RefusesWords (sink_means O.Sink) result out.old out.new }
 {
     match usage_text(alloc) {
