@@ -5,3 +5,4 @@ pub mod Building
 pub mod Settled
 pub mod Within
 pub mod Rows
+pub mod WaitListLemmas

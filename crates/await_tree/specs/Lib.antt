@@ -8,3 +8,6 @@ pub mod Whole
 pub mod Settled
 pub mod Laws
 pub mod Rows
+pub mod SyncObjects
+pub mod EndedTasks
+pub mod WaitList

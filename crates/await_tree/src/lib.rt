@@ -4,19 +4,27 @@
 //! what has happened, and [`Tree::grant`] hands it a lock. Each answers whether the tree is done, and then with which result. What is
 //! waited for still is told by [`Tree::leaves`]. What the events, locks and tasks of a test are like is told by [`Facts`]. Who waits,
 //! and which keys are registered, is left to the crates above.
+//!
+//! Modules that the crates above use too:
+//! - [`ended_tasks`]: how the tasks of a test have ended;
+//! - [`sync_objects`]: events and locks;
+//! - [`wait_list`]: who waits for what: `Awaits`, the trait of its keeper.
 #![tactic(auto)]
 
 mod begin;
 mod build;
 mod calls;
 mod cause;
+pub mod ended_tasks;
 mod finish;
 mod fire;
 mod grant;
 mod laws;
 mod leaves;
 mod node;
+pub mod sync_objects;
 mod tree;
+pub mod wait_list;
 
 pub use begin::Facts;
 pub use cause::{Awaited, Cause, Given, Step, TreeFault};

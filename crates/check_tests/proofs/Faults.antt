@@ -5,12 +5,12 @@ use Rattle.py_syntax.specs.BlockTrees.{ModuleItem}
 use Rattle.py_syntax.specs.declared.piece.Broken.{Broken}
 use Rattle.py_lex.specs.Answer.{IsAnswered, fault_of}
 use Rattle.py_lex.specs.declared.fault.LineFault.{LineFault}
-use Rattle.test_body.specs.BodyTrees.{TestFile}
+use Rattle.test_meaning.specs.Body.BodyTrees.{TestFile}
 use Rattle.test_file.specs.Checks.{Checks}
 use Rattle.test_file.specs.declared.fault.FileFault.{FileFault}
 use Rattle.test_file.specs.declared.fault.FileFault.TheVariants.{Rule}
 use Rattle.test_meaning.specs.Check.{check}
-use Rattle.test_rules.specs.declared.rule.FileRule.{FileRule}
+use Rattle.test_meaning.specs.declared.rules.rule.FileRule.{FileRule}
 use Rattle.check_tests.specs.Answers.{ShowsBroken, at_line, broken_text, checked_text, file_rule_name}
 use Rattle.check_tests.specs.Files.{file_text}
 

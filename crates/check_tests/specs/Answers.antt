@@ -11,11 +11,11 @@ use Rattle.py_syntax.specs.declared.piece.LineRule.{LineRule}
 use Rattle.py_syntax.specs.declared.piece.LineRule.TheVariants as rule
 use Rattle.py_lex.specs.Answer.{IsAnswered, fault_of}
 use Rattle.table_rows.specs.Rows.{part_at, written}
-use Rattle.test_body.specs.BodyTrees.{TestFile}
+use Rattle.test_meaning.specs.Body.BodyTrees.{TestFile}
 use Rattle.test_meaning.specs.Check.{check}
-use Rattle.test_rules.specs.declared.rule.FileRule.{FileRule}
-use Rattle.test_rules.specs.declared.rule.FileRule.TheVariants as file_rule
-use Rattle.test_rules.specs.declared.rule.Refusal as file
+use Rattle.test_meaning.specs.declared.rules.rule.FileRule.{FileRule}
+use Rattle.test_meaning.specs.declared.rules.rule.FileRule.TheVariants as file_rule
+use Rattle.test_meaning.specs.declared.rules.rule.Refusal as file
 use Rattle.check_tests.specs.Files.{file_text}
 
 -- a rule by its name, with the number of the line that breaks it in brackets

@@ -8,7 +8,7 @@ use Rattle.py_syntax.specs.StatementTables.{fault_name}
 use Rattle.py_syntax.specs.declared.constant.Const.{Const}
 use Rattle.py_syntax.specs.declared.constant.Const.TheVariants as constant
 use Rattle.py_syntax.specs.declared.fault_kind.FaultKind.{FaultKind}
-use Rattle.test_body.specs.BodyTrees.{Function, Limit, Case, TestFile}
+use Rattle.test_meaning.specs.Body.BodyTrees.{Function, Limit, Case, TestFile}
 
 -- ---- constants
 

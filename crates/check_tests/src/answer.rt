@@ -17,7 +17,7 @@ use py_syntax::{Lines, Module};
 use std::alloc::{AllocError, Global};
 use table_rows::Row;
 use test_file::{FileFault, check};
-use test_rules::FileRule;
+use test_meaning::rules::FileRule;
 
 /// A rule's name, with the number of a line in brackets.
 fn at_line(alloc: Global, name: &str, line: u32) -> Result<Vec<u8>, AllocError>

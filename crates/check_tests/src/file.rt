@@ -2,7 +2,7 @@
 
 ghost use Rattle.std.specs.Prelude.{◌≡◌, map, option_map, IfOk};
 ghost use Rattle.std.specs.Fmt.{signed_decimal};
-ghost use Rattle.test_body.specs.Views.{view_case, view_file, view_function, view_limit};
+ghost use Rattle.test_meaning.specs.Body.Views.{view_case, view_file, view_function, view_limit};
 ghost use Rattle.check_tests.specs.Files.{
   cases_text,
   constant_text,
@@ -22,7 +22,7 @@ use crate::pieces::{Shown, all_texts, joined, texts};
 use port_io::{Name, Sequence};
 use py_syntax::{Const, FaultKind};
 use std::alloc::{AllocError, Global};
-use test_body::{Function, TestCase, TestFile};
+use test_meaning::body::{Function, TestCase, TestFile};
 
 /// How many tests are shown from the front.
 const MOST_SHOWN: usize = 12;
@@ -77,7 +77,7 @@ impl Shown for Const {
 }
 
 impl Shown for Function {
-    ghost use Rattle.test_body.specs.Views.{view_function};
+    ghost use Rattle.test_meaning.specs.Body.Views.{view_function};
     ghost use Rattle.check_tests.specs.Files.{function_text};
 
     ghost text = { λ f. function_text (view_function f) };
@@ -142,7 +142,7 @@ fn options_text(alloc: Global, case: &TestCase) -> Result<Vec<u8>, AllocError>
 }
 
 impl Shown for TestCase {
-    ghost use Rattle.test_body.specs.Views.{view_case};
+    ghost use Rattle.test_meaning.specs.Body.Views.{view_case};
     ghost use Rattle.check_tests.specs.Files.{case_text};
 
     ghost text = { λ c. case_text (view_case c) };

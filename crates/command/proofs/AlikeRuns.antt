@@ -20,26 +20,26 @@ use Rattle.py_value.specs.Answer.{Answer}
 use Rattle.py_value.specs.declared.trigger.TaskNo.{TaskNo}
 use Rattle.py_value.specs.declared.value.Value.{Value}
 use Rattle.py_value.specs.declared.value.Value.TheVariants as value
-use Rattle.random_stream.specs.Generator.{seeded}
-use Rattle.signal_port.specs.declared.staged.Staged.{Staged}
-use Rattle.test_body.specs.BodyTrees.{Case, Function}
-use Rattle.task_model.specs.Cost.{next_cost}
-use Rattle.task_model.specs.Frame.{Task}
-use Rattle.task_model.specs.Step.{next}
-use Rattle.task_model.specs.declared.task.Turned.{Turned}
-use Rattle.task_model.specs.declared.task.Turned.TheVariants as turned
-use Rattle.wait_list.specs.declared.ready.Entry.{Entry}
-use Rattle.run_model.specs.Case.{emptied, test_begun, values_of, with_test}
-use Rattle.run_model.specs.Counts.{counted}
-use Rattle.run_model.specs.Effect.{effect, effect_of, gives_value, puts, write_by}
-use Rattle.run_model.specs.Rig.{After, Rig, Running, Setup, awaited, event_of, followed_by, told_line, told_lines, view_of}
-use Rattle.run_model.specs.Run.{Begins, IsRun, Over, Place, Run, Runs, Waits, begun, cost_at, cost_in, goes, is_over, judged, opening, placed, planned, skipped, step, step_at, step_in, steps, test_ended, unskipped, with_skips, within, written}
-use Rattle.run_model.specs.Line.{budget_line}
-use Rattle.run_model.specs.Serve.{after_put, deposit, ended_if, flushed, flushed_if, is_due, serve, serve_keys, served, with_fired}
-use Rattle.run_model.specs.Step.{Stepped, after_event, chosen, costing, event_step, kept, resumed, rig_step, stepped, taken, task_at}
-use Rattle.run_model.specs.Verdict.{reason_of}
-use Rattle.run_model.specs.declared.outcome.Outcome.{Outcome}
-use Rattle.run_model.specs.declared.outcome.Outcome.TheVariants as outcome
+use Rattle.run_view.specs.RandomStream.Generator.{seeded}
+use Rattle.run_view.specs.declared.signal_port.staged.Staged.{Staged}
+use Rattle.test_meaning.specs.Body.BodyTrees.{Case, Function}
+use Rattle.rig_model.specs.Task.Cost.{next_cost}
+use Rattle.rig_model.specs.Task.Frame.{Task}
+use Rattle.rig_model.specs.Task.Step.{next}
+use Rattle.rig_model.specs.declared.task.task.Turned.{Turned}
+use Rattle.rig_model.specs.declared.task.task.Turned.TheVariants as turned
+use Rattle.await_tree.specs.declared.wait_list.ready.Entry.{Entry}
+use Rattle.rig_model.specs.Run.Case.{emptied, test_begun, values_of, with_test}
+use Rattle.rig_model.specs.Run.Counts.{counted}
+use Rattle.rig_model.specs.Run.Effect.{effect, effect_of, gives_value, puts, write_by}
+use Rattle.rig_model.specs.Run.Rig.{After, Rig, Running, Setup, awaited, event_of, followed_by, told_line, told_lines, view_of}
+use Rattle.rig_model.specs.Run.Run.{Begins, IsRun, Over, Place, Run, Runs, Waits, begun, cost_at, cost_in, goes, is_over, judged, opening, placed, planned, skipped, step, step_at, step_in, steps, test_ended, unskipped, with_skips, within, written}
+use Rattle.rig_model.specs.Run.Line.{budget_line}
+use Rattle.rig_model.specs.Run.Serve.{after_put, deposit, ended_if, flushed, flushed_if, is_due, serve, serve_keys, served, with_fired}
+use Rattle.rig_model.specs.Run.Step.{Stepped, after_event, chosen, costing, event_step, kept, resumed, rig_step, stepped, taken, task_at}
+use Rattle.rig_model.specs.Run.Verdict.{reason_of}
+use Rattle.rig_model.specs.declared.run.outcome.Outcome.{Outcome}
+use Rattle.rig_model.specs.declared.run.outcome.Outcome.TheVariants as outcome
 use Rattle.v_design.specs.Answers.{AreAlike}
 
 -- a design of these parts

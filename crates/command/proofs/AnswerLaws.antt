@@ -9,14 +9,14 @@ use Rattle.port_io.specs.declared.ports.SinkFault.{SinkFault}
 use Rattle.port_io.specs.declared.ports.SinkFault.TheVariants.{Failed, OutOfMemory}
 use Rattle.gpi.specs.Content.{Content}
 use Rattle.gpi.specs.declared.design.Flat.{Flat}
-use Rattle.test_body.specs.BodyTrees.{Case, TestFile}
-use Rattle.test_body.specs.Views.{view_file}
-use Rattle.run_model.specs.Rig.{Rig, Setup}
-use Rattle.run_model.specs.Run.{Run, IsRun, IsStart, is_over, written}
-use Rattle.run_model.specs.Verdict.{is_fail}
-use Rattle.run_model.proofs.Whole.{run_unique}
-use Rattle.run_model.proofs.Fronts.{start_is_front}
-use Rattle.run_model.proofs.Exists.{run_stops}
+use Rattle.test_meaning.specs.Body.BodyTrees.{Case, TestFile}
+use Rattle.test_meaning.specs.Body.Views.{view_file}
+use Rattle.rig_model.specs.Run.Rig.{Rig, Setup}
+use Rattle.rig_model.specs.Run.Run.{Run, IsRun, IsStart, is_over, written}
+use Rattle.rig_model.specs.Run.Verdict.{is_fail}
+use Rattle.rig_model.proofs.RunLemmas.Whole.{run_unique}
+use Rattle.rig_model.proofs.RunLemmas.Fronts.{start_is_front}
+use Rattle.rig_model.proofs.RunLemmas.Exists.{run_stops}
 use Rattle.command.specs.declared.options.RunOptions.{RunOptions}
 use Rattle.command.specs.declared.options.Shown.{Shown}
 use Rattle.command.specs.declared.options.Shown.TheVariants.{AllLines, LastLine}
@@ -24,10 +24,10 @@ use Rattle.command.specs.Answer.{Answers, Answered, IsAnswer, RunsShown, TellsLi
 use Rattle.command.specs.declared.decision.Decision.{Decision}
 use Rattle.command.specs.declared.decision.Decision.TheVariants.{Refused, Runs}
 use Rattle.command.specs.Reading.{CanRun, IsRefusalStatus, IsTold, Reading, Reads, reading_of, refused, runs, usage_line}
-use Rattle.regression.specs.Runs.{EndsTo, RunsTo, Whole, PutsStart, status_of, stopped_status}
-use Rattle.regression.specs.Status.{put_status}
-use Rattle.regression.specs.declared.status.Status.{Status}
-use Rattle.regression.specs.declared.status.Status.TheVariants as status
+use Rattle.command.specs.Regression.Runs.{EndsTo, RunsTo, Whole, PutsStart, status_of, stopped_status}
+use Rattle.command.specs.Regression.Status.{put_status}
+use Rattle.command.specs.declared.regression.status.Status.{Status}
+use Rattle.command.specs.declared.regression.status.Status.TheVariants as status
 
 -- known bytes grew by a front of these, and so by a front of more
 longer_part : (old new : Option (List ℕ)) (xs more ys : List (List ℕ)) → ys ≡ xs ++ more → AppendsPart old new (joined xs) → AppendsPart old new (joined ys)

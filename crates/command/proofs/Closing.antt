@@ -1,13 +1,13 @@
 -- A run that stopped has written a line at least: the closing one, or the one of its budget.
 use Rattle.std.proofs.Common.{◌≡◌, ◌≢◌, ℕ, zero, suc, Bool, true, false, List, [], ◌∷◌, ◌++◌, Option, None, Some, refl, ap, sym, subst, ◌∙◌}
 use Rattle.std.specs.Prelude.{if◌then◌else◌}
-use Rattle.test_body.specs.BodyTrees.{Case}
-use Rattle.run_model.specs.declared.outcome.Outcome.{Outcome}
-use Rattle.run_model.specs.Line.{budget_line}
-use Rattle.run_model.specs.Rig.{Setup}
-use Rattle.run_model.specs.Step.{rig_step}
-use Rattle.run_model.specs.Verdict.{reason_of, report_of}
-use Rattle.run_model.specs.Run.{Place, Begins, Runs, Waits, Over, is_over, Run, unskipped, skipped, with_skips, judged, begun, planned, place_by, within, step, step_at, step_in, goes, steps, opening, IsRun, written}
+use Rattle.test_meaning.specs.Body.BodyTrees.{Case}
+use Rattle.rig_model.specs.declared.run.outcome.Outcome.{Outcome}
+use Rattle.rig_model.specs.Run.Line.{budget_line}
+use Rattle.rig_model.specs.Run.Rig.{Setup}
+use Rattle.rig_model.specs.Run.Step.{rig_step}
+use Rattle.rig_model.specs.Run.Verdict.{reason_of, report_of}
+use Rattle.rig_model.specs.Run.Run.{Place, Begins, Runs, Waits, Over, is_over, Run, unskipped, skipped, with_skips, judged, begun, planned, place_by, within, step, step_at, step_in, goes, steps, opening, IsRun, written}
 
 -- a line behind others
 more_lines : (lines : List (List ℕ)) (line : List ℕ) → lines ++ line ∷ [] ≢ []

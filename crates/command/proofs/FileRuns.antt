@@ -10,20 +10,20 @@ use Rattle.port_io.proofs.PartLaws.{part_none}
 use Rattle.gpi.specs.Content as content
 use Rattle.gpi.specs.Content.{Content, no_counts}
 use Rattle.gpi.specs.declared.design.Flat.{Flat}
-use Rattle.random_stream.specs.Generator.{seeded}
-use Rattle.test_body.specs.BodyTrees as trees
-use Rattle.test_body.specs.BodyTrees.{Case}
-use Rattle.test_body.specs.Sound.{is_sound, is_sound_case, is_sound_function, most_cases}
-use Rattle.test_body.specs.Views.{view_case, view_file, view_function}
-use Rattle.test_body.specs.declared.file.Function.{Function}
-use Rattle.test_body.specs.declared.file.TestFile.{TestFile}
-use Rattle.task_model.specs.Known.{AreSoundFunctions}
-use Rattle.run_model.specs.Case.{emptied}
-use Rattle.run_model.specs.Rig.{Rig, Setup}
-use Rattle.run_model.specs.Run.{IsStart, opening, opening_sim, steps, written}
-use Rattle.regression.specs.Runs.{RunsTo, status_in}
-use Rattle.regression.specs.Stages.{cases_of}
-use Rattle.regression.specs.declared.status.Status.{Status}
+use Rattle.run_view.specs.RandomStream.Generator.{seeded}
+use Rattle.test_meaning.specs.Body.BodyTrees as trees
+use Rattle.test_meaning.specs.Body.BodyTrees.{Case}
+use Rattle.test_meaning.specs.Body.Sound.{is_sound, is_sound_case, is_sound_function, most_cases}
+use Rattle.test_meaning.specs.Body.Views.{view_case, view_file, view_function}
+use Rattle.test_meaning.specs.declared.body.file.Function.{Function}
+use Rattle.test_meaning.specs.declared.body.file.TestFile.{TestFile}
+use Rattle.rig_model.specs.Task.Known.{AreSoundFunctions}
+use Rattle.rig_model.specs.Run.Case.{emptied}
+use Rattle.rig_model.specs.Run.Rig.{Rig, Setup}
+use Rattle.rig_model.specs.Run.Run.{IsStart, opening, opening_sim, steps, written}
+use Rattle.command.specs.Regression.Runs.{RunsTo, status_in}
+use Rattle.command.specs.Regression.Stages.{cases_of}
+use Rattle.command.specs.declared.regression.status.Status.{Status}
 use Rattle.command.specs.declared.options.RunOptions.{RunOptions}
 use Rattle.command.specs.Answer.{RunsFile, setup_with}
 

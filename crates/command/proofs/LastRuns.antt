@@ -5,16 +5,16 @@ use Rattle.port_io.specs.Means.{SinkMeans}
 use Rattle.port_io.specs.declared.ports.NoMemory.{NoMemory}
 use Rattle.gpi.specs.Content.{Content}
 use Rattle.gpi.specs.declared.design.Flat.{Flat}
-use Rattle.test_body.specs.BodyTrees.{Case, TestFile}
-use Rattle.run_model.specs.Rig.{Rig, Setup}
-use Rattle.run_model.specs.Run.{Run, IsRun, written}
-use Rattle.run_parts.specs.Fits.{StandsFor}
-use Rattle.last_line.specs.Keeping.{last_means}
-use Rattle.last_line.specs.Last.{last_of}
-use Rattle.last_line.proofs.KeepingLaws.{keeps_last_of, none_fails}
-use Rattle.regression.specs.Runs.{EndsTo, RunsTo, Whole, status_in, status_of}
-use Rattle.regression.specs.declared.status.Status.{Status}
-use Rattle.regression.specs.declared.status.Status.TheVariants as status
+use Rattle.test_meaning.specs.Body.BodyTrees.{Case, TestFile}
+use Rattle.rig_model.specs.Run.Rig.{Rig, Setup}
+use Rattle.rig_model.specs.Run.Run.{Run, IsRun, written}
+use Rattle.rig_model.specs.Parts.Fits.{StandsFor}
+use Rattle.command.specs.LastLine.Keeping.{last_means}
+use Rattle.command.specs.LastLine.Last.{last_of}
+use Rattle.command.proofs.LastLineLemmas.KeepingLaws.{keeps_last_of, none_fails}
+use Rattle.command.specs.Regression.Runs.{EndsTo, RunsTo, Whole, status_in, status_of}
+use Rattle.command.specs.declared.regression.status.Status.{Status}
+use Rattle.command.specs.declared.regression.status.Status.TheVariants as status
 use Rattle.command.specs.declared.options.RunOptions.{RunOptions}
 use Rattle.command.specs.declared.options.Shown.TheVariants.{LastLine}
 use Rattle.command.specs.Answer.{RunsFile, RunsLast, lines_shown, setup_with}

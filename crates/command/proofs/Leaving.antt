@@ -6,13 +6,13 @@ use Rattle.port_io.specs.declared.ports.SinkFault.{SinkFault}
 use Rattle.port_io.specs.declared.ports.SinkFault.TheVariants.{Failed, OutOfMemory}
 use Rattle.gpi.specs.Content.{Content}
 use Rattle.gpi.specs.declared.design.Flat.{Flat}
-use Rattle.test_body.specs.BodyTrees.{TestFile}
-use Rattle.run_model.specs.Run.{is_over}
-use Rattle.run_model.specs.Verdict.{is_fail}
-use Rattle.regression.specs.Runs.{stopped_status}
-use Rattle.regression.specs.Status.{put_status}
-use Rattle.regression.specs.declared.status.Status.{Status}
-use Rattle.regression.specs.declared.status.Status.TheVariants as status
+use Rattle.test_meaning.specs.Body.BodyTrees.{TestFile}
+use Rattle.rig_model.specs.Run.Run.{is_over}
+use Rattle.rig_model.specs.Run.Verdict.{is_fail}
+use Rattle.command.specs.Regression.Runs.{stopped_status}
+use Rattle.command.specs.Regression.Status.{put_status}
+use Rattle.command.specs.declared.regression.status.Status.{Status}
+use Rattle.command.specs.declared.regression.status.Status.TheVariants as status
 use Rattle.command.specs.declared.options.RunOptions.{RunOptions}
 use Rattle.command.specs.declared.options.Shown.{Shown}
 use Rattle.command.specs.declared.options.Shown.TheVariants.{AllLines, LastLine}

@@ -1,3 +1,7 @@
+pub mod MadeTextsLemmas
+pub mod LastLineLemmas
+pub mod RegressionLemmas
+pub mod CommandWordsLemmas
 pub mod FileRuns
 pub mod Closing
 pub mod LastRuns

@@ -2,26 +2,26 @@
 use Rattle.std.proofs.Common.{◌≡◌, ◌⊎◌, inl, inr, ℕ, List, [], ◌∷◌, Option, None, Some, IsSomeAnd, refl, ap, sym, subst, ◌∙◌, take}
 use Rattle.port_io.specs.Ports.{GivesFile}
 use Rattle.gpi.specs.declared.design.Flat.{Flat}
-use Rattle.test_body.specs.BodyTrees.{TestFile}
-use Rattle.run_model.specs.Rig.{Setup}
-use Rattle.run_model.specs.Run.{IsRun, Run, written}
-use Rattle.run_model.proofs.Whole.{run_unique}
-use Rattle.command_words.specs.Forms as words
-use Rattle.command_words.specs.Forms.{Asked, Form}
-use Rattle.command_words.proofs.Whole.{read_once}
+use Rattle.test_meaning.specs.Body.BodyTrees.{TestFile}
+use Rattle.rig_model.specs.Run.Rig.{Setup}
+use Rattle.rig_model.specs.Run.Run.{IsRun, Run, written}
+use Rattle.rig_model.proofs.RunLemmas.Whole.{run_unique}
+use Rattle.command.specs.CommandWords.Forms as words
+use Rattle.command.specs.CommandWords.Forms.{Asked, Form}
+use Rattle.command.proofs.CommandWordsLemmas.Whole.{read_once}
 use Rattle.v_design.specs.Answers.{AreAlike}
 use Rattle.v_design.specs.Designs as design_text
 use Rattle.v_design.specs.Words as design_words
 use Rattle.v_design.specs.declared.fault.DesignRefusal.{DesignRefusal}
 use Rattle.v_design.proofs.AnswerLaws as designs
-use Rattle.test_text.specs.Tests as tests_text
-use Rattle.test_text.specs.Words as tests_words
-use Rattle.test_text.specs.declared.fault.TestsRefusal.{TestsRefusal}
-use Rattle.test_text.proofs.AnswerLaws as tests
-use Rattle.made_texts.specs.Texts as made
-use Rattle.regression.specs.Runs.{status_of}
-use Rattle.regression.specs.declared.status.Status.{Status}
-use Rattle.regression.specs.declared.status.Status.TheVariants as status
+use Rattle.test_file.specs.Text.Tests as tests_text
+use Rattle.test_file.specs.Text.Words as tests_words
+use Rattle.test_file.specs.declared.text.fault.TestsRefusal.{TestsRefusal}
+use Rattle.test_file.proofs.TextLemmas.AnswerLaws as tests
+use Rattle.command.specs.MadeTexts.Texts as made
+use Rattle.command.specs.Regression.Runs.{status_of}
+use Rattle.command.specs.declared.regression.status.Status.{Status}
+use Rattle.command.specs.declared.regression.status.Status.TheVariants as status
 use Rattle.command.specs.declared.options.RunOptions.{RunOptions}
 use Rattle.command.specs.Answer.{IsAnswer, lines_shown, setup_with}
 use Rattle.command.specs.OneAnswer.{IsUnread}

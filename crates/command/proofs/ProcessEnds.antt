@@ -8,9 +8,9 @@ use Rattle.gpi.specs.Content.{Content}
 use Rattle.command.specs.Answer.{Answered, RefusesWords, TellsLines}
 use Rattle.command.specs.Process.{AnswersGiven, EndsAnswer, EndsWords, IsCut}
 use Rattle.command.specs.Reading.{IsTold}
-use Rattle.regression.specs.Status.{put_status}
-use Rattle.regression.specs.declared.status.Status.{Status}
-use Rattle.regression.specs.declared.status.Status.TheVariants as status
+use Rattle.command.specs.Regression.Status.{put_status}
+use Rattle.command.specs.declared.regression.status.Status.{Status}
+use Rattle.command.specs.declared.regression.status.Status.TheVariants as status
 
 -- the status of lines, of which nothing else is asked
 ends_lines : (before after : Option (List ℕ)) (lines : List (List ℕ)) (own s : Status) → TellsLines before after lines own s → (s ≡ own) ⊎ IsCut s

@@ -3,12 +3,12 @@ use Rattle.std.proofs.Common.{◌≡◌, ℕ, false, List, Option, refl, subst, 
 use Rattle.port_io.specs.Ports.{GivesFile}
 use Rattle.port_io.specs.Means.{StoreMeans}
 use Rattle.gpi.specs.declared.design.Flat.{Flat}
-use Rattle.command_words.specs.Forms as words
-use Rattle.command_words.specs.Forms.{Asked, Form}
+use Rattle.command.specs.CommandWords.Forms as words
+use Rattle.command.specs.CommandWords.Forms.{Asked, Form}
 use Rattle.command.specs.declared.options.RunOptions.{RunOptions}
 use Rattle.command.specs.declared.options.Shown.TheVariants.{AllLines}
 use Rattle.command.specs.Reading.{Reading, refused, Reads, ReadsAsked, ReadsBoth, ReadsTests, IsTold, TextOfDesign, told_means, usage_line, options_in, most}
-use Rattle.regression.specs.declared.status.Status.TheVariants as status
+use Rattle.command.specs.declared.regression.status.Status.TheVariants as status
 
 -- any options, which words without a reading may be said to have
 pub any_options : RunOptions

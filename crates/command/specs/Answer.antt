@@ -6,14 +6,14 @@ use Rattle.port_io.specs.Means.{StoreMeans, SinkMeans}
 use Rattle.port_io.specs.ToldLaws.{joined}
 use Rattle.gpi.specs.Content.{Content}
 use Rattle.gpi.specs.declared.design.Flat.{Flat}
-use Rattle.test_body.specs.BodyTrees.{TestFile}
-use Rattle.run_model.specs.Rig.{Rig, Setup}
-use Rattle.run_model.specs.Run.{Run, IsRun, written}
-use Rattle.run_parts.specs.Fits.{StandsFor}
-use Rattle.last_line.specs.Last.{last_of}
-use Rattle.regression.specs.Runs.{RunsTo, EndsTo, status_of}
-use Rattle.regression.specs.declared.status.Status.{Status}
-use Rattle.regression.specs.declared.status.Status.TheVariants as status
+use Rattle.test_meaning.specs.Body.BodyTrees.{TestFile}
+use Rattle.rig_model.specs.Run.Rig.{Rig, Setup}
+use Rattle.rig_model.specs.Run.Run.{Run, IsRun, written}
+use Rattle.rig_model.specs.Parts.Fits.{StandsFor}
+use Rattle.command.specs.LastLine.Last.{last_of}
+use Rattle.command.specs.Regression.Runs.{RunsTo, EndsTo, status_of}
+use Rattle.command.specs.declared.regression.status.Status.{Status}
+use Rattle.command.specs.declared.regression.status.Status.TheVariants as status
 use Rattle.command.specs.declared.options.RunOptions.{RunOptions}
 use Rattle.command.specs.declared.options.Shown.{Shown}
 use Rattle.command.specs.declared.options.Shown.TheVariants.{AllLines, LastLine}

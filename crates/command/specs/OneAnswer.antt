@@ -1,12 +1,12 @@
 -- A means of proof: what the two laws of an answer say, which stand beside the command's contract.
 use Rattle.std.specs.Prelude.{◌≡◌, ℕ, Bool, List, Option, Some}
 use Rattle.gpi.specs.declared.design.Flat.{Flat}
-use Rattle.test_body.specs.BodyTrees.{Case, Function}
-use Rattle.run_model.specs.Rig.{Setup}
-use Rattle.run_model.specs.Run.{IsRun, Run, written}
+use Rattle.test_meaning.specs.Body.BodyTrees.{Case, Function}
+use Rattle.rig_model.specs.Run.Rig.{Setup}
+use Rattle.rig_model.specs.Run.Run.{IsRun, Run, written}
 use Rattle.v_design.specs.Answers.{AreAlike}
-use Rattle.regression.specs.declared.status.Status.{Status}
-use Rattle.regression.specs.declared.status.Status.TheVariants as status
+use Rattle.command.specs.declared.regression.status.Status.{Status}
+use Rattle.command.specs.declared.regression.status.Status.TheVariants as status
 use Rattle.command.specs.declared.options.RunOptions.{RunOptions}
 use Rattle.command.specs.Answer.{IsAnswer}
 use Rattle.command.specs.Reading.{IsTold, Reading, refused}

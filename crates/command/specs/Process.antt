@@ -4,11 +4,11 @@ use Rattle.std.specs.Process.{exit_status}
 use Rattle.std.specs.declared.process.ExitCode.{ExitCode}
 use Rattle.port_io.specs.Means.{StoreMeans, SinkMeans}
 use Rattle.gpi.specs.Content.{Content}
-use Rattle.command_words.specs.declared.reading.WordsFault.{WordsFault}
-use Rattle.command_words.specs.declared.reading.WordsFault.TheVariants.{Usage, OutOfMemory}
-use Rattle.regression.specs.Status.{code_of}
-use Rattle.regression.specs.declared.status.Status.{Status}
-use Rattle.regression.specs.declared.status.Status.TheVariants as status
+use Rattle.command.specs.declared.command_words.reading.WordsFault.{WordsFault}
+use Rattle.command.specs.declared.command_words.reading.WordsFault.TheVariants.{Usage, OutOfMemory}
+use Rattle.command.specs.Regression.Status.{code_of}
+use Rattle.command.specs.declared.regression.status.Status.{Status}
+use Rattle.command.specs.declared.regression.status.Status.TheVariants as status
 use Rattle.command.specs.declared.options.RunOptions.{RunOptions}
 use Rattle.command.specs.Reading.{IsTold, Reading}
 use Rattle.command.specs.Answer.{Answered, IsAnswer, LeavesKernel, Quit, RefusesWords}

@@ -4,20 +4,20 @@ use Rattle.port_io.specs.Ports.{GivesFile}
 use Rattle.port_io.specs.Means.{StoreMeans}
 use Rattle.gpi.specs.declared.design.Flat.{Flat}
 use Rattle.gpi.specs.Soundness.{IsSoundFlat}
-use Rattle.command_words.specs.Forms as words
-use Rattle.command_words.specs.Forms.{Asked, Form}
+use Rattle.command.specs.CommandWords.Forms as words
+use Rattle.command.specs.CommandWords.Forms.{Asked, Form}
 use Rattle.v_design.specs.declared.fault.DesignRefusal.{DesignRefusal}
 use Rattle.v_design.specs.Designs as design_text
 use Rattle.v_design.specs.Words as design_words
-use Rattle.test_body.specs.BodyTrees.{TestFile}
-use Rattle.test_body.specs.Sound.{is_sound}
-use Rattle.test_body.specs.Views.{view_file}
-use Rattle.test_text.specs.declared.fault.TestsRefusal.{TestsRefusal}
-use Rattle.test_text.specs.Tests as tests_text
-use Rattle.test_text.specs.Words as tests_words
-use Rattle.made_texts.specs.Texts as made
-use Rattle.regression.specs.declared.status.Status.{Status}
-use Rattle.regression.specs.declared.status.Status.TheVariants as status
+use Rattle.test_meaning.specs.Body.BodyTrees.{TestFile}
+use Rattle.test_meaning.specs.Body.Sound.{is_sound}
+use Rattle.test_meaning.specs.Body.Views.{view_file}
+use Rattle.test_file.specs.declared.text.fault.TestsRefusal.{TestsRefusal}
+use Rattle.test_file.specs.Text.Tests as tests_text
+use Rattle.test_file.specs.Text.Words as tests_words
+use Rattle.command.specs.MadeTexts.Texts as made
+use Rattle.command.specs.declared.regression.status.Status.{Status}
+use Rattle.command.specs.declared.regression.status.Status.TheVariants as status
 use Rattle.command.specs.declared.options.RunOptions.{RunOptions}
 use Rattle.command.specs.declared.options.Shown.{Shown}
 use Rattle.command.specs.declared.options.Shown.TheVariants.{AllLines, LastLine}

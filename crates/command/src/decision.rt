@@ -1,7 +1,7 @@
 //! What the words and the files come to.
+use crate::regression::Status;
 use gpi::Flat;
-use regression::Status;
-use test_body::TestFile;
+use test_meaning::body::TestFile;
 
 /// What is to be done.
 #[derive(Drop)]

@@ -2,17 +2,17 @@
 ghost use Rattle.std.specs.Prelude.{IfOk, option_copied};
 ghost use Rattle.port_io.specs.Means.{store_means};
 ghost use Rattle.gpi.specs.Soundness.{IsSoundFlat};
-ghost use Rattle.command_words.specs.Forms.{asked_of};
+ghost use Rattle.command.specs.CommandWords.Forms.{asked_of};
 ghost use Rattle.command.specs.Reading.{CanRun, IsMade, ReadsAsked, ReadsBoth, ReadsTests, TextOfTests, reading_of};
 
+use crate::command_words::Work;
 use crate::decision::Decision;
 use crate::lines::{design_refused, tests_refused, unread};
-use command_words::Work;
+use crate::made_texts::{made_design, made_tests};
 use gpi::Flat;
-use made_texts::{made_design, made_tests};
 use port_io::{NoMemory, Store, StoreFault};
 use std::alloc::Global;
-use test_text::{TestsFault, read_tests};
+use test_file::text::{TestsFault, read_tests};
 use v_design::{DesignFault, read_design};
 
 /// How many bytes of a file are asked for: one more than a file may have.

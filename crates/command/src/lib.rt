@@ -1,13 +1,23 @@
 //! The command: `cocorun` reads the words and the two files, runs the tests on the design, and puts the lines. `run_process` does
 //! so as a process.
+//!
+//! Modules that the crates above use too:
+//! - [`command_words`]: the words of the command and their one reading;
+//! - [`last_line`]: a sink that keeps the last line;
+//! - [`made_texts`]: the texts of generated work;
+//! - [`regression`]: the run over the tests of a file, one after the other.
 #![tactic(auto)]
 
+pub mod command_words;
 mod decision;
 mod files;
+pub mod last_line;
 mod laws;
 mod lines;
+pub mod made_texts;
 mod options;
 mod process;
+pub mod regression;
 mod top;
 
 pub use decision::Decision;

@@ -1,14 +1,14 @@
 //! The lines of refusals.
 ghost use Rattle.std.specs.Prelude.{◌≡◌, IfOk};
-ghost use Rattle.test_text.specs.Words as tests_words;
+ghost use Rattle.test_file.specs.Text.Words as tests_words;
 ghost use Rattle.v_design.specs.Words as design_words;
 ghost use Rattle.command.specs.Reading.{read_line, reading_of, refused, refused_line, usage_line};
 
 use crate::decision::Decision;
+use crate::regression::Status;
 use port_io::NoMemory;
-use regression::Status;
 use std::alloc::Global;
-use test_text::TestsRefusal;
+use test_file::text::TestsRefusal;
 use v_design::DesignRefusal;
 
 /// The line that says how the command is called. Only want of memory is an error.

@@ -1,9 +1,9 @@
 //! How tests are run.
 ghost use Rattle.std.specs.Prelude.{◌≡◌};
-ghost use Rattle.command_words.specs.Forms.{asked_of, form_of};
+ghost use Rattle.command.specs.CommandWords.Forms.{asked_of, form_of};
 ghost use Rattle.command.specs.Reading.{options_in, shown_in};
 
-use command_words::{Reading, Work};
+use crate::command_words::{Reading, Work};
 
 /// Which lines of a run are put.
 #[derive(Clone, Copy, Debug)]

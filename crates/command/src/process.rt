@@ -6,11 +6,12 @@ ghost use Rattle.port_io.specs.Means.{sink_means, store_means};
 ghost use Rattle.command.specs.Answer.{LeavesKernel};
 ghost use Rattle.command.specs.Process.{AnswersGiven, EndsProcess, GivesWords, HasWords, IsFault, WordsOf};
 
+use crate::command_words::WordsFault;
+use crate::regression::Status;
 use crate::top::{cocorun, refuse_words};
-use command_words::WordsFault;
+use await_tree::wait_list::Steps;
 use gpi::Gpi;
 use port_io::{DirStore, Sink, Store, WriteSink};
-use regression::Status;
 use std::alloc::Global;
 use std::env::{Args, Env};
 use std::io::{ErrorKind, Print};
@@ -19,7 +20,6 @@ use std::process::ExitCode;
 use std::rt::Files;
 use std::sync::ledger::{Blank, Ledger};
 use std::{env, io};
-use wait_list::Steps;
 
 /// Why there are no words, by the kind of the fault that the system's library tells: a word that is no UTF-8 is data that isn't valid.
 fn fault_of(kind: ErrorKind) -> WordsFault

@@ -2,28 +2,28 @@
 ghost use Rattle.std.specs.Prelude.{◌≡◌, ◌⊎◌, ◌∷◌, [], true, OnOk, map, string_bytes};
 ghost use Rattle.port_io.specs.Means.{sink_means, store_means};
 ghost use Rattle.gpi.specs.Soundness.{IsSoundFlat};
-ghost use Rattle.test_body.specs.Sound.{is_sound};
-ghost use Rattle.test_body.specs.Views.{view_file};
-ghost use Rattle.regression.specs.Runs.{EndsTo, status_in};
+ghost use Rattle.test_meaning.specs.Body.Sound.{is_sound};
+ghost use Rattle.test_meaning.specs.Body.Views.{view_file};
+ghost use Rattle.command.specs.Regression.Runs.{EndsTo, status_in};
 ghost use Rattle.command.specs.Answer.{Answered, Answers, LeavesKernel, Quit, RaisedAt, RefusesWords, RunsFile, RunsLast, RunsShown};
 ghost use Rattle.command.specs.Reading.{CanRun, reading_of};
 
+use crate::command_words::{WordsFault, read_words};
 use crate::decision::Decision;
 use crate::files::decide_work;
+use crate::last_line::LastLine;
 use crate::lines::usage_text;
 use crate::options::{RunOptions, Shown, options_of};
-use command_words::{WordsFault, read_words};
-use engine::Engine;
+use crate::regression::{Status, run_all};
+use await_tree::wait_list::Steps;
 use gpi::{Flat, Gpi};
-use last_line::LastLine;
+use plain_task::flow::TreeMaker;
 use plain_waits::WaitList;
 use port_io::{NoMemory, Sink, Store};
-use regression::{Status, run_all};
+use scheduler::Engine;
 use std::alloc::Global;
 use std::sync::ledger::Ledger;
-use test_body::TestFile;
-use tree_flow::TreeMaker;
-use wait_list::Steps;
+use test_meaning::body::TestFile;
 
 /// Puts the one line of an answer, which has this status where it is taken.
 fn put_line<O: Sink>(alloc: Global, own: Status, line: &[u8], out: &mut O) -> Status
@@ -136,9 +136,10 @@ fn answer<O: Sink, K: Gpi, L: Ledger>(
 /// Runs the tests of a file on a design, or generated ones.
 ///
 /// `words` are those of the command without the program's name: `[--top NAME] [--budget N] [--seed N] [--trace] DESIGN TESTS`, or
-/// `[--budget N] [--seed N] [--trace] --made N`, options and files in any order, as `read_words` of `command_words` takes them. DESIGN and
+/// `[--budget N] [--seed N] [--trace] --made N`, options and files in any order, as `read_words` of `command::command_words` takes them. DESIGN and
 /// TESTS are the names of the two files. The top of the design is the module that `--top` names, or else the only one that no module
-/// instantiates. The design is read first. With `--made` no file is read: the texts are those that `made_texts` makes of the number, which count as
+/// instantiates. The design is read first. With `--made` no file is read: the texts are those that `command::made_texts` makes of the number, which
+/// count as
 /// those of the files `made.v` and `made.py`. What is put, one put for each line, and the status:
 ///
 /// - words without a reading: the usage line, `Usage`, and nothing is read;

@@ -10,9 +10,9 @@ use gpi::Flat;
 use port_io::{MOST_BYTES, NoMemory};
 use std::alloc::Global;
 use v_elab::{ElabFault, elaborate};
+use v_flat::scope::ElabRule;
 use v_lex::{LexFault, Tokens, lex};
 use v_parse::{ParseFault, parse};
-use v_scope::ElabRule;
 use v_syntax::Source;
 
 /// Why a text has no design.

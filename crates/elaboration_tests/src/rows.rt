@@ -13,7 +13,7 @@ use port_io::NoMemory;
 use std::alloc::Global;
 use table_rows::{Row, push_bytes};
 use v_design::DesignRule;
-use v_scope::ElabRule;
+use v_flat::scope::ElabRule;
 
 /// A rule, and the byte at which it is broken. Only want of memory is an error, here and below.
 fn broken_text(alloc: Global, rule: ElabRule, byte: u32) -> Result<Vec<u8>, NoMemory>

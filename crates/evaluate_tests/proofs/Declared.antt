@@ -5,8 +5,8 @@ use Rattle.std.specs.List.{find}
 use Rattle.std.specs.Option.{option_map}
 use Rattle.std.specs.Str.{bytes_eq}
 use Rattle.gpi.specs.declared.design.Spot.{Spot}
-use Rattle.py_attribute.specs.Look.{View, spot_of, spot_value}
-use Rattle.py_attribute.specs.Knows.{Knows, KnowsDesign}
+use Rattle.py_evaluate.specs.Attribute.Look.{View, spot_of, spot_value}
+use Rattle.py_evaluate.specs.Attribute.Knows.{Knows, KnowsDesign}
 use Rattle.evaluate_tests.specs.Scene.{seen}
 
 -- what a name means is known

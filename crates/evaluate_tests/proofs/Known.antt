@@ -1,7 +1,7 @@
 -- The scene knows the values of all names of the rows' task.
 use Rattle.std.proofs.Common.{◌≡◌, lit<, refl, sym, subst, arith}
-use Rattle.py_attribute.specs.Look.{Names}
-use Rattle.py_attribute.specs.Knows.{KnowsNames, KnowsClock}
+use Rattle.py_evaluate.specs.Attribute.Look.{Names}
+use Rattle.py_evaluate.specs.Attribute.Knows.{KnowsNames, KnowsClock}
 use Rattle.evaluate_tests.specs.Scene.{seen}
 use Rattle.evaluate_tests.specs.Variables.{task_names}
 use Rattle.evaluate_tests.proofs.Names.{EachKnown, names_known}

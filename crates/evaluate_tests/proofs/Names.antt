@@ -4,8 +4,8 @@ use Rattle.std.specs.Prelude.{IfSome}
 use Rattle.std.specs.List.{find}
 use Rattle.std.specs.Option.{option_and_then}
 use Rattle.std.specs.Str.{bytes_eq}
-use Rattle.py_attribute.specs.Look.{View, Names, Local, local}
-use Rattle.py_attribute.specs.Knows.{KnowsNames, Knows}
+use Rattle.py_evaluate.specs.Attribute.Look.{View, Names, Local, local}
+use Rattle.py_evaluate.specs.Attribute.Knows.{KnowsNames, Knows}
 use Rattle.evaluate_tests.specs.declared.variables.Variable.{Variable}
 use Rattle.evaluate_tests.specs.Variables.{local_of, locals_of}
 

@@ -5,9 +5,9 @@ use Rattle.std.proofs.lemmas.Bool.Decides.{nat_tests}
 use Rattle.py_syntax.specs.ExpressionTrees.{Tree, height}
 use Rattle.py_syntax.specs.ExpressionSpells.{Spells}
 use Rattle.py_syntax.specs.declared.token.Token.{Token}
-use Rattle.py_phrase.specs.Marks.{after}
-use Rattle.py_phrase.specs.declared.fault.ReadError.{ReadError}
-use Rattle.py_phrase.specs.declared.fault.ReadError.TheVariants as errors
+use Rattle.py_expression.specs.Phrase.Marks.{after}
+use Rattle.py_expression.specs.declared.phrase.fault.ReadError.{ReadError}
+use Rattle.py_expression.specs.declared.phrase.fault.ReadError.TheVariants as errors
 use Rattle.py_expression.specs.Ends.{Stops, IsRead, IsFound}
 use Rattle.py_expression.specs.Kept.{measured}
 use Rattle.py_expression.specs.Shown.{Shown, shown, height_limit}

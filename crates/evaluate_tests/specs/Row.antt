@@ -11,7 +11,7 @@ use Rattle.py_syntax.specs.declared.piece.Piece.{Piece}
 use Rattle.py_syntax.specs.declared.piece.Broken.{Broken}
 use Rattle.py_syntax.specs.declared.token.Token.{Token}
 use Rattle.py_expression.specs.Shown.{height_limit}
-use Rattle.py_attribute.specs.Outcome.{Scope}
+use Rattle.py_evaluate.specs.Attribute.Outcome.{Scope}
 use Rattle.py_evaluate.specs.Eval.{eval}
 use Rattle.table_rows.specs.Rows.{front_of, behind}
 use Rattle.evaluate_tests.specs.Printed.{answer_text}

@@ -5,7 +5,7 @@ use Rattle.four_value.specs.declared.Digit.TheVariants.{Zero, One, X, Z}
 use Rattle.gpi.specs.declared.design.Spot.TheVariants.{Inner, Sig, Words}
 use Rattle.gpi.specs.declared.types.Region.TheVariants.{Begin}
 use Rattle.py_value.specs.Places.{Places}
-use Rattle.py_attribute.specs.Look.{View}
+use Rattle.py_evaluate.specs.Attribute.Look.{View}
 
 abbrev pub places : Places
 places = record {

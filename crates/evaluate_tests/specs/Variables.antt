@@ -4,7 +4,7 @@ use Rattle.four_value.specs.declared.Digit.TheVariants as digit
 use Rattle.py_syntax.specs.declared.fault_kind.FaultKind.TheVariants.{ValueError}
 use Rattle.py_value.specs.declared.value.Value.{Value}
 use Rattle.py_value.specs.declared.value.Value.TheVariants.{Absent, Truth, Whole, Text, Vector, Place, Signal, Task, Event, Lock, Clock, Caught}
-use Rattle.py_attribute.specs.Look.{Local, Names}
+use Rattle.py_evaluate.specs.Attribute.Look.{Local, Names}
 use Rattle.evaluate_tests.specs.declared.variables.Variable.{Variable}
 
 abbrev pub local_of : Variable → Local

@@ -1,12 +1,12 @@
 //! What the task of the rows sees: the design of `specs/Scene.antt` at a time of 3,000 steps of 1,000 fs.
 ghost use Rattle.std.specs.Prelude.{◌≡◌, refl};
-ghost use Rattle.py_attribute.specs.Look.{child};
+ghost use Rattle.py_evaluate.specs.Attribute.Look.{child};
 ghost use Rattle.evaluate_tests.specs.Scene.{places, seen, unresolved};
 
 use four_value::{Bits, Digit};
 use gpi::{Region, SigId, Spot};
 use port_io::Name;
-use py_attribute::Look;
+use py_evaluate::attribute::Look;
 use py_value::{EventNo, LockNo, Paths, TaskNo};
 
 /// Signals `top.a` of eight digits z, `top.clk` of one digit 1, the memory `top.m` with the words 2 and 3, and `top.u._path`; the nodes

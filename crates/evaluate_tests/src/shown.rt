@@ -5,7 +5,7 @@
 //! it; of `First` and `Combine` it is how many they hold, and of a limit its steps.
 
 ghost use Rattle.std.specs.Prelude.{◌≡◌, ◌++◌, codes, IfOk};
-ghost use Rattle.py_attribute.specs.Knows.{Knows};
+ghost use Rattle.py_evaluate.specs.Attribute.Knows.{Knows};
 ghost use Rattle.py_value.specs.Shown.{shown};
 ghost use Rattle.py_value.specs.TriggerView.{view_form};
 ghost use Rattle.evaluate_tests.specs.Printed as meaning;
@@ -13,7 +13,7 @@ ghost use Rattle.evaluate_tests.specs.Scene.{places, seen};
 
 use crate::scene::Scene;
 use port_io::NoMemory;
-use py_attribute::shown_text;
+use py_evaluate::attribute::shown_text;
 use py_value::{Form, Trig, Value};
 use std::alloc::Global;
 

@@ -6,7 +6,7 @@ ghost use Rattle.evaluate_tests.specs.Variables as meaning;
 use four_value::{Bits, Digit};
 use gpi::SigId;
 use port_io::{Name, NoMemory};
-use py_attribute::Locals;
+use py_evaluate::attribute::Locals;
 use py_syntax::FaultKind;
 use py_value::{EventNo, Fault, LockNo, TaskNo, Value};
 use std::alloc::Global;

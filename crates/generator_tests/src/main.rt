@@ -5,7 +5,7 @@
 #![tactic(auto)]
 
 use anyhow::{Result, ensure};
-use made_texts::{made_design, made_tests};
+use command::made_texts::{made_design, made_tests};
 use port_io::{MOST_BYTES, NoMemory};
 use std::alloc::Global;
 use std::io::Read;

@@ -13,10 +13,10 @@ use Rattle.await_tree.specs.declared.cause.Awaited.{Awaited}
 use Rattle.await_tree.specs.declared.cause.Cause.TheVariants as cause
 use Rattle.await_tree.specs.declared.tree.Tree.{Tree}
 use Rattle.std.specs.Prelude.{Result, Ok, Err, OnOk, OnErr}
-use Rattle.wait_list.specs.Keys.{AreAlike, AreFired, AreKeysBut, KeepsKeys, Rekeyed, without, without_all}
+use Rattle.await_tree.specs.WaitList.Keys.{AreAlike, AreFired, AreKeysBut, KeepsKeys, Rekeyed, without, without_all}
 use Rattle.plain_waits.proofs.Awaited.{fits_out, narrows_out}
-use Rattle.wait_list.specs.Waiting.{Waiting, all_waiting, all_woken, keys_among, keys_of, named, still_waiting, tree_keys, woken}
-use Rattle.wait_list.specs.declared.ready.Entry.{Entry}
+use Rattle.await_tree.specs.WaitList.Waiting.{Waiting, all_waiting, all_woken, keys_among, keys_of, named, still_waiting, tree_keys, woken}
+use Rattle.await_tree.specs.declared.wait_list.ready.Entry.{Entry}
 use Rattle.plain_waits.specs.Edges.{is_edge}
 use Rattle.plain_waits.specs.Kept.{names_of, waiting_in, waiting_of}
 use Rattle.plain_waits.specs.Parts.{Fits, Narrows, left_after}

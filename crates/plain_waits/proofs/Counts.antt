@@ -2,8 +2,8 @@
 use Rattle.std.proofs.Common.{◌≡◌, ℕ, zero, suc, arith, ◌+◌, ◌||◌, ◌&&◌, Bool, true, false, not, if◌then◌else◌, List, [], ◌∷◌, refl, sym, ap, ◌∙◌}
 use Rattle.gpi.specs.declared.types.Key.{Key}
 use Rattle.gpi.specs.Keys.{among, raised, same_key}
-use Rattle.wait_list.specs.Counts.{count_keys, raised_times}
-use Rattle.wait_list.specs.Keys.{without}
+use Rattle.await_tree.specs.WaitList.Counts.{count_keys, raised_times}
+use Rattle.await_tree.specs.WaitList.Keys.{without}
 use Rattle.plain_waits.proofs.Members.{and_no, and_yes, among_first, among_without, or_right, same_is, same_self, same_sym}
 
 later : (j k : Key) (ks : List Key) → among j ks ≡ true → among j (k ∷ ks) ≡ true

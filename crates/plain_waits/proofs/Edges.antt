@@ -28,8 +28,8 @@ use Rattle.await_tree.specs.Laws.{IsWithin}
 use Rattle.await_tree.specs.Steps.{step_of}
 use Rattle.await_tree.specs.declared.cause.Step.{Step}
 use Rattle.await_tree.specs.declared.cause.Step.TheVariants.{Still, Done}
-use Rattle.wait_list.specs.Begun.{IsBegun}
-use Rattle.wait_list.specs.Waiting.{Waiting, all_waiting, keys_of, left_of, still_waiting, tree_keys}
+use Rattle.await_tree.specs.WaitList.Begun.{IsBegun}
+use Rattle.await_tree.specs.WaitList.Waiting.{Waiting, all_waiting, keys_of, left_of, still_waiting, tree_keys}
 use Rattle.plain_waits.specs.Kept.{waiting_of}
 use Rattle.plain_waits.specs.Parts.{AreWithin}
 use Rattle.plain_waits.specs.declared.waiter.Waiter.{Waiter}

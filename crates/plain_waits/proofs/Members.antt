@@ -7,8 +7,8 @@ use Rattle.gpi.specs.Keys.{among, same_key}
 use Rattle.await_tree.specs.Fire.{is_among}
 use Rattle.await_tree.specs.declared.cause.Awaited.{Awaited}
 use Rattle.await_tree.specs.declared.cause.Awaited.TheVariants as awaited
-use Rattle.wait_list.specs.Keys.{without, without_all}
-use Rattle.wait_list.specs.Waiting.{Waiting, keys_among, keys_of, named, tree_keys}
+use Rattle.await_tree.specs.WaitList.Keys.{without, without_all}
+use Rattle.await_tree.specs.WaitList.Waiting.{Waiting, keys_among, keys_of, named, tree_keys}
 use Rattle.plain_waits.specs.Parts.{AreWithin}
 
 -- ---- truth values

@@ -5,8 +5,8 @@ use Rattle.gpi.specs.Keys.{Keys, among, has, is_time, same_key}
 use Rattle.gpi.specs.declared.types.Counts.{Counts}
 use Rattle.gpi.specs.declared.types.Key.{Key}
 use Rattle.gpi.specs.declared.types.Key.TheVariants as key
-use Rattle.wait_list.specs.Counts.{count_keys, raised_times}
-use Rattle.wait_list.specs.Keys.{AreAlike, AreKeysBut, IsOfDesign, Rekeyed}
+use Rattle.await_tree.specs.WaitList.Counts.{count_keys, raised_times}
+use Rattle.await_tree.specs.WaitList.Keys.{AreAlike, AreKeysBut, IsOfDesign, Rekeyed}
 use Rattle.plain_waits.specs.Edges.{is_edge}
 use Rattle.plain_waits.specs.Parts.{AreWithin, Fits, Joins, Narrows}
 use Rattle.plain_waits.proofs.Counts.{count_none, count_passing, count_single, count_sum, count_tests, raised_sum}

@@ -19,9 +19,9 @@ use Rattle.await_tree.specs.declared.cause.Cause.TheVariants as cause
 use Rattle.await_tree.specs.declared.cause.Given.{Given}
 use Rattle.await_tree.specs.declared.cause.Step.{Step}
 use Rattle.await_tree.specs.declared.cause.Step.TheVariants.{Still, Done}
-use Rattle.wait_list.specs.Keys.{AreAlike}
-use Rattle.wait_list.specs.Waiting.{Granted, Waiting, all_waiting, all_woken, entry_of, key_list, granted, is_of, keys_among, keys_of, left_of, named, still_waiting, tree_keys, wants, without_task, woken}
-use Rattle.wait_list.specs.declared.ready.Entry.{Entry}
+use Rattle.await_tree.specs.WaitList.Keys.{AreAlike}
+use Rattle.await_tree.specs.WaitList.Waiting.{Granted, Waiting, all_waiting, all_woken, entry_of, key_list, granted, is_of, keys_among, keys_of, left_of, named, still_waiting, tree_keys, wants, without_task, woken}
+use Rattle.await_tree.specs.declared.wait_list.ready.Entry.{Entry}
 use Rattle.plain_waits.specs.Kept.{waiting_of}
 use Rattle.plain_waits.specs.Parts.{AreWithin, Passes, left_after, left_by, woken_after, woken_by}
 use Rattle.plain_waits.specs.declared.waiter.Waiter.{Waiter}

@@ -2,7 +2,7 @@
 use Rattle.std.specs.Prelude.{List, map}
 use Rattle.gpi.specs.declared.types.Key.{Key}
 use Rattle.await_tree.specs.Whole.{tree_in}
-use Rattle.wait_list.specs.Waiting.{Waiting, named}
+use Rattle.await_tree.specs.WaitList.Waiting.{Waiting, named}
 use Rattle.plain_waits.specs.declared.keeper.WaitList.{WaitList}
 use Rattle.plain_waits.specs.declared.waiter.Waiter.{Waiter}
 

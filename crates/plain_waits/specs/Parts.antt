@@ -7,10 +7,10 @@ use Rattle.await_tree.specs.Steps.{step_of}
 use Rattle.await_tree.specs.Tree.{Tree}
 use Rattle.await_tree.specs.declared.cause.Step.{Step}
 use Rattle.await_tree.specs.declared.cause.Step.TheVariants.{Still, Done}
-use Rattle.wait_list.specs.Counts.{raised_times}
-use Rattle.wait_list.specs.Keys.{AreKeysBut, AreOut, Rekeyed}
-use Rattle.wait_list.specs.Waiting.{Waiting, entry_of, left_of}
-use Rattle.wait_list.specs.declared.ready.Entry.{Entry}
+use Rattle.await_tree.specs.WaitList.Counts.{raised_times}
+use Rattle.await_tree.specs.WaitList.Keys.{AreKeysBut, AreOut, Rekeyed}
+use Rattle.await_tree.specs.WaitList.Waiting.{Waiting, entry_of, left_of}
+use Rattle.await_tree.specs.declared.wait_list.ready.Entry.{Entry}
 
 -- ---- registered keys
 

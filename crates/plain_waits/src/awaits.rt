@@ -5,13 +5,13 @@ ghost use Rattle.plain_waits.specs.Kept.{waiting_in};
 use crate::keeper::WaitList;
 use crate::keys::register_unless;
 use crate::waiter::{Waiter, let_fall};
+use await_tree::wait_list::{Awaits, Ready, Steps};
 use await_tree::{Awaited, Cause, Tree};
 use gpi::{Fired, Gpi, Key};
 use port_io::NoMemory;
 use py_value::{LockNo, TaskNo};
 use std::alloc::Global;
 use std::sync::ledger::Ledger;
-use wait_list::{Awaits, Ready, Steps};
 
 impl WaitList {
     /// Nothing waits, and no key is held. It takes no memory.

@@ -1,7 +1,7 @@
 //! Tasks that wait no more, and keys that the runner holds no more.
 ghost use Rattle.std.specs.Prelude.{◌≡◌, ◌<◌, ◌+◌, ◌++◌, [], drop, length, take};
-ghost use Rattle.wait_list.specs.Keys.{without, without_all};
-ghost use Rattle.wait_list.specs.Waiting.{fired_keys, key_list, without_task};
+ghost use Rattle.await_tree.specs.WaitList.Keys.{without, without_all};
+ghost use Rattle.await_tree.specs.WaitList.Waiting.{fired_keys, key_list, without_task};
 ghost use Rattle.plain_waits.specs.Kept.{names_of, waiting_in};
 ghost use Rattle.plain_waits.specs.Parts.{Fits, Narrows, Passes};
 

@@ -1,6 +1,6 @@
 //! The list of waiting tasks.
 ghost use Rattle.std.specs.Prelude.{◌≤◌, length};
-ghost use Rattle.wait_list.specs.Limits.{waiting_limit};
+ghost use Rattle.await_tree.specs.WaitList.Limits.{waiting_limit};
 
 use crate::waiter::Waiter;
 use gpi::Key;

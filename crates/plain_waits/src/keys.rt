@@ -3,8 +3,8 @@ ghost use Rattle.std.specs.Prelude.{◌≡◌, ◌||◌, ◌++◌, ◌<◌, drop
 ghost use Rattle.gpi.specs.Content.{IsAsked};
 ghost use Rattle.gpi.specs.Keys.{among, has};
 ghost use Rattle.gpi.specs.declared.types.Key.{Key};
-ghost use Rattle.wait_list.specs.Keys.{AreAsked, AreFired, AreKeys, AreOut, IsOfDesign, KeepsKeys, Rekeyed};
-ghost use Rattle.wait_list.specs.Waiting.{fired_keys, key_list, keys_among};
+ghost use Rattle.await_tree.specs.WaitList.Keys.{AreAsked, AreFired, AreKeys, AreOut, IsOfDesign, KeepsKeys, Rekeyed};
+ghost use Rattle.await_tree.specs.WaitList.Waiting.{fired_keys, key_list, keys_among};
 ghost use Rattle.plain_waits.specs.Edges.{is_edge};
 ghost use Rattle.plain_waits.specs.Kept.{names_of};
 ghost use Rattle.plain_waits.specs.Parts.{Fits, Joins, Narrows};

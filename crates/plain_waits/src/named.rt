@@ -2,7 +2,7 @@
 ghost use Rattle.std.specs.Prelude.{◌≡◌, ◌∷◌, []};
 ghost use Rattle.await_tree.specs.Fire.{is_among};
 ghost use Rattle.gpi.specs.Keys.{among, same_key};
-ghost use Rattle.wait_list.specs.Waiting.{fired_keys, key_list, keys_among, keys_of};
+ghost use Rattle.await_tree.specs.WaitList.Waiting.{fired_keys, key_list, keys_among, keys_of};
 ghost use Rattle.plain_waits.specs.Kept.{names_of, waiting_in};
 
 use crate::keeper::WaitList;

@@ -2,17 +2,17 @@
 ghost use Rattle.std.specs.Prelude.{◌≡◌, ◌≤◌, ◌<◌, ◌+◌, ◌++◌, [], drop, filter, length, take, true, false, if◌then◌else◌};
 ghost use Rattle.std.specs.List.{list_any};
 ghost use Rattle.await_tree.specs.Fire.{awaits, fire, grant};
-ghost use Rattle.wait_list.specs.Waiting.{Waiting, all_waiting, all_woken, fired_keys, key_list, still_waiting, woken};
+ghost use Rattle.await_tree.specs.WaitList.Waiting.{Waiting, all_waiting, all_woken, fired_keys, key_list, still_waiting, woken};
 ghost use Rattle.plain_waits.specs.Kept.{names_of, waiting_in};
 ghost use Rattle.plain_waits.specs.Parts.{Fits, Narrows, Passes, left_after, left_by, woken_after, woken_by};
 
 use crate::keeper::WaitList;
 use crate::named::has_leaf;
 use crate::waiter::take_away;
+use await_tree::wait_list::Ready;
 use await_tree::{Awaited, Cause, Step};
 use gpi::{Fired, Gpi, Key};
 use py_value::LockNo;
-use wait_list::Ready;
 
 /// One more than a count, if so.
 fn raised_if(count: u32, more: bool) -> u32

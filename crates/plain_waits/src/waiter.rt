@@ -3,7 +3,7 @@ ghost use Rattle.std.specs.Prelude.{◌≡◌, ◌+◌, ◌++◌, ◌<◌, drop,
 ghost use Rattle.await_tree.specs.Fire as fire;
 ghost use Rattle.await_tree.specs.Steps.{rest_of, step_of};
 ghost use Rattle.await_tree.specs.Whole.{tree_in};
-ghost use Rattle.wait_list.specs.Begun.{IsBegun};
+ghost use Rattle.await_tree.specs.WaitList.Begun.{IsBegun};
 ghost use Rattle.plain_waits.specs.Edges.{has_edges};
 
 use await_tree::{Cause, Step, Tree};

@@ -3,13 +3,13 @@ use Rattle.std.proofs.Common.{◌≡◌, ℕ, ◌≤◌, Ok, Err, ap, sym, subst
 use Rattle.std.specs.Prelude.{Result, IfOk}
 use Rattle.py_value.specs.Answer.{Answer}
 use Rattle.py_value.specs.declared.value.Value.{Value}
-use Rattle.py_attribute.specs.declared.fault.OperationFault.{OperationFault}
-use Rattle.py_attribute.specs.declared.fault.OperationFault.TheVariants as faults
-use Rattle.py_attribute.specs.Gives.{Gives, IfWant, OnWant}
-use Rattle.py_attribute.specs.Knows.{Knows}
-use Rattle.py_attribute.specs.Look.{View}
-use Rattle.py_attribute.specs.Outcome.{Outcome, EndsByFault, Ends, Evaluates, gives, lift, bind}
-use Rattle.py_attribute.proofs.Want.{want_map, want_on}
+use Rattle.py_evaluate.specs.declared.attribute.fault.OperationFault.{OperationFault}
+use Rattle.py_evaluate.specs.declared.attribute.fault.OperationFault.TheVariants as faults
+use Rattle.py_evaluate.specs.Attribute.Gives.{Gives, IfWant, OnWant}
+use Rattle.py_evaluate.specs.Attribute.Knows.{Knows}
+use Rattle.py_evaluate.specs.Attribute.Look.{View}
+use Rattle.py_evaluate.specs.Attribute.Outcome.{Outcome, EndsByFault, Ends, Evaluates, gives, lift, bind}
+use Rattle.py_evaluate.proofs.AttributeLemmas.Want.{want_map, want_on}
 use Rattle.py_evaluate.specs.Wants.{Behind}
 
 -- a fault of the first is the fault of both

@@ -1,3 +1,5 @@
+pub mod AttributeLemmas
+pub mod FunctionLemmas
 pub mod Plain
 pub mod Chains
 pub mod Steps

@@ -9,22 +9,22 @@ use Rattle.py_syntax.specs.declared.expression.BoolOp.TheVariants.{Or, And}
 use Rattle.py_syntax.specs.declared.expression.Operation.TheVariants as operation
 use Rattle.py_syntax.specs.declared.expression.UnOp.{UnOp}
 use Rattle.py_syntax.specs.declared.expression.UnOp.TheVariants as unop
-use Rattle.py_integer.specs.Integer.{held}
+use Rattle.py_value.specs.Integer.Integer.{held}
 use Rattle.py_value.specs.Answer.{Answer}
 use Rattle.py_value.specs.Truth.{truth}
 use Rattle.py_value.specs.declared.trigger.TrigId.{TrigId}
 use Rattle.py_value.specs.declared.value.Value.{Value}
-use Rattle.py_operator.specs.Number.{one_number, whole}
-use Rattle.py_operator.specs.Operation.{unary_value}
-use Rattle.py_attribute.specs.Attribute.{indexed, text_value}
-use Rattle.py_attribute.specs.Look.{local, name_value, attribute, operated}
-use Rattle.py_attribute.specs.Numbers.{Each, EachOption, EachName, EachNumber, is_below}
-use Rattle.py_attribute.specs.Outcome.{Outcome, Scope, gives, lift, bind}
-use Rattle.py_attribute.proofs.Onward.{bind_rises}
-use Rattle.py_attribute.proofs.Numbers.{bind_each, chained_each, whole_each, text_each, attribute_each, indexed_each, operated_each, names_through, below_later, below_number}
-use Rattle.py_function.specs.Functions.{called, method_value}
-use Rattle.py_function.proofs.Onward.{called_rises, method_rises}
-use Rattle.py_function.proofs.Numbers.{EachAll, called_each, method_each}
+use Rattle.py_value.specs.Operator.Number.{one_number, whole}
+use Rattle.py_value.specs.Operator.Operation.{unary_value}
+use Rattle.py_evaluate.specs.Attribute.Attribute.{indexed, text_value}
+use Rattle.py_evaluate.specs.Attribute.Look.{local, name_value, attribute, operated}
+use Rattle.py_evaluate.specs.Attribute.Numbers.{Each, EachOption, EachName, EachNumber, is_below}
+use Rattle.py_evaluate.specs.Attribute.Outcome.{Outcome, Scope, gives, lift, bind}
+use Rattle.py_evaluate.proofs.AttributeLemmas.Onward.{bind_rises}
+use Rattle.py_evaluate.proofs.AttributeLemmas.Numbers.{bind_each, chained_each, whole_each, text_each, attribute_each, indexed_each, operated_each, names_through, below_later, below_number}
+use Rattle.py_evaluate.specs.Function.Functions.{called, method_value}
+use Rattle.py_evaluate.proofs.FunctionLemmas.Onward.{called_rises, method_rises}
+use Rattle.py_evaluate.proofs.FunctionLemmas.Numbers.{EachAll, called_each, method_each}
 use Rattle.py_evaluate.specs.Eval.{constant_value, decided, eval, eval_row, eval_parts}
 use Rattle.py_evaluate.proofs.Onward.{decided_rises, eval_rises, row_rises, parts_rise}
 

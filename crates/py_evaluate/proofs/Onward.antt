@@ -8,16 +8,16 @@ use Rattle.py_syntax.specs.declared.expression.Operation.TheVariants as operatio
 use Rattle.py_value.specs.Shown.{shown}
 use Rattle.py_value.specs.Truth.{truth}
 use Rattle.py_value.specs.declared.value.Value.{Value}
-use Rattle.py_operator.specs.Operation.{unary_value}
-use Rattle.py_attribute.specs.Attribute.{indexed, text_value}
-use Rattle.py_attribute.specs.Look.{attribute, operated}
-use Rattle.py_attribute.specs.Outcome.{Outcome, Scope, gives, lift, bind}
-use Rattle.py_attribute.proofs.Onward.{bind_rises}
-use Rattle.py_function.specs.Functions.{called, method_value}
-use Rattle.py_function.proofs.Onward.{called_rises, method_rises}
-use Rattle.py_attribute.specs.Outcome.{after}
-use Rattle.py_attribute.specs.Gives.{MakesText}
-use Rattle.py_function.specs.Functions.{MayWant}
+use Rattle.py_value.specs.Operator.Operation.{unary_value}
+use Rattle.py_evaluate.specs.Attribute.Attribute.{indexed, text_value}
+use Rattle.py_evaluate.specs.Attribute.Look.{attribute, operated}
+use Rattle.py_evaluate.specs.Attribute.Outcome.{Outcome, Scope, gives, lift, bind}
+use Rattle.py_evaluate.proofs.AttributeLemmas.Onward.{bind_rises}
+use Rattle.py_evaluate.specs.Function.Functions.{called, method_value}
+use Rattle.py_evaluate.proofs.FunctionLemmas.Onward.{called_rises, method_rises}
+use Rattle.py_evaluate.specs.Attribute.Outcome.{after}
+use Rattle.py_evaluate.specs.Attribute.Gives.{MakesText}
+use Rattle.py_evaluate.specs.Function.Functions.{MayWant}
 use Rattle.py_value.specs.Answer.{Answer}
 use Rattle.py_evaluate.specs.Eval.{decided, eval, eval_row, eval_parts}
 use Rattle.py_evaluate.specs.Wants.{Behind, goes_on, Wants, RowWants, PartsWant}

@@ -5,15 +5,15 @@ use Rattle.gpi.specs.declared.types.SigId.{SigId}
 use Rattle.py_syntax.specs.declared.expression.UnOp.{UnOp}
 use Rattle.py_syntax.specs.declared.expression.UnOp.TheVariants as unop
 use Rattle.py_syntax.specs.declared.fault_kind.FaultKind.TheVariants.{IndexError}
-use Rattle.py_integer.specs.Integer.{held}
+use Rattle.py_value.specs.Integer.Integer.{held}
 use Rattle.py_value.specs.declared.value.Value.{Value}
 use Rattle.py_value.specs.declared.value.Value.TheVariants as value
-use Rattle.py_operator.specs.Number.{one_number, whole}
-use Rattle.py_operator.specs.Operation.{unary_value}
-use Rattle.py_attribute.specs.Attribute.{indexed, word_at}
-use Rattle.py_attribute.specs.Look.{View}
-use Rattle.py_attribute.specs.Knows.{Knows, KnowsWords}
-use Rattle.py_attribute.proofs.Plain.{chained, whole_plain}
+use Rattle.py_value.specs.Operator.Number.{one_number, whole}
+use Rattle.py_value.specs.Operator.Operation.{unary_value}
+use Rattle.py_evaluate.specs.Attribute.Attribute.{indexed, word_at}
+use Rattle.py_evaluate.specs.Attribute.Look.{View}
+use Rattle.py_evaluate.specs.Attribute.Knows.{Knows, KnowsWords}
+use Rattle.py_evaluate.proofs.AttributeLemmas.Plain.{chained, whole_plain}
 
 pub unary_plain : (view : View) (o : UnOp) (a : Value) → IfOk (unary_value o a) (Knows view)
 unary_plain view unop.Not a = tt

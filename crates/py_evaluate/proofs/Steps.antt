@@ -10,11 +10,11 @@ use Rattle.py_syntax.specs.declared.expression.FormatPart.TheVariants as part
 use Rattle.py_value.specs.Answer.{Answer}
 use Rattle.py_value.specs.Shown.{shown}
 use Rattle.py_value.specs.declared.value.Value.{Value}
-use Rattle.py_attribute.specs.declared.fault.OperationFault.{OperationFault}
-use Rattle.py_attribute.specs.declared.fault.OperationFault.TheVariants as faults
-use Rattle.py_attribute.specs.Look.{View}
-use Rattle.py_attribute.specs.Knows.{Knows, KnowsAll}
-use Rattle.py_attribute.specs.Outcome.{Outcome, Scope, EndsByFault, gives, bind, after}
+use Rattle.py_evaluate.specs.declared.attribute.fault.OperationFault.{OperationFault}
+use Rattle.py_evaluate.specs.declared.attribute.fault.OperationFault.TheVariants as faults
+use Rattle.py_evaluate.specs.Attribute.Look.{View}
+use Rattle.py_evaluate.specs.Attribute.Knows.{Knows, KnowsAll}
+use Rattle.py_evaluate.specs.Attribute.Outcome.{Outcome, Scope, EndsByFault, gives, bind, after}
 use Rattle.py_evaluate.specs.Eval.{eval, eval_row, eval_parts}
 use Rattle.py_evaluate.specs.Rows.{trees_of, parts_of, part_bytes, PartWants}
 use Rattle.py_evaluate.specs.Wants.{Wants, RowWants, PartsWant, Behind}

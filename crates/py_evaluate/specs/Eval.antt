@@ -11,11 +11,11 @@ use Rattle.py_value.specs.Answer.{Answer}
 use Rattle.py_value.specs.Truth.{truth}
 use Rattle.py_value.specs.declared.value.Value.{Value}
 use Rattle.py_value.specs.declared.value.Value.TheVariants as value
-use Rattle.py_operator.specs.Operation.{unary_value}
-use Rattle.py_attribute.specs.Attribute.{indexed, text_value}
-use Rattle.py_attribute.specs.Look.{local, name_value, attribute, operated}
-use Rattle.py_attribute.specs.Outcome.{Outcome, Scope, gives, lift, bind}
-use Rattle.py_function.specs.Functions.{called, method_value}
+use Rattle.py_value.specs.Operator.Operation.{unary_value}
+use Rattle.py_evaluate.specs.Attribute.Attribute.{indexed, text_value}
+use Rattle.py_evaluate.specs.Attribute.Look.{local, name_value, attribute, operated}
+use Rattle.py_evaluate.specs.Attribute.Outcome.{Outcome, Scope, gives, lift, bind}
+use Rattle.py_evaluate.specs.Function.Functions.{called, method_value}
 
 -- a constant; a text of over 65,536 bytes is no value, wherever it comes from
 abbrev pub constant_value : Const → Answer Value

@@ -5,10 +5,10 @@ use Rattle.py_value.specs.declared.trigger.TaskNo.{TaskNo}
 use Rattle.py_value.specs.declared.value.Value.{Value}
 use Rattle.py_value.specs.declared.value.Fault.{Fault}
 use Rattle.py_syntax.specs.ExpressionTrees.{Tree}
-use Rattle.py_attribute.specs.declared.fault.OperationFault.{OperationFault}
-use Rattle.py_attribute.specs.Look.{View, Names}
-use Rattle.py_attribute.specs.Knows.{Knows}
-use Rattle.py_attribute.specs.Outcome.{Outcome, Scope, Evaluates, gives}
+use Rattle.py_evaluate.specs.declared.attribute.fault.OperationFault.{OperationFault}
+use Rattle.py_evaluate.specs.Attribute.Look.{View, Names}
+use Rattle.py_evaluate.specs.Attribute.Knows.{Knows}
+use Rattle.py_evaluate.specs.Attribute.Outcome.{Outcome, Scope, Evaluates, gives}
 use Rattle.py_evaluate.specs.Eval.{eval}
 use Rattle.py_evaluate.specs.Wants.{Wants}
 use Rattle.py_evaluate.specs.declared.evaluation.EvalFault.{EvalFault}

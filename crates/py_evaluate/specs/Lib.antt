@@ -1,3 +1,5 @@
+pub mod Attribute
+pub mod Function
 pub mod Eval
 pub mod Wants
 pub mod Gives

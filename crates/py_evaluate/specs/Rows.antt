@@ -5,7 +5,7 @@ use Rattle.py_syntax.specs.declared.expression.Expression.{Expression}
 use Rattle.py_syntax.specs.declared.expression.FormatPart.{FormatPart}
 use Rattle.py_syntax.specs.declared.expression.FormatPart.TheVariants as part
 use Rattle.py_value.specs.Shown.{shown}
-use Rattle.py_attribute.specs.Outcome.{Outcome, Scope, gives, bind}
+use Rattle.py_evaluate.specs.Attribute.Outcome.{Outcome, Scope, gives, bind}
 use Rattle.py_evaluate.specs.Eval.{eval}
 use Rattle.py_evaluate.specs.Wants.{Wants, Behind}
 

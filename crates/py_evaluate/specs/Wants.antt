@@ -9,11 +9,11 @@ use Rattle.py_syntax.specs.declared.expression.Operation.TheVariants as operatio
 use Rattle.py_value.specs.Memory.{copy_takes_memory}
 use Rattle.py_value.specs.Truth.{truth}
 use Rattle.py_value.specs.declared.value.Value.{Value}
-use Rattle.py_attribute.specs.Attribute.{text_value}
-use Rattle.py_attribute.specs.Gives.{MakesText}
-use Rattle.py_attribute.specs.Look.{local, attribute}
-use Rattle.py_attribute.specs.Outcome.{Outcome, Scope}
-use Rattle.py_function.specs.Functions.{called, MayWant}
+use Rattle.py_evaluate.specs.Attribute.Attribute.{text_value}
+use Rattle.py_evaluate.specs.Attribute.Gives.{MakesText}
+use Rattle.py_evaluate.specs.Attribute.Look.{local, attribute}
+use Rattle.py_evaluate.specs.Attribute.Outcome.{Outcome, Scope}
+use Rattle.py_evaluate.specs.Function.Functions.{called, MayWant}
 use Rattle.py_evaluate.specs.Eval.{constant_value, eval, eval_row, eval_parts}
 
 -- the outcome gives a value, of which this holds with the next number behind it

@@ -2,18 +2,18 @@
 ghost use Rattle.std.specs.Prelude.{◌≡◌, ◌≤◌, IfOk};
 ghost use Rattle.py_syntax.specs.ExpressionTrees as tree;
 ghost use Rattle.py_syntax.specs.declared.expression.Operation.TheVariants as operation;
-ghost use Rattle.py_attribute.specs.Knows.{KnowsNames, KnowsAll};
-ghost use Rattle.py_attribute.specs.Gives.{IfWant};
-ghost use Rattle.py_attribute.specs.Outcome.{Ends, EndsAs};
+ghost use Rattle.py_evaluate.specs.Attribute.Knows.{KnowsNames, KnowsAll};
+ghost use Rattle.py_evaluate.specs.Attribute.Gives.{IfWant};
+ghost use Rattle.py_evaluate.specs.Attribute.Outcome.{Ends, EndsAs};
 ghost use Rattle.py_evaluate.specs.Eval.{eval_row, eval_parts};
 ghost use Rattle.py_evaluate.specs.Wants.{RowWants, PartsWant};
 ghost use Rattle.py_evaluate.specs.Gives as told;
 ghost use Rattle.py_evaluate.specs.Rows as rows;
 
+use crate::attribute::{Locals, Look, OperationFault, attribute, operated, shown_text, text_value};
+use crate::function::{called, method_value};
 use crate::operations::{constant_value, name_value, unary_value, word_value};
 use port_io::{Name, boxed};
-use py_attribute::{Locals, Look, OperationFault, attribute, operated, shown_text, text_value};
-use py_function::{called, method_value};
 use py_syntax::{BinOp, BoolOp, Expression, FormatPart, Function, Method, UnOp};
 use py_value::{Fault, TaskNo, Value, truth};
 use std::alloc::Global;
@@ -305,10 +305,10 @@ fn part_text<N: Locals, V: Look>(
 /// out. Operands are evaluated from left to right, and the second of `or` and `and` only where it is needed.
 ///
 /// The fault is the first that is met: UnboundLocalError of a name that is unassigned; of an operator TypeError, ValueError,
-/// ZeroDivisionError or OverflowError (`py_attribute::operated`, `py_operator::unary`); of an attribute AttributeError, ValueError or
-/// OverflowError (`py_attribute::attribute`); of an index TypeError, ValueError or IndexError (`py_attribute::indexed`); of a call
-/// TypeError, ValueError, OverflowError or RuntimeError (`py_function::called`); of a method AttributeError or RuntimeError
-/// (`py_function::method_value`); of a text of over 65,536 bytes, an f-string's among them, OverflowError.
+/// ZeroDivisionError or OverflowError (`crate::attribute::operated`, `py_value::operator::unary`); of an attribute AttributeError, ValueError or
+/// OverflowError (`crate::attribute::attribute`); of an index TypeError, ValueError or IndexError (`crate::attribute::indexed`); of a call
+/// TypeError, ValueError, OverflowError or RuntimeError (`crate::function::called`); of a method AttributeError or RuntimeError
+/// (`crate::function::method_value`); of a text of over 65,536 bytes, an f-string's among them, OverflowError.
 ///
 /// Each trigger that is made takes the next number, which never falls. `OutOfMemory` may come only where a text is made, a part of an f-string
 /// among them; where a name's value is copied that is a text, a caught fault or a trigger that holds others; where a value is kept while

@@ -3,8 +3,8 @@
 ghost use Rattle.std.specs.Prelude.{ℕ, ◌≤◌, Bool, IfOk};
 ghost use Rattle.py_syntax.specs.ExpressionTrees.{Tree};
 ghost use Rattle.py_value.specs.declared.trigger.TrigId.{TrigId};
-ghost use Rattle.py_attribute.specs.Numbers.{Each, EachName, EachNumber, is_below};
-ghost use Rattle.py_attribute.specs.Outcome.{Scope};
+ghost use Rattle.py_evaluate.specs.Attribute.Numbers.{Each, EachName, EachNumber, is_below};
+ghost use Rattle.py_evaluate.specs.Attribute.Outcome.{Scope};
 ghost use Rattle.py_evaluate.specs.Eval.{eval};
 ghost use Rattle.py_evaluate.specs.Wants.{Wants};
 

@@ -1,17 +1,17 @@
 //! Expressions without parts, and what is done with the values of parts.
 ghost use Rattle.std.specs.Prelude.{◌≡◌, IfOk};
-ghost use Rattle.py_operator.specs.Operation as operator;
-ghost use Rattle.py_attribute.specs.Attribute as attribute;
-ghost use Rattle.py_attribute.specs.Gives.{Gives, IfWant, MakesText};
-ghost use Rattle.py_attribute.specs.Look as look;
-ghost use Rattle.py_attribute.specs.Knows.{Knows, KnowsNames};
+ghost use Rattle.py_value.specs.Operator.Operation as operator;
+ghost use Rattle.py_evaluate.specs.Attribute.Attribute as attribute;
+ghost use Rattle.py_evaluate.specs.Attribute.Gives.{Gives, IfWant, MakesText};
+ghost use Rattle.py_evaluate.specs.Attribute.Look as look;
+ghost use Rattle.py_evaluate.specs.Attribute.Knows.{Knows, KnowsNames};
 ghost use Rattle.py_evaluate.specs.Eval as meaning;
 ghost use Rattle.py_evaluate.specs.Wants.{CopyTakesMemory};
 
+use crate::attribute::{Locals, Look, OperationFault, indexed, text_value};
 use port_io::Name;
-use py_attribute::{Locals, Look, OperationFault, indexed, text_value};
-use py_operator::unary;
 use py_syntax::{Const, FaultKind, UnOp};
+use py_value::operator::unary;
 use py_value::{Value, copy};
 use std::alloc::Global;
 

@@ -18,12 +18,12 @@ use Rattle.py_expression.specs.Shown as node
 use Rattle.py_expression.specs.Shown.{Shown, ShownTrees, shown, snoc, joined}
 use Rattle.py_expression.specs.Frames.{Frame, prefix, infix_op, brackets, subscript, call, format, wanted, Spot}
 use Rattle.py_expression.specs.Tokens.{operation_at, attribute_at}
-use Rattle.py_phrase.specs.Marks.{after, after_open, after_close, after_open_square, after_assign, after_last, named_at}
+use Rattle.py_expression.specs.Phrase.Marks.{after, after_open, after_close, after_open_square, after_assign, after_last, named_at}
 use Rattle.py_expression.specs.Reading.{run, read_of, start, wanted_of, begin_of, name_of, name_by, call_of, call_end, argument_of, argument_begin, argument_by, follow_of, attribute_of, attribute_by, close_of, behind_argument, parts_of, opened, frame, behind_primary, behind_operand, in_format}
 use Rattle.py_expression.specs.Ends.{operation_level, front, NoTail, IsPlain, IsUncalled, Stops}
 use Rattle.py_expression.proofs.Nodes.{shown_constant, shown_name, shown_bracketed, shown_attribute, shown_method_call, shown_subscript, shown_unary, shown_infix, shown_call, shown_format, shown_trees, shown_with_tree, shown_parts, shown_with_text, shown_with_formatted, each_shown, count_of, greatest, each_part, greatest_part, followed, followed_snoc, followed_none, count_snoc, joined_assoc, joined_none}
 use Rattle.py_expression.proofs.Tables.{prefix_again, function_again, method_again, operation_again, operation_length, level_below, level_not_three, left_at_least, prefix_range}
-use Rattle.py_phrase.proofs.Facts.{bytes_same}
+use Rattle.py_expression.proofs.PhraseLemmas.Facts.{bytes_same}
 use Rattle.py_expression.proofs.Starts.{operation_plain, starts}
 use Rattle.py_expression.proofs.Steps.{run_done}
 use Rattle.py_expression.proofs.Leads.{Leads, leads_then, leads_here, leads_step, wanted_step, follow_step, parts_step, infix_step, close_step, done_step, operand_step}

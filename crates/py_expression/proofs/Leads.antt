@@ -3,7 +3,7 @@ use Rattle.std.proofs.Common.{◌≡◌, ℕ, ◌+◌, ◌-◌, ◌<◌, ◌≤�
 use Rattle.py_syntax.specs.ExpressionTables.{level_of, left_level}
 use Rattle.py_syntax.specs.declared.token.Token.{Token}
 use Rattle.py_syntax.specs.declared.expression.Operation.{Operation}
-use Rattle.py_phrase.specs.Marks.{after}
+use Rattle.py_expression.specs.Phrase.Marks.{after}
 use Rattle.py_expression.specs.Shown.{Shown, ShownParts}
 use Rattle.py_expression.specs.Frames.{Frame, infix_op, wanted, Spot, going, done}
 use Rattle.py_expression.specs.Tokens.{operation_at}

@@ -1,3 +1,4 @@
+pub mod PhraseLemmas
 pub mod RowLaws
 pub mod Stacks
 pub mod Steps

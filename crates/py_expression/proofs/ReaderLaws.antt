@@ -4,11 +4,11 @@ use Rattle.std.specs.Borrow.{Bor}
 use Rattle.py_syntax.specs.ExpressionTrees.{Tree, height}
 use Rattle.py_syntax.specs.ExpressionSpells.{Spells, level}
 use Rattle.py_syntax.specs.declared.token.Token.{Token}
-use Rattle.py_phrase.specs.Marks.{after}
-use Rattle.py_phrase.specs.declared.fault.ReadError.{ReadError}
-use Rattle.py_phrase.specs.declared.fault.ReadError.TheVariants as errors
+use Rattle.py_expression.specs.Phrase.Marks.{after}
+use Rattle.py_expression.specs.declared.phrase.fault.ReadError.{ReadError}
+use Rattle.py_expression.specs.declared.phrase.fault.ReadError.TheVariants as errors
 use Rattle.py_expression.specs.declared.measured.Measured.{Measured}
-use Rattle.py_phrase.specs.Gives.{Gives}
+use Rattle.py_expression.specs.Phrase.Gives.{Gives}
 use Rattle.py_expression.specs.Kept.{measured}
 use Rattle.py_expression.specs.Shown.{Shown, shown}
 use Rattle.py_expression.specs.Reading.{read_of, expression_of, primary_of}
@@ -16,7 +16,7 @@ use Rattle.py_expression.specs.Ends.{Stops, IsRead, IsFound}
 use Rattle.py_expression.proofs.Again.{read_again, level_positive}
 use Rattle.py_expression.proofs.Sound.{read_sound}
 use Rattle.py_expression.proofs.Nodes.{at_most_or_more, shown_whole, shown_high}
-use Rattle.py_phrase.proofs.Facts.{some_same}
+use Rattle.py_expression.proofs.PhraseLemmas.Facts.{some_same}
 
 pub expression_sound : (limit : ℕ) (ts rest : List Token) (v : Shown) → expression_of limit ts ≡ Some (v, rest) → IsRead limit 1 ts v rest
 expression_sound limit ts rest v e = read_sound limit 1 ts (omega arith) (v, rest) e

@@ -17,14 +17,14 @@ use Rattle.py_expression.specs.Shown as node
 use Rattle.py_expression.specs.Shown.{Shown, ShownTrees, ShownParts, shown, snoc, joined}
 use Rattle.py_expression.specs.Frames.{Frame, Opened, prefix, infix_op, brackets, subscript, call, format, Point, wanted, primary, operand, parts, Spot, Step, going, done}
 use Rattle.py_expression.specs.Tokens.{prefix_of, operation_at, after_format_close, after_empty_call, attribute_at}
-use Rattle.py_phrase.specs.Marks.{after, after_open, after_close, after_open_square, after_close_square, after_comma, after_last}
-use Rattle.py_phrase.specs.Readers.{constant_of}
+use Rattle.py_expression.specs.Phrase.Marks.{after, after_open, after_close, after_open_square, after_close_square, after_comma, after_last}
+use Rattle.py_expression.specs.Phrase.Readers.{constant_of}
 use Rattle.py_expression.specs.Reading.{step_of, step_at, onward, run, run_by, read_of, start, wanted_of, wanted_by, begin_of, constant_by, name_of, name_by, call_of, call_by, call_end, argument_of, argument_begin, follow_of, follow_by, subscript_by, attribute_of, attribute_by, close_of, primary_by, format_by, behind_argument, behind_by, comma_by, leave_of, operand_of, operand_by, fits, parts_of, opened, frame, behind_primary, in_format}
 use Rattle.py_expression.specs.Ends.{IsRead}
 use Rattle.py_expression.proofs.Nodes.{shown_constant, shown_name, shown_bracketed, shown_attribute, shown_method_call, shown_subscript, shown_unary, shown_infix, shown_call, shown_format, shown_trees, shown_with_tree, shown_parts, shown_with_text, shown_with_formatted, each_shown, count_of, greatest, each_part, greatest_part, followed, followed_snoc, followed_none, count_snoc, joined_assoc, joined_none}
 use Rattle.py_expression.proofs.Tables.{level_below, prefix_range}
 use Rattle.py_expression.proofs.TokenFacts.{after_format_close_is, attribute_at_is, after_empty_call_is, prefix_is, operation_is, function_is, method_is, argument_begins}
-use Rattle.py_phrase.proofs.Facts.{some_same, after_open_is, after_close_is, after_open_square_is, after_close_square_is, after_comma_is, after_last_is, constant_is}
+use Rattle.py_expression.proofs.PhraseLemmas.Facts.{some_same, after_open_is, after_close_is, after_open_square_is, after_close_square_is, after_comma_is, after_last_is, constant_is}
 
 -- Whatever tree follows here as the next argument, with any that follow it, is one of the call's.
 abbrev pub Given : Function → Trees → List Token → List Token → Type 0

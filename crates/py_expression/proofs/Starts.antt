@@ -13,7 +13,7 @@ use Rattle.py_syntax.specs.declared.expression.BoolOp.TheVariants as bool
 use Rattle.py_syntax.specs.declared.expression.Operation.{Operation}
 use Rattle.py_syntax.specs.declared.expression.Operation.TheVariants as operation
 use Rattle.py_expression.specs.Tokens.{after_not, attribute_at}
-use Rattle.py_phrase.specs.Marks.{after, after_close, after_assign, named_at, after_open, after_open_square}
+use Rattle.py_expression.specs.Phrase.Marks.{after, after_close, after_assign, named_at, after_open, after_open_square}
 use Rattle.py_expression.specs.Ends.{begins_expression, starts_expression}
 use Rattle.py_expression.proofs.Tables.{left_at_least}
 

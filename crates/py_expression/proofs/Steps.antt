@@ -1,9 +1,9 @@
 -- One step of reading.
 use Rattle.std.proofs.Common.{◌≡◌, ℕ, suc, ◌+◌, ◌*◌, List, length, Option, Some, None, sym, ◌∙◌}
 use Rattle.py_syntax.specs.declared.token.Token.{Token}
-use Rattle.py_phrase.specs.declared.fault.ReadError.{ReadError}
-use Rattle.py_phrase.specs.declared.fault.ReadError.TheVariants as errors
-use Rattle.py_phrase.specs.Gives.{Fails}
+use Rattle.py_expression.specs.declared.phrase.fault.ReadError.{ReadError}
+use Rattle.py_expression.specs.declared.phrase.fault.ReadError.TheVariants as errors
+use Rattle.py_expression.specs.Phrase.Gives.{Fails}
 use Rattle.py_expression.specs.Shown.{Shown}
 use Rattle.py_expression.specs.Frames.{Spot, going, done}
 use Rattle.py_expression.specs.Reading.{step_of, run, read_of, start}

@@ -12,7 +12,7 @@ use Rattle.py_syntax.specs.declared.expression.Function.{Function}
 use Rattle.py_syntax.specs.declared.expression.Function.TheVariants as function
 use Rattle.py_syntax.specs.declared.expression.Method.{Method}
 use Rattle.py_syntax.specs.declared.expression.Method.TheVariants as method
-use Rattle.py_phrase.specs.Marks.{after}
+use Rattle.py_expression.specs.Phrase.Marks.{after}
 use Rattle.py_expression.specs.Tokens.{prefix_of, operation_at, after_not}
 
 pub prefix_again : (op : UnOp) → prefix_of (prefix_token op) ≡ Some op

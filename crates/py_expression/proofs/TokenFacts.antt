@@ -16,9 +16,9 @@ use Rattle.py_syntax.specs.declared.expression.Operation.{Operation}
 use Rattle.py_syntax.specs.declared.expression.Operation.TheVariants as operation
 use Rattle.py_syntax.specs.declared.expression.Function.{Function}
 use Rattle.py_syntax.specs.declared.expression.Method.{Method}
-use Rattle.py_phrase.specs.declared.mark.Mark.TheVariants as mark
-use Rattle.py_phrase.specs.Marks.{after, after_open, after_dot, named_at, after_name_by}
-use Rattle.py_phrase.proofs.Facts.{some_same, bytes_are, after_is, after_open_is, after_close_is, after_dot_is, name_at_is, named_at_is}
+use Rattle.py_expression.specs.declared.phrase.mark.Mark.TheVariants as mark
+use Rattle.py_expression.specs.Phrase.Marks.{after, after_open, after_dot, named_at, after_name_by}
+use Rattle.py_expression.proofs.PhraseLemmas.Facts.{some_same, bytes_are, after_is, after_open_is, after_close_is, after_dot_is, name_at_is, named_at_is}
 use Rattle.py_expression.specs.Tokens.{prefix_of, operation_of, operation_at, operation_from, with_not, after_not, after_format_close, after_empty_call, after_close_in, name_behind, attribute_at}
 use Rattle.py_expression.specs.Reading.{argument_begin, argument_by}
 

@@ -10,13 +10,13 @@ use Rattle.py_syntax.specs.declared.token.Token.{Token}
 use Rattle.py_syntax.specs.declared.token.Token.TheVariants as token
 use Rattle.py_syntax.specs.declared.expression.Operation.{Operation}
 use Rattle.std.specs.Borrow.{Bor}
-use Rattle.py_phrase.specs.declared.fault.ReadError.{ReadError}
-use Rattle.py_phrase.specs.declared.fault.ReadError.TheVariants as errors
+use Rattle.py_expression.specs.declared.phrase.fault.ReadError.{ReadError}
+use Rattle.py_expression.specs.declared.phrase.fault.ReadError.TheVariants as errors
 use Rattle.py_expression.specs.declared.measured.Measured.{Measured}
 use Rattle.py_expression.specs.Kept.{measured}
 use Rattle.py_expression.specs.Shown.{Shown, shown}
 use Rattle.py_expression.specs.Tokens.{operation_at, attribute_at}
-use Rattle.py_phrase.specs.Marks.{after_open_square, after_open}
+use Rattle.py_expression.specs.Phrase.Marks.{after_open_square, after_open}
 
 -- whether a token begins an expression
 abbrev pub begins_expression : Token → Bool

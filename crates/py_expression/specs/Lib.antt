@@ -1,3 +1,4 @@
+pub mod Phrase
 pub mod Rows
 pub mod Shown
 pub mod Kept

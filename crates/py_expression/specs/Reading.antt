@@ -15,8 +15,8 @@ use Rattle.py_expression.specs.Shown as node
 use Rattle.py_expression.specs.Shown.{Shown, ShownTrees, ShownParts}
 use Rattle.py_expression.specs.Frames.{Opened, prefix, infix_op, brackets, subscript, call, format, Frame, Point, wanted, primary, operand, parts, Spot, Step, going, done}
 use Rattle.py_expression.specs.Tokens.{prefix_of, operation_at, after_format_close, after_empty_call, attribute_at}
-use Rattle.py_phrase.specs.Marks.{after_open, after_close, after_open_square, after_close_square, after_comma, after_last, after_name}
-use Rattle.py_phrase.specs.Readers.{constant_of}
+use Rattle.py_expression.specs.Phrase.Marks.{after_open, after_close, after_open_square, after_close_square, after_comma, after_last, after_name}
+use Rattle.py_expression.specs.Phrase.Readers.{constant_of}
 
 -- a node is open, and an operand of it is awaited
 abbrev pub opened : List Frame → Frame → ℕ → List Token → Spot

@@ -12,8 +12,8 @@ use Rattle.py_syntax.specs.declared.expression.BinOp.TheVariants as binary
 use Rattle.py_syntax.specs.declared.expression.BoolOp.TheVariants as bool
 use Rattle.py_syntax.specs.declared.expression.Operation.{Operation}
 use Rattle.py_syntax.specs.declared.expression.Operation.TheVariants as operation
-use Rattle.py_phrase.specs.Marks.{after, after_open, after_close, after_dot, name_at}
-use Rattle.py_phrase.specs.declared.mark.Mark.TheVariants as mark
+use Rattle.py_expression.specs.Phrase.Marks.{after, after_open, after_close, after_dot, name_at}
+use Rattle.py_expression.specs.declared.phrase.mark.Mark.TheVariants as mark
 
 abbrev pub prefix_of : Token → Option UnOp
 prefix_of (token.Keyword keyword.Not) = Some unary.Not

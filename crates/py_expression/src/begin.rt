@@ -2,7 +2,7 @@
 
 ghost use Rattle.py_expression.specs.Shown.{height_limit};
 ghost use Rattle.std.specs.Prelude.{◌≡◌, ◌∷◌};
-ghost use Rattle.py_phrase.specs.Gives.{Gives};
+ghost use Rattle.py_expression.specs.Phrase.Gives.{Gives};
 ghost use Rattle.py_expression.specs.Kept.{arguments_in};
 ghost use Rattle.py_expression.specs.Spots.{stack_in, spot_in};
 ghost use Rattle.py_expression.specs.Reading;
@@ -11,9 +11,9 @@ use crate::arguments::FunctionArguments;
 use crate::frame::{Frame, Opened, Point, Spot, behind_primary, open};
 use crate::measured::Measured;
 use crate::parts::Parts;
+use crate::phrase::{Mark, ReadError, after, after_name, constant_of};
 use crate::tokens::prefix_of;
 use port_io::Name;
-use py_phrase::{Mark, ReadError, after, after_name, constant_of};
 use py_syntax::{Bracket, Function, Token};
 use std::alloc::Global;
 

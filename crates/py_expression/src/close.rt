@@ -2,7 +2,7 @@
 
 ghost use Rattle.py_expression.specs.Shown.{height_limit};
 ghost use Rattle.std.specs.Prelude.{◌≡◌, ◌∷◌, Some};
-ghost use Rattle.py_phrase.specs.Gives.{Gives};
+ghost use Rattle.py_expression.specs.Phrase.Gives.{Gives};
 ghost use Rattle.py_expression.specs.Kept.{measured, arguments_in, parts_in};
 ghost use Rattle.py_expression.specs.Spots.{stack_in, spot_in, step_in, opened_in};
 ghost use Rattle.py_expression.specs.Reading;
@@ -12,9 +12,9 @@ use crate::begin::{argument, call_end};
 use crate::frame::{Frame, Opened, Point, Spot, Step, behind_primary, innermost, open};
 use crate::measured::Measured;
 use crate::parts::Parts;
+use crate::phrase::{Mark, ReadError, after, after_last};
 use crate::tokens::{after_format_close, operation_at};
 use port_io::Name;
-use py_phrase::{Mark, ReadError, after, after_last};
 use py_syntax::{Bracket, Function, Operator, Token};
 use std::alloc::Global;
 

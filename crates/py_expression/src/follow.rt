@@ -2,16 +2,16 @@
 
 ghost use Rattle.py_expression.specs.Shown.{height_limit};
 ghost use Rattle.std.specs.Prelude.{◌≡◌, ◌∷◌};
-ghost use Rattle.py_phrase.specs.Gives.{Gives};
+ghost use Rattle.py_expression.specs.Phrase.Gives.{Gives};
 ghost use Rattle.py_expression.specs.Kept.{measured};
 ghost use Rattle.py_expression.specs.Spots.{stack_in, spot_in};
 ghost use Rattle.py_expression.specs.Reading;
 
 use crate::frame::{Frame, Opened, Point, Spot, behind_primary, open};
 use crate::measured::Measured;
+use crate::phrase::{Mark, ReadError, after};
 use crate::tokens::{after_empty_call, attribute_at};
 use port_io::Name;
-use py_phrase::{Mark, ReadError, after};
 use py_syntax::{Bracket, Method, Token};
 use std::alloc::Global;
 

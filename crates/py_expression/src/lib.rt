@@ -1,4 +1,7 @@
 //! Reads the expressions of a Python text.
+//!
+//! Modules that the crates above use too:
+//! - [`phrase`]: marks, words, names, texts, constants, and lists of these.
 #![tactic(auto)]
 
 mod arguments;
@@ -10,6 +13,7 @@ mod frame;
 mod laws;
 mod measured;
 mod parts;
+pub mod phrase;
 mod reader;
 mod tokens;
 

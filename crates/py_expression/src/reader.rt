@@ -6,7 +6,7 @@ ghost use Rattle.py_syntax.specs.ExpressionTrees.{Tree};
 ghost use Rattle.py_syntax.specs.ExpressionSpells.{Spells, level};
 ghost use Rattle.py_syntax.specs.declared.token.Token.{Token};
 ghost use Rattle.py_expression.specs.Ends.{IsRead, Stops, IsFound};
-ghost use Rattle.py_phrase.specs.Gives.{Gives};
+ghost use Rattle.py_expression.specs.Phrase.Gives.{Gives};
 ghost use Rattle.py_expression.specs.Kept.{measured};
 ghost use Rattle.py_expression.specs.Spots.{spot_in, step_in};
 ghost use Rattle.py_expression.specs.Reading;
@@ -16,7 +16,7 @@ use crate::close::{behind_operand, in_format};
 use crate::follow::follow;
 use crate::frame::{Point, Spot, Step};
 use crate::measured::Measured;
-use py_phrase::ReadError;
+use crate::phrase::ReadError;
 use py_syntax::Token;
 use std::alloc::Global;
 

@@ -3,8 +3,8 @@
 ghost use Rattle.std.specs.Prelude.{◌≡◌, Some, None, MatchOption};
 ghost use Rattle.py_expression.specs.Tokens;
 
+use crate::phrase::{Mark, after, name_at};
 use port_io::Name;
-use py_phrase::{Mark, after, name_at};
 use py_syntax::{BinOp, BoolOp, Bracket, Keyword, Operation, Operator, Token, UnOp};
 
 /// The operator with one operand that a token is.

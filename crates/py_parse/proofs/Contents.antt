@@ -6,8 +6,8 @@ use Rattle.py_syntax.specs.StatementTrees.{BodyLine}
 use Rattle.py_syntax.specs.Outline.{Content, Docstring, InModule, InBody, Says, content_height}
 use Rattle.py_syntax.specs.declared.token.Token.{Token}
 use Rattle.py_expression.specs.Shown.{height_limit}
-use Rattle.py_module_line.specs.Reading.{line_of}
-use Rattle.py_module_line.proofs.LineLaws.{line_sound, line_again}
+use Rattle.py_parse.specs.ModuleLine.Reading.{line_of}
+use Rattle.py_parse.proofs.ModuleLineLemmas.LineLaws.{line_sound, line_again}
 use Rattle.py_statement.specs.Lines as body
 use Rattle.py_statement.specs.Lines.{LineForm, fits, too_high, no_form}
 use Rattle.py_parse.specs.Reading.{Said, says, high, nothing, said_docstring, said_module, said_body, said_by, said_of}

@@ -1,3 +1,4 @@
+pub mod ModuleLineLemmas
 pub mod BlockFacts
 pub mod Steps
 pub mod Contents

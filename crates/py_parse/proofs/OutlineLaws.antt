@@ -5,7 +5,7 @@ use Rattle.std.specs.Prelude.{nat_le}
 use Rattle.py_syntax.specs.Line.{Line}
 use Rattle.py_syntax.specs.Outline.{Content, Placed, Refusal, bad_line, no_block, too_deep, place, depth, has_block, with_last, word_of, Says, content_height, IsWithinLimits, SpellsOutline, AreWithinLimits, HasNoForm, HasForm, IsOverLimits, Breaks, Refused}
 use Rattle.py_syntax.specs.declared.outline.OpenBlock.{OpenBlock}
-use Rattle.py_phrase.proofs.Facts.{some_same}
+use Rattle.py_expression.proofs.PhraseLemmas.Facts.{some_same}
 use Rattle.py_parse.specs.Reading.{Said, says, high, nothing, said_of, Outcome, stands, refused, outcome_in, outcome_by, outcome, placed_line, onward, outline_onto}
 use Rattle.py_parse.proofs.Contents.{said_says, said_high, said_nothing, said_again, content_one}
 

@@ -1,3 +1,4 @@
+pub mod ModuleLine
 pub mod Blocks
 pub mod BlocksView
 pub mod Reading

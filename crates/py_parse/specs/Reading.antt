@@ -7,7 +7,7 @@ use Rattle.py_syntax.specs.Outline.{Content, Docstring, InModule, InBody, Placed
 use Rattle.py_syntax.specs.declared.outline.OpenBlock.{OpenBlock}
 use Rattle.py_syntax.specs.declared.token.Token.{Token}
 use Rattle.py_expression.specs.Shown.{height_limit}
-use Rattle.py_module_line.specs.Reading.{line_of}
+use Rattle.py_parse.specs.ModuleLine.Reading.{line_of}
 use Rattle.py_statement.specs.Lines as body
 use Rattle.py_statement.specs.Lines.{LineForm, fits, too_high, no_form}
 

@@ -2,16 +2,16 @@
 
 ghost use Rattle.py_expression.specs.Shown.{height_limit};
 ghost use Rattle.py_statement.specs.Lines;
-ghost use Rattle.py_module_line.specs.Reading.{line_of};
+ghost use Rattle.py_parse.specs.ModuleLine.Reading.{line_of};
 ghost use Rattle.py_syntax.specs.Outline.{view_content};
 ghost use Rattle.py_parse.specs.Reading;
 ghost use Rattle.py_parse.specs.Reading.{says};
 ghost use Rattle.py_parse.specs.Found.{IsSaid};
 
 use crate::fault::ContentFault;
+use crate::module_line::module_line;
 use port_io::boxed;
-use py_module_line::module_line;
-use py_phrase::ReadError;
+use py_expression::phrase::ReadError;
 use py_statement::{LineError, statement_line};
 use py_syntax::{Content, LogicalLine, Token};
 use std::alloc::Global;

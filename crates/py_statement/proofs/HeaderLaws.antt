@@ -14,18 +14,18 @@ use Rattle.py_syntax.specs.declared.operator.Operator.TheVariants as operator
 use Rattle.py_syntax.specs.declared.operator.Bracket.TheVariants as bracket
 use Rattle.py_syntax.specs.declared.token.Token.{Token}
 use Rattle.py_syntax.specs.declared.token.Token.TheVariants as token
-use Rattle.py_phrase.specs.Marks.{after, after_open, after_open_square, name_at}
-use Rattle.py_phrase.proofs.Facts.{some_same, after_open_is, after_open_square_is, name_at_is}
-use Rattle.py_phrase.specs.Readers.{constants_in}
-use Rattle.py_phrase.proofs.ConstantLaws.{constants_sound, constants_again}
-use Rattle.py_call.specs.Kept.{kept, of_one}
-use Rattle.py_call.specs.Chosen.{also, made}
-use Rattle.py_call.specs.Words.{after_call}
-use Rattle.py_call.specs.Reading.{value_of, values_of}
-use Rattle.py_call.proofs.Chosen.{not_some, also_is, made_is}
-use Rattle.py_call.proofs.ValueLaws.{value_sound, value_again}
-use Rattle.py_call.proofs.ValueListLaws.{values_sound, values_again}
-use Rattle.py_call.proofs.WordLaws.{after_call_is}
+use Rattle.py_expression.specs.Phrase.Marks.{after, after_open, after_open_square, name_at}
+use Rattle.py_expression.proofs.PhraseLemmas.Facts.{some_same, after_open_is, after_open_square_is, name_at_is}
+use Rattle.py_expression.specs.Phrase.Readers.{constants_in}
+use Rattle.py_expression.proofs.PhraseLemmas.ConstantLaws.{constants_sound, constants_again}
+use Rattle.py_statement.specs.Call.Kept.{kept, of_one}
+use Rattle.py_statement.specs.Call.Chosen.{also, made}
+use Rattle.py_statement.specs.Call.Words.{after_call}
+use Rattle.py_statement.specs.Call.Reading.{value_of, values_of}
+use Rattle.py_statement.proofs.CallLemmas.Chosen.{not_some, also_is, made_is}
+use Rattle.py_statement.proofs.CallLemmas.ValueLaws.{value_sound, value_again}
+use Rattle.py_statement.proofs.CallLemmas.ValueListLaws.{values_sound, values_again}
+use Rattle.py_statement.proofs.CallLemmas.WordLaws.{after_call_is}
 use Rattle.py_statement.specs.Kept.{kept_span, kept_header}
 use Rattle.py_statement.specs.Words.{after_in, after_as, after_with, colon_of, kind_at}
 use Rattle.py_statement.specs.Reading.{test_of, range_of, range_span_of, constants_span_of, span_by, span_of, for_of, kinds_behind, some_kinds_by, caught_kinds_of, as_name_of, caught_kind_by, caught_kind_of, caught_by, caught_of, header_only, except_of, with_of}

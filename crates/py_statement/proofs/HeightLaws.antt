@@ -2,8 +2,8 @@
 use Rattle.std.proofs.Common.{max, List, ℕ}
 use Rattle.py_syntax.specs.ExpressionTrees.{Tree, height}
 use Rattle.py_syntax.specs.StatementTrees.{Logger, CocotbLog, HierarchyLog, Statement, Pass, Break, Continue, Return, Raise, Assert, Assign, AugmentedAssign, AssignValue, SetImmediateValue, Await, Act, Log, StartSoon, Span, Stop, StartStop, StartStopStep, Constants, Header, If, Elif, Else, While, For, Try, Except, With, BodyLine, Simple, Heads, greatest, right_height, logger_height, statement_height, span_height, header_height, line_height}
-use Rattle.py_call.specs.Kept.{kept, kept_right}
-use Rattle.py_call.proofs.HeightLaws.{Fits, kept_fits, none_fits, one_fits, two_fits, optional_fits, list_fits, started_fits, awaited_fits, right_fits}
+use Rattle.py_statement.specs.Call.Kept.{kept, kept_right}
+use Rattle.py_statement.proofs.CallLemmas.HeightLaws.{Fits, kept_fits, none_fits, one_fits, two_fits, optional_fits, list_fits, started_fits, awaited_fits, right_fits}
 use Rattle.py_statement.specs.Kept.{kept_logger, logged_as, kept_values, acting, kept_statement, kept_span, kept_header, kept_line}
 
 logger_fits : (limit : ℕ) (g : Logger) → Fits limit g (logger_height g) (kept_logger limit g)

@@ -1,3 +1,4 @@
+pub mod CallLemmas
 pub mod Places
 pub mod TreeLaws
 pub mod TableLaws

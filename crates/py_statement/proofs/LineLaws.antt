@@ -9,8 +9,8 @@ use Rattle.py_syntax.specs.declared.token.Token.TheVariants as token
 use Rattle.py_expression.specs.Ends.{starts_expression}
 use Rattle.py_expression.proofs.Starts.{begins}
 use Rattle.py_expression.proofs.Nodes.{at_most_or_more}
-use Rattle.py_call.specs.Kept.{of_one}
-use Rattle.py_call.proofs.Chosen.{made_is}
+use Rattle.py_statement.specs.Call.Kept.{of_one}
+use Rattle.py_statement.proofs.CallLemmas.Chosen.{made_is}
 use Rattle.py_statement.specs.Kept.{kept_statement, kept_header, kept_line}
 use Rattle.py_statement.specs.Words.{keyword_at}
 use Rattle.py_statement.specs.Reading.{only, return_of, raise_of, assert_of, await_of, plain_of, test_of, for_of, header_only, except_of, with_of, if_of, elif_of, while_of, simple, heads, plain_line_of, worded_of, body_by, body_of}

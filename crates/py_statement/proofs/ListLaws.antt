@@ -9,13 +9,13 @@ use Rattle.py_syntax.specs.declared.fault_kind.FaultKind.{FaultKind}
 use Rattle.py_syntax.specs.declared.token.Token.{Token}
 use Rattle.py_expression.specs.Shown.{nothing}
 use Rattle.py_expression.proofs.Nodes.{at_most_or_more}
-use Rattle.py_phrase.proofs.Facts.{some_same}
-use Rattle.py_call.specs.Kept.{lowered, kept, kept_list}
-use Rattle.py_call.specs.Chosen.{also, made, ended}
-use Rattle.py_call.specs.Reading.{values_of}
-use Rattle.py_call.proofs.Chosen.{not_some, also_is, made_is, ended_is}
-use Rattle.py_call.proofs.ValueLaws.{lowered_low, lowered_high}
-use Rattle.py_call.proofs.ValueListLaws.{values_sound, values_again}
+use Rattle.py_expression.proofs.PhraseLemmas.Facts.{some_same}
+use Rattle.py_statement.specs.Call.Kept.{lowered, kept, kept_list}
+use Rattle.py_statement.specs.Call.Chosen.{also, made, ended}
+use Rattle.py_statement.specs.Call.Reading.{values_of}
+use Rattle.py_statement.proofs.CallLemmas.Chosen.{not_some, also_is, made_is, ended_is}
+use Rattle.py_statement.proofs.CallLemmas.ValueLaws.{lowered_low, lowered_high}
+use Rattle.py_statement.proofs.CallLemmas.ValueListLaws.{values_sound, values_again}
 use Rattle.py_statement.specs.Kept.{kept_span}
 use Rattle.py_statement.specs.Reading.{one_of, range_of, one_value_of, kind_of, kinds_behind}
 use Rattle.py_statement.proofs.Places.{kinds_of, kinds_same}

@@ -5,8 +5,8 @@ use Rattle.std.proofs.lemmas.List.{append-nil}
 use Rattle.py_syntax.specs.ExpressionTrees.{Tree}
 use Rattle.py_syntax.specs.StatementForms.{one_more, places}
 use Rattle.py_syntax.specs.declared.fault_kind.FaultKind.{FaultKind}
-use Rattle.py_phrase.specs.Marks.{after}
-use Rattle.py_call.specs.Chosen.{also, made}
+use Rattle.py_expression.specs.Phrase.Marks.{after}
+use Rattle.py_statement.specs.Call.Chosen.{also, made}
 use Rattle.py_statement.specs.Reading.{places_behind, kind_of, kinds_behind}
 
 abbrev pub added : ℕ → Option ℕ → Option ℕ

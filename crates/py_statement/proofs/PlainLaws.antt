@@ -17,21 +17,21 @@ use Rattle.py_syntax.specs.declared.statement.LogLevel.{LogLevel}
 use Rattle.py_syntax.specs.declared.token.Token.{Token}
 use Rattle.py_syntax.specs.declared.token.Token.TheVariants as token
 use Rattle.py_expression.specs.Shown.{Shown, shown}
-use Rattle.py_phrase.specs.Marks.{after, end_of, after_assign, after_open, after_close}
+use Rattle.py_expression.specs.Phrase.Marks.{after, end_of, after_assign, after_open, after_close}
 use Rattle.py_expression.specs.Reading.{primary_of}
 use Rattle.py_expression.specs.Ends.{IsPlain}
 use Rattle.py_expression.proofs.Again.{Quiet}
 use Rattle.py_expression.proofs.Nodes.{shown_name}
 use Rattle.py_expression.proofs.ReaderLaws.{primary_again}
-use Rattle.py_phrase.proofs.Facts.{some_same, after_assign_is, after_open_is, after_close_is, bytes_are}
-use Rattle.py_call.specs.Kept.{lowered, kept, of_one, of_two, kept_list}
-use Rattle.py_call.specs.Chosen.{also, made, ended}
-use Rattle.py_call.specs.Reading.{whole_value_of, values_of, closed_start_of, right_of}
-use Rattle.py_call.proofs.Chosen.{not_some, also_is, made_is, choice_is, and_is, end_is, ended_is}
-use Rattle.py_call.proofs.ValueLaws.{same_base, attribute_is_shown, kept_attribute, stops_quiet, whole_value_sound, whole_value_again}
-use Rattle.py_call.proofs.ValueListLaws.{values_sound, values_again}
-use Rattle.py_call.proofs.StartedLaws.{attribute_read, attribute_again, closed_start_sound, closed_start_again}
-use Rattle.py_call.proofs.RightLaws.{right_sound, right_again}
+use Rattle.py_expression.proofs.PhraseLemmas.Facts.{some_same, after_assign_is, after_open_is, after_close_is, bytes_are}
+use Rattle.py_statement.specs.Call.Kept.{lowered, kept, of_one, of_two, kept_list}
+use Rattle.py_statement.specs.Call.Chosen.{also, made, ended}
+use Rattle.py_statement.specs.Call.Reading.{whole_value_of, values_of, closed_start_of, right_of}
+use Rattle.py_statement.proofs.CallLemmas.Chosen.{not_some, also_is, made_is, choice_is, and_is, end_is, ended_is}
+use Rattle.py_statement.proofs.CallLemmas.ValueLaws.{same_base, attribute_is_shown, kept_attribute, stops_quiet, whole_value_sound, whole_value_again}
+use Rattle.py_statement.proofs.CallLemmas.ValueListLaws.{values_sound, values_again}
+use Rattle.py_statement.proofs.CallLemmas.StartedLaws.{attribute_read, attribute_again, closed_start_sound, closed_start_again}
+use Rattle.py_statement.proofs.CallLemmas.RightLaws.{right_sound, right_again}
 use Rattle.py_statement.specs.Kept.{kept_logger, logged_as, kept_values, acting, kept_statement}
 use Rattle.py_statement.specs.Words.{called_name, called_of, augmenting_at}
 use Rattle.py_statement.specs.Reading.{one_value_of, first_of, is_word, assigned_value_of, assigned_of, augmented_of, logger_by, logger_of, logged_by, log_of, act_of, set_immediate_of, start_soon_of, method_by, called_statement_of, behind_by, behind_of, plain_of}

@@ -10,18 +10,18 @@ use Rattle.py_syntax.specs.declared.fault_kind.FaultKind.{FaultKind}
 use Rattle.py_syntax.specs.declared.operator.Operator.TheVariants as operator
 use Rattle.py_syntax.specs.declared.token.Token.{Token}
 use Rattle.py_syntax.specs.declared.token.Token.TheVariants as token
-use Rattle.py_phrase.specs.Marks.{after, after_open, after_comma}
-use Rattle.py_phrase.proofs.Facts.{some_same, after_open_is, after_comma_is}
-use Rattle.py_call.specs.Kept.{kept, of_one, of_two, kept_optional}
-use Rattle.py_call.specs.Chosen.{made}
-use Rattle.py_call.specs.Reading.{value_of, whole_value_of, awaited_of, right_of}
-use Rattle.py_call.proofs.Chosen.{also_is, made_is, ended_is}
-use Rattle.py_call.proofs.Lengths.{spells_length}
-use Rattle.py_call.proofs.ArgumentLaws.{IsBehind}
-use Rattle.py_call.proofs.ValueLaws.{value_sound, value_again, whole_value_sound, whole_value_again}
-use Rattle.py_call.proofs.WordLaws.{end_behind}
-use Rattle.py_call.proofs.AwaitedLaws.{awaited_sound, awaited_again}
-use Rattle.py_call.proofs.RightLaws.{right_sound, right_again}
+use Rattle.py_expression.specs.Phrase.Marks.{after, after_open, after_comma}
+use Rattle.py_expression.proofs.PhraseLemmas.Facts.{some_same, after_open_is, after_comma_is}
+use Rattle.py_statement.specs.Call.Kept.{kept, of_one, of_two, kept_optional}
+use Rattle.py_statement.specs.Call.Chosen.{made}
+use Rattle.py_statement.specs.Call.Reading.{value_of, whole_value_of, awaited_of, right_of}
+use Rattle.py_statement.proofs.CallLemmas.Chosen.{also_is, made_is, ended_is}
+use Rattle.py_statement.proofs.CallLemmas.Lengths.{spells_length}
+use Rattle.py_statement.proofs.CallLemmas.ArgumentLaws.{IsBehind}
+use Rattle.py_statement.proofs.CallLemmas.ValueLaws.{value_sound, value_again, whole_value_sound, whole_value_again}
+use Rattle.py_statement.proofs.CallLemmas.WordLaws.{end_behind}
+use Rattle.py_statement.proofs.CallLemmas.AwaitedLaws.{awaited_sound, awaited_again}
+use Rattle.py_statement.proofs.CallLemmas.RightLaws.{right_sound, right_again}
 use Rattle.py_statement.specs.Kept.{kept_statement}
 use Rattle.py_statement.specs.Words.{kind_at}
 use Rattle.py_statement.specs.Reading.{only, return_of, one_value_of, raised_by, raised_of, raise_of, message_by, message_of, assert_of, await_of}

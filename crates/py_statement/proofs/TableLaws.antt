@@ -17,12 +17,12 @@ use Rattle.py_syntax.specs.declared.statement.LogLevel.TheVariants as level
 use Rattle.py_syntax.specs.declared.token.Token.{Token}
 use Rattle.py_syntax.specs.declared.token.Token.TheVariants as token
 use Rattle.py_expression.specs.Tokens.{operation_at}
-use Rattle.py_phrase.specs.Marks.{after, after_assign, name_at}
+use Rattle.py_expression.specs.Phrase.Marks.{after, after_assign, name_at}
 use Rattle.py_expression.proofs.Again.{Quiet}
-use Rattle.py_phrase.specs.declared.mark.Mark.TheVariants as mark
-use Rattle.py_phrase.proofs.Facts.{after_is, some_same, name_at_is, bytes_are}
-use Rattle.py_call.specs.Chosen.{made}
-use Rattle.py_call.proofs.Chosen.{not_some, also_is, made_is}
+use Rattle.py_expression.specs.declared.phrase.mark.Mark.TheVariants as mark
+use Rattle.py_expression.proofs.PhraseLemmas.Facts.{after_is, some_same, name_at_is, bytes_are}
+use Rattle.py_statement.specs.Call.Chosen.{made}
+use Rattle.py_statement.proofs.CallLemmas.Chosen.{not_some, also_is, made_is}
 use Rattle.py_statement.specs.Words.{called_name, all_called, called_of, keyword_at, augmenting_at, after_in, after_as, after_with, colon_of, kind_at}
 use Rattle.py_statement.specs.declared.method.Called.{Called}
 use Rattle.py_statement.specs.declared.method.Called.TheVariants as called

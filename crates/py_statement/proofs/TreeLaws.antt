@@ -9,10 +9,10 @@ use Rattle.py_expression.specs.Reading.{primary_of}
 use Rattle.py_expression.specs.Ends.{IsRead}
 use Rattle.py_expression.proofs.Nodes.{at_most_or_more, shown_whole, shown_high}
 use Rattle.py_expression.proofs.ReaderLaws.{primary_sound}
-use Rattle.py_phrase.proofs.Facts.{bytes_are}
-use Rattle.py_call.specs.Kept.{lowered, kept}
-use Rattle.py_call.proofs.Chosen.{not_some}
-use Rattle.py_call.proofs.ValueLaws.{same_base, same_attribute, lowered_same, lowered_high}
+use Rattle.py_expression.proofs.PhraseLemmas.Facts.{bytes_are}
+use Rattle.py_statement.specs.Call.Kept.{lowered, kept}
+use Rattle.py_statement.proofs.CallLemmas.Chosen.{not_some}
+use Rattle.py_statement.proofs.CallLemmas.ValueLaws.{same_base, same_attribute, lowered_same, lowered_high}
 use Rattle.py_statement.specs.Reading.{is_word}
 
 pub tree_whole : (limit : ℕ) (t : Tree) → height t ≤ limit + 2 → (shown limit t).tree ≡ t

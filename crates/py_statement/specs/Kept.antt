@@ -5,7 +5,7 @@ use Rattle.py_syntax.specs.ExpressionTrees.{Tree}
 use Rattle.py_syntax.specs.StatementTrees.{Logger, CocotbLog, HierarchyLog, Statement, Pass, Break, Continue, Return, Raise, Assert, Assign, AugmentedAssign, AssignValue, SetImmediateValue, Await, Act, Log, StartSoon, Span, Stop, StartStop, StartStopStep, Constants, Header, If, Elif, Else, While, For, Try, Except, With, BodyLine, Simple, Heads}
 use Rattle.py_syntax.specs.declared.statement.Action.{Action}
 use Rattle.py_syntax.specs.declared.statement.LogLevel.{LogLevel}
-use Rattle.py_call.specs.Kept.{of_one, of_two, kept, kept_optional, kept_list, kept_started, kept_awaited, kept_right}
+use Rattle.py_statement.specs.Call.Kept.{of_one, of_two, kept, kept_optional, kept_list, kept_started, kept_awaited, kept_right}
 
 abbrev pub kept_logger : ℕ → Logger → Logger × ℕ
 kept_logger limit CocotbLog = (CocotbLog, 0)

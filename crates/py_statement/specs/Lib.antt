@@ -1,3 +1,4 @@
+pub mod Call
 pub mod Kept
 pub mod Words
 pub mod Reading

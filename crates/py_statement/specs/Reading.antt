@@ -15,13 +15,13 @@ use Rattle.py_syntax.specs.declared.statement.LogLevel.{LogLevel}
 use Rattle.py_syntax.specs.declared.token.Token.{Token}
 use Rattle.py_expression.specs.Shown.{Shown}
 use Rattle.py_expression.specs.Attributes.{split_of}
-use Rattle.py_phrase.specs.Marks.{end_of, after_open, after_close, after_open_square, after_comma, after_assign, name_at}
+use Rattle.py_expression.specs.Phrase.Marks.{end_of, after_open, after_close, after_open_square, after_comma, after_assign, name_at}
 use Rattle.py_expression.specs.Reading.{primary_of}
-use Rattle.py_phrase.specs.Readers.{constants_in}
-use Rattle.py_call.specs.Kept.{lowered, of_one, of_two}
-use Rattle.py_call.specs.Chosen.{also, made, ended}
-use Rattle.py_call.specs.Words.{after_call}
-use Rattle.py_call.specs.Reading.{value_of, whole_value_of, values_of, closed_start_of, awaited_of, right_of}
+use Rattle.py_expression.specs.Phrase.Readers.{constants_in}
+use Rattle.py_statement.specs.Call.Kept.{lowered, of_one, of_two}
+use Rattle.py_statement.specs.Call.Chosen.{also, made, ended}
+use Rattle.py_statement.specs.Call.Words.{after_call}
+use Rattle.py_statement.specs.Call.Reading.{value_of, whole_value_of, values_of, closed_start_of, awaited_of, right_of}
 use Rattle.py_statement.specs.Kept.{acting, logged_as}
 use Rattle.py_statement.specs.Words.{called_of, keyword_at, augmenting_at, after_in, after_as, after_with, colon_of, kind_at}
 use Rattle.py_statement.specs.declared.method.Called.{Called}

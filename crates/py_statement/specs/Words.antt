@@ -11,9 +11,9 @@ use Rattle.py_syntax.specs.declared.statement.Action.TheVariants as action
 use Rattle.py_syntax.specs.declared.statement.LogLevel.TheVariants as level
 use Rattle.py_syntax.specs.declared.token.Token.{Token}
 use Rattle.py_syntax.specs.declared.token.Token.TheVariants as token
-use Rattle.py_phrase.specs.Marks.{after, name_at}
-use Rattle.py_phrase.specs.declared.mark.Mark.TheVariants as mark
-use Rattle.py_call.specs.Chosen.{also, made}
+use Rattle.py_expression.specs.Phrase.Marks.{after, name_at}
+use Rattle.py_expression.specs.declared.phrase.mark.Mark.TheVariants as mark
+use Rattle.py_statement.specs.Call.Chosen.{also, made}
 use Rattle.py_statement.specs.declared.method.Called.{Called}
 use Rattle.py_statement.specs.declared.method.Called.TheVariants as called
 

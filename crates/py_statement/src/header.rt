@@ -4,18 +4,18 @@ ghost use Rattle.py_expression.specs.Shown.{height_limit};
 ghost use Rattle.std.specs.Prelude.{◌≡◌, List, [], ◌∷◌, ◌++◌, map, codes, Some, None, IfOk};
 ghost use Rattle.py_syntax.specs.ExpressionTrees.{view};
 ghost use Rattle.py_syntax.specs.StatementTrees.{view_caught, view_span, view_header};
-ghost use Rattle.py_phrase.specs.Gives.{Gives};
+ghost use Rattle.py_expression.specs.Phrase.Gives.{Gives};
 ghost use Rattle.py_expression.specs.Boxes.{inside};
-ghost use Rattle.py_call.specs.Chosen.{made};
-ghost use Rattle.py_call.specs.Views.{tall};
+ghost use Rattle.py_statement.specs.Call.Chosen.{made};
+ghost use Rattle.py_statement.specs.Call.Views.{tall};
 ghost use Rattle.py_statement.specs.Reading;
 ghost use Rattle.py_statement.specs.Words.{colon_of};
 
+use crate::call::{after_call, value, value_list};
 use crate::tree::{kind, range};
 use crate::words::{colon_of_line, kind_at};
 use port_io::{Name, NoMemory, boxed};
-use py_call::{after_call, value, value_list};
-use py_phrase::{Mark, ReadError, after, constants, name_at};
+use py_expression::phrase::{Mark, ReadError, after, constants, name_at};
 use py_syntax::{Bracket, Caught, Expression, FaultKind, Header, Keyword, Span, Token};
 use std::alloc::Global;
 

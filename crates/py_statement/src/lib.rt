@@ -1,6 +1,10 @@
 //! Reads the lines of a function's body: statements and the headers of blocks.
+//!
+//! Modules that the crates above use too:
+//! - [`call`]: the calls that are started, what is awaited, and the right sides of assignments.
 #![tactic(auto)]
 
+pub mod call;
 mod fault;
 mod header;
 mod laws;

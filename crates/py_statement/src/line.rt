@@ -4,9 +4,9 @@ ghost use Rattle.py_expression.specs.Shown.{height_limit};
 ghost use Rattle.std.specs.Prelude.{ℕ, Option};
 ghost use Rattle.py_syntax.specs.StatementTrees.{view_statement, view_header, view_line};
 ghost use Rattle.py_syntax.specs.StatementTrees;
-ghost use Rattle.py_phrase.specs.Gives.{Gives};
+ghost use Rattle.py_expression.specs.Phrase.Gives.{Gives};
 ghost use Rattle.py_expression.specs.Boxes.{inside};
-ghost use Rattle.py_call.specs.Views.{tall};
+ghost use Rattle.py_statement.specs.Call.Views.{tall};
 ghost use Rattle.py_statement.specs.Reading;
 ghost use Rattle.py_statement.specs.Lines.{line_of, Answers};
 
@@ -18,7 +18,7 @@ use crate::plain::plain_statement;
 use crate::statement::{asserting, awaiting, only, raising, returning};
 use crate::words::keyword_at;
 use port_io::boxed;
-use py_phrase::ReadError;
+use py_expression::phrase::ReadError;
 use py_syntax::{BodyLine, Header, Keyword, Statement, Token};
 use std::alloc::Global;
 

@@ -4,17 +4,17 @@ ghost use Rattle.py_expression.specs.Shown.{height_limit};
 ghost use Rattle.std.specs.Prelude.{◌≡◌, Some, None};
 ghost use Rattle.py_syntax.specs.ExpressionTrees.{view};
 ghost use Rattle.py_syntax.specs.StatementTrees.{optional, view_statement};
-ghost use Rattle.py_phrase.specs.Gives.{Gives};
+ghost use Rattle.py_expression.specs.Phrase.Gives.{Gives};
 ghost use Rattle.py_expression.specs.Boxes.{inside};
-ghost use Rattle.py_call.specs.Chosen.{ended};
-ghost use Rattle.py_call.specs.Views.{tall};
+ghost use Rattle.py_statement.specs.Call.Chosen.{ended};
+ghost use Rattle.py_statement.specs.Call.Views.{tall};
 ghost use Rattle.py_statement.specs.Reading;
 
+use crate::call::{await_operand, right_side, value, value_list, whole_value};
 use crate::tree::one;
 use crate::words::kind_at;
 use port_io::boxed;
-use py_call::{await_operand, right_side, value, value_list, whole_value};
-use py_phrase::{Mark, ReadError, after, end_of_line};
+use py_expression::phrase::{Mark, ReadError, after, end_of_line};
 use py_syntax::{Bracket, Expression, Operator, Statement, Token};
 use std::alloc::Global;
 

@@ -2,10 +2,10 @@
 
 ghost use Rattle.std.specs.Prelude.{◌≡◌, Some, None, MatchOption};
 ghost use Rattle.py_syntax.specs.StatementTables;
-ghost use Rattle.py_phrase.specs.Gives.{Gives};
+ghost use Rattle.py_expression.specs.Phrase.Gives.{Gives};
 ghost use Rattle.py_statement.specs.Words;
 
-use py_phrase::{ReadError, name_at};
+use py_expression::phrase::{ReadError, name_at};
 use py_syntax::{BinOp, FaultKind, Keyword, Operator, Token};
 
 /// The reserved word at the front, and the tokens after it.

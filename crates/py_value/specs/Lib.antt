@@ -1,3 +1,4 @@
+pub mod Integer
 pub mod Limits
 pub mod Trigger
 pub mod TriggerCode
@@ -9,3 +10,5 @@ pub mod Places
 pub mod Shown
 pub mod Truth
 pub mod Memory
+pub mod Operator
+pub mod Time

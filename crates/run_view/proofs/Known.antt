@@ -13,11 +13,11 @@ use Rattle.gpi.specs.declared.design.Node.{Node}
 use Rattle.gpi.specs.declared.design.Signal.{Signal}
 use Rattle.gpi.specs.declared.design.Spot.{Spot}
 use Rattle.gpi.specs.declared.design.Spot.TheVariants as spot
-use Rattle.py_attribute.specs.Knows.{Knows, KnowsDesign}
-use Rattle.py_attribute.specs.Look.{spot_of, spot_value}
-use Rattle.design_names.specs.Names.{names_of, child_of}
-use Rattle.sync_objects.specs.States.{States}
-use Rattle.ended_tasks.specs.Endings.{Endings}
+use Rattle.py_evaluate.specs.Attribute.Knows.{Knows, KnowsDesign}
+use Rattle.py_evaluate.specs.Attribute.Look.{spot_of, spot_value}
+use Rattle.run_view.specs.DesignNames.Names.{names_of, child_of}
+use Rattle.await_tree.specs.SyncObjects.States.{States}
+use Rattle.await_tree.specs.EndedTasks.Endings.{Endings}
 use Rattle.run_view.specs.View.{view_of, IsOf}
 
 abbrev Meant : Type 0

@@ -1,1 +1,4 @@
+pub mod RandomStreamLemmas
+pub mod SignalPortLemmas
+pub mod DesignNamesLemmas
 pub mod Known

@@ -1,2 +1,5 @@
+pub mod RandomStream
+pub mod SignalPort
+pub mod DesignNames
 pub mod View
 pub mod Facts

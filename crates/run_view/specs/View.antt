@@ -6,10 +6,10 @@ use Rattle.gpi.specs.State.{State}
 use Rattle.gpi.specs.declared.design.Flat.{Flat}
 use Rattle.gpi.specs.declared.design.Node.{Node}
 use Rattle.py_value.specs.Places.{places_of}
-use Rattle.py_attribute.specs.Look.{View}
-use Rattle.design_names.specs.Names.{names_of}
-use Rattle.sync_objects.specs.States.{States}
-use Rattle.ended_tasks.specs.Endings.{Endings, all_done}
+use Rattle.py_evaluate.specs.Attribute.Look.{View}
+use Rattle.run_view.specs.DesignNames.Names.{names_of}
+use Rattle.await_tree.specs.SyncObjects.States.{States}
+use Rattle.await_tree.specs.EndedTasks.Endings.{Endings, all_done}
 
 -- the paths, names and step of the design; the values, the time and the region of the simulator; the events and the locks, and
 -- which tasks have ended

@@ -5,13 +5,13 @@ ghost use Rattle.await_tree.specs.Steps.{step_of, rest_of};
 ghost use Rattle.await_tree.specs.Whole.{tree_in};
 ghost use Rattle.run_view.specs.Facts.{facts_of, objects_of};
 
+use await_tree::ended_tasks::EndedTasks;
+use await_tree::sync_objects::Objects;
 use await_tree::{Facts, Step, Tree};
-use ended_tasks::EndedTasks;
 use py_value::{EventNo, LockNo, TaskNo};
 use std::alloc::Global;
 use std::marker::Model;
 use std::mem;
-use sync_objects::Objects;
 
 /// What the events, locks and tasks of a test tell a tree that begins, which contracts see as the `Facts` that `facts_of` of
 /// `specs/Facts.antt` gives of these. It has the events and locks by value, since locks are taken, and gives them back.

@@ -2,15 +2,15 @@
 ghost use Rattle.std.specs.Prelude.{◌≡◌};
 ghost use Rattle.run_view.specs.View.{view_of, IsOf};
 
-use design_names::DesignNames;
-use ended_tasks::EndedTasks;
+use crate::design_names::DesignNames;
+use await_tree::ended_tasks::EndedTasks;
+use await_tree::sync_objects::Objects;
 use four_value::Bits;
 use gpi::{Flat, Gpi, Region, SigId, Spot};
 use port_io::Name;
-use py_attribute::Look;
+use py_evaluate::attribute::Look;
 use py_value::{EventNo, LockNo, Paths, TaskNo};
 use std::marker::Model;
-use sync_objects::Objects;
 
 /// What a task sees of a simulator that runs a design, of the events and locks of the test, and of how its tasks have ended, which
 /// contracts see as the `View` that `view_of` of `specs/View.antt` gives of these.
@@ -23,7 +23,7 @@ pub struct RunView<'a, K: Gpi> {
 }
 
 impl<'a, K: Gpi> Model for RunView<'a, K> {
-    ghost use Rattle.py_attribute.specs.Look.{View};
+    ghost use Rattle.py_evaluate.specs.Attribute.Look.{View};
     ghost use Rattle.run_view.specs.View.{view_of, IsOf};
 
     ghost Value = { View };

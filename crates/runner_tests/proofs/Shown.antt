@@ -4,7 +4,7 @@ use Rattle.std.specs.Prelude.{codes}
 use Rattle.port_io.specs.Memory.{Lines}
 use Rattle.port_io.specs.declared.ports.NoMemory.{NoMemory}
 use Rattle.gpi.specs.Content.{Content}
-use Rattle.regression.specs.declared.status.Status.{Status}
+use Rattle.command.specs.declared.regression.status.Status.{Status}
 use Rattle.command.specs.Answer.{LeavesKernel}
 use Rattle.list_kernel.specs.Kernel.{IsLoaded, content_of}
 use Rattle.list_kernel.specs.declared.kernel.ListKernel.{ListKernel}

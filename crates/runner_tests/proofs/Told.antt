@@ -5,15 +5,15 @@ use Rattle.port_io.specs.Memory.{Lines}
 use Rattle.port_io.specs.declared.ports.NoMemory.{NoMemory}
 use Rattle.std.specs.List.{slice_get}
 use Rattle.gpi.specs.declared.design.Flat.{Flat}
-use Rattle.test_body.specs.BodyTrees.{Case}
-use Rattle.test_body.specs.Views.{view_case, view_file}
-use Rattle.test_body.specs.declared.file.TestCase.{TestCase}
-use Rattle.test_body.specs.declared.file.TestFile.{TestFile}
-use Rattle.run_model.specs.Rig.{Rig, Setup}
-use Rattle.run_parts.specs.Steps.{TurnSteps}
-use Rattle.engine.specs.Turns.{BeginsTo, Turning, has_gone}
-use Rattle.engine.specs.declared.turned.Turn.{Turn}
-use Rattle.engine.specs.declared.turned.Turn.TheVariants as turn
+use Rattle.test_meaning.specs.Body.BodyTrees.{Case}
+use Rattle.test_meaning.specs.Body.Views.{view_case, view_file}
+use Rattle.test_meaning.specs.declared.body.file.TestCase.{TestCase}
+use Rattle.test_meaning.specs.declared.body.file.TestFile.{TestFile}
+use Rattle.rig_model.specs.Run.Rig.{Rig, Setup}
+use Rattle.rig_model.specs.Parts.Steps.{TurnSteps}
+use Rattle.scheduler.specs.Turns.{BeginsTo, Turning, has_gone}
+use Rattle.scheduler.specs.declared.turned.Turn.{Turn}
+use Rattle.scheduler.specs.declared.turned.Turn.TheVariants as turn
 use Rattle.command.specs.Answer.{setup_with}
 use Rattle.command.specs.declared.options.RunOptions.{RunOptions}
 use Rattle.command.specs.declared.options.Shown.TheVariants.{AllLines}

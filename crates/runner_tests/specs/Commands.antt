@@ -3,7 +3,7 @@ use Rattle.std.specs.Prelude.{◌≡◌, ◌⊎◌, ℕ, List, [], ◌∷◌, co
 use Rattle.std.specs.List.{flat_map, slice_split}
 use Rattle.port_io.specs.Memory.{Files, Lines}
 use Rattle.gpi.specs.Content.{Content}
-use Rattle.regression.specs.declared.status.Status.{Status}
+use Rattle.command.specs.declared.regression.status.Status.{Status}
 use Rattle.command.specs.Answer.{Answered, LeavesKernel, Quit}
 use Rattle.list_kernel.specs.Kernel.{IsLoaded, content_of}
 use Rattle.list_kernel.specs.declared.kernel.ListKernel.{ListKernel}

@@ -1,11 +1,11 @@
 -- A means of proof: what tests are read as, as it is shown, for the test program of runs.
 use Rattle.std.specs.Prelude.{◌≡◌, ℕ, List, ◌++◌, length, Result, Ok, Err, codes}
 use Rattle.std.specs.Fmt.{decimal}
-use Rattle.test_body.specs.Views.{view_file}
-use Rattle.test_body.specs.declared.file.TestFile.{TestFile}
-use Rattle.test_text.specs.declared.fault.TestsRefusal.{TestsRefusal}
-use Rattle.test_text.specs.Tests.{IsRefused, IsTests}
-use Rattle.test_text.specs.Words.{refusal_word}
+use Rattle.test_meaning.specs.Body.Views.{view_file}
+use Rattle.test_meaning.specs.declared.body.file.TestFile.{TestFile}
+use Rattle.test_file.specs.declared.text.fault.TestsRefusal.{TestsRefusal}
+use Rattle.test_file.specs.Text.Tests.{IsRefused, IsTests}
+use Rattle.test_file.specs.Text.Words.{refusal_word}
 use Rattle.table_rows.specs.Shown.{latin}
 
 -- The text is a tests file, or is refused for this reason.

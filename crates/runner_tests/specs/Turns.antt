@@ -7,19 +7,19 @@ use Rattle.gpi.specs.Content.{no_counts}
 use Rattle.gpi.specs.declared.design.Flat.{Flat}
 use Rattle.gpi.specs.declared.types.Counts.{Counts}
 use Rattle.v_design.specs.declared.fault.DesignRefusal.{DesignRefusal}
-use Rattle.random_stream.specs.Generator.{seeded}
-use Rattle.test_body.specs.BodyTrees as trees
-use Rattle.test_body.specs.BodyTrees.{Case}
-use Rattle.test_body.specs.Views.{view_file}
-use Rattle.test_body.specs.declared.file.TestFile.{TestFile}
-use Rattle.test_text.specs.declared.fault.TestsRefusal.{TestsRefusal}
-use Rattle.run_model.specs.Case.{emptied}
-use Rattle.run_model.specs.Rig.{Rig, Setup}
-use Rattle.run_model.specs.Run.{opening_sim}
-use Rattle.run_parts.specs.Steps.{TurnSteps}
-use Rattle.engine.specs.Turns.{BeginsTo, Turning, has_gone}
-use Rattle.engine.specs.declared.turned.Turn.{Turn}
-use Rattle.engine.specs.declared.turned.Turn.TheVariants as turn
+use Rattle.run_view.specs.RandomStream.Generator.{seeded}
+use Rattle.test_meaning.specs.Body.BodyTrees as trees
+use Rattle.test_meaning.specs.Body.BodyTrees.{Case}
+use Rattle.test_meaning.specs.Body.Views.{view_file}
+use Rattle.test_meaning.specs.declared.body.file.TestFile.{TestFile}
+use Rattle.test_file.specs.declared.text.fault.TestsRefusal.{TestsRefusal}
+use Rattle.rig_model.specs.Run.Case.{emptied}
+use Rattle.rig_model.specs.Run.Rig.{Rig, Setup}
+use Rattle.rig_model.specs.Run.Run.{opening_sim}
+use Rattle.rig_model.specs.Parts.Steps.{TurnSteps}
+use Rattle.scheduler.specs.Turns.{BeginsTo, Turning, has_gone}
+use Rattle.scheduler.specs.declared.turned.Turn.{Turn}
+use Rattle.scheduler.specs.declared.turned.Turn.TheVariants as turn
 use Rattle.command.specs.Answer.{setup_with}
 use Rattle.runner_tests.specs.Designs.{IsRead}
 use Rattle.runner_tests.specs.Files.{line_means}

@@ -4,9 +4,9 @@ use Rattle.std.specs.Fmt.{decimal}
 use Rattle.four_value.specs.declared.Digit.{Digit}
 use Rattle.four_value.specs.declared.Digit.TheVariants as digit
 use Rattle.gpi.specs.declared.types.Counts.{Counts}
-use Rattle.regression.specs.Status.{code_of}
-use Rattle.regression.specs.declared.status.Status.{Status}
-use Rattle.regression.specs.declared.status.Status.TheVariants as status
+use Rattle.command.specs.Regression.Status.{code_of}
+use Rattle.command.specs.declared.regression.status.Status.{Status}
+use Rattle.command.specs.declared.regression.status.Status.TheVariants as status
 use Rattle.table_rows.specs.Shown.{in_quotes}
 
 -- a status by its name

@@ -9,15 +9,15 @@ ghost use Rattle.runner_tests.specs.Commands.{Ends, ShowsCommand, ShowsKept, Sho
 
 use crate::files::{long_store, store_of};
 use crate::words::{counted_text, ended_text, latin_text};
+use await_tree::wait_list::Steps;
 use command::cocorun;
+use command::regression::Status;
 use list_kernel::ListKernel;
 use port_io::{MemSink, MemStore, NoMemory};
-use regression::Status;
 use std::alloc::{AllocError, Global};
 use std::marker::Brand;
 use std::sync::ledger::{Blank, Ledger};
 use table_rows::Row;
-use wait_list::Steps;
 
 /// What stands between the spaces of a text. Only want of memory is an error, here and below.
 fn parts_of(alloc: Global, text: &[u8]) -> Result<Vec<&[u8]>, AllocError>

@@ -1,18 +1,18 @@
 //! What tests are read as.
 ghost use Rattle.std.specs.Prelude.{◌≡◌, IfOk, string_bytes, true};
-ghost use Rattle.test_body.specs.Sound.{is_sound};
-ghost use Rattle.test_body.specs.Views.{view_file};
+ghost use Rattle.test_meaning.specs.Body.Sound.{is_sound};
+ghost use Rattle.test_meaning.specs.Body.Views.{view_file};
 ghost use Rattle.table_rows.specs.Rows.{part_at, written};
 ghost use Rattle.table_rows.specs.Shown.{latin};
-ghost use Rattle.test_text.specs.Words.{refusal_word};
+ghost use Rattle.test_file.specs.Text.Words.{refusal_word};
 ghost use Rattle.runner_tests.specs.Tests.{AreRead, ShowsTests, file_word, numbers_word};
 
 use crate::words::latin_text;
 use port_io::NoMemory;
 use std::alloc::{AllocError, Global};
 use table_rows::Row;
-use test_body::TestFile;
-use test_text::{TestsFault, TestsRefusal, read_tests};
+use test_file::text::{TestsFault, TestsRefusal, read_tests};
+use test_meaning::body::TestFile;
 
 /// How many functions there are, and how many tests. Only want of memory is an error, here and below.
 fn numbers_shown(alloc: Global, functions: usize, tests: usize) -> Result<String, AllocError>

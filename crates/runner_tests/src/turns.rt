@@ -3,32 +3,32 @@ ghost use Rattle.std.specs.Prelude.{◌≡◌, ◌<◌, ℕ, IfOk, None, false, 
 ghost use Rattle.port_io.specs.Means.{sink_means};
 ghost use Rattle.port_io.specs.Memory.{Lines};
 ghost use Rattle.gpi.specs.Soundness.{IsSoundFlat};
-ghost use Rattle.test_body.specs.Sound.{is_sound, is_sound_case};
-ghost use Rattle.test_body.specs.Views.{view_case, view_file, view_function};
+ghost use Rattle.test_meaning.specs.Body.Sound.{is_sound, is_sound_case};
+ghost use Rattle.test_meaning.specs.Body.Views.{view_case, view_file, view_function};
 ghost use Rattle.table_rows.specs.Rows.{part_at, written};
 ghost use Rattle.command.specs.Answer.{setup_with};
-ghost use Rattle.engine.specs.Engine.{rig_of, setup_of};
-ghost use Rattle.engine.specs.Fits.{FitsKernel};
-ghost use Rattle.engine.specs.Parts.{means};
-ghost use Rattle.regression.specs.Stages.{IsEmpty};
+ghost use Rattle.scheduler.specs.Engine.{rig_of, setup_of};
+ghost use Rattle.scheduler.specs.Fits.{FitsKernel};
+ghost use Rattle.scheduler.specs.Parts.{means};
+ghost use Rattle.command.specs.Regression.Stages.{IsEmpty};
 ghost use Rattle.runner_tests.specs.Files.{line_means};
 ghost use Rattle.runner_tests.specs.Turns.{ShowsTurns, TellsFirst, TellsTest, TellsTests, TellsTurns, number_word, opening_rig, turns_budget};
 
 use crate::designs::design_of;
 use crate::texts::tests_of;
-use engine::{Engine, Turn};
+use await_tree::wait_list::{Awaits, Steps};
 use gpi::{Flat, Gpi};
 use list_kernel::ListKernel;
+use plain_task::flow::TreeMaker;
 use plain_waits::WaitList;
 use port_io::{MemSink, NoMemory, Sink};
+use rig_model::task::FlowMaker;
+use scheduler::{Engine, Turn};
 use std::alloc::{AllocError, Global};
 use std::marker::Brand;
 use std::sync::ledger::{Blank, Ledger};
 use table_rows::Row;
-use task_model::FlowMaker;
-use test_body::{TestCase, TestFile};
-use tree_flow::TreeMaker;
-use wait_list::{Awaits, Steps};
+use test_meaning::body::{TestCase, TestFile};
 
 /// What the turns of a test may cost.
 const TURNS_BUDGET: u64 = 10_000_000;

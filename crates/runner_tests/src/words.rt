@@ -3,10 +3,10 @@ ghost use Rattle.std.specs.Prelude.{◌≡◌, ◌++◌, IfOk, codes, string_byt
 ghost use Rattle.table_rows.specs.Shown.{latin};
 ghost use Rattle.runner_tests.specs.Words.{counted_word, counts_word, digit_word, ended_word, status_word};
 
+use command::regression::Status;
 use four_value::Digit;
 use gpi::Gpi;
 use port_io::NoMemory;
-use regression::Status;
 use std::alloc::{AllocError, Global};
 use table_rows::{push_bytes, quoted};
 

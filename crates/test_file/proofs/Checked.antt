@@ -1,14 +1,14 @@
 -- From what a file breaks to what its check answers.
 use Rattle.std.proofs.Common.{◌≡◌, true, List, Option, Some, None, Ok, Err, sym, ap, ◌∙◌}
 use Rattle.py_syntax.specs.BlockTrees.{ModuleItem}
-use Rattle.test_body.specs.BodyTrees.{TestFile}
-use Rattle.test_body.specs.Sound.{is_sound}
+use Rattle.test_meaning.specs.Body.BodyTrees.{TestFile}
+use Rattle.test_meaning.specs.Body.Sound.{is_sound}
 use Rattle.test_meaning.specs.Check.{check, checked, meaning}
-use Rattle.test_rules.specs.File.{File, file_of}
-use Rattle.test_rules.specs.Rules.{refusal}
-use Rattle.test_rules.specs.declared.rule.Refusal.{Refusal}
-use Rattle.test_sound.specs.Starts.{are_right_starts}
-use Rattle.test_sound.proofs.Files.{accepted_is_sound}
+use Rattle.test_meaning.specs.Rules.File.{File, file_of}
+use Rattle.test_meaning.specs.Rules.Rules.{refusal}
+use Rattle.test_meaning.specs.declared.rules.rule.Refusal.{Refusal}
+use Rattle.test_file.specs.Sound.Starts.{are_right_starts}
+use Rattle.test_file.proofs.SoundLemmas.Files.{accepted_is_sound}
 
 pub unbroken : (o : Option Refusal) (f : File) → o ≡ refusal f → o ≡ None → refusal f ≡ None
 unbroken o f e none = sym e ∙ none

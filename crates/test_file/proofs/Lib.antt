@@ -1,1 +1,5 @@
+pub mod CasesLemmas
+pub mod ListLemmas
+pub mod SoundLemmas
 mod Checked
+pub mod TextLemmas

@@ -2,8 +2,8 @@
 use Rattle.std.specs.Prelude.{◌≡◌, List, Result, Ok, Err}
 use Rattle.py_syntax.specs.BlockTrees.{ModuleItem}
 use Rattle.py_syntax.specs.Line.{physical_line}
-use Rattle.test_body.specs.Views.{view_file}
-use Rattle.test_body.specs.declared.file.TestFile.{TestFile}
+use Rattle.test_meaning.specs.Body.Views.{view_file}
+use Rattle.test_meaning.specs.declared.body.file.TestFile.{TestFile}
 use Rattle.test_meaning.specs.Check.{check}
 use Rattle.test_file.specs.declared.fault.FileFault.{FileFault}
 use Rattle.test_file.specs.declared.fault.FileFault.TheVariants.{Rule, OutOfMemory}

@@ -1,1 +1,5 @@
+pub mod Cases
+pub mod List
+pub mod Sound
 pub mod Checks
+pub mod Text

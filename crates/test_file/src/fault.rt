@@ -1,6 +1,6 @@
 //! Why a tests file is refused.
 
-use test_rules::FileRule;
+use test_meaning::rules::FileRule;
 
 /// Why a tests file is refused.
 #[derive(Clone, Copy, Debug, PartialEq, Eq)]

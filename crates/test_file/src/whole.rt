@@ -2,21 +2,21 @@
 
 ghost use Rattle.std.specs.Prelude.{◌≡◌, true, None, IfOk};
 ghost use Rattle.py_syntax.specs.BlockTrees.{view_module};
-ghost use Rattle.test_body.specs.Sound.{is_sound};
-ghost use Rattle.test_body.specs.Views.{view_file};
+ghost use Rattle.test_meaning.specs.Body.Sound.{is_sound};
+ghost use Rattle.test_meaning.specs.Body.Views.{view_file};
 ghost use Rattle.test_meaning.specs.Check.{meaning};
-ghost use Rattle.test_rules.specs.File.{file_of};
-ghost use Rattle.test_rules.specs.Rules.{refusal};
-ghost use Rattle.test_sound.specs.Starts.{are_right_starts};
+ghost use Rattle.test_meaning.specs.Rules.File.{file_of};
+ghost use Rattle.test_meaning.specs.Rules.Rules.{refusal};
+ghost use Rattle.test_file.specs.Sound.Starts.{are_right_starts};
 ghost use Rattle.test_file.specs.Checks.{Checks};
 
 use crate::FileFault;
+use crate::list::tests;
 use port_io::NoMemory;
 use py_syntax::Module;
 use std::alloc::Global;
-use test_body::TestFile;
 use test_functions::functions;
-use test_list::tests;
+use test_meaning::body::TestFile;
 use test_refusal::first_fault;
 
 /// What a file stands for that breaks no rule. Only want of memory is an error.

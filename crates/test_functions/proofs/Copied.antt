@@ -2,7 +2,7 @@
 use Rattle.std.proofs.Common.{◌≡◌, ◌<◌, ◌≤◌, ◌+◌, ◌-◌, ℕ, List, [], ◌∷◌, ◌++◌, length, max, take, drop, get_or, slice_get, Some, sym, ap, ◌∙◌, arith}
 use Rattle.std.proofs.lemmas.List.{get_or-drop, length-drop, take_more}
 use Rattle.std.proofs.lemmas.Option.{get_or_from_slice_get, slice_get_within}
-use Rattle.test_rules.specs.Names.{Name}
+use Rattle.test_meaning.specs.Rules.Names.{Name}
 
 -- the names so far
 pub record AreCopied (names : List Name) (start end at : ℕ) (some : List Name) : Type 0 where

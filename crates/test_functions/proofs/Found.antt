@@ -4,14 +4,14 @@ use Rattle.std.specs.List.{position_from}
 use Rattle.std.specs.Option.{option_map, option_and_then}
 use Rattle.py_syntax.specs.BlockTrees.{ModuleItem}
 use Rattle.py_syntax.specs.declared.module.Parameter.{Parameter}
-use Rattle.test_definitions.specs.Definitions.{is_defined}
-use Rattle.test_definitions.specs.declared.item.Kind.TheVariants as kind
-use Rattle.test_definitions.proofs.ByKind.{functions_have_parameters}
-use Rattle.test_definitions.proofs.FirstPlaces.{found_at_place}
-use Rattle.test_expressions.specs.Called.{IsCalled}
-use Rattle.test_expressions.specs.declared.meanings.CalledFunction.{CalledFunction}
-use Rattle.test_rules.specs.File.{Definition, file_of, function, parameters_of}
-use Rattle.test_rules.specs.Names.{Name}
+use Rattle.test_names.specs.Definitions.Definitions.{is_defined}
+use Rattle.test_names.specs.declared.definitions.item.Kind.TheVariants as kind
+use Rattle.test_names.proofs.DefinitionsLemmas.ByKind.{functions_have_parameters}
+use Rattle.test_names.proofs.DefinitionsLemmas.FirstPlaces.{found_at_place}
+use Rattle.test_functions.specs.Expressions.Called.{IsCalled}
+use Rattle.test_functions.specs.declared.expressions.meanings.CalledFunction.{CalledFunction}
+use Rattle.test_meaning.specs.Rules.File.{Definition, file_of, function, parameters_of}
+use Rattle.test_meaning.specs.Rules.Names.{Name}
 
 -- the parameters of a function are those of the item at its place
 pub parameters_there : (xs : List ModuleItem) (n : Name) (place : Option ℕ) → place ≡ position_from (is_defined kind.Function n) 0 xs

@@ -1,3 +1,6 @@
+pub mod ExpressionsLemmas
+pub mod StatementsLemmas
+pub mod BlocksLemmas
 pub mod Ordered
 pub mod Found
 pub mod Named

@@ -6,10 +6,10 @@ use Rattle.std.specs.Str.{bytes_eq}
 use Rattle.py_syntax.specs.ExpressionTrees.{Constant}
 use Rattle.py_syntax.specs.ExpressionTrees as tree
 use Rattle.py_syntax.specs.declared.constant.Const.{Const}
-use Rattle.test_definitions.proofs.FirstPlaces.{any_by_place}
+use Rattle.test_names.proofs.DefinitionsLemmas.FirstPlaces.{any_by_place}
 use Rattle.test_meaning.specs.Bodies.{Inside, fixed_tree, name_in}
-use Rattle.test_rules.specs.File.{Fixed, fixed_of}
-use Rattle.test_rules.specs.Names.{Name, is_among}
+use Rattle.test_meaning.specs.Rules.File.{Fixed, fixed_of}
+use Rattle.test_meaning.specs.Rules.Names.{Name, is_among}
 
 among : (n : Name) (ns : List Name) (o p : Option ℕ) → o ≡ position_from (bytes_eq n) 0 ns → o ≡ p → is_among n ns ≡ is_some p
 among n ns o p e is = any_by_place (bytes_eq n) ns ∙ ap (λ (q : Option ℕ). is_some q) (sym e ∙ is)

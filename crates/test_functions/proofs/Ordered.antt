@@ -8,20 +8,20 @@ use Rattle.py_syntax.specs.BlockTrees.{ModuleItem, TextAt, LineAt, FunctionAt, v
 use Rattle.py_syntax.specs.ModuleTrees as line
 use Rattle.py_syntax.specs.declared.module.Setting.{Setting}
 use Rattle.py_syntax.specs.declared.tree.ModuleItem as code
-use Rattle.test_body.specs.BodyTrees.{Function}
-use Rattle.test_body.specs.Views.{view_function}
-use Rattle.test_body.specs.declared.file.Function as function
-use Rattle.test_definitions.specs.Definitions.{defined}
-use Rattle.test_definitions.specs.declared.item.Kind.TheVariants as kind
+use Rattle.test_meaning.specs.Body.BodyTrees.{Function}
+use Rattle.test_meaning.specs.Body.Views.{view_function}
+use Rattle.test_meaning.specs.declared.body.file.Function as function
+use Rattle.test_names.specs.Definitions.Definitions.{defined}
+use Rattle.test_names.specs.declared.definitions.item.Kind.TheVariants as kind
 use Rattle.test_functions.specs.Numbers.{AreFunctionNumbers}
 use Rattle.test_functions.specs.declared.numbers.FunctionNumbers.{FunctionNumbers}
 use Rattle.test_meaning.specs.Bodies.{function_in}
 use Rattle.test_meaning.specs.Library.{clock_start, functions}
-use Rattle.test_names.specs.Places.{first_place}
-use Rattle.test_names.proofs.Stored.{unchanged}
-use Rattle.test_rules.specs.File.{File, Definition, file_of, functions_of}
-use Rattle.test_rules.specs.Names.{Name}
-use Rattle.test_rules.proofs.Texts.{same_bytes}
+use Rattle.name_table.specs.Places.{first_place}
+use Rattle.name_table.proofs.Stored.{unchanged}
+use Rattle.test_meaning.specs.Rules.File.{File, Definition, file_of, functions_of}
+use Rattle.test_meaning.specs.Rules.Names.{Name}
+use Rattle.test_meaning.proofs.RulesLemmas.Texts.{same_bytes}
 
 -- ---- names
 

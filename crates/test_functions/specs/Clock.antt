@@ -2,7 +2,7 @@
 use Rattle.py_syntax.specs.ExpressionTrees.{Infix}
 use Rattle.py_syntax.specs.declared.expression.BinOp.TheVariants as op
 use Rattle.py_syntax.specs.declared.expression.Operation.TheVariants.{Binary}
-use Rattle.test_body.specs.BodyTrees.{Block, NoItem, Then}
+use Rattle.test_meaning.specs.Body.BodyTrees.{Block, NoItem, Then}
 use Rattle.test_meaning.specs.Library.{count, first, set_count, wait_half, whole, write}
 
 abbrev pub cycle : Block

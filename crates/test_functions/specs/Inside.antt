@@ -2,7 +2,7 @@
 use Rattle.std.specs.Prelude.{map}
 use Rattle.py_syntax.specs.BlockTrees.{view_module_item}
 use Rattle.test_meaning.specs.Bodies.{Inside}
-use Rattle.test_rules.specs.File.{File, file_of}
+use Rattle.test_meaning.specs.Rules.File.{File, file_of}
 use Rattle.test_functions.specs.declared.meanings.ModuleMeanings.{ModuleMeanings}
 use Rattle.test_functions.specs.declared.whole.Whole.{Whole}
 

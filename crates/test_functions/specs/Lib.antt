@@ -1,3 +1,5 @@
+pub mod Expressions
+pub mod Blocks
 pub mod Numbers
 pub mod Inside
 pub mod Clock

@@ -1,9 +1,9 @@
 -- A means of proof: the numbers of the functions of a module, for the proofs of the check of a tests file.
 use Rattle.std.specs.Prelude.{◌≡◌, List, length, option_map}
 use Rattle.py_syntax.specs.BlockTrees.{ModuleItem}
-use Rattle.test_names.specs.Places.{first_place}
-use Rattle.test_rules.specs.File.{Definition, file_of, function}
-use Rattle.test_rules.specs.Names.{Name}
+use Rattle.name_table.specs.Places.{first_place}
+use Rattle.test_meaning.specs.Rules.File.{Definition, file_of, function}
+use Rattle.test_meaning.specs.Rules.Names.{Name}
 use Rattle.test_functions.specs.declared.numbers.FunctionNumbers.{FunctionNumbers}
 
 -- Each name has the number of the first function of these items that has it, and no other name has one.

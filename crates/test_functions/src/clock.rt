@@ -4,18 +4,18 @@ ghost use Rattle.std.specs.Prelude.{◌≡◌, IfOk};
 ghost use Rattle.py_syntax.specs.ExpressionTrees as tree;
 ghost use Rattle.py_syntax.specs.ExpressionTrees.{view};
 ghost use Rattle.py_syntax.specs.declared.constant.Const.TheVariants as constant;
-ghost use Rattle.test_body.specs.BodyTrees as body;
-ghost use Rattle.test_body.specs.Views.{block_of, view_function, view_item, view_statement};
+ghost use Rattle.test_meaning.specs.Body.BodyTrees as body;
+ghost use Rattle.test_meaning.specs.Body.Views.{block_of, view_function, view_item, view_statement};
 ghost use Rattle.test_functions.specs.Clock.{cycle};
 ghost use Rattle.test_meaning.specs.Library.{clock_start, goes_on, set_count, wait_half, write};
 
+use crate::blocks::while_item;
+use crate::expressions::{binary, choice, function_call, name};
 use port_io::{Name, NoMemory, Sequence, boxed};
 use py_syntax as syntax;
 use py_syntax::{BinOp, BoolOp, Const, Expression};
 use std::alloc::Global;
-use test_blocks::while_item;
-use test_body::{Awaited, Function, Item, RightSide, Statement};
-use test_expressions::{binary, choice, function_call, name};
+use test_meaning::body::{Awaited, Function, Item, RightSide, Statement};
 
 /// A whole number.
 fn whole(number: i128) -> Expression

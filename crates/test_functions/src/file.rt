@@ -2,10 +2,10 @@
 
 ghost use Rattle.std.specs.Prelude.{◌≡◌, map, IfOk};
 ghost use Rattle.py_syntax.specs.BlockTrees.{view_module};
-ghost use Rattle.test_body.specs.Views.{view_function};
+ghost use Rattle.test_meaning.specs.Body.Views.{view_function};
 ghost use Rattle.test_functions.specs.Inside.{file_of_whole};
 ghost use Rattle.test_meaning.specs.Library.{functions};
-ghost use Rattle.test_rules.specs.File.{file_of};
+ghost use Rattle.test_meaning.specs.Rules.File.{file_of};
 
 use crate::clock::clock_start;
 use crate::function::function;
@@ -13,9 +13,9 @@ use crate::{Whole, function_numbers};
 use port_io::{NoMemory, Sequence};
 use py_syntax::{Module, ModuleItem};
 use std::alloc::Global;
-use test_body::Function;
-use test_definitions::{Kind, table};
-use test_values::{ModuleValues, literal_places};
+use test_meaning::body::Function;
+use test_names::definitions::{Kind, table};
+use test_refusal::values::{ModuleValues, literal_places};
 
 /// The functions of a module by number, and `Clock.start` behind them. Only want of memory is an error.
 fn functions_of(alloc: Global, whole: &Whole<'_, '_>) -> Result<Sequence<Function>, NoMemory>

@@ -2,17 +2,17 @@
 
 ghost use Rattle.std.specs.Prelude.{◌≡◌, ◌≤◌, ◌-◌, drop, length, take, IfOk};
 ghost use Rattle.py_syntax.specs.BlockTrees.{block_of};
-ghost use Rattle.test_body.specs.Views.{view_function};
+ghost use Rattle.test_meaning.specs.Body.Views.{view_function};
 ghost use Rattle.test_functions.specs.Inside.{file_of_whole};
 ghost use Rattle.test_meaning.specs.Bodies.{function_in};
 
+use crate::blocks::body;
 use crate::{ModuleMeanings, Whole};
 use port_io::{Name, NoMemory, Sequence};
 use py_syntax::{BlockItem, Parameter};
 use std::alloc::Global;
-use test_blocks::body;
-use test_body::Function;
-use test_locals::own_names;
+use test_meaning::body::Function;
+use test_names::locals::own_names;
 
 /// The names from one place on, up to another. Only want of memory is an error.
 fn names_between(

@@ -2,13 +2,21 @@
 //!
 //! [`functions`] makes those of a module, by number, with `Clock.start` behind them. [`function_numbers`] has the number of each by its
 //! name. The tests of the file, and whether it breaks a rule, are left to others.
+//!
+//! Modules that the crates above use too:
+//! - [`blocks`]: the bodies of functions, made from the back of each block;
+//! - [`expressions`]: expressions with the values of constants in place of their names;
+//! - [`statements`]: statements, which call functions by number, with an operand for each parameter.
 #![tactic(auto)]
 
+pub mod blocks;
 mod clock;
+pub mod expressions;
 mod file;
 mod function;
 mod meanings;
 mod numbers;
+pub mod statements;
 mod whole;
 
 pub use file::functions;

@@ -1,12 +1,12 @@
 //! What names mean where the body of a function stands.
 
-ghost use Rattle.test_locals.specs.Own.{AreNumbered};
+ghost use Rattle.test_names.specs.Locals.Own.{AreNumbered};
 
 use crate::Whole;
+use crate::expressions::{CalledFunction, Meanings};
 use py_syntax::Const;
-use test_expressions::{CalledFunction, Meanings};
-use test_locals::Numbered;
-use test_settings::Values;
+use test_names::locals::Numbered;
+use test_refusal::settings::Values;
 
 /// What names mean where the body of a function of a module stands.
 #[derive(Drop)]

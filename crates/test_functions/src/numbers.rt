@@ -4,11 +4,11 @@ ghost use Rattle.std.specs.Prelude.{◌≡◌, map, IfOk};
 ghost use Rattle.py_syntax.specs.BlockTrees.{view_module_item};
 ghost use Rattle.test_functions.specs.Numbers.{AreFunctionNumbers};
 
+use name_table::Names;
 use port_io::NoMemory;
 use py_syntax::ModuleItem;
 use std::alloc::Global;
-use test_definitions::{Kind, defined};
-use test_names::Names;
+use test_names::definitions::{Kind, defined};
 
 /// The functions of a module by number, from 0.
 #[derive(Drop)]

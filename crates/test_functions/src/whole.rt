@@ -3,17 +3,17 @@
 ghost use Rattle.std.specs.Prelude.{◌≡◌, map};
 ghost use Rattle.std.specs.List.{position_from};
 ghost use Rattle.py_syntax.specs.BlockTrees.{view_module_item};
-ghost use Rattle.test_definitions.specs.Definitions.{is_defined};
-ghost use Rattle.test_definitions.specs.declared.item.Kind.TheVariants as kind;
+ghost use Rattle.test_names.specs.Definitions.Definitions.{is_defined};
+ghost use Rattle.test_names.specs.declared.definitions.item.Kind.TheVariants as kind;
 ghost use Rattle.test_functions.specs.Numbers.{AreFunctionNumbers};
-ghost use Rattle.test_names.specs.Places.{first_place};
-ghost use Rattle.test_rules.specs.Names.{Name};
+ghost use Rattle.name_table.specs.Places.{first_place};
+ghost use Rattle.test_meaning.specs.Rules.Names.{Name};
 
 use crate::FunctionNumbers;
-use test_expressions::CalledFunction;
-use test_names::Names;
-use test_scope::parameters_at;
-use test_values::ModuleValues;
+use crate::expressions::CalledFunction;
+use name_table::Names;
+use test_names::scope::parameters_at;
+use test_refusal::values::ModuleValues;
 
 /// What is known of a whole module.
 #[derive(Drop)]
@@ -31,9 +31,9 @@ pub(crate) struct Whole<'a, 'b> {
 
 impl Whole<'_, '_> {
     ghost use Rattle.std.specs.Prelude.{◌≡◌, None, MatchOption};
-    ghost use Rattle.test_expressions.specs.Called.{IsCalled};
+    ghost use Rattle.test_functions.specs.Expressions.Called.{IsCalled};
     ghost use Rattle.test_functions.specs.Inside.{file_of_whole};
-    ghost use Rattle.test_rules.specs.File.{function};
+    ghost use Rattle.test_meaning.specs.Rules.File.{function};
 
     /// The function of this name; none where the module has none.
     pub(crate) fn function(&self, name: &[u8]) -> Option<CalledFunction<'_>>

@@ -1,1 +1,4 @@
+pub mod BodyLemmas
+pub mod FactoryLemmas
+pub mod RulesLemmas
 mod WorkedRows

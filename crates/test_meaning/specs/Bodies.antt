@@ -9,12 +9,12 @@ use Rattle.py_syntax.specs.StatementTrees as syntax
 use Rattle.py_syntax.specs.declared.constant.Const.{Const}
 use Rattle.py_syntax.specs.declared.constant.Const.TheVariants as constant
 use Rattle.py_syntax.specs.declared.module.Parameter.{Parameter}
-use Rattle.test_body.specs.BodyTrees as body
-use Rattle.test_body.specs.BodyTrees.{Operand, Call, Item, Block, Handlers, Function, Simple, If, While, For, Try, With, NoItem, NoHandler, Catch}
-use Rattle.test_rules.specs.File.{File, Fixed, Definition, fixed_of, value_in, function}
-use Rattle.test_rules.specs.Names.{Name, is_among}
-use Rattle.test_rules.specs.Rules.{place_of, parameter_places, is_in}
-use Rattle.test_rules.specs.Uses.{parameter_names, other_names, own_names}
+use Rattle.test_meaning.specs.Body.BodyTrees as body
+use Rattle.test_meaning.specs.Body.BodyTrees.{Operand, Call, Item, Block, Handlers, Function, Simple, If, While, For, Try, With, NoItem, NoHandler, Catch}
+use Rattle.test_meaning.specs.Rules.File.{File, Fixed, Definition, fixed_of, value_in, function}
+use Rattle.test_meaning.specs.Rules.Names.{Name, is_among}
+use Rattle.test_meaning.specs.Rules.Rules.{place_of, parameter_places, is_in}
+use Rattle.test_meaning.specs.Rules.Uses.{parameter_names, other_names, own_names}
 
 -- where a body stands: the file, and the names that are the function's own
 pub record Inside : Type 0 where

@@ -15,14 +15,14 @@ use Rattle.py_syntax.specs.declared.expression.Operation.TheVariants as operatio
 use Rattle.py_syntax.specs.declared.expression.UnOp.TheVariants as unary
 use Rattle.py_syntax.specs.declared.fault_kind.FaultKind.TheVariants as kind
 use Rattle.py_syntax.specs.declared.statement.LogLevel.TheVariants as level
-use Rattle.test_body.specs.BodyTrees as body
-use Rattle.test_body.specs.BodyTrees.{Operand}
-use Rattle.test_body.specs.Sound.{is_sound, is_sound_call}
+use Rattle.test_meaning.specs.Body.BodyTrees as body
+use Rattle.test_meaning.specs.Body.BodyTrees.{Operand}
+use Rattle.test_meaning.specs.Body.Sound.{is_sound, is_sound_call}
 use Rattle.test_meaning.specs.Bodies.{Inside, block_in, call_in, function_in, span_in, statement_in, tree_in}
 use Rattle.test_meaning.specs.Check.{meaning}
 use Rattle.test_meaning.specs.Library.{clock_start, functions}
-use Rattle.test_rules.specs.File.{file_of}
-use Rattle.test_rules.specs.Rows.{whole, named, parameter, defaulted, statements, constant_at, argument, given}
+use Rattle.test_meaning.specs.Rules.File.{file_of}
+use Rattle.test_meaning.specs.Rules.Rows.{whole, named, parameter, defaulted, statements, constant_at, argument, given}
 
 -- ---- a file with constants and functions
 

@@ -12,11 +12,11 @@ use Rattle.py_syntax.specs.declared.constant.Const.TheVariants as constant
 use Rattle.py_syntax.specs.declared.fault_kind.FaultKind.{FaultKind}
 use Rattle.py_syntax.specs.declared.module.Parameter.{Parameter}
 use Rattle.py_syntax.specs.declared.module.Setting.{Setting}
-use Rattle.test_body.specs.BodyTrees.{Case, Limit}
-use Rattle.test_rules.specs.File.{File, Definition, file_of, places, value_in, choices, made_by, is_test, further, next_function}
-use Rattle.test_rules.specs.Names.{Name, only_if}
-use Rattle.test_rules.specs.Rules.{chosen_value}
-use Rattle.test_factory.specs.Product.{Choice, Chosen, product}
+use Rattle.test_meaning.specs.Body.BodyTrees.{Case, Limit}
+use Rattle.test_meaning.specs.Rules.File.{File, Definition, file_of, places, value_in, choices, made_by, is_test, further, next_function}
+use Rattle.test_meaning.specs.Rules.Names.{Name, only_if}
+use Rattle.test_meaning.specs.Rules.Rules.{chosen_value}
+use Rattle.test_meaning.specs.Factory.Product.{Choice, Chosen, product}
 
 -- ---- options of the decorator
 

@@ -1,12 +1,12 @@
 -- The check of a tests file: what it stands for, or the first line that breaks a rule.
 use Rattle.std.specs.Prelude.{List, Option, Some, None, Result, Ok, Err}
 use Rattle.py_syntax.specs.BlockTrees.{ModuleItem}
-use Rattle.test_body.specs.BodyTrees.{TestFile}
+use Rattle.test_meaning.specs.Body.BodyTrees.{TestFile}
 use Rattle.test_meaning.specs.Cases.{cases}
 use Rattle.test_meaning.specs.Library.{functions}
-use Rattle.test_rules.specs.File.{File, file_of}
-use Rattle.test_rules.specs.Rules.{refusal}
-use Rattle.test_rules.specs.declared.rule.Refusal.{Refusal}
+use Rattle.test_meaning.specs.Rules.File.{File, file_of}
+use Rattle.test_meaning.specs.Rules.Rules.{refusal}
+use Rattle.test_meaning.specs.declared.rules.rule.Refusal.{Refusal}
 
 -- what a file stands for that breaks no rule
 abbrev pub meaning : File → TestFile

@@ -1,3 +1,6 @@
+pub mod Body
+pub mod Factory
+pub mod Rules
 pub mod Bodies
 pub mod Library
 pub mod Cases

@@ -7,9 +7,9 @@ use Rattle.py_syntax.specs.declared.expression.BinOp.TheVariants as op
 use Rattle.py_syntax.specs.declared.expression.BoolOp.TheVariants.{Or}
 use Rattle.py_syntax.specs.declared.expression.Function.TheVariants.{Timer}
 use Rattle.py_syntax.specs.declared.expression.Operation.TheVariants.{Binary, Bool}
-use Rattle.test_body.specs.BodyTrees.{Function, NoItem, Item, Simple, While, Then, Assign, AssignValue, Await, AwaitedValue, RightValue}
+use Rattle.test_meaning.specs.Body.BodyTrees.{Function, NoItem, Item, Simple, While, Then, Assign, AssignValue, Await, AwaitedValue, RightValue}
 use Rattle.test_meaning.specs.Bodies.{function_in}
-use Rattle.test_rules.specs.File.{File}
+use Rattle.test_meaning.specs.Rules.File.{File}
 
 -- ---- what the text of `Clock.start` is made of
 

@@ -13,17 +13,17 @@ use Rattle.py_syntax.specs.declared.expression.BinOp.TheVariants as binary
 use Rattle.py_syntax.specs.declared.expression.Operation.TheVariants.{Binary}
 use Rattle.py_syntax.specs.declared.fault_kind.FaultKind.TheVariants as kind
 use Rattle.py_syntax.specs.declared.module.Setting.{Setting}
-use Rattle.test_body.specs.BodyTrees as body
-use Rattle.test_body.specs.BodyTrees.{Case, Limit, TestFile}
-use Rattle.test_body.specs.Sound.{is_sound}
+use Rattle.test_meaning.specs.Body.BodyTrees as body
+use Rattle.test_meaning.specs.Body.BodyTrees.{Case, Limit, TestFile}
+use Rattle.test_meaning.specs.Body.Sound.{is_sound}
 use Rattle.test_meaning.specs.Cases.{case_name, cases}
 use Rattle.test_meaning.specs.Check.{check, meaning}
 use Rattle.test_meaning.specs.Library.{clock_start}
-use Rattle.test_rules.specs.File.{file_of}
-use Rattle.test_rules.specs.Names.{Name}
-use Rattle.test_rules.specs.Rows.{whole, truth, text, named, parameter, defaulted, setting, function, lines, import_cocotb, from_cocotb, file, make_factory, generate, test_with, made, constant_at}
-use Rattle.test_rules.specs.declared.rule.FileRule.{FileRule}
-use Rattle.test_rules.specs.declared.rule.FileRule.TheVariants as rule
+use Rattle.test_meaning.specs.Rules.File.{file_of}
+use Rattle.test_meaning.specs.Rules.Names.{Name}
+use Rattle.test_meaning.specs.Rules.Rows.{whole, truth, text, named, parameter, defaulted, setting, function, lines, import_cocotb, from_cocotb, file, make_factory, generate, test_with, made, constant_at}
+use Rattle.test_meaning.specs.declared.rules.rule.FileRule.{FileRule}
+use Rattle.test_meaning.specs.declared.rules.rule.FileRule.TheVariants as rule
 
 -- ---- files that are refused
 

@@ -1,2 +1,7 @@
-pub mod Places
-pub mod Entries
+pub mod Uses
+pub mod Arguments
+pub mod Definitions
+pub mod Scope
+pub mod Locals
+pub mod LastLine
+pub mod Duplicates

@@ -1,8 +1,14 @@
-//! Tables of names, for texts that are gone through from the top.
+//! The names of a tests file: where each is defined, what each line uses, and what is defined twice.
 //!
-//! [`Names`] keeps of each name the place that was noted first. A look-up takes no scan.
+//! [`definitions`] and [`arguments`] look up what a module defines, [`scope`] and [`locals`] what is known around an item and inside of a
+//! function, [`uses`]
+//! what a line asks for, [`duplicates`] what is defined twice, and [`last_line`] where a block ends. Which rule counts is left to `test_refusal`.
 #![tactic(auto)]
 
-mod names;
-
-pub use names::Names;
+pub mod arguments;
+pub mod definitions;
+pub mod duplicates;
+pub mod last_line;
+pub mod locals;
+pub mod scope;
+pub mod uses;

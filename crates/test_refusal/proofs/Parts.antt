@@ -3,19 +3,19 @@ use Rattle.std.proofs.Common.{◌≡◌, ◌≢◌, ◌||◌, ◌&&◌, ◌<◌,
 use Rattle.std.proofs.lemmas.Bool.Decides.{nat_tests}
 use Rattle.std.specs.Option.{option_or}
 use Rattle.py_syntax.specs.BlockTrees.{ModuleItem, TextAt, LineAt, FunctionAt}
-use Rattle.test_item.specs.Functions.{function_name, is_decorated_behind}
-use Rattle.test_item.specs.OwnLine.{first_rule, own_rule}
-use Rattle.test_item.proofs.Functions.{misfit_by_parts, test_by_parts}
-use Rattle.test_item.proofs.Counts.{tests_with_item}
-use Rattle.test_item.proofs.Lines.{by_parts}
-use Rattle.test_makers.specs.SoFar.{IsTestAt, cut}
-use Rattle.test_rules.specs.File.{File, Place, file_of, is_function, is_made_name, line_of, next_function, parameters_of, places}
-use Rattle.test_rules.specs.Rules.{defines_twice, first_broken, has_misfit, has_right_options, is_overfull, is_stray, is_unknown_import, lacks_parameters, one_test, refused_at, test_limit, tests_among, tests_at}
-use Rattle.test_rules.specs.Uses.{inner_lines, own_uses, with_names}
-use Rattle.test_rules.specs.declared.rule.FileRule.{FileRule}
-use Rattle.test_rules.specs.declared.rule.FileRule.TheVariants as rule
-use Rattle.test_uses.specs.Answer.{answer, first_of}
-use Rattle.test_rules.specs.declared.rule.Refusal.{Refusal}
+use Rattle.test_refusal.specs.Items.Functions.{function_name, is_decorated_behind}
+use Rattle.test_refusal.specs.Items.OwnLine.{first_rule, own_rule}
+use Rattle.test_refusal.proofs.ItemsLemmas.Functions.{misfit_by_parts, test_by_parts}
+use Rattle.test_refusal.proofs.ItemsLemmas.Counts.{tests_with_item}
+use Rattle.test_refusal.proofs.ItemsLemmas.Lines.{by_parts}
+use Rattle.test_refusal.specs.Makers.SoFar.{IsTestAt, cut}
+use Rattle.test_meaning.specs.Rules.File.{File, Place, file_of, is_function, is_made_name, line_of, next_function, parameters_of, places}
+use Rattle.test_meaning.specs.Rules.Rules.{defines_twice, first_broken, has_misfit, has_right_options, is_overfull, is_stray, is_unknown_import, lacks_parameters, one_test, refused_at, test_limit, tests_among, tests_at}
+use Rattle.test_meaning.specs.Rules.Uses.{inner_lines, own_uses, with_names}
+use Rattle.test_meaning.specs.declared.rules.rule.FileRule.{FileRule}
+use Rattle.test_meaning.specs.declared.rules.rule.FileRule.TheVariants as rule
+use Rattle.test_names.specs.Uses.Answer.{answer, first_of}
+use Rattle.test_meaning.specs.declared.rules.rule.Refusal.{Refusal}
 use Rattle.test_refusal.specs.Pass.{defined_rule, first_of_item, later_rule, placed_rule}
 
 -- first the place, then the definitions

@@ -3,19 +3,19 @@ use Rattle.std.proofs.Common.{◌≡◌, ◌||◌, ◌&&◌, not, ◌+◌, ℕ, 
 use Rattle.std.proofs.lemmas.Slice.Eq.{bytes_eq-Decides}
 use Rattle.std.specs.List.{drop-map}
 use Rattle.std.specs.Str.{bytes_eq}
-use Rattle.test_names.specs.Places.{first_place, nowhere}
+use Rattle.name_table.specs.Places.{first_place, nowhere}
 use Rattle.py_syntax.specs.BlockTrees.{view_module, view_module_item}
 use Rattle.py_syntax.specs.declared.tree.ModuleItem as code
 use Rattle.py_syntax.specs.declared.tree.Module.{Module}
-use Rattle.test_item.specs.Functions.{function_name, is_decorated_behind}
-use Rattle.test_makers.specs.SoFar.{IsTestAt, StandsAbove, StandsFor}
-use Rattle.test_makers.specs.declared.makers.Makers.{Makers}
-use Rattle.test_rules.specs.File.{file_of, is_decorator, is_function, is_made_name, parameters_of}
-use Rattle.test_rules.specs.Rules.{first_broken, has_misfit, has_right_options, lacks_parameters}
-use Rattle.test_rules.specs.Uses.{Around, file_lines, inner_lines}
-use Rattle.test_rules.specs.declared.rule.Refusal.{Refusal}
-use Rattle.test_scope.specs.Around.{around_in, file_in, names_in}
-use Rattle.test_scope.specs.declared.scope.FileScope.{FileScope}
+use Rattle.test_refusal.specs.Items.Functions.{function_name, is_decorated_behind}
+use Rattle.test_refusal.specs.Makers.SoFar.{IsTestAt, StandsAbove, StandsFor}
+use Rattle.test_refusal.specs.declared.makers.makers.Makers.{Makers}
+use Rattle.test_meaning.specs.Rules.File.{file_of, is_decorator, is_function, is_made_name, parameters_of}
+use Rattle.test_meaning.specs.Rules.Rules.{first_broken, has_misfit, has_right_options, lacks_parameters}
+use Rattle.test_meaning.specs.Rules.Uses.{Around, file_lines, inner_lines}
+use Rattle.test_meaning.specs.declared.rules.rule.Refusal.{Refusal}
+use Rattle.test_names.specs.Scope.Around.{around_in, file_in, names_in}
+use Rattle.test_names.specs.declared.scope.scope.FileScope.{FileScope}
 use Rattle.test_refusal.specs.Pass.{IsSeen, first_of_item}
 use Rattle.test_refusal.specs.Places.{IsScopeOf, Stands, file_of_whole, items_to, place_of}
 use Rattle.test_refusal.specs.declared.place.Place.{Place}

@@ -5,14 +5,14 @@ use Rattle.std.proofs.lemmas.List.Folds.{list_any-append}
 use Rattle.std.specs.List.{list_any, flat_map}
 use Rattle.std.specs.Option.{option_or}
 use Rattle.py_syntax.specs.BlockTrees.{ModuleItem}
-use Rattle.test_item.specs.Functions.{function_name, is_decorated_behind}
-use Rattle.test_item.specs.OwnLine.{lines_below, own_rule}
-use Rattle.test_item.proofs.Functions.{decorated_by_last, test_with_item}
-use Rattle.test_item.proofs.Lines.{by_items}
-use Rattle.test_rules.specs.File.{File, Place, file_of, is_decorator, is_function, is_made_name, is_test, line_of}
-use Rattle.test_rules.specs.Rules.{first_broken, is_generation, no_tests, refusal, refused_at}
-use Rattle.test_rules.specs.Uses.{file_lines, inner_lines}
-use Rattle.test_rules.specs.declared.rule.Refusal.{Refusal}
+use Rattle.test_refusal.specs.Items.Functions.{function_name, is_decorated_behind}
+use Rattle.test_refusal.specs.Items.OwnLine.{lines_below, own_rule}
+use Rattle.test_refusal.proofs.ItemsLemmas.Functions.{decorated_by_last, test_with_item}
+use Rattle.test_refusal.proofs.ItemsLemmas.Lines.{by_items}
+use Rattle.test_meaning.specs.Rules.File.{File, Place, file_of, is_decorator, is_function, is_made_name, is_test, line_of}
+use Rattle.test_meaning.specs.Rules.Rules.{first_broken, is_generation, no_tests, refusal, refused_at}
+use Rattle.test_meaning.specs.Rules.Uses.{file_lines, inner_lines}
+use Rattle.test_meaning.specs.declared.rules.rule.Refusal.{Refusal}
 use Rattle.test_refusal.specs.Pass.{IsSeen, IsStepTo, first_of_item}
 use Rattle.test_refusal.specs.declared.seen.Seen.{Seen}
 

@@ -1,2 +1,5 @@
+pub mod Values
+pub mod Items
+pub mod Makers
 pub mod Places
 pub mod Pass

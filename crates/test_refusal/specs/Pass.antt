@@ -3,17 +3,17 @@ use Rattle.std.specs.Prelude.{◌≡◌, ◌||◌, not, List, ◌∷◌, [], ◌
 use Rattle.std.specs.List.{flat_map, list_any}
 use Rattle.std.specs.Option.{option_or}
 use Rattle.py_syntax.specs.BlockTrees.{ModuleItem}
-use Rattle.test_duplicates.specs.Twice.{AreNames}
-use Rattle.test_item.specs.Functions.{is_decorated_behind}
-use Rattle.test_item.specs.OwnLine.{own_rule}
-use Rattle.test_makers.specs.SoFar.{StandsFor, cut}
-use Rattle.test_rules.specs.File.{File, Place, file_of, is_test, line_of, names_of, places}
-use Rattle.test_rules.specs.Rules.{defines_twice, first_broken, has_misfit, has_right_options, is_generation, is_overfull, is_stray, is_unknown_import, refused_at, tests_among}
-use Rattle.test_rules.specs.Uses.{inner_lines, own_uses, with_names}
-use Rattle.test_rules.specs.declared.rule.FileRule.{FileRule}
-use Rattle.test_rules.specs.declared.rule.FileRule.TheVariants as rule
-use Rattle.test_rules.specs.declared.rule.Refusal.{Refusal}
-use Rattle.test_uses.specs.Answer.{answer, first_of}
+use Rattle.test_names.specs.Duplicates.Twice.{AreNames}
+use Rattle.test_refusal.specs.Items.Functions.{is_decorated_behind}
+use Rattle.test_refusal.specs.Items.OwnLine.{own_rule}
+use Rattle.test_refusal.specs.Makers.SoFar.{StandsFor, cut}
+use Rattle.test_meaning.specs.Rules.File.{File, Place, file_of, is_test, line_of, names_of, places}
+use Rattle.test_meaning.specs.Rules.Rules.{defines_twice, first_broken, has_misfit, has_right_options, is_generation, is_overfull, is_stray, is_unknown_import, refused_at, tests_among}
+use Rattle.test_meaning.specs.Rules.Uses.{inner_lines, own_uses, with_names}
+use Rattle.test_meaning.specs.declared.rules.rule.FileRule.{FileRule}
+use Rattle.test_meaning.specs.declared.rules.rule.FileRule.TheVariants as rule
+use Rattle.test_meaning.specs.declared.rules.rule.Refusal.{Refusal}
+use Rattle.test_names.specs.Uses.Answer.{answer, first_of}
 use Rattle.test_refusal.specs.declared.seen.Seen.{Seen}
 use Rattle.test_refusal.specs.declared.seen.Step.{Step}
 use Rattle.test_refusal.specs.declared.seen.Step.TheVariants as step

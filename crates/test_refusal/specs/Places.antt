@@ -1,11 +1,11 @@
 -- A means of proof: items of a file in their places.
 use Rattle.std.specs.Prelude.{◌≡◌, List, [], ◌∷◌, ◌++◌, drop, map, take}
 use Rattle.py_syntax.specs.BlockTrees.{ModuleItem, view_module, view_module_item}
-use Rattle.test_rules.specs.File as file
-use Rattle.test_rules.specs.File.{File, file_of}
-use Rattle.test_rules.specs.Uses.{with_names}
-use Rattle.test_scope.specs.Around.{around_in, file_in}
-use Rattle.test_scope.specs.declared.scope.FileScope.{FileScope}
+use Rattle.test_meaning.specs.Rules.File as file
+use Rattle.test_meaning.specs.Rules.File.{File, file_of}
+use Rattle.test_meaning.specs.Rules.Uses.{with_names}
+use Rattle.test_names.specs.Scope.Around.{around_in, file_in}
+use Rattle.test_names.specs.declared.scope.scope.FileScope.{FileScope}
 use Rattle.test_refusal.specs.declared.place.Place.{Place}
 use Rattle.test_refusal.specs.declared.whole.Whole.{Whole}
 

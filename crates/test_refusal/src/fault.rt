@@ -2,25 +2,25 @@
 
 ghost use Rattle.std.specs.Prelude.{◌≡◌, IfOk};
 ghost use Rattle.py_syntax.specs.BlockTrees.{view_module};
-ghost use Rattle.test_rules.specs.File.{file_of};
-ghost use Rattle.test_rules.specs.Rules.{first_broken, has_tests, no_tests, refusal};
-ghost use Rattle.test_rules.specs.Uses.{file_lines};
-ghost use Rattle.test_scope.specs.Tables.{AreTables};
-ghost use Rattle.test_values.specs.Literals.{AreLiteralPlaces};
+ghost use Rattle.test_meaning.specs.Rules.File.{file_of};
+ghost use Rattle.test_meaning.specs.Rules.Rules.{first_broken, has_tests, no_tests, refusal};
+ghost use Rattle.test_meaning.specs.Rules.Uses.{file_lines};
+ghost use Rattle.test_names.specs.Scope.Tables.{AreTables};
+ghost use Rattle.test_refusal.specs.Values.Literals.{AreLiteralPlaces};
 ghost use Rattle.test_refusal.specs.Pass.{IsStepTo};
 ghost use Rattle.test_refusal.specs.Places.{file_of_whole};
 
+use crate::items::made_names;
 use crate::step::step;
+use crate::values::literal_places;
 use crate::{Place, Seen, Step, Whole};
+use name_table::Names;
 use port_io::NoMemory;
 use py_syntax::Module;
 use std::alloc::Global;
-use test_item::made_names;
-use test_last_line::last_line;
-use test_names::Names;
-use test_rules::{FileRule, Refusal};
-use test_scope::Tables;
-use test_values::literal_places;
+use test_meaning::rules::{FileRule, Refusal};
+use test_names::last_line::last_line;
+use test_names::scope::Tables;
 
 /// The first line that breaks a rule; and what stands in the whole file, where there is none. Only want of memory is an error.
 fn pass(alloc: Global, whole: &Whole<'_>) -> Result<Step, NoMemory>

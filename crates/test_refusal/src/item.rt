@@ -3,9 +3,9 @@
 ghost use Rattle.std.specs.Prelude.{◌≡◌, false, MatchOption};
 ghost use Rattle.py_syntax.specs.BlockTrees.{view_module_item};
 ghost use Rattle.py_syntax.specs.Line.{physical_line};
-ghost use Rattle.test_item.specs.Functions.{function_name};
-ghost use Rattle.test_rules.specs.File.{File, is_decorator, is_function, line_of, parameters_of};
-ghost use Rattle.test_rules.specs.Rules.{are_right_settings, has_right_options, is_generation};
+ghost use Rattle.test_refusal.specs.Items.Functions.{function_name};
+ghost use Rattle.test_meaning.specs.Rules.File.{File, is_decorator, is_function, line_of, parameters_of};
+ghost use Rattle.test_meaning.specs.Rules.Rules.{are_right_settings, has_right_options, is_generation};
 
 use py_syntax::{LineNumber, ModuleItem, ModuleLine, Parameter, Setting};
 

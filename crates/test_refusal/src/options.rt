@@ -1,18 +1,18 @@
 //! Whether the options of an item are right.
 
 ghost use Rattle.std.specs.Prelude.{◌≡◌, IfOk};
-ghost use Rattle.test_rules.specs.File.{file_of};
-ghost use Rattle.test_rules.specs.Rules.{has_right_options};
-ghost use Rattle.test_makers.specs.SoFar.{StandsFor};
+ghost use Rattle.test_meaning.specs.Rules.File.{file_of};
+ghost use Rattle.test_meaning.specs.Rules.Rules.{has_right_options};
+ghost use Rattle.test_refusal.specs.Makers.SoFar.{StandsFor};
 ghost use Rattle.test_refusal.specs.Places.{file_of_whole, place_of};
 
 use crate::Place;
 use crate::item::settings;
+use crate::makers::Makers;
+use crate::settings::are_right_settings;
+use crate::values::ModuleValues;
 use port_io::NoMemory;
 use std::alloc::Global;
-use test_makers::Makers;
-use test_settings::are_right_settings;
-use test_values::ModuleValues;
 
 /// Whether the options of a decorator or of a factory are right (else BadOption). Only want of memory is an error.
 pub(crate) fn has_right_options(

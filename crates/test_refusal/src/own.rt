@@ -1,22 +1,22 @@
 //! What an item's own line breaks.
 
 ghost use Rattle.std.specs.Prelude.{◌≡◌, ◌&&◌, ◌||◌, not, IfOk};
-ghost use Rattle.test_item.specs.Functions.{function_name, is_decorated_behind};
-ghost use Rattle.test_makers.specs.SoFar.{cut};
-ghost use Rattle.test_rules.specs.File.{is_function, is_made_name, parameters_of, places};
-ghost use Rattle.test_rules.specs.Rules.{has_misfit, is_stray, lacks_parameters, tests_among};
+ghost use Rattle.test_refusal.specs.Items.Functions.{function_name, is_decorated_behind};
+ghost use Rattle.test_refusal.specs.Makers.SoFar.{cut};
+ghost use Rattle.test_meaning.specs.Rules.File.{is_function, is_made_name, parameters_of, places};
+ghost use Rattle.test_meaning.specs.Rules.Rules.{has_misfit, is_stray, lacks_parameters, tests_among};
 ghost use Rattle.test_refusal.specs.Pass.{IsSeen, later_rule, placed_rule};
 ghost use Rattle.test_refusal.specs.Places.{Stands, file_of_whole, items_to, place_of};
 
 use crate::item::{function_name, is_function, parameters_of};
+use crate::items::{imports_unknown, is_stray, lacks_parameters, of_own_uses};
+use crate::makers::TEST_LIMIT;
 use crate::options::has_right_options;
 use crate::{Place, Seen};
 use port_io::NoMemory;
 use std::alloc::Global;
-use test_item::{imports_unknown, is_stray, lacks_parameters, of_own_uses};
-use test_makers::TEST_LIMIT;
-use test_rules::FileRule;
-use test_uses::first_of;
+use test_meaning::rules::FileRule;
+use test_names::uses::first_of;
 
 /// Whether an item is a function that lacks parameters, where a decorator stands directly above it or doesn't.
 fn has_misfit(place: &Place<'_, '_>, is_decorated: bool) -> bool

@@ -5,8 +5,8 @@ ghost use Rattle.std.specs.Prelude.{◌≡◌, ◌<◌, ◌+◌, drop, length};
 use crate::Whole;
 use crate::item::number;
 use py_syntax::ModuleItem;
-use test_rules::{FileRule, Refusal};
-use test_scope::FileScope;
+use test_meaning::rules::{FileRule, Refusal};
+use test_names::scope::FileScope;
 
 /// The items behind one of some.
 fn behind(items: &[ModuleItem], place: usize) -> &[ModuleItem]
@@ -31,8 +31,8 @@ pub(crate) struct Place<'a, 'b> {
 
 impl<'a, 'b> Place<'a, 'b> {
     ghost use Rattle.std.specs.Prelude.{◌≡◌, ◌<◌, Some, length};
-    ghost use Rattle.test_rules.specs.File.{line_of};
-    ghost use Rattle.test_rules.specs.Rules.{refused_at};
+    ghost use Rattle.test_meaning.specs.Rules.File.{line_of};
+    ghost use Rattle.test_meaning.specs.Rules.Rules.{refused_at};
     ghost use Rattle.test_refusal.specs.Places.{IsScopeOf, Stands, place_of};
 
     /// The item with so many others above.

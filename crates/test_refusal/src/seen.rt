@@ -1,9 +1,9 @@
 //! What the items above a line have.
 
+use crate::makers::Makers;
+use name_table::Names;
 use std::alloc::Global;
-use test_makers::Makers;
-use test_names::Names;
-use test_rules::Refusal;
+use test_meaning::rules::Refusal;
 
 /// What the items above a line have.
 #[derive(Drop)]
@@ -31,7 +31,7 @@ pub(crate) enum Step {
 
 impl Seen {
     ghost use Rattle.std.specs.Prelude.{[]};
-    ghost use Rattle.test_rules.specs.File.{File};
+    ghost use Rattle.test_meaning.specs.Rules.File.{File};
     ghost use Rattle.test_refusal.specs.Pass.{IsSeen};
 
     /// Nothing stands above.

@@ -2,26 +2,26 @@
 
 ghost use Rattle.std.specs.Prelude.{◌≡◌, ◌||◌, ◌&&◌, not, IfOk};
 ghost use Rattle.std.specs.List.{flat_map, list_any};
-ghost use Rattle.test_duplicates.specs.Twice.{AreNames};
-ghost use Rattle.test_item.specs.Functions.{function_name};
-ghost use Rattle.test_item.specs.OwnLine.{own_rule};
-ghost use Rattle.test_makers.specs.SoFar.{StandsFor, cut};
-ghost use Rattle.test_rules.specs.File.{file_of, is_function, is_made_name, is_test, line_of, names_of, places};
-ghost use Rattle.test_rules.specs.Rules.{first_broken, is_generation, refused_at, tests_among};
-ghost use Rattle.test_rules.specs.Uses.{inner_lines};
+ghost use Rattle.test_names.specs.Duplicates.Twice.{AreNames};
+ghost use Rattle.test_refusal.specs.Items.Functions.{function_name};
+ghost use Rattle.test_refusal.specs.Items.OwnLine.{own_rule};
+ghost use Rattle.test_refusal.specs.Makers.SoFar.{StandsFor, cut};
+ghost use Rattle.test_meaning.specs.Rules.File.{file_of, is_function, is_made_name, is_test, line_of, names_of, places};
+ghost use Rattle.test_meaning.specs.Rules.Rules.{first_broken, is_generation, refused_at, tests_among};
+ghost use Rattle.test_meaning.specs.Rules.Uses.{inner_lines};
 ghost use Rattle.test_refusal.specs.Pass.{IsSeen, IsStepTo, defined_rule, first_of_item};
 ghost use Rattle.test_refusal.specs.Places.{Stands, file_of_whole, items_to, place_of};
 
 use crate::item::is_generation;
+use crate::items::{is_decorator, of_inner_lines};
+use crate::makers::{Makers, cut};
 use crate::own::{is_test, later_rule, placed_rule};
 use crate::{Place, Seen, Step};
+use name_table::Names;
 use port_io::NoMemory;
 use std::alloc::Global;
-use test_duplicates::with_item;
-use test_item::{is_decorator, of_inner_lines};
-use test_makers::{Makers, cut};
-use test_names::Names;
-use test_rules::FileRule;
+use test_meaning::rules::FileRule;
+use test_names::duplicates::with_item;
 
 /// How many tests stand at an item and above it, where one above the limit stands for all that are more.
 fn tests_so_far(place: &Place<'_, '_>, seen: &Seen) -> usize

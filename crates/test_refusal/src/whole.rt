@@ -2,15 +2,15 @@
 
 ghost use Rattle.std.specs.Prelude.{◌≡◌, is_some};
 ghost use Rattle.py_syntax.specs.BlockTrees.{view_module};
-ghost use Rattle.test_names.specs.Places.{first_place, nowhere};
-ghost use Rattle.test_rules.specs.File.{file_of, is_made_name};
-ghost use Rattle.test_rules.specs.Names.{Name};
-ghost use Rattle.test_scope.specs.Tables.{AreTables};
-ghost use Rattle.test_values.specs.Literals.{AreLiteralPlaces};
+ghost use Rattle.name_table.specs.Places.{first_place, nowhere};
+ghost use Rattle.test_meaning.specs.Rules.File.{file_of, is_made_name};
+ghost use Rattle.test_meaning.specs.Rules.Names.{Name};
+ghost use Rattle.test_names.specs.Scope.Tables.{AreTables};
+ghost use Rattle.test_refusal.specs.Values.Literals.{AreLiteralPlaces};
 
+use name_table::Names;
 use py_syntax::Module;
-use test_names::Names;
-use test_scope::Tables;
+use test_names::scope::Tables;
 
 /// What is known of a whole file before the pass.
 #[derive(Drop)]
@@ -33,7 +33,7 @@ pub(crate) struct Whole<'a> {
 
 impl Whole<'_> {
     ghost use Rattle.std.specs.Prelude.{◌≡◌};
-    ghost use Rattle.test_rules.specs.File.{is_made_name};
+    ghost use Rattle.test_meaning.specs.Rules.File.{is_made_name};
     ghost use Rattle.test_refusal.specs.Places.{file_of_whole};
 
     /// Whether a factory is for the function of this name.

@@ -3,10 +3,10 @@ use Rattle.std.proofs.Common.{ℕ, ◌+◌, ◌<◌, List, length, drop, get_or,
 use Rattle.std.proofs.lemmas.List.{drop_more}
 use Rattle.v_syntax.specs.declared.expression.Expression as code
 use Rattle.v_syntax.specs.ExpressionTrees.{Trees, more, view, views}
-use Rattle.v_scope.specs.declared.found.Found.{Found}
-use Rattle.v_scope.specs.Scope.{Scope}
-use Rattle.v_parts.specs.declared.parts.Parts.{Parts}
-use Rattle.v_parts.specs.Parts.{AreChecked}
+use Rattle.v_flat.specs.declared.scope.found.Found.{Found}
+use Rattle.v_flat.specs.Scope.Scope.{Scope}
+use Rattle.v_check.specs.declared.parts.parts.Parts.{Parts}
+use Rattle.v_check.specs.Parts.Parts.{AreChecked}
 
 pub one_more : (s : Scope) (xs : List code.Expression) (i : ℕ) (d : code.Expression) (f : Found Parts) → i < length xs
     → AreChecked s (more (view (get_or xs i d)) (views (drop (i + 1) xs))) f → AreChecked s (views (drop i xs)) f

@@ -3,17 +3,17 @@ use Rattle.std.proofs.Common.{◌≡◌, ℕ, Result, Ok, Err, sym, ap, ◌∙�
 use Rattle.gpi.specs.declared.terms.Term.{Term}
 use Rattle.gpi.specs.Terms.{IsWidth}
 use Rattle.v_syntax.specs.ExpressionTrees.{Tree}
-use Rattle.v_scope.specs.declared.rule.Broken.{Broken}
-use Rattle.v_scope.specs.declared.found.Found.{Found}
-use Rattle.v_scope.specs.declared.found.Found.TheVariants.{Sound, Noted, Lost}
-use Rattle.v_scope.specs.Found.{each, ended, Holds}
-use Rattle.v_scope.specs.Scope.{Scope}
-use Rattle.v_scope.specs.Limits.{counted_width}
-use Rattle.v_context.specs.Contexts.{IsLowered}
+use Rattle.v_flat.specs.declared.scope.rule.Broken.{Broken}
+use Rattle.v_flat.specs.declared.scope.found.Found.{Found}
+use Rattle.v_flat.specs.declared.scope.found.Found.TheVariants.{Sound, Noted, Lost}
+use Rattle.v_flat.specs.Scope.Found.{each, ended, Holds}
+use Rattle.v_flat.specs.Scope.Scope.{Scope}
+use Rattle.v_flat.specs.Scope.Limits.{counted_width}
+use Rattle.v_check.specs.Contextual.Contexts.{IsLowered}
 use Rattle.v_flat.specs.Checks.{checked}
-use Rattle.v_constant.specs.declared.checked.Checked.{Checked}
-use Rattle.v_constant.specs.Checked.{StandsFor, IsChecked}
-use Rattle.v_constant.proofs.Values.{ended_sound, sound_is}
+use Rattle.v_check.specs.declared.constants.checked.Checked.{Checked}
+use Rattle.v_check.specs.Constants.Checked.{StandsFor, IsChecked}
+use Rattle.v_check.proofs.ConstantsLemmas.Values.{ended_sound, sound_is}
 use Rattle.v_check.specs.Terms.{HasTerm}
 
 ends_each : {A B : Type 0} (g : A → B) (x : Found A) (b : Broken) → ended x ≡ Err b → ended (each g x) ≡ Err b

@@ -4,12 +4,12 @@ use Rattle.std.specs.Prelude.{◌≡◌, ℕ, Result, Ok, Err}
 use Rattle.gpi.specs.declared.terms.Term.{Term}
 use Rattle.gpi.specs.Made.{Makes}
 use Rattle.v_syntax.specs.ExpressionTrees.{Tree}
-use Rattle.v_scope.specs.declared.rule.Broken.{Broken}
-use Rattle.v_scope.specs.Found.{ended}
-use Rattle.v_scope.specs.Scope.{Scope}
+use Rattle.v_flat.specs.declared.scope.rule.Broken.{Broken}
+use Rattle.v_flat.specs.Scope.Found.{ended}
+use Rattle.v_flat.specs.Scope.Scope.{Scope}
 use Rattle.v_flat.specs.Expressions.{width, meaning}
 use Rattle.v_flat.specs.Checks.{checked}
-use Rattle.v_constant.specs.Checked.{AreNamesOf}
+use Rattle.v_check.specs.Constants.Checked.{AreNamesOf}
 
 -- no rule is broken; and the term has the value on every map of the signals, and is sound wherever the names are signals of the
 -- design

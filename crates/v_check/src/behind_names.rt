@@ -1,16 +1,16 @@
 //! The selects behind a name.
 
 ghost use Rattle.std.specs.Prelude.{false, true, IfOk};
-ghost use Rattle.v_scope.specs.Scope.{means};
+ghost use Rattle.v_flat.specs.Scope.Scope.{means};
 ghost use Rattle.v_syntax.specs.ExpressionTrees.{view_selects};
-ghost use Rattle.v_names.specs.Proper.{AreProper};
-ghost use Rattle.v_names.specs.Selects.{AreSelects};
+ghost use Rattle.v_check.specs.Names.Proper.{AreProper};
+ghost use Rattle.v_check.specs.Names.Selects.{AreSelects};
 
+use crate::names::CheckedSelects;
 use crate::walk::selects_by;
 use port_io::NoMemory;
 use std::alloc::Global;
-use v_names::CheckedSelects;
-use v_scope::Scope;
+use v_flat::scope::Scope;
 use v_syntax::Selects;
 
 /// The selects behind a name, all of whose expressions are checked, whatever the name is (IEEE 1364-2005, clause 5.2). Only want of

@@ -2,16 +2,16 @@
 
 ghost use Rattle.std.specs.Prelude.{IfOk};
 ghost use Rattle.gpi.specs.Terms.{IsWidth};
-ghost use Rattle.v_scope.specs.Scope.{means};
+ghost use Rattle.v_flat.specs.Scope.Scope.{means};
 ghost use Rattle.v_syntax.specs.ExpressionTrees.{view};
-ghost use Rattle.v_names.specs.Proper.{AreProper};
+ghost use Rattle.v_check.specs.Names.Proper.{AreProper};
 ghost use Rattle.v_check.specs.Terms.{IsTerm};
 
 use crate::check;
 use gpi::Term;
 use port_io::NoMemory;
 use std::alloc::Global;
-use v_scope::{Broken, Scope};
+use v_flat::scope::{Broken, Scope};
 use v_syntax::Expression;
 
 /// An expression in a context of `width` digits, or the rule that is broken first in it: of all that are broken the one at the least

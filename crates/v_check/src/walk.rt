@@ -1,22 +1,22 @@
 //! The walk over an expression.
 
 ghost use Rattle.std.specs.Prelude.{◌≡◌, IfOk};
-ghost use Rattle.v_scope.specs.Scope.{means};
+ghost use Rattle.v_flat.specs.Scope.Scope.{means};
 ghost use Rattle.v_syntax.specs.ExpressionTrees.{view, view_select, view_selects, views};
 ghost use Rattle.v_flat.specs.Checks.{constant_of};
-ghost use Rattle.v_constant.specs.Checked.{IsChecked, IsCount};
-ghost use Rattle.v_parts.specs.Parts.{AreChecked};
-ghost use Rattle.v_names.specs.Proper.{AreProper};
-ghost use Rattle.v_names.specs.Selects.{AreSelects, IsIndex, IsSelect};
+ghost use Rattle.v_check.specs.Constants.Checked.{IsChecked, IsCount};
+ghost use Rattle.v_check.specs.Parts.Parts.{AreChecked};
+ghost use Rattle.v_check.specs.Names.Proper.{AreProper};
+ghost use Rattle.v_check.specs.Names.Selects.{AreSelects, IsIndex, IsSelect};
 
+use crate::constants::{Checked, binary, bracketed, conditional, counted, number, unary};
+use crate::names::{CheckedSelect, CheckedSelects, by_itself, fixed_index, named};
+use crate::parts::{Parts, concatenation, replication};
 use four_value::Bits;
 use gpi::Term;
 use port_io::NoMemory;
 use std::alloc::Global;
-use v_constant::{Checked, binary, bracketed, conditional, counted, number, unary};
-use v_names::{CheckedSelect, CheckedSelects, by_itself, fixed_index, named};
-use v_parts::{Parts, concatenation, replication};
-use v_scope::{Found, Scope};
+use v_flat::scope::{Found, Scope};
 use v_syntax::{Expression, Select, Selects};
 
 /// What is found in an expression: what is broken first, its width where that is known, and what it is in each context (IEEE
@@ -94,7 +94,7 @@ fn counted_by(
     requires { IsChecked (means scope.now) (view expression.now) found }
     ensures { IfOk result (IsCount (means scope.now) (view expression.now)) }
 {
-    let value = v_constant::constant(alloc, scope, expression, found)?;
+    let value = crate::constants::constant(alloc, scope, expression, found)?;
     Ok(counted(expression.first(), value))
 }
 
@@ -111,7 +111,7 @@ fn index_by(
     ensures { IfOk result (IsIndex fixed (means scope.now) (view expression.now)) }
 {
     if fixed {
-        let value = v_constant::constant(alloc, scope, expression, found)?;
+        let value = crate::constants::constant(alloc, scope, expression, found)?;
         Ok(fixed_index(value))
     } else {
         Ok(by_itself(alloc, found)?)
@@ -137,9 +137,9 @@ fn select(
         }
         Select::Part { at, left, right } => {
             let found = check(alloc, scope, left)?;
-            let first = v_constant::constant(alloc, scope, left, found)?;
+            let first = crate::constants::constant(alloc, scope, left, found)?;
             let found = check(alloc, scope, right)?;
-            let last = v_constant::constant(alloc, scope, right, found)?;
+            let last = crate::constants::constant(alloc, scope, right, found)?;
             Ok(CheckedSelect::Part {
                 at: *at,
                 left: first,
@@ -197,5 +197,5 @@ pub fn constant(
     ensures { IfOk result (λ value. value ≡ constant_of (means scope.now) (view expression.now)) }
 {
     let found = check(alloc, scope, expression)?;
-    Ok(v_constant::constant(alloc, scope, expression, found)?)
+    Ok(crate::constants::constant(alloc, scope, expression, found)?)
 }

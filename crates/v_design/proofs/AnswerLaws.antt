@@ -14,9 +14,9 @@ use Rattle.v_lex.specs.declared.directive.BrokenRule.{BrokenRule}
 use Rattle.v_lex.specs.Lexing.{Lexed, earliest, start, nanosecond}
 use Rattle.v_lex.specs.Row.{Part, Reads, BreaksFirst, told}
 use Rattle.v_lex.proofs.RowLaws.{one_row}
-use Rattle.v_scope.specs.declared.rule.ElabRule.{ElabRule}
-use Rattle.v_scope.specs.declared.rule.Broken.{Broken}
-use Rattle.v_scope.specs.Rules.{at}
+use Rattle.v_flat.specs.declared.scope.rule.ElabRule.{ElabRule}
+use Rattle.v_flat.specs.declared.scope.rule.Broken.{Broken}
+use Rattle.v_flat.specs.Scope.Rules.{at}
 use Rattle.v_flat.specs.Design.{Design, SourceText, flatten}
 use Rattle.v_flat.specs.Paths.{signal_of, node_of}
 use Rattle.gpi.specs.declared.design.Flat.{Flat}

@@ -13,9 +13,9 @@ use Rattle.v_lex.specs.declared.directive.BrokenRule.{BrokenRule}
 use Rattle.v_lex.specs.Lexing.{Lexed, earlier, earliest}
 use Rattle.v_lex.specs.Row.{Part, Reads, BreaksFirst, IsRowOf, told}
 use Rattle.v_lex.proofs.RowLaws as rows
-use Rattle.v_scope.specs.declared.rule.Broken.{Broken}
+use Rattle.v_flat.specs.declared.scope.rule.Broken.{Broken}
 use Rattle.v_flat.specs.Design.{Design, flatten}
-use Rattle.v_phrase.specs.Stops.{Stop, Syntax, TooDeep}
+use Rattle.v_expression.specs.Phrase.Stops.{Stop, Syntax, TooDeep}
 use Rattle.v_parse.specs.Reading.{source_of}
 use Rattle.v_parse.proofs.Source.{source_sound, source_again, source_syntax, source_deep}
 use Rattle.v_design.specs.declared.rule.DesignRule.TheVariants as rule

@@ -9,8 +9,8 @@ use Rattle.v_syntax.specs.Refusal.{IsSource, IsSyntaxAt, IsTooDeepAt, height_lim
 use Rattle.v_lex.specs.declared.directive.LexRule.TheVariants as lexical
 use Rattle.v_lex.specs.Lexing.{Lexed}
 use Rattle.v_lex.specs.Row.{Reads, BreaksFirst}
-use Rattle.v_scope.specs.declared.rule.ElabRule.{ElabRule}
-use Rattle.v_scope.specs.Rules.{at}
+use Rattle.v_flat.specs.declared.scope.rule.ElabRule.{ElabRule}
+use Rattle.v_flat.specs.Scope.Rules.{at}
 use Rattle.v_flat.specs.Design.{Design, SourceText, StandsFor, flatten}
 use Rattle.v_design.specs.declared.rule.DesignRule.{DesignRule}
 use Rattle.v_design.specs.declared.rule.DesignRule.TheVariants as rule

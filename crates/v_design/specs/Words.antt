@@ -2,8 +2,8 @@
 use Rattle.std.specs.Prelude.{ℕ, List, ◌++◌, codes}
 use Rattle.std.specs.Fmt.{decimal}
 use Rattle.port_io.specs.declared.pos.Pos.{Pos}
-use Rattle.v_scope.specs.declared.rule.ElabRule.{ElabRule}
-use Rattle.v_scope.specs.declared.rule.ElabRule.TheVariants as elab
+use Rattle.v_flat.specs.declared.scope.rule.ElabRule.{ElabRule}
+use Rattle.v_flat.specs.declared.scope.rule.ElabRule.TheVariants as elab
 use Rattle.v_design.specs.declared.rule.DesignRule.{DesignRule}
 use Rattle.v_design.specs.declared.rule.DesignRule.TheVariants as rule
 use Rattle.v_design.specs.declared.fault.DesignRefusal.{DesignRefusal}

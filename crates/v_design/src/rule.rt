@@ -3,7 +3,7 @@
 ghost use Rattle.std.specs.Prelude.{◌≡◌};
 ghost use Rattle.v_design.specs.Words.{elaboration_word, rule_word};
 
-use v_scope::ElabRule;
+use v_flat::scope::ElabRule;
 
 /// A rule by which the text of a design is refused.
 #[derive(Clone, Copy, Debug, PartialEq, Eq)]

@@ -3,19 +3,19 @@ use Rattle.std.proofs.Common.{◌≡◌, ℕ, List, length, refl, sym, ap, subst
 use Rattle.gpi.specs.declared.design.Signal.{Signal}
 use Rattle.gpi.specs.declared.design.Process.{Process}
 use Rattle.gpi.specs.Design.{Proc, proc_of, widths}
-use Rattle.v_scope.specs.declared.found.Found.{Found}
-use Rattle.v_scope.specs.declared.found.Found.TheVariants.{Sound, Noted, Lost}
-use Rattle.v_scope.specs.Found.{each, EachIs, ForValue, Holds}
-use Rattle.v_scope.specs.declared.meaning.Meaning.{Meaning}
-use Rattle.v_scope.specs.Scope.{means}
+use Rattle.v_flat.specs.declared.scope.found.Found.{Found}
+use Rattle.v_flat.specs.declared.scope.found.Found.TheVariants.{Sound, Noted, Lost}
+use Rattle.v_flat.specs.Scope.Found.{each, EachIs, ForValue, Holds}
+use Rattle.v_flat.specs.declared.scope.meaning.Meaning.{Meaning}
+use Rattle.v_flat.specs.Scope.Scope.{means}
 use Rattle.v_flat.specs.Targets.{Drive}
 use Rattle.v_flat.specs.Statements.{done}
 use Rattle.v_flat.specs.Design.{State, adding}
-use Rattle.v_drive.specs.declared.digits.DrivenDigits.{DrivenDigits}
-use Rattle.v_drive.specs.Digits.{Keeps}
-use Rattle.v_build.specs.declared.parts.Parts.{Parts}
-use Rattle.v_build.specs.Parts.{IsSoFar, IsSoundIn}
-use Rattle.v_build.proofs.More.{process_more}
+use Rattle.v_process.specs.declared.drive.digits.DrivenDigits.{DrivenDigits}
+use Rattle.v_process.specs.Drive.Digits.{Keeps}
+use Rattle.v_layout.specs.declared.build.parts.Parts.{Parts}
+use Rattle.v_layout.specs.Build.Parts.{IsSoFar, IsSoundIn}
+use Rattle.v_layout.proofs.BuildLemmas.More.{process_more}
 use Rattle.v_process.specs.Items.{HasDrives, AddsProcess}
 use Rattle.v_elab.specs.declared.state.State as code
 use Rattle.v_elab.specs.States.{GoesOn, IsState, Stays}

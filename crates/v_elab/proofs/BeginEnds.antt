@@ -1,7 +1,7 @@
 -- What the definition finds where the code finds a value or a broken rule.
 use Rattle.std.proofs.Common.{◌≡◌, Result, Ok, Err, refl, sym, ap, ◌∙◌, subst}
-use Rattle.v_scope.specs.declared.rule.Broken.{Broken}
-use Rattle.v_scope.specs.Found.{HoldsOk, next}
+use Rattle.v_flat.specs.declared.scope.rule.Broken.{Broken}
+use Rattle.v_flat.specs.Scope.Found.{HoldsOk, next}
 use Rattle.v_elab.specs.States.{EndsAs}
 
 pub ends_ok : {A B : Type 0} (P : A → B → Type 0) (r : Result A Broken) (s : Result B Broken) (b : B) → EndsAs P r s → s ≡ Ok b → (a : A) × ((r ≡ Ok a) × P a b)

@@ -3,19 +3,19 @@ use Rattle.std.proofs.Common.{◌≡◌, ◌<◌, ◌≤◌, ℕ, List, ◌++◌
 use Rattle.gpi.specs.declared.design.Signal.{Signal}
 use Rattle.gpi.specs.declared.design.Node.{Node}
 use Rattle.gpi.specs.Design.{widths}
-use Rattle.v_scope.specs.Limits.{most_parts}
-use Rattle.v_scope.specs.Scope.{Scope, means}
+use Rattle.v_flat.specs.Scope.Limits.{most_parts}
+use Rattle.v_flat.specs.Scope.Scope.{Scope, means}
 use Rattle.v_flat.specs.Headers.{Port}
 use Rattle.v_flat.specs.Declarations.{Declared, Entries}
 use Rattle.v_flat.specs.Paths.{Path}
 use Rattle.v_flat.specs.Design.{Design, Joint, entries, opened, port_joints}
-use Rattle.v_shape.proofs.Kept.{joints_keep}
-use Rattle.v_parameter.specs.declared.constants.Constants.{Constants}
-use Rattle.v_parameter.specs.Constants.{entries_of}
-use Rattle.v_connect.specs.declared.joint.Joint as code_joint
-use Rattle.v_connect.specs.Joints.{AreJoints}
-use Rattle.v_build.specs.declared.parts.Parts.{Parts}
-use Rattle.v_build.specs.Parts.{Grows, IsSoFar}
+use Rattle.v_flat.proofs.ShapeLemmas.Kept.{joints_keep}
+use Rattle.v_header.specs.declared.parameter.constants.Constants.{Constants}
+use Rattle.v_header.specs.Parameter.Constants.{entries_of}
+use Rattle.v_elab.specs.declared.connect.joint.Joint as code_joint
+use Rattle.v_elab.specs.Connect.Joints.{AreJoints}
+use Rattle.v_layout.specs.declared.build.parts.Parts.{Parts}
+use Rattle.v_layout.specs.Build.Parts.{Grows, IsSoFar}
 use Rattle.v_layout.specs.Named.{StaySignals}
 use Rattle.v_layout.specs.Texts.{HasText}
 use Rattle.v_elab.specs.declared.state.State as code_state

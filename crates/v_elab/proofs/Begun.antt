@@ -1,5 +1,5 @@
 -- The state before the first item, and that it is ready for the next one.
-use Rattle.v_names.specs.Proper.{AreProper}
+use Rattle.v_check.specs.Names.Proper.{AreProper}
 use Rattle.std.proofs.Common.{true, ◌≡◌, ◌<◌, ◌∙◌, ℕ, List, [], ◌∷◌, ◌++◌, map, length, None, refl, sym, ap, subst, arith, length-append}
 use Rattle.std.proofs.lemmas.List.{append_assoc, append-nil, length-map, map-append}
 use Rattle.four_value.specs.declared.Digit.TheVariants.{X}
@@ -9,18 +9,18 @@ use Rattle.gpi.specs.Soundness.{are_wakes}
 use Rattle.gpi.specs.declared.design.Process.{Process}
 use Rattle.gpi.specs.declared.design.Signal.{Signal}
 use Rattle.gpi.specs.declared.design.Spot.{Spot}
-use Rattle.v_scope.specs.Scope.{Scope, means}
-use Rattle.v_scope.specs.declared.meaning.Meaning.{Meaning}
-use Rattle.v_drive.specs.declared.digits.DrivenDigits.{DrivenDigits}
-use Rattle.v_drive.specs.Digits.{Keeps}
+use Rattle.v_flat.specs.Scope.Scope.{Scope, means}
+use Rattle.v_flat.specs.declared.scope.meaning.Meaning.{Meaning}
+use Rattle.v_process.specs.declared.drive.digits.DrivenDigits.{DrivenDigits}
+use Rattle.v_process.specs.Drive.Digits.{Keeps}
 use Rattle.v_flat.specs.Declarations.{Declared}
 use Rattle.v_flat.specs.Paths.{Path, SignalAt, path_text, signal_of}
 use Rattle.v_flat.specs.Design.{Design, all_signals, children, entries}
-use Rattle.v_shape.proofs.Signals.{all_many}
-use Rattle.v_parameter.specs.declared.constants.Constants.{Constants}
-use Rattle.v_parameter.specs.Constants.{AreConstants, entries_of}
-use Rattle.v_build.specs.declared.parts.Parts.{Parts}
-use Rattle.v_build.specs.Parts.{AreSoundIn, Grows, HasNode, IsSoFar, IsSoundIn, opened_nodes}
+use Rattle.v_flat.proofs.ShapeLemmas.Signals.{all_many}
+use Rattle.v_header.specs.declared.parameter.constants.Constants.{Constants}
+use Rattle.v_header.specs.Parameter.Constants.{AreConstants, entries_of}
+use Rattle.v_layout.specs.declared.build.parts.Parts.{Parts}
+use Rattle.v_layout.specs.Build.Parts.{AreSoundIn, Grows, HasNode, IsSoFar, IsSoundIn, opened_nodes}
 use Rattle.v_layout.specs.Fits.{Fit}
 use Rattle.v_layout.specs.Named.{AreSignals}
 use Rattle.v_layout.specs.Texts.{HasText}

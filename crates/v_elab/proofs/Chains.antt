@@ -1,7 +1,7 @@
 -- What comes next, and next again.
 use Rattle.std.proofs.Common.{◌≡◌, Result, Ok, Err, refl}
-use Rattle.v_scope.specs.declared.rule.Broken.{Broken}
-use Rattle.v_scope.specs.Found.{next}
+use Rattle.v_flat.specs.declared.scope.rule.Broken.{Broken}
+use Rattle.v_flat.specs.Scope.Found.{next}
 
 pub next_next : {A B C : Type 0} (r : Result A Broken) (f : A → Result B Broken) (g : B → Result C Broken) → next (next r f) g ≡ next r (λ a. next (f a) g)
 next_next (Ok a) f g = refl

@@ -1,22 +1,22 @@
 -- What an instance is given from outside, checked.
 use Rattle.std.proofs.Common.{◌≡◌, ◌+◌, ℕ, Bool, List, length, nat_le, Option, Result, Ok, Err, refl, sym, ap, ◌∙◌, subst}
 use Rattle.v_syntax.specs.SourceTrees.{ModuleTree}
-use Rattle.v_scope.specs.declared.rule.Broken.{Broken}
-use Rattle.v_scope.specs.declared.rule.ElabRule.TheVariants as rule
-use Rattle.v_scope.specs.declared.found.Found.{Found}
-use Rattle.v_scope.specs.Found.{HoldsOk, both, ended, wants}
-use Rattle.v_scope.specs.Limits.{most_parts}
-use Rattle.v_scope.specs.Scope.{Scope, means}
+use Rattle.v_flat.specs.declared.scope.rule.Broken.{Broken}
+use Rattle.v_flat.specs.declared.scope.rule.ElabRule.TheVariants as rule
+use Rattle.v_flat.specs.declared.scope.found.Found.{Found}
+use Rattle.v_flat.specs.Scope.Found.{HoldsOk, both, ended, wants}
+use Rattle.v_flat.specs.Scope.Limits.{most_parts}
+use Rattle.v_flat.specs.Scope.Scope.{Scope, means}
 use Rattle.v_flat.specs.Declarations.{Given}
 use Rattle.v_flat.specs.Headers.{Port, open_parameters, parameters_of, ports_of}
 use Rattle.v_flat.specs.Targets.{Drive}
 use Rattle.v_flat.specs.Design.{Joints, State, given_of, instance_checked, is_fresh, joint_count, joints_of}
-use Rattle.v_given.specs.Given.{FindsTheSame}
-use Rattle.v_parameter.specs.Given.{GiveTheSame}
-use Rattle.v_drive.specs.declared.digits.DrivenDigits.{DrivenDigits}
-use Rattle.v_drive.specs.Digits.{Keeps}
-use Rattle.v_connect.specs.declared.joint.Joints as code_joints
-use Rattle.v_connect.specs.Joints.{AreFound, AreJoints}
+use Rattle.v_header.specs.Given.Given.{FindsTheSame}
+use Rattle.v_header.specs.Parameter.Given.{GiveTheSame}
+use Rattle.v_process.specs.declared.drive.digits.DrivenDigits.{DrivenDigits}
+use Rattle.v_process.specs.Drive.Digits.{Keeps}
+use Rattle.v_elab.specs.declared.connect.joint.Joints as code_joints
+use Rattle.v_elab.specs.Connect.Joints.{AreFound, AreJoints}
 use Rattle.v_elab.specs.States.{EndsAs}
 use Rattle.v_elab.proofs.Ends.{same_count}
 use Rattle.v_elab.specs.declared.outside.Outside.{Outside}

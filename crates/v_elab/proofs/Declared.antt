@@ -4,23 +4,23 @@ use Rattle.std.proofs.lemmas.List.{length-map}
 use Rattle.port_io.specs.declared.ports.NoMemory.{NoMemory}
 use Rattle.gpi.specs.Design.{widths}
 use Rattle.v_syntax.specs.SourceTrees.{ModuleTree}
-use Rattle.v_scope.specs.declared.rule.Broken.{Broken}
-use Rattle.v_scope.specs.Found.{HoldsOk, next}
-use Rattle.v_scope.specs.Limits.{most_parts}
-use Rattle.v_scope.specs.Scope.{Scope, before, means}
+use Rattle.v_flat.specs.declared.scope.rule.Broken.{Broken}
+use Rattle.v_flat.specs.Scope.Found.{HoldsOk, next}
+use Rattle.v_flat.specs.Scope.Limits.{most_parts}
+use Rattle.v_flat.specs.Scope.Scope.{Scope, before, means}
 use Rattle.v_flat.specs.Headers.{Parameter, Port, all_names, later, parameters_of, port_name, ports_of}
 use Rattle.v_flat.specs.Declarations.{Declared, Entries, Given, Place, declarations, in_order, parameters}
 use Rattle.v_flat.specs.Paths.{Path, signal_of}
 use Rattle.v_flat.specs.Design.{Design, Outside, State, entries, place_of}
-use Rattle.v_shape.proofs.Ports.{ports_apart}
-use Rattle.v_parameter.specs.declared.constants.Constants.{Constants}
-use Rattle.v_parameter.specs.Constants.{AreParameters, HaveValues, entries_of}
-use Rattle.v_parameter.specs.Given.{GiveTheSame}
-use Rattle.v_parameter.proofs.Alike.{same_parameters}
-use Rattle.v_connect.specs.declared.joint.Joint as code_joint
-use Rattle.v_connect.specs.Joints.{AreJoints}
-use Rattle.v_build.specs.declared.parts.Parts.{Parts}
-use Rattle.v_build.specs.Parts.{IsSoFar}
+use Rattle.v_flat.proofs.ShapeLemmas.Ports.{ports_apart}
+use Rattle.v_header.specs.declared.parameter.constants.Constants.{Constants}
+use Rattle.v_header.specs.Parameter.Constants.{AreParameters, HaveValues, entries_of}
+use Rattle.v_header.specs.Parameter.Given.{GiveTheSame}
+use Rattle.v_header.proofs.ParameterLemmas.Alike.{same_parameters}
+use Rattle.v_elab.specs.declared.connect.joint.Joint as code_joint
+use Rattle.v_elab.specs.Connect.Joints.{AreJoints}
+use Rattle.v_layout.specs.declared.build.parts.Parts.{Parts}
+use Rattle.v_layout.specs.Build.Parts.{IsSoFar}
 use Rattle.v_layout.specs.Fits.{Fit}
 use Rattle.v_layout.specs.Named.{StaySignals}
 use Rattle.v_layout.specs.Texts.{HasText}

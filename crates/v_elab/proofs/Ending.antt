@@ -4,8 +4,8 @@ use Rattle.port_io.specs.declared.ports.NoMemory.{NoMemory}
 use Rattle.gpi.specs.declared.design.Spot.{Spot}
 use Rattle.v_flat.specs.Paths.{Path, path_text}
 use Rattle.v_flat.specs.Design.{Design}
-use Rattle.v_build.specs.declared.parts.Parts.{Parts}
-use Rattle.v_build.specs.Parts.{HasChildren, IsSoFar, named_nodes}
+use Rattle.v_layout.specs.declared.build.parts.Parts.{Parts}
+use Rattle.v_layout.specs.Build.Parts.{HasChildren, IsSoFar, named_nodes}
 use Rattle.v_elab.specs.declared.state.State as code
 use Rattle.v_elab.specs.Closes.{Closes}
 

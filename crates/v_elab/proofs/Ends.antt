@@ -3,12 +3,12 @@ use Rattle.std.proofs.Common.{◌≡◌, ℕ, suc, List, [], ◌∷◌, length, 
 use Rattle.gpi.specs.declared.design.Process.{Process}
 use Rattle.gpi.specs.Design.{Proc, procs_of}
 use Rattle.v_syntax.specs.SourceTrees.{KindTree, Ports, Nets, Registers, Integers, Parameters, Drivers, Always, Initial, Instance}
-use Rattle.v_scope.specs.declared.rule.Broken.{Broken}
-use Rattle.v_scope.specs.declared.rule.ElabRule.TheVariants as rule
-use Rattle.v_scope.specs.declared.found.Found.{Found}
-use Rattle.v_scope.specs.declared.found.Found.TheVariants.{Sound, Noted, Lost}
-use Rattle.v_scope.specs.Rules.{at, earlier}
-use Rattle.v_scope.specs.Found.{ended, wants, EachIs, ForValue, Holds, HoldsOk}
+use Rattle.v_flat.specs.declared.scope.rule.Broken.{Broken}
+use Rattle.v_flat.specs.declared.scope.rule.ElabRule.TheVariants as rule
+use Rattle.v_flat.specs.declared.scope.found.Found.{Found}
+use Rattle.v_flat.specs.declared.scope.found.Found.TheVariants.{Sound, Noted, Lost}
+use Rattle.v_flat.specs.Scope.Rules.{at, earlier}
+use Rattle.v_flat.specs.Scope.Found.{ended, wants, EachIs, ForValue, Holds, HoldsOk}
 use Rattle.v_flat.specs.Design.{State, plain_item}
 use Rattle.v_elab.specs.declared.state.State as code
 use Rattle.v_elab.specs.States.{EndsAs, EndsItem, GoesOn, IsState, Stays}

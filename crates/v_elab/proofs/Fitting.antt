@@ -11,21 +11,21 @@ use Rattle.gpi.specs.Soundness.{are_wakes}
 use Rattle.v_syntax.specs.declared.item.Event.{Event}
 use Rattle.v_syntax.specs.StatementTrees.{StatementTree}
 use Rattle.v_syntax.specs.SourceTrees.{ControlTree, Implicit, Events}
-use Rattle.v_scope.specs.declared.found.Found.{Found}
-use Rattle.v_scope.specs.declared.found.Found.TheVariants.{Sound, Noted, Lost}
-use Rattle.v_scope.specs.Found.{each, both, Holds}
-use Rattle.v_scope.specs.declared.meaning.Bounds.{Bounds}
-use Rattle.v_scope.specs.declared.meaning.DataObject.{DataObject}
-use Rattle.v_scope.specs.declared.meaning.Meaning.{Meaning}
-use Rattle.v_scope.specs.declared.meaning.Meaning.TheVariants.{Constant, Object, Later}
-use Rattle.v_scope.specs.Scope.{Scope, find}
+use Rattle.v_flat.specs.declared.scope.found.Found.{Found}
+use Rattle.v_flat.specs.declared.scope.found.Found.TheVariants.{Sound, Noted, Lost}
+use Rattle.v_flat.specs.Scope.Found.{each, both, Holds}
+use Rattle.v_flat.specs.declared.scope.meaning.Bounds.{Bounds}
+use Rattle.v_flat.specs.declared.scope.meaning.DataObject.{DataObject}
+use Rattle.v_flat.specs.declared.scope.meaning.Meaning.{Meaning}
+use Rattle.v_flat.specs.declared.scope.meaning.Meaning.TheVariants.{Constant, Object, Later}
+use Rattle.v_flat.specs.Scope.Scope.{Scope, find}
 use Rattle.v_flat.specs.Statements.{Span, statement_reads}
 use Rattle.v_flat.specs.Design.{Design, is_read, any_change, wakes_of, wake_in, wake_by, events_of}
-use Rattle.v_constant.specs.Checked.{IsNameOf, IsObjectOf}
+use Rattle.v_check.specs.Constants.Checked.{IsNameOf, IsObjectOf}
 use Rattle.v_layout.specs.Named.{AreSignals}
-use Rattle.v_named.proofs.Trees.{statement_names}
+use Rattle.v_elab.proofs.NamedLemmas.Trees.{statement_names}
 use Rattle.v_process.specs.Processes.{Runs}
-use Rattle.v_build.specs.Parts.{IsSoundIn}
+use Rattle.v_layout.specs.Build.Parts.{IsSoundIn}
 use Rattle.v_elab.specs.ItemsSteps.{awaited}
 
 pub many_widths : (ss : List Signal) → length (widths ss) ≡ length ss

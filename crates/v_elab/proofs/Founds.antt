@@ -1,22 +1,22 @@
 -- The same rule is broken first, or both values fit.
 use Rattle.std.proofs.Common.{◌≡◌, ℕ, Bool, true, false, List, Option, refl, sym, ap, ◌∙◌}
 use Rattle.four_value.specs.declared.Digit.{Digit}
-use Rattle.v_scope.specs.declared.rule.Broken.{Broken}
-use Rattle.v_scope.specs.declared.rule.ElabRule.{ElabRule}
-use Rattle.v_scope.specs.declared.found.Found.{Found}
-use Rattle.v_scope.specs.declared.found.Found.TheVariants.{Sound, Noted, Lost}
-use Rattle.v_scope.specs.Rules.{at, earlier}
-use Rattle.v_scope.specs.Found.{both, ended, wants}
-use Rattle.v_scope.specs.Scope.{Scope}
+use Rattle.v_flat.specs.declared.scope.rule.Broken.{Broken}
+use Rattle.v_flat.specs.declared.scope.rule.ElabRule.{ElabRule}
+use Rattle.v_flat.specs.declared.scope.found.Found.{Found}
+use Rattle.v_flat.specs.declared.scope.found.Found.TheVariants.{Sound, Noted, Lost}
+use Rattle.v_flat.specs.Scope.Rules.{at, earlier}
+use Rattle.v_flat.specs.Scope.Found.{both, ended, wants}
+use Rattle.v_flat.specs.Scope.Scope.{Scope}
 use Rattle.v_flat.specs.Declarations.{Given}
 use Rattle.v_flat.specs.Headers.{Port}
 use Rattle.v_flat.specs.Design.{Joints}
-use Rattle.v_parameter.specs.Given.{GiveTheSame}
-use Rattle.v_given.specs.Given.{FindsTheSame, given_values}
-use Rattle.v_drive.specs.declared.digits.DrivenDigits.{DrivenDigits}
-use Rattle.v_drive.specs.Digits.{Keeps}
-use Rattle.v_connect.specs.declared.joint.Joints as code_joints
-use Rattle.v_connect.specs.Joints.{AreFound, AreJoints}
+use Rattle.v_header.specs.Parameter.Given.{GiveTheSame}
+use Rattle.v_header.specs.Given.Given.{FindsTheSame, given_values}
+use Rattle.v_process.specs.declared.drive.digits.DrivenDigits.{DrivenDigits}
+use Rattle.v_process.specs.Drive.Digits.{Keeps}
+use Rattle.v_elab.specs.declared.connect.joint.Joints as code_joints
+use Rattle.v_elab.specs.Connect.Joints.{AreFound, AreJoints}
 use Rattle.v_elab.specs.States.{EndsAs}
 use Rattle.v_elab.specs.InnerSteps.{FoundAs}
 

@@ -5,8 +5,8 @@ use Rattle.std.specs.Option.{option_or}
 use Rattle.std.proofs.lemmas.List.{map-append}
 use Rattle.std.proofs.lemmas.List.Folds.{list_any-append}
 use Rattle.gpi.specs.declared.design.Spot.{Spot}
-use Rattle.test_names.specs.Places.{first_place, noted}
-use Rattle.v_scope.specs.Scope.{Scope, find, means}
+use Rattle.name_table.specs.Places.{first_place, noted}
+use Rattle.v_flat.specs.Scope.Scope.{Scope, find, means}
 use Rattle.v_flat.specs.Design.{State, child_name, is_fresh}
 use Rattle.v_elab.specs.declared.walked.Walked.{Walked}
 use Rattle.v_elab.specs.Instances.{IsWalked}

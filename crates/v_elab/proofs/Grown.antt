@@ -3,9 +3,9 @@ use Rattle.std.proofs.Common.{◌≡◌, ◌≤◌, ℕ, List, ◌++◌, length,
 use Rattle.std.proofs.lemmas.List.{append_assoc}
 use Rattle.gpi.specs.declared.design.Signal.{Signal}
 use Rattle.gpi.specs.Design.{widths}
-use Rattle.v_scope.specs.Scope.{Scope}
-use Rattle.v_build.specs.declared.parts.Parts.{Parts}
-use Rattle.v_build.specs.Parts.{Grows}
+use Rattle.v_flat.specs.Scope.Scope.{Scope}
+use Rattle.v_layout.specs.declared.build.parts.Parts.{Parts}
+use Rattle.v_layout.specs.Build.Parts.{Grows}
 use Rattle.v_layout.specs.Named.{AreSignals, StaySignals}
 use Rattle.v_layout.proofs.Scopes.{widths_append}
 

@@ -6,22 +6,22 @@ use Rattle.std.proofs.lemmas.List.{length-map}
 use Rattle.std.proofs.lemmas.List.Folds.{list_any-append}
 use Rattle.v_syntax.specs.declared.source.Module.{Module}
 use Rattle.v_syntax.specs.SourceTrees.{ModuleTree, view_module}
-use Rattle.v_scope.specs.declared.rule.Broken.{Broken}
-use Rattle.v_scope.specs.Found.{HoldsOk, ended, next}
-use Rattle.v_scope.specs.Limits.{most_parts}
+use Rattle.v_flat.specs.declared.scope.rule.Broken.{Broken}
+use Rattle.v_flat.specs.Scope.Found.{HoldsOk, ended, next}
+use Rattle.v_flat.specs.Scope.Limits.{most_parts}
 use Rattle.v_header.specs.Names.{texts}
 use Rattle.v_flat.specs.Declarations.{Given}
 use Rattle.v_flat.specs.Headers.{ports_of}
 use Rattle.v_flat.specs.Paths.{Path, node_of}
 use Rattle.v_flat.specs.Design.{Joints, State, find_module, instance_checked, module_there}
-use Rattle.v_parameter.specs.Given.{GiveTheSame}
-use Rattle.v_drive.specs.declared.digits.DrivenDigits.{DrivenDigits}
-use Rattle.v_drive.specs.Digits.{Keeps}
-use Rattle.v_connect.specs.Joints.{AreJoints}
-use Rattle.v_build.specs.declared.parts.Parts.{Parts}
+use Rattle.v_header.specs.Parameter.Given.{GiveTheSame}
+use Rattle.v_process.specs.declared.drive.digits.DrivenDigits.{DrivenDigits}
+use Rattle.v_process.specs.Drive.Digits.{Keeps}
+use Rattle.v_elab.specs.Connect.Joints.{AreJoints}
+use Rattle.v_layout.specs.declared.build.parts.Parts.{Parts}
 use Rattle.v_layout.specs.Texts.{HasText}
 use Rattle.v_elab.specs.States.{EndsAs}
-use Rattle.v_top.specs.Found.{modules_of}
+use Rattle.v_header.specs.Top.Found.{modules_of}
 use Rattle.v_elab.specs.declared.outside.Outside.{Outside}
 use Rattle.v_elab.proofs.BeginEnds.{ends_broken, ends_err, ends_next, of_ok}
 use Rattle.v_elab.specs.declared.inner.Inner.{Inner}

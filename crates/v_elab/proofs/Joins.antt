@@ -10,33 +10,33 @@ use Rattle.gpi.specs.Soundness.{are_wakes}
 use Rattle.v_syntax.specs.declared.item.Direction.{Direction}
 use Rattle.v_syntax.specs.declared.item.Direction.TheVariants as direction
 use Rattle.v_syntax.specs.ExpressionTrees.{Tree, TargetTree}
-use Rattle.v_scope.specs.declared.meaning.Bounds.{Bounds}
-use Rattle.v_scope.specs.declared.meaning.DataObject.{DataObject}
-use Rattle.v_scope.specs.declared.meaning.Meaning.{Meaning}
-use Rattle.v_scope.specs.declared.meaning.Meaning.TheVariants.{Constant, Object, Later}
-use Rattle.v_scope.specs.Scope.{Scope, find, width_of}
+use Rattle.v_flat.specs.declared.scope.meaning.Bounds.{Bounds}
+use Rattle.v_flat.specs.declared.scope.meaning.DataObject.{DataObject}
+use Rattle.v_flat.specs.declared.scope.meaning.Meaning.{Meaning}
+use Rattle.v_flat.specs.declared.scope.meaning.Meaning.TheVariants.{Constant, Object, Later}
+use Rattle.v_flat.specs.Scope.Scope.{Scope, find, width_of}
 use Rattle.v_flat.specs.Headers.{Port, port_name}
 use Rattle.v_flat.specs.Paths.{SignalAt, signal_of}
 use Rattle.v_flat.specs.Statements.{reads}
 use Rattle.v_flat.specs.Targets.{as_target}
 use Rattle.v_flat.specs.Design.{Design, Joint, any_change, find_joint, input_joint, is_read, output_target, port_joint, port_joints, wakes_of, with_process}
-use Rattle.v_constant.specs.declared.checked.Checked.{Checked}
-use Rattle.v_constant.specs.Checked.{IsNameOf, IsObjectOf}
-use Rattle.v_target.specs.declared.checked.CheckedTarget.{CheckedTarget}
-use Rattle.v_reads.specs.declared.span.Span as code
-use Rattle.v_reads.specs.Reads.{spans_of}
-use Rattle.v_wakes.specs.Wakes.{WaitForAll}
+use Rattle.v_check.specs.declared.constants.checked.Checked.{Checked}
+use Rattle.v_check.specs.Constants.Checked.{IsNameOf, IsObjectOf}
+use Rattle.v_process.specs.declared.target.checked.CheckedTarget.{CheckedTarget}
+use Rattle.v_loop.specs.declared.reads.span.Span as code
+use Rattle.v_loop.specs.Reads.Reads.{spans_of}
+use Rattle.v_loop.specs.Wakes.Wakes.{WaitForAll}
 use Rattle.v_process.specs.Ports.{AssignsInput, AssignsOutput}
 use Rattle.v_process.proofs.Items.{input_joins, output_joins}
-use Rattle.v_connect.specs.declared.joint.Joined.{Joined}
-use Rattle.v_connect.specs.declared.joint.Joined.TheVariants as joined_kind
-use Rattle.v_connect.specs.declared.joint.Joint as code_joint
-use Rattle.v_connect.specs.Joints.{AreJoints, IsJoined, IsTargetOf, IsValue}
-use Rattle.v_build.specs.Parts.{IsSoFar, IsSoundIn}
-use Rattle.v_build.specs.declared.parts.Parts.{Parts}
-use Rattle.v_build.proofs.More.{process_more}
+use Rattle.v_elab.specs.declared.connect.joint.Joined.{Joined}
+use Rattle.v_elab.specs.declared.connect.joint.Joined.TheVariants as joined_kind
+use Rattle.v_elab.specs.declared.connect.joint.Joint as code_joint
+use Rattle.v_elab.specs.Connect.Joints.{AreJoints, IsJoined, IsTargetOf, IsValue}
+use Rattle.v_layout.specs.Build.Parts.{IsSoFar, IsSoundIn}
+use Rattle.v_layout.specs.declared.build.parts.Parts.{Parts}
+use Rattle.v_layout.proofs.BuildLemmas.More.{process_more}
 use Rattle.v_layout.specs.Named.{StaySignals}
-use Rattle.v_named.proofs.Trees.{expression_names, target_names}
+use Rattle.v_elab.proofs.NamedLemmas.Trees.{expression_names, target_names}
 use Rattle.v_elab.specs.Ports.{Differ}
 use Rattle.v_elab.specs.PortsSteps.{AddsProcess, first_joined, object_in}
 use Rattle.v_elab.proofs.Matches.{Matches, matches}

@@ -1,12 +1,12 @@
 -- Where constants alone are known, no declared name is one.
 use Rattle.std.proofs.Common.{◌≡◌, ℕ, List, Option, Some, None, Bool, true, false, if◌then◌else◌, bytes_eq, refl, sym, subst}
 use Rattle.std.specs.List.{list_any}
-use Rattle.v_scope.specs.declared.meaning.Meaning.TheVariants.{Later}
-use Rattle.v_scope.specs.Scope.{Scope}
+use Rattle.v_flat.specs.declared.scope.meaning.Meaning.TheVariants.{Later}
+use Rattle.v_flat.specs.Scope.Scope.{Scope}
 use Rattle.v_flat.specs.Checks.{is_constant}
 use Rattle.v_flat.specs.Headers.{later}
-use Rattle.v_names.specs.Proper.{AreProper, IsProper}
-use Rattle.v_parameter.specs.Constants.{HasNoConstants}
+use Rattle.v_check.specs.Names.Proper.{AreProper, IsProper}
+use Rattle.v_header.specs.Parameter.Constants.{HasNoConstants}
 
 proper_by : (b : Bool) → IsProper (if b then Some Later else None)
 proper_by true = tt

@@ -4,18 +4,18 @@ use Rattle.std.proofs.lemmas.List.{length-map}
 use Rattle.gpi.specs.Design.{widths}
 use Rattle.gpi.specs.declared.design.Spot.{Spot}
 use Rattle.gpi.specs.declared.design.Spot.TheVariants as spot
-use Rattle.v_scope.specs.Limits.{most_parts}
-use Rattle.v_scope.specs.Scope.{Scope, means}
-use Rattle.v_scope.specs.declared.meaning.Meaning.{Meaning}
+use Rattle.v_flat.specs.Scope.Limits.{most_parts}
+use Rattle.v_flat.specs.Scope.Scope.{Scope, means}
+use Rattle.v_flat.specs.declared.scope.meaning.Meaning.{Meaning}
 use Rattle.v_flat.specs.Targets.{Drive}
 use Rattle.v_flat.specs.Paths.{node_of, signal_of}
 use Rattle.v_flat.specs.Design.{Design, State, with_child}
-use Rattle.v_names.specs.Proper.{AreProper}
-use Rattle.v_drive.specs.declared.digits.DrivenDigits.{DrivenDigits}
-use Rattle.v_drive.specs.Digits.{Keeps}
-use Rattle.test_names.specs.Places.{first_place, noted}
-use Rattle.v_build.specs.declared.parts.Parts.{Parts}
-use Rattle.v_build.specs.Parts.{Grows, IsSoFar}
+use Rattle.v_check.specs.Names.Proper.{AreProper}
+use Rattle.v_process.specs.declared.drive.digits.DrivenDigits.{DrivenDigits}
+use Rattle.v_process.specs.Drive.Digits.{Keeps}
+use Rattle.name_table.specs.Places.{first_place, noted}
+use Rattle.v_layout.specs.declared.build.parts.Parts.{Parts}
+use Rattle.v_layout.specs.Build.Parts.{Grows, IsSoFar}
 use Rattle.v_layout.specs.Named.{StaySignals}
 use Rattle.v_elab.specs.States.{IsReady}
 use Rattle.v_elab.proofs.Grown.{grown_stay}

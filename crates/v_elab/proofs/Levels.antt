@@ -1,9 +1,9 @@
 -- The walk as the beginning of an instance, its items, and its end.
 use Rattle.std.proofs.Common.{◌≡◌, ◌<◌, ◌-◌, ◌∙◌, ℕ, zero, suc, List, [], ◌++◌, length, Result, Ok, refl, sym, ap, arith}
 use Rattle.v_syntax.specs.SourceTrees.{ModuleTree}
-use Rattle.v_scope.specs.declared.rule.Broken.{Broken}
-use Rattle.v_scope.specs.Found.{next}
-use Rattle.v_scope.specs.Scope.{means}
+use Rattle.v_flat.specs.declared.scope.rule.Broken.{Broken}
+use Rattle.v_flat.specs.Scope.Found.{next}
+use Rattle.v_flat.specs.Scope.Scope.{means}
 use Rattle.v_flat.specs.Declarations.{Declared, Entries, declarations, in_order, parameters}
 use Rattle.v_flat.specs.Headers.{all_names, items_in, later, parameters_of, ports_of}
 use Rattle.v_flat.specs.Paths.{Path}

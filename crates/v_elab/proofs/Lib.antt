@@ -1,3 +1,5 @@
+pub mod ConnectLemmas
+pub mod NamedLemmas
 pub mod Fitting
 pub mod Adding
 pub mod Made

@@ -7,12 +7,12 @@ use Rattle.std.specs.List.{AllByRecursion}
 use Rattle.gpi.specs.declared.design.Node.{Node}
 use Rattle.gpi.specs.declared.design.Process.{Process}
 use Rattle.gpi.specs.Design.{widths}
-use Rattle.v_scope.specs.Scope.{Scope, find}
+use Rattle.v_flat.specs.Scope.Scope.{Scope, find}
 use Rattle.v_flat.specs.Headers.{Port, port_name}
-use Rattle.v_connect.specs.declared.joint.Joined.{Joined}
-use Rattle.v_connect.specs.declared.joint.Joint as code
-use Rattle.v_build.specs.Parts.{AreSoundIn}
-use Rattle.v_build.specs.declared.parts.Parts.{Parts}
+use Rattle.v_elab.specs.declared.connect.joint.Joined.{Joined}
+use Rattle.v_elab.specs.declared.connect.joint.Joint as code
+use Rattle.v_layout.specs.Build.Parts.{AreSoundIn}
+use Rattle.v_layout.specs.declared.build.parts.Parts.{Parts}
 use Rattle.v_elab.specs.Ports.{Differ, WithPorts}
 use Rattle.v_elab.specs.declared.joined.JoinedPorts.{JoinedPorts}
 use Rattle.v_elab.specs.PortsSteps.{AddsPort, AddsProcess, first_joined, joined_at, object_in}

@@ -11,21 +11,21 @@ use Rattle.v_syntax.specs.declared.statement.AssignmentKind.TheVariants.{Blockin
 use Rattle.v_syntax.specs.ExpressionTrees.{Tree, TargetTree}
 use Rattle.v_syntax.specs.StatementTrees.{StatementTree, Assignment}
 use Rattle.v_syntax.specs.SourceTrees.{Driver, Net, Register, Initially, ControlTree, Implicit, Events}
-use Rattle.v_scope.specs.declared.found.Found.{Found}
-use Rattle.v_scope.specs.declared.found.Found.TheVariants.{Sound, Noted, Lost}
-use Rattle.v_scope.specs.Found.{both, ForValue, Holds}
-use Rattle.v_scope.proofs.Gathered.{holds_so}
-use Rattle.v_scope.specs.Scope.{Scope, means}
+use Rattle.v_flat.specs.declared.scope.found.Found.{Found}
+use Rattle.v_flat.specs.declared.scope.found.Found.TheVariants.{Sound, Noted, Lost}
+use Rattle.v_flat.specs.Scope.Found.{both, ForValue, Holds}
+use Rattle.v_flat.proofs.ScopeLemmas.Gathered.{holds_so}
+use Rattle.v_flat.specs.Scope.Scope.{Scope, means}
 use Rattle.v_flat.specs.Checks.{checked}
 use Rattle.v_flat.specs.Targets.{driving}
 use Rattle.v_flat.specs.Statements.{done, reads, statement_reads, statement_checked}
 use Rattle.v_flat.specs.Design.{Design, State, always_item, assigning, beginning, driver, events_of, initial_item, net, register, running, wakes_of, whole_of}
-use Rattle.v_drive.specs.Digits.{Keeps}
+use Rattle.v_process.specs.Drive.Digits.{Keeps}
 use Rattle.v_process.specs.Processes.{Runs, IsFoundProcess, IsDriver, IsAlways}
 use Rattle.v_process.specs.Items.{AddsProcess}
 use Rattle.v_process.proofs.Items.{driver_adds, register_adds, initial_adds, events_add, implicit_adds}
-use Rattle.v_build.specs.Parts.{IsSoundIn}
-use Rattle.v_wakes.specs.Wakes.{WaitForAll}
+use Rattle.v_layout.specs.Build.Parts.{IsSoundIn}
+use Rattle.v_loop.specs.Wakes.Wakes.{WaitForAll}
 use Rattle.v_elab.specs.declared.state.State as code
 use Rattle.v_elab.specs.States.{GoesOn, IsReady}
 use Rattle.v_elab.specs.ItemsSteps.{AddsFound, IsStep, awaited}

@@ -5,12 +5,12 @@ use Rattle.std.proofs.lemmas.Map.Keys.{IsDistinct-head, IsDistinct-tail}
 use Rattle.std.specs.List.{AllByRecursion}
 use Rattle.v_syntax.specs.declared.item.Direction.{Direction}
 use Rattle.v_syntax.specs.ExpressionTrees.{Tree}
-use Rattle.v_scope.specs.Scope.{Scope}
+use Rattle.v_flat.specs.Scope.Scope.{Scope}
 use Rattle.v_flat.specs.Headers.{Port, port_name}
 use Rattle.v_flat.specs.Design.{Joint, find_joint}
-use Rattle.v_connect.specs.declared.joint.Joined.{Joined}
-use Rattle.v_connect.specs.declared.joint.Joint as code
-use Rattle.v_connect.specs.Joints.{AreJoints, IsJoint, IsJoined}
+use Rattle.v_elab.specs.declared.connect.joint.Joined.{Joined}
+use Rattle.v_elab.specs.declared.connect.joint.Joint as code
+use Rattle.v_elab.specs.Connect.Joints.{AreJoints, IsJoint, IsJoined}
 use Rattle.v_elab.specs.Ports.{Differ}
 use Rattle.v_elab.specs.PortsSteps.{first_joined}
 use Rattle.v_elab.proofs.Table.{same_name, same_either_way}

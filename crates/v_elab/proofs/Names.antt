@@ -1,7 +1,7 @@
--- Names that differ in the words of `v_shape` differ in those of this crate.
+-- Names that differ in the words of `v_flat::shape` differ in those of this crate.
 use Rattle.std.proofs.Common.{◌≡◌, ◌||◌, ℕ, Bool, true, false, List, [], ◌∷◌, bytes_eq, refl}
 use Rattle.std.specs.List.{AllByRecursion, IsDistinct, list_any}
-use Rattle.v_shape.proofs.Names as shape
+use Rattle.v_flat.proofs.ShapeLemmas.Names as shape
 use Rattle.v_elab.specs.Ports.{Differ}
 
 neither : (a b : Bool) → ((a || b) ≡ true → ⊥) → (a ≡ false) × (b ≡ true → ⊥)

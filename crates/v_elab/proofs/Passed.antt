@@ -3,13 +3,13 @@ use Rattle.std.proofs.Common.{◌≡◌, ◌+◌, ◌<◌, ◌≤◌, ◌∙◌,
 use Rattle.std.proofs.lemmas.List.{append-nil, drop_all, drop_more}
 use Rattle.v_syntax.specs.declared.item.Item.{Item}
 use Rattle.v_syntax.specs.SourceTrees.{ItemTree, view_item}
-use Rattle.v_scope.specs.declared.rule.Broken.{Broken}
-use Rattle.v_scope.specs.Found.{HoldsOk, next}
+use Rattle.v_flat.specs.declared.scope.rule.Broken.{Broken}
+use Rattle.v_flat.specs.Scope.Found.{HoldsOk, next}
 use Rattle.v_header.specs.Names.{texts}
 use Rattle.v_flat.specs.Paths.{Path}
 use Rattle.v_flat.specs.Design.{State}
-use Rattle.v_build.specs.declared.parts.Parts.{Parts}
-use Rattle.v_build.specs.Parts.{Grows}
+use Rattle.v_layout.specs.declared.build.parts.Parts.{Parts}
+use Rattle.v_layout.specs.Build.Parts.{Grows}
 use Rattle.v_layout.specs.Texts.{HasText}
 use Rattle.v_elab.specs.States.{EndsAs, IsReady}
 use Rattle.v_elab.proofs.BeginEnds.{ends_err, ends_ok, of_ok}

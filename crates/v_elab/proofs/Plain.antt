@@ -5,22 +5,22 @@ use Rattle.gpi.specs.Design.{widths}
 use Rattle.gpi.specs.declared.design.Signal.{Signal}
 use Rattle.gpi.specs.declared.design.Node.{Node}
 use Rattle.gpi.specs.declared.design.Spot.{Spot}
-use Rattle.test_names.specs.Places.{first_place}
+use Rattle.name_table.specs.Places.{first_place}
 use Rattle.v_syntax.specs.SourceTrees.{KindTree, Ports, Nets, Registers, Integers, Parameters, Drivers, Always, Initial, Instance, ItemAt, ItemTree, ModuleTree}
-use Rattle.v_scope.specs.declared.rule.Broken.{Broken}
-use Rattle.v_scope.specs.Found.{HoldsOk, ended}
-use Rattle.v_scope.specs.Limits.{most_parts}
-use Rattle.v_scope.specs.Scope.{Scope, find, means}
+use Rattle.v_flat.specs.declared.scope.rule.Broken.{Broken}
+use Rattle.v_flat.specs.Scope.Found.{HoldsOk, ended}
+use Rattle.v_flat.specs.Scope.Limits.{most_parts}
+use Rattle.v_flat.specs.Scope.Scope.{Scope, find, means}
 use Rattle.v_flat.specs.Paths.{Path}
 use Rattle.v_flat.specs.Design.{State, Sub, child_name, item, plain_item}
-use Rattle.v_names.specs.Proper.{AreProper}
-use Rattle.v_build.specs.declared.parts.Parts.{Parts}
-use Rattle.v_build.specs.Parts.{Grows}
+use Rattle.v_check.specs.Names.Proper.{AreProper}
+use Rattle.v_layout.specs.declared.build.parts.Parts.{Parts}
+use Rattle.v_layout.specs.Build.Parts.{Grows}
 use Rattle.v_layout.specs.Named.{StaySignals}
 use Rattle.v_elab.specs.declared.state.State as code
 use Rattle.v_elab.specs.States.{EndsAs, EndsItem, IsReady, IsState, Stays}
 use Rattle.v_elab.proofs.BeginEnds.{ends_err, ends_ok, of_ok}
-use Rattle.v_top.specs.Found.{modules_of}
+use Rattle.v_header.specs.Top.Found.{modules_of}
 use Rattle.v_elab.specs.declared.level.Level.{Level}
 use Rattle.v_elab.specs.declared.walked.Walked.{Walked}
 use Rattle.v_elab.specs.Instances.{IsWalked}

@@ -3,8 +3,8 @@ use Rattle.std.proofs.Common.{◌≡◌, ℕ, Bool, true, false, List, [], ◌�
 use Rattle.std.proofs.lemmas.Slice.Eq.{bytes_eq-Decides}
 use Rattle.std.specs.Map.{AreApart, IsKeyTest, KeepsOthers, lookup}
 use Rattle.std.specs.Option.{option_or}
-use Rattle.v_connect.specs.declared.joint.Joined.{Joined}
-use Rattle.v_connect.specs.declared.joint.Joint as code
+use Rattle.v_elab.specs.declared.connect.joint.Joined.{Joined}
+use Rattle.v_elab.specs.declared.connect.joint.Joint as code
 use Rattle.v_elab.specs.PortsSteps.{first_joined}
 
 pub same_name : (a b : List ℕ) → bytes_eq a b ≡ true → a ≡ b

@@ -4,14 +4,14 @@ use Rattle.gpi.specs.declared.design.Flat.{Flat}
 use Rattle.gpi.specs.Design.{procs_of}
 use Rattle.gpi.specs.Soundness.{IsSoundFlat}
 use Rattle.v_syntax.specs.SourceTrees.{ModuleTree}
-use Rattle.v_scope.specs.declared.rule.Broken.{Broken}
-use Rattle.v_scope.specs.declared.rule.ElabRule.{ElabRule}
-use Rattle.v_scope.specs.declared.rule.ElabRule.TheVariants as rule
-use Rattle.v_scope.specs.Rules.{at}
+use Rattle.v_flat.specs.declared.scope.rule.Broken.{Broken}
+use Rattle.v_flat.specs.declared.scope.rule.ElabRule.{ElabRule}
+use Rattle.v_flat.specs.declared.scope.rule.ElabRule.TheVariants as rule
+use Rattle.v_flat.specs.Scope.Rules.{at}
 use Rattle.v_flat.specs.Design.{Design, SourceText, StandsFor, byte_of, flat_design, flatten, in_bytes}
-use Rattle.v_build.specs.declared.parts.Parts.{Parts}
-use Rattle.v_build.specs.Parts.{IsFlatOf, IsSoFar}
-use Rattle.v_build.proofs.Whole.{built_sound}
+use Rattle.v_layout.specs.declared.build.parts.Parts.{Parts}
+use Rattle.v_layout.specs.Build.Parts.{IsFlatOf, IsSoFar}
+use Rattle.v_layout.proofs.BuildLemmas.Whole.{built_sound}
 use Rattle.v_elab.specs.States.{EndsAs}
 use Rattle.v_elab.proofs.BeginEnds.{ends_err, ends_ok}
 use Rattle.v_elab.specs.declared.fault.ElabFault.{ElabFault}

@@ -4,24 +4,24 @@ use Rattle.std.specs.Borrow.{Bor}
 use Rattle.gpi.specs.Design.{widths}
 use Rattle.v_syntax.specs.declared.source.Module.{Module}
 use Rattle.v_syntax.specs.SourceTrees.{ModuleTree, view_module}
-use Rattle.v_scope.specs.declared.rule.Broken.{Broken}
-use Rattle.v_scope.specs.declared.rule.ElabRule.TheVariants as rule
-use Rattle.v_scope.specs.Found.{next}
-use Rattle.v_scope.specs.Rules.{at}
-use Rattle.v_scope.specs.Scope.{nothing}
+use Rattle.v_flat.specs.declared.scope.rule.Broken.{Broken}
+use Rattle.v_flat.specs.declared.scope.rule.ElabRule.TheVariants as rule
+use Rattle.v_flat.specs.Scope.Found.{next}
+use Rattle.v_flat.specs.Scope.Rules.{at}
+use Rattle.v_flat.specs.Scope.Scope.{nothing}
 use Rattle.v_header.specs.Names.{texts}
 use Rattle.v_flat.specs.Declarations.{Given}
 use Rattle.v_flat.specs.Headers.{Port, ports_of}
 use Rattle.v_flat.specs.Design.{Design, Joint, Outside, flat_design, from_top, modules_checked, no_design, top_of, walk}
-use Rattle.v_parameter.specs.Given.{find_given}
-use Rattle.v_connect.specs.declared.joint.Joint as code_joint
-use Rattle.v_connect.specs.Joints.{AreJoints}
-use Rattle.v_build.specs.declared.parts.Parts.{Parts}
-use Rattle.v_build.specs.Parts.{IsSoFar}
+use Rattle.v_header.specs.Parameter.Given.{find_given}
+use Rattle.v_elab.specs.declared.connect.joint.Joint as code_joint
+use Rattle.v_elab.specs.Connect.Joints.{AreJoints}
+use Rattle.v_layout.specs.declared.build.parts.Parts.{Parts}
+use Rattle.v_layout.specs.Build.Parts.{IsSoFar}
 use Rattle.v_layout.specs.Texts.{HasText}
 use Rattle.v_elab.specs.States.{EndsAs}
-use Rattle.v_top.specs.Found.{module_in, modules_of}
-use Rattle.v_top.specs.Modules.{ChecksModules}
+use Rattle.v_header.specs.Top.Found.{module_in, modules_of}
+use Rattle.v_header.specs.Top.Modules.{ChecksModules}
 use Rattle.v_elab.specs.declared.outside.Outside as code
 use Rattle.v_elab.specs.Begins.{IsOutside}
 use Rattle.v_elab.specs.declared.level.Level.{Level}

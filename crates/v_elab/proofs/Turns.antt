@@ -3,19 +3,19 @@ use Rattle.std.proofs.Common.{◌≡◌, ℕ, ◌+◌, ◌<◌, ◌≤◌, List,
 use Rattle.std.proofs.lemmas.List.{take_more, take_all}
 use Rattle.std.proofs.lemmas.Result.{IfOk-weaker}
 use Rattle.port_io.specs.declared.ports.NoMemory.{NoMemory}
-use Rattle.v_scope.specs.declared.rule.Broken.{Broken}
-use Rattle.v_scope.specs.declared.found.Found.{Found}
-use Rattle.v_scope.specs.declared.found.Found.TheVariants.{Sound, Noted, Lost}
-use Rattle.v_scope.specs.Rules.{earlier}
-use Rattle.v_scope.specs.Found.{and_then, noted, EachIs, ForValue, Holds}
+use Rattle.v_flat.specs.declared.scope.rule.Broken.{Broken}
+use Rattle.v_flat.specs.declared.scope.found.Found.{Found}
+use Rattle.v_flat.specs.declared.scope.found.Found.TheVariants.{Sound, Noted, Lost}
+use Rattle.v_flat.specs.Scope.Rules.{earlier}
+use Rattle.v_flat.specs.Scope.Found.{and_then, noted, EachIs, ForValue, Holds}
 use Rattle.gpi.specs.Design.{widths}
-use Rattle.v_scope.specs.Limits.{most_parts}
-use Rattle.v_scope.specs.Scope.{means}
-use Rattle.v_scope.proofs.Gathered.{then_same}
+use Rattle.v_flat.specs.Scope.Limits.{most_parts}
+use Rattle.v_flat.specs.Scope.Scope.{means}
+use Rattle.v_flat.proofs.ScopeLemmas.Gathered.{then_same}
 use Rattle.v_flat.specs.Design.{State, in_turn}
-use Rattle.v_names.specs.Proper.{AreProper}
+use Rattle.v_check.specs.Names.Proper.{AreProper}
 use Rattle.v_layout.specs.Named.{AreSignals}
-use Rattle.v_scope.proofs.Chains.{last_link, one_link}
+use Rattle.v_flat.proofs.ScopeLemmas.Chains.{last_link, one_link}
 use Rattle.v_elab.specs.declared.state.State as code
 use Rattle.v_elab.specs.States.{GoesOn, IsReady, IsState, Stays}
 use Rattle.v_elab.specs.ItemsSteps.{GoesThrough, IsStep}

@@ -2,22 +2,22 @@
 use Rattle.std.proofs.Common.{◌≡◌, ◌<◌, ◌≤◌, ◌-◌, ◌∙◌, ℕ, List, [], ◌∷◌, length, Option, Some, Result, Ok, Err, refl, sym, ap, subst}
 use Rattle.gpi.specs.Design.{widths}
 use Rattle.v_syntax.specs.SourceTrees.{Instance, ItemAt, ItemTree, ModuleTree, view_module}
-use Rattle.v_scope.specs.declared.rule.Broken.{Broken}
-use Rattle.v_scope.specs.Found.{HoldsOk, ended, next}
-use Rattle.v_scope.specs.Limits.{most_parts}
-use Rattle.v_scope.specs.Scope.{Scope, means}
+use Rattle.v_flat.specs.declared.scope.rule.Broken.{Broken}
+use Rattle.v_flat.specs.Scope.Found.{HoldsOk, ended, next}
+use Rattle.v_flat.specs.Scope.Limits.{most_parts}
+use Rattle.v_flat.specs.Scope.Scope.{Scope, means}
 use Rattle.v_header.specs.Names.{texts}
 use Rattle.v_flat.specs.Declarations.{Given}
 use Rattle.v_flat.specs.Headers.{ports_of}
 use Rattle.v_flat.specs.Paths.{Path, below}
 use Rattle.v_flat.specs.Design.{Design, Joints, Outside, State, Sub, find_module, instance_checked, instance_item, module_there, walk, with_child}
-use Rattle.v_connect.specs.Joints.{AreJoints}
-use Rattle.v_build.specs.declared.parts.Parts.{Parts}
-use Rattle.v_build.specs.Parts.{Grows, IsSoFar}
+use Rattle.v_elab.specs.Connect.Joints.{AreJoints}
+use Rattle.v_layout.specs.declared.build.parts.Parts.{Parts}
+use Rattle.v_layout.specs.Build.Parts.{Grows, IsSoFar}
 use Rattle.v_layout.specs.Named.{StaySignals}
 use Rattle.v_layout.specs.Texts.{HasText}
 use Rattle.v_elab.specs.States.{EndsAs, IsReady}
-use Rattle.v_top.specs.Found.{modules_of}
+use Rattle.v_header.specs.Top.Found.{modules_of}
 use Rattle.v_elab.specs.Begins.{IsOutside}
 use Rattle.v_elab.proofs.BeginEnds.{ends_broken, ends_next, of_ok}
 use Rattle.v_elab.specs.declared.inner.Inner.{Inner}

@@ -1,13 +1,13 @@
 -- Before the first item the names that are known are those that are declared, and each means something.
 use Rattle.std.proofs.Common.{◌≡◌, ◌∙◌, ◌||◌, ◌+◌, ℕ, Bool, true, false, List, [], ◌∷◌, ◌++◌, map, length, Option, Some, None, is_none, is_some, bytes_eq, if◌then◌else◌, Result, Ok, Err, refl, sym, ap, subst}
 use Rattle.std.specs.List.{list_any}
-use Rattle.test_names.specs.Places.{first_place, nowhere}
+use Rattle.name_table.specs.Places.{first_place, nowhere}
 use Rattle.v_syntax.specs.SourceTrees.{ModuleTree}
-use Rattle.v_scope.specs.declared.rule.Broken.{Broken}
-use Rattle.v_scope.specs.declared.meaning.Meaning.{Meaning}
-use Rattle.v_scope.specs.declared.meaning.Meaning.TheVariants.{Object}
-use Rattle.v_scope.specs.Found.{next}
-use Rattle.v_scope.specs.Scope.{find, means}
+use Rattle.v_flat.specs.declared.scope.rule.Broken.{Broken}
+use Rattle.v_flat.specs.declared.scope.meaning.Meaning.{Meaning}
+use Rattle.v_flat.specs.declared.scope.meaning.Meaning.TheVariants.{Object}
+use Rattle.v_flat.specs.Scope.Found.{next}
+use Rattle.v_flat.specs.Scope.Scope.{find, means}
 use Rattle.v_flat.specs.Objects.{count_of}
 use Rattle.v_flat.specs.Headers.{all_names, later, parameters_of, ports_of}
 use Rattle.v_flat.specs.Declarations.{Declared, Entries, declarations, in_order, parameters}

@@ -2,21 +2,21 @@
 use Rattle.std.proofs.Common.{◌≡◌, ◌<◌, ◌≤◌, ◌∙◌, ℕ, List, [], length, Result, Ok, Err, refl, sym, ap, subst, arith}
 use Rattle.std.proofs.lemmas.List.{length-map}
 use Rattle.gpi.specs.declared.design.Signal.{Signal}
-use Rattle.test_names.specs.Places.{first_place, nowhere}
+use Rattle.name_table.specs.Places.{first_place, nowhere}
 use Rattle.v_syntax.specs.SourceTrees.{ItemTree, ModuleTree}
-use Rattle.v_scope.specs.declared.rule.Broken.{Broken}
-use Rattle.v_scope.specs.Found.{HoldsOk, next}
-use Rattle.v_scope.specs.Limits.{most_parts}
+use Rattle.v_flat.specs.declared.scope.rule.Broken.{Broken}
+use Rattle.v_flat.specs.Scope.Found.{HoldsOk, next}
+use Rattle.v_flat.specs.Scope.Limits.{most_parts}
 use Rattle.v_header.specs.Names.{texts}
 use Rattle.v_flat.specs.Headers.{items_in, ports_of}
 use Rattle.v_flat.specs.Paths.{Path, node_of}
 use Rattle.v_flat.specs.Design.{Design, Outside, State, closed, walk}
-use Rattle.v_build.specs.declared.parts.Parts.{Parts}
-use Rattle.v_build.specs.Parts.{Grows, IsSoFar}
+use Rattle.v_layout.specs.declared.build.parts.Parts.{Parts}
+use Rattle.v_layout.specs.Build.Parts.{Grows, IsSoFar}
 use Rattle.v_layout.specs.Texts.{HasText}
 use Rattle.v_elab.specs.declared.state.State as code_state
 use Rattle.v_elab.specs.States.{EndsAs, IsState}
-use Rattle.v_top.specs.Found.{modules_of}
+use Rattle.v_header.specs.Top.Found.{modules_of}
 use Rattle.v_elab.specs.declared.outside.Outside as code
 use Rattle.v_elab.specs.Begins.{Begins, IsBegun, IsOutside, beginning}
 use Rattle.v_elab.proofs.BeginEnds.{ends_broken, ends_next, of_ok}

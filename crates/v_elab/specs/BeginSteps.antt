@@ -2,19 +2,19 @@
 use Rattle.std.specs.Prelude.{ℕ, List, [], ◌++◌, length, Result, Ok}
 use Rattle.gpi.specs.Design.{widths}
 use Rattle.v_syntax.specs.SourceTrees.{ModuleTree}
-use Rattle.v_scope.specs.declared.rule.Broken.{Broken}
-use Rattle.v_scope.specs.Found.{HoldsOk, next}
-use Rattle.v_scope.specs.Scope.{Scope, means}
+use Rattle.v_flat.specs.declared.scope.rule.Broken.{Broken}
+use Rattle.v_flat.specs.Scope.Found.{HoldsOk, next}
+use Rattle.v_flat.specs.Scope.Scope.{Scope, means}
 use Rattle.v_flat.specs.Headers.{Port, all_names, later, parameters_of, ports_of}
 use Rattle.v_flat.specs.Declarations.{Declared, Entries, Given, declarations, in_order, parameters}
 use Rattle.v_flat.specs.Paths.{Path}
 use Rattle.v_flat.specs.Design.{Design, Joint, Outside, State, children, entries, opened, place_of, port_joints}
-use Rattle.v_parameter.specs.declared.constants.Constants.{Constants}
-use Rattle.v_parameter.specs.Constants.{AreParameters, entries_of}
-use Rattle.v_connect.specs.declared.joint.Joint as code_joint
-use Rattle.v_connect.specs.Joints.{AreJoints}
-use Rattle.v_build.specs.declared.parts.Parts.{Parts}
-use Rattle.v_build.specs.Parts.{IsSoFar}
+use Rattle.v_header.specs.declared.parameter.constants.Constants.{Constants}
+use Rattle.v_header.specs.Parameter.Constants.{AreParameters, entries_of}
+use Rattle.v_elab.specs.declared.connect.joint.Joint as code_joint
+use Rattle.v_elab.specs.Connect.Joints.{AreJoints}
+use Rattle.v_layout.specs.declared.build.parts.Parts.{Parts}
+use Rattle.v_layout.specs.Build.Parts.{IsSoFar}
 use Rattle.v_layout.specs.Named.{StaySignals}
 use Rattle.v_layout.specs.Texts.{HasText}
 use Rattle.v_elab.specs.declared.state.State as code_state

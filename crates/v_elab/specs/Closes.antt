@@ -2,8 +2,8 @@
 use Rattle.std.specs.Prelude.{◌≡◌, ℕ, List}
 use Rattle.v_flat.specs.Paths.{Path, path_text}
 use Rattle.v_flat.specs.Design.{State, closed}
-use Rattle.v_build.specs.declared.parts.Parts.{Parts}
-use Rattle.v_build.specs.Parts.{HasChildren, IsSoFar}
+use Rattle.v_layout.specs.declared.build.parts.Parts.{Parts}
+use Rattle.v_layout.specs.Build.Parts.{HasChildren, IsSoFar}
 use Rattle.v_elab.specs.declared.state.State as code
 use Rattle.v_elab.specs.States.{IsState}
 

@@ -3,7 +3,7 @@ use Rattle.std.specs.Prelude.{◌≡◌, ℕ, List, Option, Result, Ok, Err}
 use Rattle.gpi.specs.declared.design.Flat.{Flat}
 use Rattle.v_syntax.specs.declared.source.Source.{Source}
 use Rattle.v_syntax.specs.SourceTrees.{view}
-use Rattle.v_scope.specs.Rules.{at}
+use Rattle.v_flat.specs.Scope.Rules.{at}
 use Rattle.v_flat.specs.Design.{Design, SourceText, StandsFor, flatten}
 use Rattle.v_elab.specs.declared.fault.ElabFault.{ElabFault}
 use Rattle.v_elab.specs.declared.fault.ElabFault.TheVariants.{Rule, OutOfMemory}

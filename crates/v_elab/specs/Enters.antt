@@ -3,24 +3,24 @@
 use Rattle.std.specs.Prelude.{◌≡◌, ◌<◌, ℕ, List, [], ◌∷◌, ◌++◌, Option, option_map, length, Result, Ok, bytes_eq}
 use Rattle.std.specs.Borrow.{Bor}
 use Rattle.std.specs.List.{list_any}
-use Rattle.test_names.specs.Places.{first_place, noted}
+use Rattle.name_table.specs.Places.{first_place, noted}
 use Rattle.gpi.specs.declared.design.Spot.TheVariants as spot
 use Rattle.v_syntax.specs.declared.item.Connections.{Connections}
 use Rattle.v_syntax.specs.SourceTrees.{ConnectionsTree, ModuleTree, view_connections, view_module}
-use Rattle.v_scope.specs.declared.rule.Broken.{Broken}
-use Rattle.v_scope.specs.Found.{HoldsOk, ended, next}
+use Rattle.v_flat.specs.declared.scope.rule.Broken.{Broken}
+use Rattle.v_flat.specs.Scope.Found.{HoldsOk, ended, next}
 use Rattle.v_header.specs.Names.{texts}
 use Rattle.v_flat.specs.Declarations.{Given}
 use Rattle.v_flat.specs.Headers.{ports_of}
 use Rattle.v_flat.specs.Paths.{Path, below}
 use Rattle.v_flat.specs.Design.{Joints, State, find_module, instance_checked, module_there}
-use Rattle.v_parameter.specs.Given.{GiveTheSame}
-use Rattle.v_drive.specs.Digits.{Keeps}
-use Rattle.v_connect.specs.Joints.{AreJoints}
-use Rattle.v_build.specs.declared.parts.Parts.{Parts}
+use Rattle.v_header.specs.Parameter.Given.{GiveTheSame}
+use Rattle.v_process.specs.Drive.Digits.{Keeps}
+use Rattle.v_elab.specs.Connect.Joints.{AreJoints}
+use Rattle.v_layout.specs.declared.build.parts.Parts.{Parts}
 use Rattle.v_layout.specs.Texts.{HasText}
 use Rattle.v_elab.specs.States.{EndsAs}
-use Rattle.v_top.specs.Found.{modules_of}
+use Rattle.v_header.specs.Top.Found.{modules_of}
 use Rattle.v_elab.specs.declared.level.Level.{Level}
 use Rattle.v_elab.specs.declared.inner.Inner.{Inner}
 use Rattle.v_elab.specs.declared.waiting.Waiting.{Waiting}

@@ -1,31 +1,31 @@
 -- A means of proof: the steps before the subtree of an instance.
 use Rattle.std.specs.Prelude.{◌≡◌, ◌<◌, ℕ, List, [], ◌∷◌, ◌++◌, Option, Result, Ok, Err, length}
 use Rattle.std.specs.Borrow.{Bor}
-use Rattle.test_names.specs.Places.{first_place, noted}
+use Rattle.name_table.specs.Places.{first_place, noted}
 use Rattle.gpi.specs.declared.design.Spot.TheVariants as spot
 use Rattle.v_syntax.specs.declared.statement.Identifier.{Identifier}
 use Rattle.v_syntax.specs.declared.source.Module.{Module}
 use Rattle.v_syntax.specs.SourceTrees.{ConnectionsTree, ModuleTree, view_module}
-use Rattle.v_scope.specs.declared.rule.Broken.{Broken}
-use Rattle.v_scope.specs.declared.found.Found.{Found}
-use Rattle.v_scope.specs.declared.found.Found.TheVariants.{Sound, Noted, Lost}
-use Rattle.v_scope.specs.Found.{HoldsOk, both, ended}
-use Rattle.v_scope.specs.Limits.{most_parts}
-use Rattle.v_scope.specs.Scope.{Scope}
+use Rattle.v_flat.specs.declared.scope.rule.Broken.{Broken}
+use Rattle.v_flat.specs.declared.scope.found.Found.{Found}
+use Rattle.v_flat.specs.declared.scope.found.Found.TheVariants.{Sound, Noted, Lost}
+use Rattle.v_flat.specs.Scope.Found.{HoldsOk, both, ended}
+use Rattle.v_flat.specs.Scope.Limits.{most_parts}
+use Rattle.v_flat.specs.Scope.Scope.{Scope}
 use Rattle.v_flat.specs.Declarations.{Given}
 use Rattle.v_flat.specs.Headers.{Port, module_name, open_parameters, parameters_of, ports_of}
 use Rattle.v_flat.specs.Targets.{Drive}
 use Rattle.v_flat.specs.Design.{Design, Joints, State, find_module, given_of, instance_checked, joints_of, module_there}
-use Rattle.v_parameter.specs.Given.{GiveTheSame}
-use Rattle.v_drive.specs.declared.digits.DrivenDigits.{DrivenDigits}
-use Rattle.v_drive.specs.Digits.{Keeps}
-use Rattle.v_connect.specs.declared.joint.Joints as code_joints
-use Rattle.v_connect.specs.Joints.{AreJoints}
+use Rattle.v_header.specs.Parameter.Given.{GiveTheSame}
+use Rattle.v_process.specs.declared.drive.digits.DrivenDigits.{DrivenDigits}
+use Rattle.v_process.specs.Drive.Digits.{Keeps}
+use Rattle.v_elab.specs.declared.connect.joint.Joints as code_joints
+use Rattle.v_elab.specs.Connect.Joints.{AreJoints}
 use Rattle.v_elab.specs.declared.outside.Outside.{Outside}
 use Rattle.v_header.specs.Names.{texts}
 use Rattle.v_layout.specs.Texts.{HasText}
 use Rattle.v_flat.specs.Paths.{Path, below}
-use Rattle.v_build.specs.declared.parts.Parts.{Parts}
+use Rattle.v_layout.specs.declared.build.parts.Parts.{Parts}
 use Rattle.v_elab.specs.States.{EndsAs}
 use Rattle.v_elab.specs.declared.inner.Inner.{Inner}
 use Rattle.v_elab.specs.declared.level.Level.{Level}

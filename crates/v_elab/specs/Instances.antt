@@ -1,8 +1,8 @@
 -- A means of proof: an instance between two of its items, with the names of the instances in it, for the proofs of elaboration.
 use Rattle.std.specs.Prelude.{◌≡◌, ℕ, List, map, true, is_none, is_some, bytes_eq}
 use Rattle.std.specs.List.{list_any}
-use Rattle.test_names.specs.Places.{first_place}
-use Rattle.v_scope.specs.Scope.{find}
+use Rattle.name_table.specs.Places.{first_place}
+use Rattle.v_flat.specs.Scope.Scope.{find}
 use Rattle.v_flat.specs.Design.{State, child_name}
 use Rattle.v_elab.specs.States.{IsState}
 use Rattle.v_elab.specs.declared.walked.Walked.{Walked}

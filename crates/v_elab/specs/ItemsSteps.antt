@@ -6,11 +6,11 @@ use Rattle.v_syntax.specs.declared.item.RegisterTail.{RegisterTail}
 use Rattle.v_syntax.specs.declared.item.RegisterTail.TheVariants as tail
 use Rattle.v_syntax.specs.StatementTrees.{StatementTree}
 use Rattle.v_syntax.specs.SourceTrees.{ControlTree, Implicit, Events, KindTree, Nets, Registers, Drivers, Always, Initial}
-use Rattle.v_scope.specs.declared.found.Found.{Found}
-use Rattle.v_scope.specs.declared.found.Found.TheVariants.{Sound, Noted, Lost}
-use Rattle.v_scope.specs.Found.{and_then, EachIs, ForValue, Holds}
-use Rattle.v_scope.specs.Limits.{most_parts}
-use Rattle.v_scope.specs.Scope.{Scope}
+use Rattle.v_flat.specs.declared.scope.found.Found.{Found}
+use Rattle.v_flat.specs.declared.scope.found.Found.TheVariants.{Sound, Noted, Lost}
+use Rattle.v_flat.specs.Scope.Found.{and_then, EachIs, ForValue, Holds}
+use Rattle.v_flat.specs.Scope.Limits.{most_parts}
+use Rattle.v_flat.specs.Scope.Scope.{Scope}
 use Rattle.v_flat.specs.Statements.{statement_reads}
 use Rattle.v_flat.specs.Design.{Design, State, wakes_of, events_of, in_turn, net, register, driver, always_item, initial_item, net_count, register_count}
 use Rattle.v_elab.specs.declared.state.State as code

@@ -1,3 +1,4 @@
+pub mod Connect
 pub mod States
 pub mod ItemsSteps
 pub mod Ports

@@ -1,13 +1,13 @@
 -- A means of proof: the state of an instance before its first item (IEEE 1364-2005, clause 12.1), for the proofs of elaboration.
 use Rattle.std.specs.Prelude.{ℕ, List, [], ◌++◌, length}
-use Rattle.v_scope.specs.Scope.{means}
+use Rattle.v_flat.specs.Scope.Scope.{means}
 use Rattle.v_flat.specs.Declarations.{Declared, Entries}
 use Rattle.v_flat.specs.Paths.{Path}
 use Rattle.v_flat.specs.Design.{Design, State, children, entries, opened}
-use Rattle.v_parameter.specs.declared.constants.Constants.{Constants}
-use Rattle.v_parameter.specs.Constants.{entries_of}
-use Rattle.v_build.specs.declared.parts.Parts.{Parts}
-use Rattle.v_build.specs.Parts.{IsSoFar}
+use Rattle.v_header.specs.declared.parameter.constants.Constants.{Constants}
+use Rattle.v_header.specs.Parameter.Constants.{entries_of}
+use Rattle.v_layout.specs.declared.build.parts.Parts.{Parts}
+use Rattle.v_layout.specs.Build.Parts.{IsSoFar}
 use Rattle.v_layout.specs.Texts.{HasText}
 use Rattle.v_elab.specs.declared.state.State as code
 use Rattle.v_elab.specs.States.{IsState}

@@ -3,14 +3,14 @@
 use Rattle.std.specs.Prelude.{◌≡◌, ℕ, List, bytes_eq}
 use Rattle.std.specs.List.{IsDistinct}
 use Rattle.gpi.specs.Design.{widths}
-use Rattle.v_scope.specs.Scope.{Scope}
+use Rattle.v_flat.specs.Scope.Scope.{Scope}
 use Rattle.v_flat.specs.Headers.{Port}
 use Rattle.v_flat.specs.Design.{Design, Joint, port_joints}
 use Rattle.v_layout.specs.Named.{StaySignals}
-use Rattle.v_connect.specs.declared.joint.Joint as code
-use Rattle.v_connect.specs.Joints.{AreJoints}
-use Rattle.v_build.specs.Parts.{IsSoFar}
-use Rattle.v_build.specs.declared.parts.Parts.{Parts}
+use Rattle.v_elab.specs.declared.connect.joint.Joint as code
+use Rattle.v_elab.specs.Connect.Joints.{AreJoints}
+use Rattle.v_layout.specs.Build.Parts.{IsSoFar}
+use Rattle.v_layout.specs.declared.build.parts.Parts.{Parts}
 
 -- each name stands there once
 abbrev pub Differ : List (List ℕ) → Type 0

@@ -3,16 +3,16 @@ use Rattle.std.specs.Prelude.{◌≡◌, ℕ, List, [], ◌∷◌, ◌++◌, Opt
 use Rattle.std.specs.HashMap.{get_by}
 use Rattle.gpi.specs.declared.design.Process.{Process}
 use Rattle.gpi.specs.declared.design.Wake.{Wake}
-use Rattle.v_scope.specs.declared.meaning.DataObject.{DataObject}
-use Rattle.v_scope.specs.declared.meaning.Meaning.{Meaning}
-use Rattle.v_scope.specs.declared.meaning.Meaning.TheVariants.{Constant, Object, Later}
-use Rattle.v_reads.specs.Reads.{spans_of}
-use Rattle.v_wakes.specs.Wakes.{WaitForAll}
+use Rattle.v_flat.specs.declared.scope.meaning.DataObject.{DataObject}
+use Rattle.v_flat.specs.declared.scope.meaning.Meaning.{Meaning}
+use Rattle.v_flat.specs.declared.scope.meaning.Meaning.TheVariants.{Constant, Object, Later}
+use Rattle.v_loop.specs.Reads.Reads.{spans_of}
+use Rattle.v_loop.specs.Wakes.Wakes.{WaitForAll}
 use Rattle.v_process.specs.Ports.{AssignsInput, AssignsOutput}
-use Rattle.v_connect.specs.declared.joint.Joined.{Joined}
-use Rattle.v_connect.specs.declared.joint.Joined.TheVariants as joined_kind
-use Rattle.v_connect.specs.declared.joint.Joint as code
-use Rattle.v_build.specs.declared.parts.Parts.{Parts}
+use Rattle.v_elab.specs.declared.connect.joint.Joined.{Joined}
+use Rattle.v_elab.specs.declared.connect.joint.Joined.TheVariants as joined_kind
+use Rattle.v_elab.specs.declared.connect.joint.Joint as code
+use Rattle.v_layout.specs.declared.build.parts.Parts.{Parts}
 use Rattle.v_elab.specs.declared.joined.JoinedPorts.{JoinedPorts}
 
 -- ---- what ports are joined to

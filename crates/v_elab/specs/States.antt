@@ -3,14 +3,14 @@
 use Rattle.std.specs.Prelude.{◌≡◌, ◌≤◌, ℕ, length, Result, Ok, Err}
 use Rattle.gpi.specs.Design.{widths}
 use Rattle.v_syntax.specs.SourceTrees.{KindTree}
-use Rattle.v_scope.specs.declared.rule.Broken.{Broken}
-use Rattle.v_scope.specs.Found.{HoldsOk, ended}
-use Rattle.v_scope.specs.Limits.{most_parts}
-use Rattle.v_scope.specs.Scope.{means}
+use Rattle.v_flat.specs.declared.scope.rule.Broken.{Broken}
+use Rattle.v_flat.specs.Scope.Found.{HoldsOk, ended}
+use Rattle.v_flat.specs.Scope.Limits.{most_parts}
+use Rattle.v_flat.specs.Scope.Scope.{means}
 use Rattle.v_flat.specs.Design.{State, plain_item}
-use Rattle.v_names.specs.Proper.{AreProper}
-use Rattle.v_drive.specs.Digits.{Keeps}
-use Rattle.v_build.specs.Parts.{IsSoFar}
+use Rattle.v_check.specs.Names.Proper.{AreProper}
+use Rattle.v_process.specs.Drive.Digits.{Keeps}
+use Rattle.v_layout.specs.Build.Parts.{IsSoFar}
 use Rattle.v_layout.specs.Named.{StaySignals}
 use Rattle.v_elab.specs.declared.state.State as code
 

@@ -1,10 +1,10 @@
 -- A means of proof: the design before it is flat.
 use Rattle.std.specs.Prelude.{ℕ, List, Option, Result}
 use Rattle.v_syntax.specs.SourceTrees.{ModuleTree}
-use Rattle.v_scope.specs.declared.rule.Broken.{Broken}
+use Rattle.v_flat.specs.declared.scope.rule.Broken.{Broken}
 use Rattle.v_flat.specs.Design.{flat_design, from_top, top_of}
-use Rattle.v_build.specs.declared.parts.Parts.{Parts}
-use Rattle.v_build.specs.Parts.{IsSoFar}
+use Rattle.v_layout.specs.declared.build.parts.Parts.{Parts}
+use Rattle.v_layout.specs.Build.Parts.{IsSoFar}
 use Rattle.v_elab.specs.States.{EndsAs}
 
 -- r is what is built of the design of modules of which no two have one name

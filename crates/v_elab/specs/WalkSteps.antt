@@ -2,16 +2,16 @@
 use Rattle.std.specs.Prelude.{◌≡◌, ℕ, zero, suc, List, Option, None, Some, Result, Ok}
 use Rattle.v_syntax.specs.declared.statement.Identifier.{Identifier}
 use Rattle.v_syntax.specs.SourceTrees.{ConnectionsTree, KindTree, Instance, ItemAt, ItemTree, ModuleTree}
-use Rattle.v_scope.specs.declared.rule.Broken.{Broken}
-use Rattle.v_scope.specs.Found.{HoldsOk, ended}
+use Rattle.v_flat.specs.declared.scope.rule.Broken.{Broken}
+use Rattle.v_flat.specs.Scope.Found.{HoldsOk, ended}
 use Rattle.v_header.specs.Names.{texts}
 use Rattle.v_flat.specs.Paths.{Path}
 use Rattle.v_flat.specs.Design.{State, Sub, item, items, plain_item, walk}
-use Rattle.v_build.specs.declared.parts.Parts.{Parts}
-use Rattle.v_build.specs.Parts.{Grows}
+use Rattle.v_layout.specs.declared.build.parts.Parts.{Parts}
+use Rattle.v_layout.specs.Build.Parts.{Grows}
 use Rattle.v_layout.specs.Texts.{HasText}
 use Rattle.v_elab.specs.States.{EndsAs, IsReady}
-use Rattle.v_top.specs.Found.{modules_of}
+use Rattle.v_header.specs.Top.Found.{modules_of}
 use Rattle.v_elab.specs.declared.inner.Inner.{Inner}
 use Rattle.v_elab.specs.declared.level.Level.{Level}
 use Rattle.v_elab.specs.declared.walked.Walked.{Walked}

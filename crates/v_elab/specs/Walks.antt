@@ -1,18 +1,18 @@
 -- A means of proof: what it means that an instance was walked (IEEE 1364-2005, clause 12.1), for the proofs of elaboration.
 use Rattle.std.specs.Prelude.{◌≤◌, ℕ, List, length, Result}
 use Rattle.v_syntax.specs.SourceTrees.{ModuleTree}
-use Rattle.v_scope.specs.declared.rule.Broken.{Broken}
-use Rattle.v_scope.specs.Found.{HoldsOk}
-use Rattle.v_scope.specs.Limits.{most_parts}
+use Rattle.v_flat.specs.declared.scope.rule.Broken.{Broken}
+use Rattle.v_flat.specs.Scope.Found.{HoldsOk}
+use Rattle.v_flat.specs.Scope.Limits.{most_parts}
 use Rattle.v_header.specs.Names.{texts}
 use Rattle.v_flat.specs.Headers.{ports_of}
 use Rattle.v_flat.specs.Paths.{Path}
 use Rattle.v_flat.specs.Design.{Design, Outside, walk}
-use Rattle.v_build.specs.declared.parts.Parts.{Parts}
-use Rattle.v_build.specs.Parts.{Grows, IsSoFar}
+use Rattle.v_layout.specs.declared.build.parts.Parts.{Parts}
+use Rattle.v_layout.specs.Build.Parts.{Grows, IsSoFar}
 use Rattle.v_layout.specs.Texts.{HasText}
 use Rattle.v_elab.specs.States.{EndsAs}
-use Rattle.v_top.specs.Found.{modules_of}
+use Rattle.v_header.specs.Top.Found.{modules_of}
 use Rattle.v_elab.specs.declared.outside.Outside as code
 use Rattle.v_elab.specs.Begins.{IsOutside}
 use Rattle.v_elab.specs.declared.level.Level.{Level}

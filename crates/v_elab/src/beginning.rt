@@ -2,28 +2,28 @@
 
 ghost use Rattle.std.specs.Prelude.{◌≡◌, ◌≤◌, IfOk, length, map};
 ghost use Rattle.v_syntax.specs.SourceTrees.{view_module};
-ghost use Rattle.v_scope.specs.Limits.{most_parts};
-ghost use Rattle.v_scope.specs.Scope.{before, means};
+ghost use Rattle.v_flat.specs.Scope.Limits.{most_parts};
+ghost use Rattle.v_flat.specs.Scope.Scope.{before, means};
 ghost use Rattle.v_flat.specs.Headers.{all_names, later, port_name, ports_of};
 ghost use Rattle.v_flat.specs.Declarations.{in_order};
-ghost use Rattle.v_parameter.specs.Constants.{AreConstants, entries_of};
+ghost use Rattle.v_header.specs.Parameter.Constants.{AreConstants, entries_of};
 ghost use Rattle.v_layout.specs.Fits.{Fit};
 ghost use Rattle.v_elab.specs.Ports.{Differ};
 ghost use Rattle.v_elab.specs.Begins.{Begins};
 ghost use Rattle.v_elab.specs.BeginSteps.{Declares, HaveConstants, OpensWith};
 
+use crate::connect::Joints;
 use crate::opened::opening;
 use crate::outside::Outside;
 use crate::ports::with_ports;
 use crate::state::State;
 use port_io::NoMemory;
 use std::alloc::Global;
-use v_build::Parts;
-use v_connect::Joints;
+use v_flat::scope::Broken;
+use v_header::parameter::{Constants, Given, parameters};
 use v_header::{Ports, later_names, parameters_of};
+use v_layout::build::Parts;
 use v_layout::{DeclaredNames, Place, declarations};
-use v_parameter::{Constants, Given, parameters};
-use v_scope::Broken;
 use v_syntax::Module;
 
 /// The parameters of an instance that is given these values (IEEE 1364-2005, clauses 4.10 and 12.2), or the rule that is broken first in

@@ -2,23 +2,23 @@
 
 ghost use Rattle.std.specs.Prelude.{IfOk};
 ghost use Rattle.v_syntax.specs.SourceTrees.{view_module};
-ghost use Rattle.v_scope.specs.Scope.{means};
-ghost use Rattle.v_names.specs.Proper.{AreProper};
+ghost use Rattle.v_flat.specs.Scope.Scope.{means};
+ghost use Rattle.v_check.specs.Names.Proper.{AreProper};
 ghost use Rattle.v_elab.specs.States.{IsReady};
 ghost use Rattle.v_elab.specs.InnerSteps.{AreBothFound, Checks, beside};
 
+use crate::connect::{Joints, joint_count, joints};
 use crate::inner::Inner;
 use crate::items::is_room;
 use crate::outside::Outside;
 use crate::walked::Walked;
 use port_io::NoMemory;
 use std::alloc::Global;
-use v_connect::{Joints, joint_count, joints};
-use v_drive::DrivenDigits;
-use v_given::given;
+use v_flat::scope::{Broken, ElabRule, Found, Scope};
+use v_header::given::given;
+use v_header::parameter::Given;
 use v_header::{Ports, open_parameters, parameters_of};
-use v_parameter::Given;
-use v_scope::{Broken, ElabRule, Found, Scope};
+use v_process::drive::DrivenDigits;
 use v_syntax::Module;
 
 /// The values of parameters and what ports are joined to (IEEE 1364-2005, clauses 12.2.2 and 12.3), or what is broken first in both, and which

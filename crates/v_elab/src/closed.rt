@@ -6,7 +6,7 @@ ghost use Rattle.v_elab.specs.Closes.{Closes};
 use crate::state::State;
 use port_io::NoMemory;
 use std::alloc::Global;
-use v_build::Parts;
+use v_layout::build::Parts;
 
 /// What is built behind the last item of the instance of this number, which is at this path: its names are known. Only want of memory is an
 /// error.

@@ -2,21 +2,21 @@
 
 ghost use Rattle.std.specs.Prelude.{◌≡◌, [], IfOk, map, option_copied};
 ghost use Rattle.v_syntax.specs.SourceTrees.{view_module};
-ghost use Rattle.v_top.specs.Found.{modules_of};
+ghost use Rattle.v_header.specs.Top.Found.{modules_of};
 ghost use Rattle.v_elab.specs.Steps.{IsDesign, IsFromTop};
 
+use crate::connect::Joints;
 use crate::level::Level;
 use crate::outside::Outside;
 use crate::walk::instance;
 use port_io::NoMemory;
 use std::alloc::Global;
-use v_build::Parts;
-use v_connect::Joints;
+use v_flat::scope::{Broken, ElabRule};
+use v_header::parameter::Given;
+use v_header::top::{Modules, module_numbers};
+use v_layout::build::Parts;
 use v_loop::Unrolled;
-use v_parameter::Given;
-use v_scope::{Broken, ElabRule};
 use v_syntax::{Module, TokenNumber};
-use v_top::{Modules, module_numbers};
 
 /// The most levels of instances below the top.
 const MOST_LEVELS: usize = 64;

@@ -2,7 +2,7 @@
 
 ghost use Rattle.std.specs.Prelude.{◌≡◌, ◌<◌, ◌∷◌, ◌++◌, [], IfOk, length};
 ghost use Rattle.v_syntax.specs.SourceTrees.{view_module};
-ghost use Rattle.v_scope.specs.Limits.{most_parts};
+ghost use Rattle.v_flat.specs.Scope.Limits.{most_parts};
 ghost use Rattle.v_header.specs.Names.{texts};
 ghost use Rattle.v_elab.specs.States.{IsReady};
 ghost use Rattle.v_elab.specs.Enters.{Enters};
@@ -18,8 +18,8 @@ use crate::waiting::{Entered, Waiting};
 use crate::walked::Walked;
 use port_io::NoMemory;
 use std::alloc::Global;
+use v_flat::scope::Broken;
 use v_layout::path_below;
-use v_scope::Broken;
 use v_syntax::Module;
 
 /// These names and one more. Only want of memory is an error.

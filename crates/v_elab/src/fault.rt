@@ -3,7 +3,7 @@
 ghost use Rattle.std.specs.Prelude.{◌≡◌};
 ghost use Rattle.v_flat.specs.Design.{byte_of};
 
-use v_scope::{Broken, ElabRule};
+use v_flat::scope::{Broken, ElabRule};
 
 /// Why a text has no flat design.
 #[derive(Clone, Copy, Debug, PartialEq, Eq)]

@@ -2,7 +2,7 @@
 
 ghost use Rattle.std.specs.Prelude.{◌≡◌, ◌+◌, IfOk, nat_le};
 ghost use Rattle.v_syntax.specs.SourceTrees.{view_kind};
-ghost use Rattle.v_scope.specs.Limits.{most_parts};
+ghost use Rattle.v_flat.specs.Scope.Limits.{most_parts};
 ghost use Rattle.v_elab.specs.States.{EndsItem, IsReady};
 ghost use Rattle.v_elab.specs.ItemsSteps.{IsStep, item_step, leaves_room};
 
@@ -11,8 +11,8 @@ use crate::processes::{always, initial};
 use crate::state::State;
 use port_io::NoMemory;
 use std::alloc::Global;
+use v_flat::scope::{Broken, ElabRule, Found};
 use v_loop::Unrolled;
-use v_scope::{Broken, ElabRule, Found};
 use v_syntax::{Item, ItemKind};
 
 /// The most processes that a design may have.

@@ -4,10 +4,10 @@ ghost use Rattle.std.specs.Prelude.{◌≡◌, ℕ, List, None, Some, IfOk, OnOk
 ghost use Rattle.std.specs.HashMap.{get_by};
 ghost use Rattle.v_elab.specs.PortsSteps.{first_joined, joined_at};
 
+use crate::connect::{Joined, Joint, Joints};
 use port_io::NoMemory;
 use std::alloc::Global;
 use std::collections::HashMap;
-use v_connect::{Joined, Joint, Joints};
 
 /// What each connected port is joined to, found by its name.
 #[derive(Drop)]

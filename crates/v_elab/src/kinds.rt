@@ -10,8 +10,8 @@ use crate::level::Level;
 use crate::walked::Walked;
 use port_io::NoMemory;
 use std::alloc::Global;
+use v_flat::scope::Broken;
 use v_loop::Unrolled;
-use v_scope::Broken;
 use v_syntax::{Item, ItemKind};
 
 /// The instance that an item is, if it is one.

@@ -1,6 +1,6 @@
 //! Where an instance stands.
 
-use v_top::Modules;
+use v_header::top::Modules;
 
 /// Where an instance stands whose items are walked.
 #[derive(Clone, Copy)]

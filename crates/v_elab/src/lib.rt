@@ -7,11 +7,16 @@
 //! - `items` gives the state behind an item that is no instance, with its processes.
 //! - `entering` finds all that has to be known before the subtree of an instance is walked, while the instance around it waits.
 //! - `walk` goes over the items in turn, and into each instance among them. What is built stands behind what was built before.
+//!
+//! Modules that the crates above use too:
+//! - [`connect`]: what the ports of an instance are connected to;
+//! - [`named`]: laws of what is written in an instance.
 #![tactic(auto)]
 
 mod beginning;
 mod checked;
 mod closed;
+pub mod connect;
 mod design;
 mod entering;
 mod fault;
@@ -21,6 +26,7 @@ mod joined;
 mod kinds;
 mod level;
 mod lists;
+pub mod named;
 mod opened;
 mod outside;
 mod port;

@@ -1,7 +1,7 @@
 //! The elements of an item, one after the other.
 
 ghost use Rattle.std.specs.Prelude.{◌≡◌, ◌+◌, ◌<◌, ◌^◌, IfOk, cond, count_by};
-ghost use Rattle.v_scope.specs.Found.{ForValue};
+ghost use Rattle.v_flat.specs.Scope.Found.{ForValue};
 ghost use Rattle.v_flat.specs.Design.{in_turn};
 ghost use Rattle.v_elab.specs.States.{IsReady};
 ghost use Rattle.v_elab.specs.ItemsSteps.{GoesThrough, IsStep};
@@ -10,7 +10,7 @@ use crate::state::State;
 use crate::steps::Step;
 use port_io::NoMemory;
 use std::alloc::Global;
-use v_scope::Found;
+use v_flat::scope::Found;
 
 /// How many processes so many are with that of an element, if it gives one.
 fn with_element<T: Step>(count: usize, element: &T) -> usize

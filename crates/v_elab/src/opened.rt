@@ -1,11 +1,11 @@
 //! The state before the first item.
 
 ghost use Rattle.std.specs.Prelude.{◌≡◌, ◌<◌, ◌++◌, IfOk, length};
-ghost use Rattle.v_scope.specs.Scope.{means};
+ghost use Rattle.v_flat.specs.Scope.Scope.{means};
 ghost use Rattle.v_flat.specs.Declarations.{in_order};
 ghost use Rattle.v_flat.specs.Design.{children, entries};
-ghost use Rattle.v_parameter.specs.Constants.{AreConstants, entries_of};
-ghost use Rattle.v_build.specs.Parts.{Grows};
+ghost use Rattle.v_header.specs.Parameter.Constants.{AreConstants, entries_of};
+ghost use Rattle.v_layout.specs.Build.Parts.{Grows};
 ghost use Rattle.v_layout.specs.Fits.{Fit};
 ghost use Rattle.v_layout.specs.Order.{lines_in};
 ghost use Rattle.v_elab.specs.States.{IsReady};
@@ -15,12 +15,12 @@ use crate::state::State;
 use gpi::Spot;
 use port_io::{Name, NoMemory, Sequence};
 use std::alloc::Global;
-use v_build::Parts;
-use v_drive::DrivenDigits;
+use v_flat::scope::Scope;
 use v_header::Ports;
+use v_header::parameter::{Constant, Constants};
+use v_layout::build::Parts;
 use v_layout::{DeclaredNames, Line, add_signals, children, in_order, scope};
-use v_parameter::{Constant, Constants};
-use v_scope::Scope;
+use v_process::drive::DrivenDigits;
 
 /// What the names of an instance mean in which these names are declared, the first signal of which has the number `first`; and which names are
 /// known in it. Only want of memory is an error.

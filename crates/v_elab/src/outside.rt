@@ -1,7 +1,7 @@
 //! What an instance is given from outside.
 
-use v_connect::Joints;
-use v_parameter::Given;
+use crate::connect::Joints;
+use v_header::parameter::Given;
 
 /// What an instance is given from the scope around it (IEEE 1364-2005, clauses 12.2 and 12.3).
 #[derive(Drop)]

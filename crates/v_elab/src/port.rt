@@ -2,19 +2,19 @@
 
 ghost use Rattle.std.specs.Prelude.{◌≡◌, ◌≤◌, Some, IfOk, IfSome, OnOk, length};
 ghost use Rattle.gpi.specs.Terms.{IsWidth};
-ghost use Rattle.v_scope.specs.Limits.{most_parts};
-ghost use Rattle.v_scope.specs.Scope.{find, means, width_of};
-ghost use Rattle.v_names.specs.Proper.{AreProper};
+ghost use Rattle.v_flat.specs.Scope.Limits.{most_parts};
+ghost use Rattle.v_flat.specs.Scope.Scope.{find, means, width_of};
+ghost use Rattle.v_check.specs.Names.Proper.{AreProper};
 ghost use Rattle.v_elab.specs.PortsSteps.{AddsPort, AssignsPort, object_in};
 
+use crate::connect::Joined;
 use gpi::Process;
 use port_io::NoMemory;
 use std::alloc::Global;
-use v_build::Parts;
-use v_connect::Joined;
+use v_flat::scope::{DataObject, Meaning, Scope};
+use v_layout::build::Parts;
+use v_loop::wakes::wakes;
 use v_process::{input, output};
-use v_scope::{DataObject, Meaning, Scope};
-use v_wakes::wakes;
 
 /// The data object of a name; none where the name is not declared, or is a parameter.
 fn object_of(scope: &Scope, name: &[u8]) -> Option<DataObject>

@@ -1,20 +1,20 @@
 //! The assignments of all connected ports.
 
 ghost use Rattle.std.specs.Prelude.{◌≤◌, OnOk, length, map};
-ghost use Rattle.v_scope.specs.Limits.{most_parts};
-ghost use Rattle.v_scope.specs.Scope.{means};
+ghost use Rattle.v_flat.specs.Scope.Limits.{most_parts};
+ghost use Rattle.v_flat.specs.Scope.Scope.{means};
 ghost use Rattle.v_flat.specs.Headers.{port_name};
-ghost use Rattle.v_names.specs.Proper.{AreProper};
+ghost use Rattle.v_check.specs.Names.Proper.{AreProper};
 ghost use Rattle.v_elab.specs.Ports.{Differ, WithPorts};
 
+use crate::connect::Joints;
 use crate::joined::JoinedPorts;
 use crate::port::add_port;
 use port_io::NoMemory;
 use std::alloc::Global;
-use v_build::Parts;
-use v_connect::Joints;
+use v_flat::scope::Scope;
 use v_header::Ports;
-use v_scope::Scope;
+use v_layout::build::Parts;
 
 /// Adds the assignments of the connected ports of an instance to the parts of a design, in the order of its ports (IEEE 1364-2005, clause
 /// 12.3.9.2). `scope` is that of the instance, whose ports these are, and `joints` are what they are joined to in the scope around it. A

@@ -12,9 +12,9 @@ use crate::state::{State, signal_count, with_found};
 use crate::waits::{control_wakes, expression_wakes};
 use port_io::NoMemory;
 use std::alloc::Global;
+use v_flat::scope::Found;
 use v_loop::Unrolled;
 use v_process as process;
-use v_scope::Found;
 use v_syntax::{EventControl, Expression, Identifier, Statement, Target};
 
 /// The instance with the process of `assign target = value` (IEEE 1364-2005, clause 6.1.2), or what is broken first in it. Only want of

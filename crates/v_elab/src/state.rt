@@ -1,14 +1,14 @@
 //! An instance between two of its items.
 
 ghost use Rattle.std.specs.Prelude.{◌≡◌, ◌≤◌, length, IfOk};
-ghost use Rattle.v_scope.specs.Limits.{most_parts};
+ghost use Rattle.v_flat.specs.Scope.Limits.{most_parts};
 ghost use Rattle.v_elab.specs.ItemsSteps.{AddsFound};
 
 use gpi::{Process, Spot};
 use port_io::{Name, NoMemory, Sequence};
-use v_build::Parts;
-use v_drive::DrivenDigits;
-use v_scope::{Found, Scope};
+use v_flat::scope::{Found, Scope};
+use v_layout::build::Parts;
+use v_process::drive::DrivenDigits;
 
 /// An instance between two of its items.
 #[derive(Drop)]

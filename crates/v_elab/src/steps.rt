@@ -1,7 +1,7 @@
 //! What each element of a list of an item does with an instance.
 
 ghost use Rattle.std.specs.Prelude.{◌≡◌, Bool, IfOk, is_some, true};
-ghost use Rattle.v_scope.specs.declared.found.Found.{Found};
+ghost use Rattle.v_flat.specs.declared.scope.found.Found.{Found};
 ghost use Rattle.v_flat.specs.Design.{State as InstanceState, driver, net, register};
 ghost use Rattle.v_syntax.specs.SourceTrees.{view_driver, view_net, view_register};
 ghost use Rattle.v_elab.specs.States.{IsReady};
@@ -11,7 +11,7 @@ use crate::processes::{driver, net, register};
 use crate::state::State;
 use port_io::NoMemory;
 use std::alloc::Global;
-use v_scope::Found;
+use v_flat::scope::Found;
 use v_syntax::{ContinuousAssignment, NetDeclarator, RegisterDeclarator, RegisterTail};
 
 /// An element of a list of an item.

@@ -3,13 +3,13 @@
 ghost use Rattle.std.specs.Prelude.{◌≡◌, ◌&&◌, bytes_eq, nat_lt};
 ghost use Rattle.std.specs.List.{list_any};
 ghost use Rattle.v_header.specs.Names.{texts};
-ghost use Rattle.v_scope.specs.Limits.{most_parts};
-ghost use Rattle.v_top.specs.Found.{modules_of};
+ghost use Rattle.v_flat.specs.Scope.Limits.{most_parts};
+ghost use Rattle.v_header.specs.Top.Found.{modules_of};
 ghost use Rattle.v_elab.specs.InnerSteps.{IsThere};
 
-use v_scope::{Broken, ElabRule, Found};
+use v_flat::scope::{Broken, ElabRule, Found};
+use v_header::top::Modules;
 use v_syntax::{Identifier, Module};
-use v_top::Modules;
 
 /// The most instances that a design may have.
 const MOST_INSTANCES: usize = 65_536;

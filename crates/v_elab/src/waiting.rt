@@ -8,12 +8,12 @@ use crate::outside::Outside;
 use crate::state::State;
 use crate::walked::Walked;
 use gpi::Spot;
+use name_table::Names;
 use port_io::{Name, NoMemory, Sequence};
 use std::alloc::Global;
-use test_names::Names;
-use v_build::Parts;
-use v_drive::DrivenDigits;
-use v_scope::Scope;
+use v_flat::scope::Scope;
+use v_layout::build::Parts;
+use v_process::drive::DrivenDigits;
 use v_syntax::Module;
 
 /// An instance while one inside it is walked.

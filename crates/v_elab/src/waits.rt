@@ -1,24 +1,24 @@
 //! What the processes of items wait for.
 
 ghost use Rattle.std.specs.Prelude.{◌≡◌, IfOk, length};
-ghost use Rattle.v_scope.specs.Scope.{means};
+ghost use Rattle.v_flat.specs.Scope.Scope.{means};
 ghost use Rattle.v_syntax.specs.ExpressionTrees.{view};
 ghost use Rattle.v_syntax.specs.StatementTrees.{view as view_statement};
 ghost use Rattle.v_syntax.specs.SourceTrees.{view_control};
 ghost use Rattle.v_flat.specs.Design.{Design};
 ghost use Rattle.v_flat.specs.Statements.{reads, statement_reads};
-ghost use Rattle.v_names.specs.Proper.{AreProper};
-ghost use Rattle.v_wakes.specs.Wakes.{WaitForAll};
+ghost use Rattle.v_check.specs.Names.Proper.{AreProper};
+ghost use Rattle.v_loop.specs.Wakes.Wakes.{WaitForAll};
 ghost use Rattle.v_elab.specs.ItemsSteps.{awaited};
 
 use gpi::Wake;
 use port_io::{NoMemory, Sequence};
 use std::alloc::Global;
-use v_reads::reads;
-use v_scope::{Found, Scope};
-use v_sensitivity::statement_reads;
+use v_flat::scope::{Found, Scope};
+use v_loop::reads::reads;
+use v_loop::sensitivity::statement_reads;
+use v_loop::wakes::{events, wakes};
 use v_syntax::{EventControl, Expression, Statement};
-use v_wakes::{events, wakes};
 
 /// The changes of the signals that an expression reads, of so many signals in all. Only want of memory is an error.
 pub(crate) fn expression_wakes(

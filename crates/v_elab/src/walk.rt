@@ -2,7 +2,7 @@
 
 ghost use Rattle.std.specs.Prelude.{◌≤◌, IfOk, length, map};
 ghost use Rattle.v_syntax.specs.SourceTrees.{view_item, view_module};
-ghost use Rattle.v_scope.specs.Limits.{most_parts};
+ghost use Rattle.v_flat.specs.Scope.Limits.{most_parts};
 ghost use Rattle.v_elab.specs.States.{IsReady};
 ghost use Rattle.v_elab.specs.WalkSteps.{Passes, over_item, over_items};
 ghost use Rattle.v_elab.specs.Walks.{Walks};
@@ -17,9 +17,9 @@ use crate::waiting::Entered;
 use crate::walked::Walked;
 use port_io::NoMemory;
 use std::alloc::Global;
-use v_build::Parts;
+use v_flat::scope::Broken;
+use v_layout::build::Parts;
 use v_loop::Unrolled;
-use v_scope::Broken;
 use v_syntax::{Item, Module};
 
 /// What is built of the design behind an instance of this module that stands here and is given this from outside, with all that stands below it

@@ -1,12 +1,12 @@
 //! An instance between two of its items, whatever these are.
 
 ghost use Rattle.std.specs.Prelude.{◌≡◌, ◌&&◌, is_none};
-ghost use Rattle.test_names.specs.Places.{first_place, nowhere};
-ghost use Rattle.v_scope.specs.Scope.{means};
+ghost use Rattle.name_table.specs.Places.{first_place, nowhere};
+ghost use Rattle.v_flat.specs.Scope.Scope.{means};
 
 use crate::state::State;
+use name_table::Names;
 use std::alloc::Global;
-use test_names::Names;
 
 /// An instance between two of its items.
 #[derive(Drop)]

@@ -9,11 +9,11 @@ use Rattle.v_syntax.specs.declared.expression.BinaryOperator.{BinaryOperator}
 use Rattle.v_syntax.specs.ExpressionTrees.{Tree, Number, Named, Bracketed, Unary, Binary, Conditional, Concatenation, Replication, Trees, none, more, SelectsTree, Whole, One, OfWord, SelectTree, Bit, Part, IndexedPart, TargetTree, NamedTarget, JoinedTarget, TargetTrees, no_target, more_targets, height, selects_height, select_height, trees_height, target_height, targets_height}
 use Rattle.v_syntax.specs.ExpressionOperators.{unary_operator, binary_operator, level_of, level}
 use Rattle.v_syntax.specs.ExpressionSpans.{IsMark, IsBinary, place, Spans, SelectsSpan, SelectSpans, AllSpan, OthersSpan, TargetSpans, TargetsSpan, OtherTargetsSpan}
-use Rattle.v_phrase.specs.Stops.{Answer, ◌>>=◌, after, behind}
+use Rattle.v_expression.specs.Phrase.Stops.{Answer, ◌>>=◌, after, behind}
 use Rattle.v_expression.specs.Reading.{Readers, last_of, range_of, bound_of, select_of, further_by, further_of, selects_by, selects_of, named_of, bracketed_of, others_of, parts_of, replication_of, concatenation_of, inside_of, braced_of, primary_of, infix_of, prefixed_of, unary_of, from_level, operand_of, step_by, steps_of, climb_of, branches_of, choose_of, whole_of, other_targets_of, target_parts_of, joined_of, named_target_of, any_target_of, below}
 use Rattle.v_expression.specs.Follows.{level_or_zero, follow_mark, follow}
 use Rattle.v_expression.proofs.Room.{down_some}
-use Rattle.v_phrase.proofs.Marks.{behind_case, after_mark, behind_mark, behind_other}
+use Rattle.v_expression.proofs.PhraseLemmas.Marks.{behind_case, after_mark, behind_mark, behind_other}
 use Rattle.v_expression.proofs.Basics.{level_from_2, level_below_12, front, from_level_some, from_level_none, height_positive, target_height_positive, down_fits, spans_shrink, target_shrinks}
 
 -- ---- what can follow

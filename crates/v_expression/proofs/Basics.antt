@@ -13,7 +13,7 @@ use Rattle.v_syntax.specs.SameMarks.{mark_number, same_mark}
 use Rattle.v_syntax.specs.ExpressionTrees.{Tree, Number, Named, Bracketed, Unary, Binary, Conditional, Concatenation, Replication, Trees, none, more, SelectsTree, Whole, One, OfWord, SelectTree, Bit, Part, IndexedPart, TargetTree, NamedTarget, JoinedTarget, TargetTrees, no_target, more_targets, height, selects_height, target_height}
 use Rattle.v_syntax.specs.ExpressionOperators.{unary_operator, binary_operator, level_of}
 use Rattle.v_syntax.specs.ExpressionSpans.{IsMark, Spans, SelectsSpan, SelectSpans, AllSpan, OthersSpan, TargetSpans, TargetsSpan, OtherTargetsSpan}
-use Rattle.v_phrase.specs.Stops.{is_mark, after, behind, syntax_at, deep_at}
+use Rattle.v_expression.specs.Phrase.Stops.{is_mark, after, behind, syntax_at, deep_at}
 use Rattle.v_expression.specs.Follows.{level_or_zero}
 use Rattle.v_expression.specs.Reading.{Readers, down_from, prefix_of, infix_of, from_level}
 

@@ -9,11 +9,11 @@ use Rattle.v_syntax.specs.ExpressionTrees.{Tree, Trees, SelectsTree, SelectTree,
 use Rattle.v_syntax.specs.ExpressionOperators.{level}
 use Rattle.v_syntax.specs.ExpressionSpans.{IsMark, Spans, SelectsSpan, SelectSpans, AllSpan, OthersSpan, TargetSpans, TargetsSpan, OtherTargetsSpan}
 use Rattle.v_syntax.specs.ExpressionFronts.{ItemsSpan, TargetItemsSpan, WordSpans, NoWord, Word, BoundSpans, NoBound, Left, Base, Begins, Missing, Entire, CutFirst, CutBracketed, CutUnary, CutBinary, CutConditional, CutChoice, CutSelect, CutConcatenation, CutReplication, OpenReplication, TargetBegins, MissingTarget, EntireTarget, CutTargetSelect, CutJoinedTarget}
-use Rattle.v_phrase.specs.Stops.{Stop, Syntax, TooDeep, Answer, ◌>>=◌, after, syntax_at}
+use Rattle.v_expression.specs.Phrase.Stops.{Stop, Syntax, TooDeep, Answer, ◌>>=◌, after, syntax_at}
 use Rattle.v_expression.specs.Reading.{Readers, down, down_from}
 use Rattle.v_expression.proofs.Basics.{front, down_fits, down_high}
-use Rattle.v_phrase.proofs.Marks.{after_case}
-use Rattle.v_phrase.proofs.Suffixes.{at_most_or_more}
+use Rattle.v_expression.proofs.PhraseLemmas.Marks.{after_case}
+use Rattle.v_expression.proofs.PhraseLemmas.Suffixes.{at_most_or_more}
 
 -- what is said of what is read and the tokens behind it, and of the tokens behind a partial tree of a height
 pub record Claim (A : Type 0) : Type 1 where

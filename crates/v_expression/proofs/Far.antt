@@ -9,13 +9,13 @@ use Rattle.v_syntax.specs.ExpressionTrees.{Tree, Number, Named, Bracketed, Unary
 use Rattle.v_syntax.specs.ExpressionOperators.{level_of, level}
 use Rattle.v_syntax.specs.ExpressionSpans.{IsMark, IsUnary, IsBinary, place, Spans, SelectsSpan, SelectSpans, AllSpan, TargetSpans}
 use Rattle.v_syntax.specs.ExpressionFronts.{ItemsSpan, TargetItemsSpan, WordSpans, NoWord, Word, BoundSpans, NoBound, Left, Base, Begins, Missing, Entire, CutFirst, CutBracketed, CutUnary, CutBinary, CutConditional, CutChoice, CutSelect, CutConcatenation, CutReplication, OpenReplication, TargetBegins, MissingTarget, EntireTarget, CutTargetSelect, CutJoinedTarget}
-use Rattle.v_phrase.specs.Stops.{◌>>=◌}
+use Rattle.v_expression.specs.Phrase.Stops.{◌>>=◌}
 use Rattle.v_expression.specs.Reading.{Readers, last_of, part, indexed_part, range_of, bound_of, select_of, of_word, further_of, selects_of, bracketed_of, and_first, others_of, parts_of, replication_of, concatenation_of, inside_of, primary_of, unary_of, steps_of, climb_of, whole_of, and_first_target, other_targets_of, target_parts_of, any_target_of, below}
 use Rattle.v_expression.specs.Follows.{level_or_zero, follow}
 use Rattle.v_expression.proofs.Room.{down_some}
-use Rattle.v_phrase.proofs.Marks.{after_mark, behind_mark, behind_other}
+use Rattle.v_expression.proofs.PhraseLemmas.Marks.{after_mark, behind_mark, behind_other}
 use Rattle.v_expression.proofs.Basics.{level_from_2, level_below_12, front, height_positive, target_height_positive, spans_shrink, target_shrinks}
-use Rattle.v_phrase.proofs.Passes.{Passes, passes_more, passes_then}
+use Rattle.v_expression.proofs.PhraseLemmas.Passes.{Passes, passes_more, passes_then}
 use Rattle.v_expression.proofs.Forward.{passes_after, GoForward, bound_pass, further_pass, selects_pass, others_pass, parts_pass, inside_pass, unary_forward, steps_pass, climb_forward, choose_pass, whole_forward, expression_pass, other_targets_pass, target_parts_pass, any_target_forward, below_forward}
 use Rattle.v_expression.proofs.Again.{follow_infix, ends, ReadAgain, with_operand, with_targets, second, third, first_again, word_again, parts_again, counted_again, braced_again, closed_again, named_again, prefixed_again, operand_next, Reached, climb_again, branches_next, joined_next, named_target_next, joined_again, below_again}
 

@@ -9,11 +9,11 @@ use Rattle.v_syntax.specs.declared.expression.BinaryOperator.{BinaryOperator}
 use Rattle.v_syntax.specs.ExpressionTrees.{Tree, Bracketed, Replication, SelectTree, Bit, Part, IndexedPart, TargetTree, height}
 use Rattle.v_syntax.specs.ExpressionOperators.{level_of}
 use Rattle.v_syntax.specs.ExpressionSpans.{place}
-use Rattle.v_phrase.specs.Stops.{Syntax, TooDeep, Answer, ◌>>=◌, after, behind, syntax_at}
-use Rattle.v_phrase.proofs.Passes.{Passes, passes_more, passes_then}
+use Rattle.v_expression.specs.Phrase.Stops.{Syntax, TooDeep, Answer, ◌>>=◌, after, behind, syntax_at}
+use Rattle.v_expression.proofs.PhraseLemmas.Passes.{Passes, passes_more, passes_then}
 use Rattle.v_expression.specs.Reading.{Readers, down, down_from, last_of, part, indexed_part, range_by, range_of, bound_by, bound_of, select_of, of_word, further_by, further_of, selects_by, selects_of, named_of, bracketed_of, and_first, others_by, others_of, parts_of, replication_of, concatenation_of, inside_by, inside_of, braced_of, primary_of, prefix_of, infix_of, prefixed_of, unary_by, unary_of, from_level, operand_of, step_by, steps_of, climb_of, branches_of, choose_by, choose_of, whole_of, and_first_target, other_targets_by, other_targets_of, target_parts_of, joined_of, named_target_of, any_target_of, below, nothing}
-use Rattle.v_phrase.proofs.Marks.{after_case, behind_case}
-use Rattle.v_phrase.proofs.Suffixes.{at_most_or_more}
+use Rattle.v_expression.proofs.PhraseLemmas.Marks.{after_case, behind_case}
+use Rattle.v_expression.proofs.PhraseLemmas.Suffixes.{at_most_or_more}
 use Rattle.v_expression.proofs.Basics.{down_fits, down_high}
 
 pub passes_after : {A : Type 0} → (n : ℕ) (m : Mark) (f : List Token → Answer A) (ts : List Token) → length ts ≤ n → ((rest : List Token) → length rest ≤ n → Passes n (f rest)) → Passes n (after m ts >>= f)

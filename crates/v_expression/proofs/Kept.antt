@@ -8,10 +8,10 @@ use Rattle.v_syntax.specs.declared.expression.BinaryOperator.{BinaryOperator}
 use Rattle.v_syntax.specs.ExpressionTrees.{Tree, Bracketed, Replication, SelectTree, Bit, Part, IndexedPart, TargetTree, height}
 use Rattle.v_syntax.specs.ExpressionOperators.{level_of}
 use Rattle.v_syntax.specs.ExpressionSpans.{place}
-use Rattle.v_phrase.specs.Stops.{Stop, Syntax, TooDeep, ◌>>=◌, after, behind}
-use Rattle.v_phrase.proofs.Extends.{Extends, same, extends_then}
+use Rattle.v_expression.specs.Phrase.Stops.{Stop, Syntax, TooDeep, ◌>>=◌, after, behind}
+use Rattle.v_expression.proofs.PhraseLemmas.Extends.{Extends, same, extends_then}
 use Rattle.v_expression.specs.Reading.{Readers, down, down_from, last_of, range_by, range_of, bound_by, bound_of, select_of, further_by, further_of, selects_by, selects_of, named_of, bracketed_of, others_by, others_of, parts_of, replication_of, concatenation_of, inside_by, inside_of, braced_of, primary_of, prefix_of, infix_of, prefixed_of, unary_by, unary_of, from_level, operand_of, step_by, steps_of, climb_of, branches_of, choose_by, choose_of, whole_of, other_targets_by, other_targets_of, target_parts_of, joined_of, named_target_of, any_target_of, below}
-use Rattle.v_phrase.proofs.Suffixes.{at_most_or_more}
+use Rattle.v_expression.proofs.PhraseLemmas.Suffixes.{at_most_or_more}
 use Rattle.v_expression.proofs.Basics.{height_positive, down_fits, down_high}
 
 pub record AreKept (sub sup : Readers) : Type 0 where

@@ -5,21 +5,21 @@ use Rattle.v_syntax.specs.declared.token.Token.{Token}
 use Rattle.v_syntax.specs.ExpressionTrees.{height, target_height}
 use Rattle.v_syntax.specs.ExpressionSpans.{Spans, TargetSpans}
 use Rattle.v_syntax.specs.ExpressionFronts.{Begins, Missing, Entire, TargetBegins, MissingTarget, EntireTarget}
-use Rattle.v_phrase.specs.declared.read_error.ReadError.{ReadError}
-use Rattle.v_phrase.specs.declared.read_error.ReadError.TheVariants as errors
-use Rattle.v_phrase.specs.Stops.{Stop, Syntax, TooDeep, Answer, Gives, Fails}
+use Rattle.v_expression.specs.declared.phrase.read_error.ReadError.{ReadError}
+use Rattle.v_expression.specs.declared.phrase.read_error.ReadError.TheVariants as errors
+use Rattle.v_expression.specs.Phrase.Stops.{Stop, Syntax, TooDeep, Answer, Gives, Fails}
 use Rattle.v_expression.specs.Reading.{expression_of, target_of}
 use Rattle.v_expression.specs.Follows.{follow}
-use Rattle.v_phrase.specs.Refusals.{Reaches, IsRefusal, IsRead}
+use Rattle.v_expression.specs.Phrase.Refusals.{Reaches, IsRefusal, IsRead}
 use Rattle.v_expression.proofs.Claims.{Refused, tree, target, Read, begins_more, target_begins_more}
 use Rattle.v_expression.proofs.Sound.{expression_is_sound, target_is_sound}
-use Rattle.v_phrase.proofs.Extends.{Extends}
+use Rattle.v_expression.proofs.PhraseLemmas.Extends.{Extends}
 use Rattle.v_expression.proofs.Kept.{expression_is_kept, target_is_kept}
 use Rattle.v_expression.proofs.Again.{expression_is_again, target_is_again}
-use Rattle.v_phrase.proofs.Passes.{Passes}
+use Rattle.v_expression.proofs.PhraseLemmas.Passes.{Passes}
 use Rattle.v_expression.proofs.Forward.{expression_goes_forward, target_goes_forward}
 use Rattle.v_expression.proofs.Far.{begins_positive, target_begins_positive, expression_is_far, target_is_far}
-use Rattle.v_phrase.proofs.Suffixes.{IsSuffix}
+use Rattle.v_expression.proofs.PhraseLemmas.Suffixes.{IsSuffix}
 use Rattle.v_expression.proofs.Shorter.{level_positive, begins_cut, target_begins_cut, begins_suffix, target_begins_suffix}
 
 -- `spans x here rest`: x spells the tokens from here to rest. `begins n here rest`: a partial tree of height at most n

@@ -2,12 +2,12 @@
 use Rattle.std.proofs.Common.{◌≡◌, ℕ, zero, suc, ◌+◌, ◌≤◌, ◌<◌, true, false, List, length, Err, sym, ◌∙◌, arith, inl, inr}
 use Rattle.v_syntax.specs.declared.token.Token.{Token}
 use Rattle.v_syntax.specs.Phrases.{Phrase}
-use Rattle.v_phrase.specs.Stops.{Stop, Syntax, TooDeep, Answer}
-use Rattle.v_phrase.proofs.Extends.{Extends}
+use Rattle.v_expression.specs.Phrase.Stops.{Stop, Syntax, TooDeep, Answer}
+use Rattle.v_expression.proofs.PhraseLemmas.Extends.{Extends}
 use Rattle.v_expression.proofs.Laws.{ReaderLaws}
-use Rattle.v_phrase.specs.Readers.{Reader, down}
-use Rattle.v_phrase.specs.Kinds.{kind_at, Kinds}
-use Rattle.v_phrase.proofs.Laws.{left, Starts, Spells, Laws, err_ok}
+use Rattle.v_expression.specs.Phrase.Readers.{Reader, down}
+use Rattle.v_expression.specs.Phrase.Kinds.{kind_at, Kinds}
+use Rattle.v_expression.proofs.PhraseLemmas.Laws.{left, Starts, Spells, Laws, err_ok}
 
 module _ {A : Type 0} {spans : A → List Token → List Token → Type 0} {high : A → ℕ} {begins : ℕ → List Token → List Token → Type 0} {stops : List Token → Type 0} {read : ℕ → List Token → Answer A}
     (l : ReaderLaws spans high begins stops read) (s t : Kinds)

@@ -1,3 +1,4 @@
+pub mod PhraseLemmas
 pub mod Rows
 pub mod Room
 pub mod Loops

@@ -4,9 +4,9 @@ use Rattle.v_syntax.specs.declared.token.Token.{Token}
 use Rattle.v_syntax.specs.declared.mark.Mark.TheVariants as mark
 use Rattle.v_syntax.specs.declared.expression.BinaryOperator.{BinaryOperator}
 use Rattle.v_syntax.specs.ExpressionTrees.{Tree, Trees, none, more, height, trees_height, TargetTree, TargetTrees, no_target, more_targets}
-use Rattle.v_phrase.specs.declared.read_error.ReadError.{ReadError}
-use Rattle.v_phrase.specs.declared.read_error.ReadError.TheVariants as errors
-use Rattle.v_phrase.specs.Stops.{Stop, Syntax, Answer, ◌>>=◌, Fails, after, behind}
+use Rattle.v_expression.specs.declared.phrase.read_error.ReadError.{ReadError}
+use Rattle.v_expression.specs.declared.phrase.read_error.ReadError.TheVariants as errors
+use Rattle.v_expression.specs.Phrase.Stops.{Stop, Syntax, Answer, ◌>>=◌, Fails, after, behind}
 use Rattle.v_expression.specs.Reading.{Readers, steps_of, operand_of, from_level, infix_of, others_of, others_by, and_first, parts_of, other_targets_of, other_targets_by, and_first_target, target_parts_of}
 use Rattle.v_expression.specs.Lists.{joined, and_last, with_front, joined_targets, and_last_target, with_front_targets}
 

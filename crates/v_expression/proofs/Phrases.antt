@@ -11,11 +11,11 @@ use Rattle.v_expression.specs.Reading.{expression_of, target_of}
 use Rattle.v_expression.proofs.Basics.{height_positive, spans_shrink, target_height_positive, target_shrinks}
 use Rattle.v_expression.proofs.Starts.{spans_start, begins_start, target_start, target_begins_start, expression_opens, target_opens}
 use Rattle.v_expression.proofs.Laws.{expression_laws, target_laws}
-use Rattle.v_phrase.specs.Readers.{down}
-use Rattle.v_phrase.specs.Kinds.{AtEnd, AtName, AtKeyword, AtReserved, AtTask, AtNumber, AtText, AtMark, kind_at, Kinds, Tells}
-use Rattle.v_phrase.proofs.Laws.{Goes, Starts, Laws, Ready}
+use Rattle.v_expression.specs.Phrase.Readers.{down}
+use Rattle.v_expression.specs.Phrase.Kinds.{AtEnd, AtName, AtKeyword, AtReserved, AtTask, AtNumber, AtText, AtMark, kind_at, Kinds, Tells}
+use Rattle.v_expression.proofs.PhraseLemmas.Laws.{Goes, Starts, Laws, Ready}
 use Rattle.v_expression.proofs.Levels.{reader_laws}
-use Rattle.v_phrase.proofs.Levels.{down_ready}
+use Rattle.v_expression.proofs.PhraseLemmas.Levels.{down_ready}
 
 -- with what an expression begins, and what doesn't go on with one
 abbrev pub of_expression : Kinds

@@ -8,9 +8,9 @@ use Rattle.v_syntax.specs.ExpressionOperators.{level_of, level}
 use Rattle.v_syntax.specs.ExpressionSpans.{IsMark, place, Spans, SelectsSpan, SelectSpans, AllSpan, OthersSpan, TargetSpans, TargetsSpan, OtherTargetsSpan}
 use Rattle.v_syntax.specs.ExpressionFronts.{ItemsSpan, TargetItemsSpan, WordSpans, NoWord, Word, BoundSpans, NoBound, Left, Base, Begins, Missing, Entire, CutFirst, CutBracketed, CutUnary, CutBinary, CutConditional, CutChoice, CutSelect, CutConcatenation, CutReplication, OpenReplication, TargetBegins, MissingTarget, EntireTarget, CutTargetSelect, CutJoinedTarget}
 use Rattle.std.proofs.lemmas.List.{length-append}
-use Rattle.v_phrase.proofs.Suffixes.{at_most_or_more}
+use Rattle.v_expression.proofs.PhraseLemmas.Suffixes.{at_most_or_more}
 use Rattle.v_expression.proofs.Basics.{height_positive, target_height_positive, level_from_2, level_below_12}
-use Rattle.v_phrase.proofs.Suffixes.{IsSuffix, suffix_cons, suffix_self, suffix_trans, suffix_within, suffix_same, first_cut}
+use Rattle.v_expression.proofs.PhraseLemmas.Suffixes.{IsSuffix, suffix_cons, suffix_self, suffix_trans, suffix_within, suffix_same, first_cut}
 use Rattle.v_expression.proofs.Claims.{SelectsBegin, EntireSelects, CutSelects, SelectBegins, NoSelect, SomeSelect, OthersBegin, NoOther, SomeOther, PartsBegin, OtherTargetsBegin, NoOtherTarget, SomeOtherTarget, TargetPartsBegin, bound_more, begins_more, begins_looser, target_begins_more}
 
 abbrev pub either : {A B C : Type 0} → A ⊎ B → (A → C) → (B → C) → C

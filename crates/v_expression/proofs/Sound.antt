@@ -9,11 +9,11 @@ use Rattle.v_syntax.specs.ExpressionTrees.{Tree, Named, Binary, none, more, Whol
 use Rattle.v_syntax.specs.ExpressionOperators.{level_of, level}
 use Rattle.v_syntax.specs.ExpressionSpans.{IsMark, IsUnary, IsBinary, place, Spans, SelectsSpan, SelectSpans, AllSpan, OthersSpan, TargetSpans, TargetsSpan, OtherTargetsSpan}
 use Rattle.v_syntax.specs.ExpressionFronts.{ItemsSpan, TargetItemsSpan, NoWord, Word, NoBound, Left, Base, Begins, Missing, Entire, CutBracketed, CutUnary, CutBinary, CutConditional, CutChoice, CutSelect, CutConcatenation, CutReplication, OpenReplication, TargetBegins, MissingTarget, EntireTarget, CutTargetSelect, CutJoinedTarget}
-use Rattle.v_phrase.specs.Stops.{TooDeep, Answer, ◌>>=◌, after, behind, syntax_at}
+use Rattle.v_expression.specs.Phrase.Stops.{TooDeep, Answer, ◌>>=◌, after, behind, syntax_at}
 use Rattle.v_expression.specs.Reading.{Readers, last_of, part, indexed_part, range_by, range_of, bound_by, bound_of, select_of, of_word, further_by, further_of, selects_by, selects_of, named_of, bracketed_of, and_first, others_by, others_of, parts_of, replication_of, concatenation_of, inside_by, inside_of, braced_of, primary_of, prefix_of, infix_of, prefixed_of, unary_by, unary_of, from_level, operand_of, step_by, steps_of, climb_of, branches_of, choose_by, choose_of, whole_of, and_first_target, other_targets_by, other_targets_of, target_parts_of, joined_of, named_target_of, any_target_of, layer, below}
-use Rattle.v_phrase.proofs.Marks.{after_case, behind_case}
+use Rattle.v_expression.proofs.PhraseLemmas.Marks.{after_case, behind_case}
 use Rattle.v_expression.proofs.Basics.{infix_mark, prefix_mark, level_below_12, front, front_below_12, from_level_some, from_level_none, height_positive, down_fits, down_high, spans_shrink}
-use Rattle.v_phrase.proofs.Suffixes.{at_most_or_more}
+use Rattle.v_expression.proofs.PhraseLemmas.Suffixes.{at_most_or_more}
 use Rattle.v_expression.proofs.Claims.{Meets, refused_up, meets_then, meets_nothing, meets_after, meets_down, meets_down_from, Read, tree, SelectsBegin, EntireSelects, CutSelects, selects, SelectBegins, NoSelect, SomeSelect, select, last, OthersBegin, NoOther, SomeOther, others, PartsBegin, parts, target, OtherTargetsBegin, NoOtherTarget, SomeOtherTarget, other_targets, TargetPartsBegin, target_parts, begins_looser}
 
 -- the readers for heights up to n

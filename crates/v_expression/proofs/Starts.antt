@@ -9,7 +9,7 @@ use Rattle.v_syntax.specs.ExpressionTrees.{Tree, Number, Named, Bracketed, Unary
 use Rattle.v_syntax.specs.ExpressionOperators.{unary_operator, level}
 use Rattle.v_syntax.specs.ExpressionSpans.{IsUnary, place, Spans, SelectsSpan, TargetSpans}
 use Rattle.v_syntax.specs.ExpressionFronts.{ItemsSpan, TargetItemsSpan, Begins, Missing, Entire, CutFirst, CutBracketed, CutUnary, CutBinary, CutConditional, CutChoice, CutSelect, CutConcatenation, CutReplication, OpenReplication, TargetBegins, MissingTarget, EntireTarget, CutTargetSelect, CutJoinedTarget}
-use Rattle.v_phrase.specs.Stops.{syntax_at}
+use Rattle.v_expression.specs.Phrase.Stops.{syntax_at}
 use Rattle.v_expression.specs.Reading.{below, primary_of, unary_of, climb_of, whole_of, any_target_of}
 use Rattle.v_expression.specs.Starts.{mark_begins_expression, begins_expression, starts_expression, begins_target, starts_target}
 

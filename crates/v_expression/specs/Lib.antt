@@ -1,3 +1,4 @@
+pub mod Phrase
 pub mod Reading
 pub mod Measures
 pub mod Lists

@@ -1,7 +1,7 @@
 -- A means of proof: one list of trees behind another, for the proofs of Verilog's parser.
 use Rattle.std.specs.Prelude.{Ok}
 use Rattle.v_syntax.specs.ExpressionTrees.{Tree, Trees, none, more, TargetTree, TargetTrees, no_target, more_targets}
-use Rattle.v_phrase.specs.Stops.{Answer, ◌>>=◌}
+use Rattle.v_expression.specs.Phrase.Stops.{Answer, ◌>>=◌}
 
 abbrev pub joined : Trees → Trees → Trees
 joined none es = es

@@ -9,7 +9,7 @@ use Rattle.v_syntax.specs.declared.expression.BinaryOperator.{BinaryOperator}
 use Rattle.v_syntax.specs.ExpressionTrees.{Tree, Number, Named, Bracketed, Unary, Binary, Conditional, Concatenation, Replication, Trees, none, more, SelectsTree, Whole, One, OfWord, SelectTree, Bit, Part, IndexedPart, TargetTree, NamedTarget, JoinedTarget, TargetTrees, no_target, more_targets, height}
 use Rattle.v_syntax.specs.ExpressionOperators.{unary_operator, binary_operator, level_of}
 use Rattle.v_syntax.specs.ExpressionSpans.{place}
-use Rattle.v_phrase.specs.Stops.{Stop, Answer, ◌>>=◌, syntax_at, deep_at, after, behind}
+use Rattle.v_expression.specs.Phrase.Stops.{Stop, Answer, ◌>>=◌, syntax_at, deep_at, after, behind}
 
 -- the readers of one level down
 pub record Readers : Type 0 where

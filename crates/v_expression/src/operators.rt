@@ -3,7 +3,7 @@
 ghost use Rattle.std.specs.Prelude.{◌≡◌, ◌+◌, ◌<◌, ◌≤◌, length, IfOk, Option};
 ghost use Rattle.v_syntax.specs.ExpressionTrees.{view, height};
 ghost use Rattle.v_syntax.specs.ExpressionOperators;
-ghost use Rattle.v_phrase.specs.Stops.{Gives};
+ghost use Rattle.v_expression.specs.Phrase.Stops.{Gives};
 ghost use Rattle.v_expression.specs.Reading;
 ghost use Rattle.v_expression.specs.Reading.{
   below,
@@ -23,9 +23,9 @@ ghost use Rattle.v_expression.specs.Reading.{
 ghost use Rattle.v_expression.specs.Measures.{IsMeasured};
 
 use crate::measured::{Measured, binary, conditional, unary};
+use crate::phrase::{ReadError, after, behind, next, place, syntax_error, too_deep};
 use crate::primaries::primary_at;
 use std::alloc::Global;
-use v_phrase::{ReadError, after, behind, next, place, syntax_error, too_deep};
 use v_syntax::{BinaryOperator, Mark, Token, UnaryOperator};
 
 /// How many levels are left below a node here.

@@ -2,7 +2,7 @@
 
 ghost use Rattle.std.specs.Prelude.{◌≡◌, ◌+◌, ◌<◌, ◌≤◌, IfOk};
 ghost use Rattle.v_syntax.specs.ExpressionTrees.{view, views, height, trees_height};
-ghost use Rattle.v_phrase.specs.Stops.{Gives};
+ghost use Rattle.v_expression.specs.Phrase.Stops.{Gives};
 ghost use Rattle.v_expression.specs.Reading;
 ghost use Rattle.v_expression.specs.Reading.{
   below,
@@ -22,10 +22,10 @@ use crate::measured::{
     Measured, MeasuredParts, bracketed, concatenation, named, number, replication,
 };
 use crate::operators::{down, expression_at};
+use crate::phrase::{ReadError, after, behind, next, place, syntax_error};
 use crate::selects::selects_at;
 use port_io::Name;
 use std::alloc::Global;
-use v_phrase::{ReadError, after, behind, next, place, syntax_error};
 use v_syntax::{Mark, Token, TokenNumber};
 
 /// A primary with so many levels below its own.

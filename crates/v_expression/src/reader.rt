@@ -5,15 +5,15 @@ ghost use Rattle.v_syntax.specs.declared.token.Token.{Token};
 ghost use Rattle.v_syntax.specs.ExpressionTrees.{Tree, TargetTree, view, view_target, height, target_height};
 ghost use Rattle.v_syntax.specs.ExpressionSpans.{Spans, TargetSpans};
 ghost use Rattle.v_syntax.specs.ExpressionFronts.{Begins, TargetBegins};
-ghost use Rattle.v_phrase.specs.Stops.{Gives};
+ghost use Rattle.v_expression.specs.Phrase.Stops.{Gives};
 ghost use Rattle.v_expression.specs.Reading.{expression_of, target_of};
 ghost use Rattle.v_expression.specs.Follows.{follow};
-ghost use Rattle.v_phrase.specs.Refusals.{IsRefusal, IsRead};
+ghost use Rattle.v_expression.specs.Phrase.Refusals.{IsRefusal, IsRead};
 
 use crate::operators::expression_at;
+use crate::phrase::{Element, ReadError};
 use crate::targets::target_at;
 use std::alloc::Global;
-use v_phrase::{Element, ReadError};
 use v_syntax::{Expression, Target, Token};
 
 /// Reads an expression (IEEE 1364-2005, annex A.8.3) at the front of the tokens, which are the last of a text of `total`

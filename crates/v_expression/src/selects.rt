@@ -2,7 +2,7 @@
 
 ghost use Rattle.std.specs.Prelude.{◌≡◌, ◌+◌, ◌<◌, ◌≤◌, IfOk};
 ghost use Rattle.v_syntax.specs.ExpressionTrees.{view, view_select, view_selects, height, select_height, selects_height};
-ghost use Rattle.v_phrase.specs.Stops.{Gives};
+ghost use Rattle.v_expression.specs.Phrase.Stops.{Gives};
 ghost use Rattle.v_expression.specs.Reading;
 ghost use Rattle.v_expression.specs.Reading.{below, layer, selects_of, further_of, select_of, bound_of, range_of, last_of};
 ghost use Rattle.v_expression.specs.Measures.{IsMeasured, IsMeasuredSelect, IsMeasuredSelects};
@@ -11,8 +11,8 @@ use crate::measured::{
     Measured, MeasuredSelect, MeasuredSelects, bit, indexed_part, of_word, one, part, whole,
 };
 use crate::operators::{down, expression_at};
+use crate::phrase::{ReadError, after, behind, place};
 use std::alloc::Global;
-use v_phrase::{ReadError, after, behind, place};
 use v_syntax::{Mark, Select, Token, TokenNumber};
 
 /// The selects behind a name that has so many levels below its own.

@@ -2,16 +2,16 @@
 
 ghost use Rattle.std.specs.Prelude.{◌≡◌, ◌<◌, [], ◌∷◌, ◌++◌, IfOk, OnOk};
 ghost use Rattle.v_syntax.specs.ExpressionTrees.{view_target, view_targets, view_selects, NamedTarget, JoinedTarget, more_targets, no_target};
-ghost use Rattle.v_phrase.specs.Stops.{Gives};
+ghost use Rattle.v_expression.specs.Phrase.Stops.{Gives};
 ghost use Rattle.v_expression.specs.Reading;
 ghost use Rattle.v_expression.specs.Reading.{below, layer, any_target_of, named_target_of, joined_of, target_parts_of};
 ghost use Rattle.v_expression.specs.Lists.{and_last_target};
 
 use crate::operators::down;
+use crate::phrase::{ReadError, after, behind, next, place, syntax_error};
 use crate::selects::selects_at;
 use port_io::{Name, boxed};
 use std::alloc::Global;
-use v_phrase::{ReadError, after, behind, next, place, syntax_error};
 use v_syntax::{Mark, Operand, Target, Token, TokenNumber};
 
 /// A target with so many levels below its own.

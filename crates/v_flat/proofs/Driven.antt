@@ -1,13 +1,13 @@
 -- Over the items of an instance each digit of a net is driven once.
 use Rattle.std.proofs.Common.{◌≡◌, ℕ, Bool, true, false, List, [], ◌∷◌, ◌++◌, Option, Some, None, refl, arith}
 use Rattle.v_syntax.specs.ExpressionTrees.{SelectsTree, TargetTree, NamedTarget, JoinedTarget, TargetTrees, no_target, more_targets}
-use Rattle.v_scope.specs.declared.found.Found.{Found}
-use Rattle.v_scope.specs.declared.found.Found.TheVariants.{Sound, Noted, Lost}
-use Rattle.v_scope.specs.declared.meaning.DataKind.{DataKind}
-use Rattle.v_scope.specs.declared.meaning.DataKind.TheVariants.{Input, Net, Register}
-use Rattle.v_scope.specs.declared.meaning.Meaning.{Meaning}
-use Rattle.v_scope.specs.declared.meaning.Meaning.TheVariants.{Constant, Object, Later}
-use Rattle.v_scope.specs.Scope.{Scope, find}
+use Rattle.v_flat.specs.declared.scope.found.Found.{Found}
+use Rattle.v_flat.specs.declared.scope.found.Found.TheVariants.{Sound, Noted, Lost}
+use Rattle.v_flat.specs.declared.scope.meaning.DataKind.{DataKind}
+use Rattle.v_flat.specs.declared.scope.meaning.DataKind.TheVariants.{Input, Net, Register}
+use Rattle.v_flat.specs.declared.scope.meaning.Meaning.{Meaning}
+use Rattle.v_flat.specs.declared.scope.meaning.Meaning.TheVariants.{Constant, Object, Later}
+use Rattle.v_flat.specs.Scope.Scope.{Scope, find}
 use Rattle.v_flat.specs.Targets.{Drive, meets, is_driven, once_more, net_driving, object_driving, name_driving, selected_drive, place_or, driving, all_driving, named_target}
 use Rattle.v_flat.specs.declared.manner.Manner.TheVariants.{Continuous}
 use Rattle.v_flat.specs.Laws.{Missed, Apart}

@@ -8,12 +8,12 @@ use Rattle.v_syntax.specs.StatementTrees.{StatementTree}
 use Rattle.v_syntax.specs.SourceTrees.{NetTree, Net as NetOf, Words, Initially, RegisterTree, Register as RegisterOf, DriverTree, Driver, ControlTree, Implicit, Events, ConnectionTree, Connection, ConnectionsTree, Ordered, Named as NamedConnections, KindTree, Ports, Nets, Registers, Integers, Parameters, Drivers, Always, Initial, Instance, ItemTree, ItemAt, ModuleTree}
 use Rattle.gpi.specs.declared.design.Wake.{Wake}
 use Rattle.gpi.specs.declared.design.Kind.TheVariants as process_kind
-use Rattle.v_scope.specs.declared.rule.ElabRule.TheVariants as rule
-use Rattle.v_scope.specs.declared.found.Found.{Found}
-use Rattle.v_scope.specs.Rules.{at}
-use Rattle.v_scope.specs.Found.{each, both, wants, ended, next}
-use Rattle.v_scope.specs.Scope.{Scope}
-use Rattle.v_scope.specs.Limits.{most_parts}
+use Rattle.v_flat.specs.declared.scope.rule.ElabRule.TheVariants as rule
+use Rattle.v_flat.specs.declared.scope.found.Found.{Found}
+use Rattle.v_flat.specs.Scope.Rules.{at}
+use Rattle.v_flat.specs.Scope.Found.{each, both, wants, ended, next}
+use Rattle.v_flat.specs.Scope.Scope.{Scope}
+use Rattle.v_flat.specs.Scope.Limits.{most_parts}
 use Rattle.v_flat.specs.Checks.{checked}
 use Rattle.v_flat.specs.Targets.{Drive, driving, as_target}
 use Rattle.v_flat.specs.Statements.{statement_checked, statement_reads}
@@ -21,7 +21,7 @@ use Rattle.v_flat.specs.Headers.{Port, find_port, ports_of, parameters_of, open_
 use Rattle.v_flat.specs.Declarations.{Given}
 use Rattle.v_flat.specs.Design.{Design, State, Sub, whole_of, adding, assigning, beginning, net, register, driver, in_turn, running, always, always_item, initial_item, wakes_of, events_of, net_count, register_count, plain_item, given_of, Joints, joint, output_joined, joined, ordered_joints, port_once, value_checked, named_joint, named_joints, joints_of, joint_count, find_module, module_there, is_fresh, instance_checked, with_child, instance_item, item, items}
 use Rattle.v_flat.specs.Paths.{Path, below}
-use Rattle.v_scope.specs.Found.{Holds, HoldsOk}
+use Rattle.v_flat.specs.Scope.Found.{Holds, HoldsOk}
 use Rattle.v_flat.specs.Laws.{Apart, Digits_are_driven_once}
 use Rattle.v_flat.proofs.Holds.{holds_lost, holds_then, holds_each, holds_both, holds_wants, holds_any, holds_ended, holds_next, holds_ok_any}
 use Rattle.v_flat.proofs.Driven.{driving_apart}

@@ -1,11 +1,11 @@
 -- What is so of the value where no rule is broken.
 use Rattle.std.proofs.Common.{◌≡◌, ℕ, Bool, true, false, Result, Ok, Err, refl}
-use Rattle.v_scope.specs.declared.rule.Broken.{Broken}
-use Rattle.v_scope.specs.declared.rule.ElabRule.{ElabRule}
-use Rattle.v_scope.specs.declared.found.Found.{Found}
-use Rattle.v_scope.specs.declared.found.Found.TheVariants.{Sound, Noted, Lost}
-use Rattle.v_scope.specs.Found.{noted, lost, each, both, followed, and_then, settled, wants, needs, ended, next}
-use Rattle.v_scope.specs.Found.{Holds, HoldsOk}
+use Rattle.v_flat.specs.declared.scope.rule.Broken.{Broken}
+use Rattle.v_flat.specs.declared.scope.rule.ElabRule.{ElabRule}
+use Rattle.v_flat.specs.declared.scope.found.Found.{Found}
+use Rattle.v_flat.specs.declared.scope.found.Found.TheVariants.{Sound, Noted, Lost}
+use Rattle.v_flat.specs.Scope.Found.{noted, lost, each, both, followed, and_then, settled, wants, needs, ended, next}
+use Rattle.v_flat.specs.Scope.Found.{Holds, HoldsOk}
 
 pub holds_noted : {A : Type 0} (P : A → Type 0) (b : Broken) (x : Found A) → Holds P (noted b x)
 holds_noted P b (Sound a) = tt

@@ -1,5 +1,7 @@
+pub mod ScopeLemmas
 pub mod Holds
 pub mod Widths
 pub mod Driven
 pub mod DrivenItems
 pub mod Rows
+pub mod ShapeLemmas

@@ -4,20 +4,20 @@ use Rattle.std.proofs.lemmas.Bool.Decides.{nat_tests}
 use Rattle.four_value.specs.declared.Digit.{Digit}
 use Rattle.four_value.specs.Vector.{number}
 use Rattle.v_syntax.specs.ExpressionTrees.{Tree, Number, Named, Bracketed, Unary, Binary, Conditional, Concatenation, Replication, SelectsTree, Whole, One, OfWord, SelectTree, Bit, Part, IndexedPart, Trees, none, more, first_at}
-use Rattle.v_scope.specs.declared.rule.ElabRule.TheVariants as rule
-use Rattle.v_scope.specs.declared.found.Found.{Found}
-use Rattle.v_scope.specs.declared.found.Found.TheVariants.{Sound, Noted, Lost}
-use Rattle.v_scope.specs.Found.{each, both, followed, and_then, settled, broken, wants, needs}
-use Rattle.v_scope.specs.declared.meaning.Bounds.{Bounds}
-use Rattle.v_scope.specs.declared.meaning.DataObject.{DataObject}
-use Rattle.v_scope.specs.declared.meaning.Meaning.{Meaning}
-use Rattle.v_scope.specs.declared.meaning.Meaning.TheVariants.{Constant, Object, Later}
-use Rattle.v_scope.specs.Limits.{most_digits}
-use Rattle.v_scope.specs.Scope.{span, width_of, Scope, find}
+use Rattle.v_flat.specs.declared.scope.rule.ElabRule.TheVariants as rule
+use Rattle.v_flat.specs.declared.scope.found.Found.{Found}
+use Rattle.v_flat.specs.declared.scope.found.Found.TheVariants.{Sound, Noted, Lost}
+use Rattle.v_flat.specs.Scope.Found.{each, both, followed, and_then, settled, broken, wants, needs}
+use Rattle.v_flat.specs.declared.scope.meaning.Bounds.{Bounds}
+use Rattle.v_flat.specs.declared.scope.meaning.DataObject.{DataObject}
+use Rattle.v_flat.specs.declared.scope.meaning.Meaning.{Meaning}
+use Rattle.v_flat.specs.declared.scope.meaning.Meaning.TheVariants.{Constant, Object, Later}
+use Rattle.v_flat.specs.Scope.Limits.{most_digits}
+use Rattle.v_flat.specs.Scope.Scope.{span, width_of, Scope, find}
 use Rattle.v_flat.specs.Objects.{nature_of, nature_of_object}
 use Rattle.v_flat.specs.Expressions.{width, widths, named_width, object_width, select_width, own_value, own_number, no_signals, number_or, meaning, unary_class, binary_class, unary_width, binary_width}
 use Rattle.v_flat.specs.Checks.{checked, all_checked, made, known, known_by, constant, index, sized, filled, narrow, counted, part_width, go_with, by_nature, of_vector, of_memory, part, select_at}
-use Rattle.v_scope.specs.Found.{Holds}
+use Rattle.v_flat.specs.Scope.Found.{Holds}
 use Rattle.v_flat.proofs.Holds.{holds_then, holds_each, holds_both, holds_followed, holds_settled, holds_wants, holds_needs, holds_any}
 
 sized_found : (p n : ℕ) (x : Found ℕ) → Holds (λ (w : ℕ). n ≡ w) x → Holds (λ (w : ℕ). n ≡ w) (sized p x)

@@ -3,15 +3,15 @@ use Rattle.std.specs.Prelude.{ℕ, ◌+◌, ◌*◌, ◌&&◌, List, length, max
 use Rattle.four_value.specs.declared.Digit.{Digit}
 use Rattle.four_value.specs.Vector.{number}
 use Rattle.v_syntax.specs.ExpressionTrees.{Tree, Number, Named, Bracketed, Unary, Binary, Conditional, Concatenation, Replication, SelectsTree, Whole, One, OfWord, SelectTree, Bit, Part, IndexedPart, Trees, none, more, first_at}
-use Rattle.v_scope.specs.declared.rule.ElabRule.TheVariants as rule
-use Rattle.v_scope.specs.declared.found.Found.{Found}
-use Rattle.v_scope.specs.declared.found.Found.TheVariants.{Sound}
-use Rattle.v_scope.specs.Found.{each, both, followed, and_then, settled, broken, wants, needs}
-use Rattle.v_scope.specs.declared.meaning.Bounds.{Bounds}
-use Rattle.v_scope.specs.declared.meaning.Meaning.{Meaning}
-use Rattle.v_scope.specs.declared.meaning.Meaning.TheVariants.{Constant}
-use Rattle.v_scope.specs.Limits.{most_digits}
-use Rattle.v_scope.specs.Scope.{span, width_of, is_falling, Scope, find}
+use Rattle.v_flat.specs.declared.scope.rule.ElabRule.TheVariants as rule
+use Rattle.v_flat.specs.declared.scope.found.Found.{Found}
+use Rattle.v_flat.specs.declared.scope.found.Found.TheVariants.{Sound}
+use Rattle.v_flat.specs.Scope.Found.{each, both, followed, and_then, settled, broken, wants, needs}
+use Rattle.v_flat.specs.declared.scope.meaning.Bounds.{Bounds}
+use Rattle.v_flat.specs.declared.scope.meaning.Meaning.{Meaning}
+use Rattle.v_flat.specs.declared.scope.meaning.Meaning.TheVariants.{Constant}
+use Rattle.v_flat.specs.Scope.Limits.{most_digits}
+use Rattle.v_flat.specs.Scope.Scope.{span, width_of, is_falling, Scope, find}
 use Rattle.v_flat.specs.Objects.{Nature, Unknown, NoConstant, Vector, Memory, nature_of}
 use Rattle.v_flat.specs.Expressions.{unary_class, binary_class, unary_width, binary_width, number_or, meaning, no_signals}
 

@@ -10,18 +10,18 @@ use Rattle.v_syntax.specs.declared.item.Direction.TheVariants as direction
 use Rattle.v_syntax.specs.declared.item.PortKind.{PortKind}
 use Rattle.v_syntax.specs.declared.item.PortKind.TheVariants as port_kind
 use Rattle.v_syntax.specs.SourceTrees.{RangeTree, Bounds as BoundsTree, PortHeadTree, Head, NetTree, Net as NetOf, TailTree, Words, RegisterTree, Register as RegisterOf, KindTree, Ports, Nets, Registers, Integers, ItemTree, ItemAt, HeaderPortsTree, NamedPorts, DeclaredPorts, ModuleTree}
-use Rattle.v_scope.specs.declared.rule.Broken.{Broken}
-use Rattle.v_scope.specs.declared.rule.ElabRule.TheVariants as rule
-use Rattle.v_scope.specs.declared.found.Found.{Found}
-use Rattle.v_scope.specs.declared.found.Found.TheVariants.{Sound}
-use Rattle.v_scope.specs.Found.{fine, each, both, and_then, wants, needs, ended, next}
-use Rattle.v_scope.specs.declared.meaning.Bounds.{Bounds}
-use Rattle.v_scope.specs.declared.meaning.DataKind.{DataKind}
-use Rattle.v_scope.specs.declared.meaning.DataKind.TheVariants.{Input, Net, Register}
-use Rattle.v_scope.specs.declared.meaning.Meaning.TheVariants.{Constant}
-use Rattle.v_scope.specs.declared.meaning.Meaning.{Meaning}
-use Rattle.v_scope.specs.Limits.{most_digits, most_parts}
-use Rattle.v_scope.specs.Scope.{width_of, plain, Scope, means, before}
+use Rattle.v_flat.specs.declared.scope.rule.Broken.{Broken}
+use Rattle.v_flat.specs.declared.scope.rule.ElabRule.TheVariants as rule
+use Rattle.v_flat.specs.declared.scope.found.Found.{Found}
+use Rattle.v_flat.specs.declared.scope.found.Found.TheVariants.{Sound}
+use Rattle.v_flat.specs.Scope.Found.{fine, each, both, and_then, wants, needs, ended, next}
+use Rattle.v_flat.specs.declared.scope.meaning.Bounds.{Bounds}
+use Rattle.v_flat.specs.declared.scope.meaning.DataKind.{DataKind}
+use Rattle.v_flat.specs.declared.scope.meaning.DataKind.TheVariants.{Input, Net, Register}
+use Rattle.v_flat.specs.declared.scope.meaning.Meaning.TheVariants.{Constant}
+use Rattle.v_flat.specs.declared.scope.meaning.Meaning.{Meaning}
+use Rattle.v_flat.specs.Scope.Limits.{most_digits, most_parts}
+use Rattle.v_flat.specs.Scope.Scope.{width_of, plain, Scope, means, before}
 use Rattle.v_flat.specs.Objects.{count_of}
 use Rattle.v_flat.specs.Expressions.{number_or}
 use Rattle.v_flat.specs.Checks.{constant_of}

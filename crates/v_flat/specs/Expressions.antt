@@ -21,11 +21,11 @@ use Rattle.v_flat.specs.declared.operators.UnaryClass.{UnaryClass}
 use Rattle.v_flat.specs.declared.operators.UnaryClass.TheVariants.{Keeps, Folds}
 use Rattle.v_flat.specs.declared.operators.BinaryClass.{BinaryClass}
 use Rattle.v_flat.specs.declared.operators.BinaryClass.TheVariants.{Combines, Compares, Joins, Shifts}
-use Rattle.v_scope.specs.declared.meaning.Bounds.{Bounds}
-use Rattle.v_scope.specs.declared.meaning.DataObject.{DataObject}
-use Rattle.v_scope.specs.declared.meaning.Meaning.{Meaning}
-use Rattle.v_scope.specs.declared.meaning.Meaning.TheVariants.{Constant, Object}
-use Rattle.v_scope.specs.Scope.{span, width_of, Scope, find}
+use Rattle.v_flat.specs.declared.scope.meaning.Bounds.{Bounds}
+use Rattle.v_flat.specs.declared.scope.meaning.DataObject.{DataObject}
+use Rattle.v_flat.specs.declared.scope.meaning.Meaning.{Meaning}
+use Rattle.v_flat.specs.declared.scope.meaning.Meaning.TheVariants.{Constant, Object}
+use Rattle.v_flat.specs.Scope.Scope.{span, width_of, Scope, find}
 use Rattle.v_flat.specs.Objects.{range_of, words_of}
 
 abbrev pub Values : Type 0

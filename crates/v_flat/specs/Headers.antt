@@ -9,8 +9,8 @@ use Rattle.v_syntax.specs.declared.item.ParameterKind.{ParameterKind}
 use Rattle.v_syntax.specs.declared.item.ParameterKind.TheVariants as parameter_kind
 use Rattle.v_syntax.specs.ExpressionTrees.{Tree}
 use Rattle.v_syntax.specs.SourceTrees.{RangeTree, PortHeadTree, Head, NetTree, Net as NetOf, RegisterTree, Register as RegisterOf, ParameterTree, Parameter as ParameterOf, Ports, Nets, Registers, Integers, Parameters, ItemTree, ItemAt, HeaderPortTree, HeaderPortOf, HeaderParameterTree, HeaderParameterOf, HeaderPortsTree, NamedPorts, DeclaredPorts, ModuleTree, ModuleOf}
-use Rattle.v_scope.specs.declared.meaning.Meaning.TheVariants.{Later}
-use Rattle.v_scope.specs.Scope.{Scope}
+use Rattle.v_flat.specs.declared.scope.meaning.Meaning.TheVariants.{Later}
+use Rattle.v_flat.specs.Scope.Scope.{Scope}
 
 abbrev pub module_name : ModuleTree → Identifier
 module_name (ModuleOf n ps ports is) = n

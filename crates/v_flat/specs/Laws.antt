@@ -2,8 +2,8 @@
 use Rattle.std.specs.Prelude.{◌≡◌, ℕ, false, List, [], ◌∷◌}
 use Rattle.v_syntax.specs.ExpressionTrees.{Tree}
 use Rattle.v_syntax.specs.SourceTrees.{ItemTree, ModuleTree}
-use Rattle.v_scope.specs.Found.{Holds, HoldsOk}
-use Rattle.v_scope.specs.Scope.{Scope}
+use Rattle.v_flat.specs.Scope.Found.{Holds, HoldsOk}
+use Rattle.v_flat.specs.Scope.Scope.{Scope}
 use Rattle.v_flat.specs.Expressions.{width}
 use Rattle.v_flat.specs.Checks.{checked}
 use Rattle.v_flat.specs.Targets.{Drive, meets}

@@ -1,3 +1,4 @@
+pub mod Scope
 pub mod Objects
 pub mod Expressions
 pub mod Checks

@@ -3,10 +3,10 @@ use Rattle.std.specs.Prelude.{ℕ, Option, None, Some, if◌then◌else◌}
 use Rattle.gpi.specs.declared.selects.Range.{Range}
 use Rattle.gpi.specs.declared.selects.Words.{Words}
 use Rattle.gpi.specs.declared.selects.Order.TheVariants.{Falling, Rising}
-use Rattle.v_scope.specs.declared.meaning.Bounds.{Bounds}
-use Rattle.v_scope.specs.declared.meaning.Meaning.{Meaning}
-use Rattle.v_scope.specs.declared.meaning.Meaning.TheVariants.{Constant, Object, Later}
-use Rattle.v_scope.specs.Scope.{width_of, low_of, is_falling}
+use Rattle.v_flat.specs.declared.scope.meaning.Bounds.{Bounds}
+use Rattle.v_flat.specs.declared.scope.meaning.Meaning.{Meaning}
+use Rattle.v_flat.specs.declared.scope.meaning.Meaning.TheVariants.{Constant, Object, Later}
+use Rattle.v_flat.specs.Scope.Scope.{width_of, low_of, is_falling}
 
 abbrev pub range_of : Bounds → Range
 range_of b = record { low = low_of b; order = if is_falling b then Falling else Rising }

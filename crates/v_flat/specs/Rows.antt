@@ -19,9 +19,9 @@ use Rattle.v_syntax.specs.StatementTrees.{Variable as Assigned, Header, Null, Bl
 use Rattle.v_syntax.specs.SourceTrees.{Bounds as BoundsTree, Head, Net as NetOf, Words, Initially, Register as RegisterOf, Parameter as ParameterOf, Driver, Implicit, Events, Connection, Ordered, Named as NamedConnections, Ports, Nets, Registers, Integers, Parameters, Drivers, Always, Initial, Instance, ItemAt, HeaderPortOf, HeaderParameterOf, NamedPorts, DeclaredPorts, ModuleTree, ModuleOf}
 use Rattle.v_flat.specs.Shown.{num, nm, tg, id, trees, targets, bits, shown, sg, wk, up}
 use Rattle.v_flat.specs.Design.{Design, flat_design, sig}
-use Rattle.v_scope.specs.Rules.{at}
-use Rattle.v_scope.specs.declared.rule.Broken.{Broken}
-use Rattle.v_scope.specs.declared.rule.ElabRule.TheVariants as rule
+use Rattle.v_flat.specs.Scope.Rules.{at}
+use Rattle.v_flat.specs.declared.scope.rule.Broken.{Broken}
+use Rattle.v_flat.specs.declared.scope.rule.ElabRule.TheVariants as rule
 
 -- module top(input clk); reg [3:0] m [1:2]; sub u(.c(clk)); endmodule module sub(input c); reg r; always @(posedge c) r <= ~r; endmodule
 abbrev text_of_a_memory_and_an_instance : List ModuleTree

@@ -14,7 +14,7 @@ use Rattle.gpi.specs.Activation.{Map, Run}
 use Rattle.gpi.specs.Design.{Proc}
 use Rattle.v_syntax.specs.declared.statement.Identifier.{Identifier}
 use Rattle.v_syntax.specs.ExpressionTrees.{Tree, Number, Named, Whole, Trees, none, more, TargetTree, NamedTarget, TargetTrees, no_target, more_targets}
-use Rattle.v_scope.specs.declared.rule.Broken.{Broken}
+use Rattle.v_flat.specs.declared.scope.rule.Broken.{Broken}
 use Rattle.v_flat.specs.Paths.{signal_of, node_of}
 use Rattle.v_flat.specs.Design.{Design}
 

@@ -8,18 +8,18 @@ use Rattle.gpi.specs.declared.selects.Overlap.{Overlap}
 use Rattle.gpi.specs.Selects.{overlap_of, word_at}
 use Rattle.gpi.specs.Targets.{whole_update, part_update}
 use Rattle.v_syntax.specs.ExpressionTrees.{Tree, Named, Concatenation, SelectsTree, Whole, One, OfWord, Trees, none, more, TargetTree, NamedTarget, JoinedTarget, TargetTrees, no_target, more_targets}
-use Rattle.v_scope.specs.declared.rule.ElabRule.TheVariants as rule
-use Rattle.v_scope.specs.declared.found.Found.{Found}
-use Rattle.v_scope.specs.declared.found.Found.TheVariants.{Sound, Noted, Lost}
-use Rattle.v_scope.specs.Rules.{at}
-use Rattle.v_scope.specs.Found.{lost, each, both, needs}
-use Rattle.v_scope.specs.declared.meaning.Bounds.{Bounds}
-use Rattle.v_scope.specs.declared.meaning.DataKind.{DataKind}
-use Rattle.v_scope.specs.declared.meaning.DataKind.TheVariants.{Input, Net, Register}
-use Rattle.v_scope.specs.declared.meaning.DataObject.{DataObject}
-use Rattle.v_scope.specs.declared.meaning.Meaning.{Meaning}
-use Rattle.v_scope.specs.declared.meaning.Meaning.TheVariants.{Constant, Object, Later}
-use Rattle.v_scope.specs.Scope.{width_of, Scope, find}
+use Rattle.v_flat.specs.declared.scope.rule.ElabRule.TheVariants as rule
+use Rattle.v_flat.specs.declared.scope.found.Found.{Found}
+use Rattle.v_flat.specs.declared.scope.found.Found.TheVariants.{Sound, Noted, Lost}
+use Rattle.v_flat.specs.Scope.Rules.{at}
+use Rattle.v_flat.specs.Scope.Found.{lost, each, both, needs}
+use Rattle.v_flat.specs.declared.scope.meaning.Bounds.{Bounds}
+use Rattle.v_flat.specs.declared.scope.meaning.DataKind.{DataKind}
+use Rattle.v_flat.specs.declared.scope.meaning.DataKind.TheVariants.{Input, Net, Register}
+use Rattle.v_flat.specs.declared.scope.meaning.DataObject.{DataObject}
+use Rattle.v_flat.specs.declared.scope.meaning.Meaning.{Meaning}
+use Rattle.v_flat.specs.declared.scope.meaning.Meaning.TheVariants.{Constant, Object, Later}
+use Rattle.v_flat.specs.Scope.Scope.{width_of, Scope, find}
 use Rattle.v_flat.specs.declared.manner.Manner.{Manner}
 use Rattle.v_flat.specs.declared.manner.Manner.TheVariants.{Procedural, Continuous}
 use Rattle.v_flat.specs.Objects.{range_of, words_of, nature_of}

@@ -5,11 +5,17 @@
 //! is broken in an expression (`Checks`) and what its value is (`Expressions`). Of the code there are the classes of operators,
 //! [`unary_class`] and [`binary_class`], which objects an assignment may be to ([`Manner`]), and functions that carry laws of the definitions. The
 //! code that elaborates is left to the crates above.
+//!
+//! Modules that the crates above use too:
+//! - [`scope`]: what names mean in a part of a text, and the rules that a text may break;
+//! - [`shape`]: laws of the shape of a design.
 #![tactic(auto)]
 
 mod laws;
 mod manner;
 mod operators;
+pub mod scope;
+pub mod shape;
 
 pub use laws::{digits_are_driven_once, widths_are_found, worked_designs};
 pub use manner::Manner;

@@ -3,7 +3,7 @@
 ghost use Rattle.std.specs.Prelude.{◌≡◌};
 ghost use Rattle.v_flat.specs.Targets.{fits_kind};
 
-use v_scope::DataKind;
+use crate::scope::DataKind;
 
 /// How a value comes to a target.
 #[derive(Clone, Copy)]

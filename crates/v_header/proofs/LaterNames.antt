@@ -5,9 +5,9 @@ use Rattle.std.specs.List.{list_any}
 use Rattle.std.specs.Option.{option_or}
 use Rattle.v_syntax.specs.declared.item.Item.{Item}
 use Rattle.v_syntax.specs.SourceTrees.{PortHeadTree, HeaderPortTree, HeaderPortOf, Ports, Nets, Registers, Integers, Parameters, Drivers, Always, Initial, Instance, ItemTree, ItemAt, view_item}
-use Rattle.v_scope.specs.declared.meaning.Meaning.{Meaning}
-use Rattle.v_scope.specs.declared.meaning.Meaning.TheVariants.{Later}
-use Rattle.v_scope.specs.Scope.{Scope, named, nothing}
+use Rattle.v_flat.specs.declared.scope.meaning.Meaning.{Meaning}
+use Rattle.v_flat.specs.declared.scope.meaning.Meaning.TheVariants.{Later}
+use Rattle.v_flat.specs.Scope.Scope.{Scope, named, nothing}
 use Rattle.v_flat.specs.Headers.{head_or, headed, later, names_in}
 use Rattle.v_header.specs.Names.{and_later, header_port_name, headed_name, item_names}
 

@@ -5,7 +5,7 @@ use Rattle.std.specs.List.{list_any}
 use Rattle.std.specs.Option.{option_or}
 use Rattle.std.proofs.lemmas.List.{length-map, length-take, take_all, take_more, map-append}
 use Rattle.std.proofs.lemmas.Slice.Eq.{bytes_eq-Decides}
-use Rattle.test_names.specs.Places.{first_place, noted}
+use Rattle.name_table.specs.Places.{first_place, noted}
 use Rattle.v_flat.specs.Headers.{Port, find_port, port_name}
 use Rattle.v_header.specs.Ports.{place_of, port_in, ports_in}
 use Rattle.v_header.specs.declared.ports.Port as code

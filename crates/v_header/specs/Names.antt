@@ -2,7 +2,7 @@
 use Rattle.std.specs.Prelude.{ℕ, List, [], ◌∷◌, map}
 use Rattle.std.specs.Borrow.{Bor}
 use Rattle.v_syntax.specs.SourceTrees.{HeaderPortTree, HeaderPortOf, ItemTree}
-use Rattle.v_scope.specs.Scope.{Scope, before}
+use Rattle.v_flat.specs.Scope.Scope.{Scope, before}
 use Rattle.v_flat.specs.Headers.{HeadedPort, Parameter, later, names_in}
 
 -- the bytes of names that the code refers to

@@ -3,7 +3,7 @@
 //! After want of memory a scope that was being filled is dropped, so no clause speaks of what its names then mean.
 
 ghost use Rattle.std.specs.Prelude.{◌≡◌, ℕ, List, map, IfOk, OnOk};
-ghost use Rattle.v_scope.specs.Scope.{means};
+ghost use Rattle.v_flat.specs.Scope.Scope.{means};
 ghost use Rattle.v_syntax.specs.SourceTrees.{
   HeaderPortTree,
   NetTree,
@@ -23,7 +23,7 @@ ghost use Rattle.v_header.specs.Parameters.{parameter_in};
 use crate::parameters::{Parameter, parameters_of};
 use port_io::NoMemory;
 use std::alloc::Global;
-use v_scope::{Meaning, Scope};
+use v_flat::scope::{Meaning, Scope};
 use v_syntax::{
     HeaderPort, HeaderPorts, Identifier, Item, ItemKind, Module, NetDeclarator, RegisterDeclarator,
 };

@@ -5,7 +5,7 @@
 ghost use Rattle.std.specs.Prelude.{◌≡◌, ◌++◌, ℕ, List, length, map, option_map, slice_get, IfOk, OnOk};
 ghost use Rattle.std.specs.Str.{bytes_eq};
 ghost use Rattle.std.specs.List.{list_any};
-ghost use Rattle.test_names.specs.Places.{first_place};
+ghost use Rattle.name_table.specs.Places.{first_place};
 ghost use Rattle.v_syntax.specs.SourceTrees.{view_header_port, view_item, view_module, NamedPorts};
 ghost use Rattle.v_flat.specs.Headers.{find_port, first_head, headed, headed_port, header_ports, port_name, ports_of};
 ghost use Rattle.v_flat.specs.Declarations.{find_direction};
@@ -13,10 +13,10 @@ ghost use Rattle.v_header.specs.Heads.{headed_in};
 ghost use Rattle.v_header.specs.Ports.{item_ports, known_direction, known_port, line_port, place_of, port_in, ports_in, ports_in_item};
 
 use crate::heads::{HeadedPort, headed_ports};
+use name_table::Names;
 use port_io::NoMemory;
 use std::alloc::Global;
 use std::marker::Model;
-use test_names::Names;
 use v_syntax::{Direction, HeaderPort, HeaderPorts, Identifier, Item, ItemKind, Module};
 
 /// A port as an instance sees it (IEEE 1364-2005, clause 12.3).
@@ -38,7 +38,7 @@ pub struct Ports<'a> {
 
 impl<'a> Model for Ports<'a> {
     ghost use Rattle.std.specs.Prelude.{◌≡◌, ℕ, List};
-    ghost use Rattle.test_names.specs.Places.{first_place};
+    ghost use Rattle.name_table.specs.Places.{first_place};
     ghost use Rattle.v_flat.specs.Headers.{Port};
     ghost use Rattle.v_header.specs.Ports.{place_of, ports_in};
 

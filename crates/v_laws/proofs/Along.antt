@@ -4,22 +4,22 @@ use Rattle.std.specs.List.{filter, list_any}
 use Rattle.std.specs.Prelude.{bytes_eq}
 use Rattle.v_syntax.specs.declared.statement.Identifier.{Identifier}
 use Rattle.v_syntax.specs.SourceTrees.{ConnectionsTree, KindTree, Ports, Nets, Registers, Integers, Parameters, Drivers, Always, Initial, Instance, ItemTree, ItemAt, ModuleTree}
-use Rattle.v_scope.specs.declared.rule.Broken.{Broken}
-use Rattle.v_scope.specs.declared.rule.ElabRule.TheVariants as rule
-use Rattle.v_scope.specs.Limits.{most_parts}
-use Rattle.v_scope.specs.Found.{Holds, HoldsOk, ended, needs, next}
-use Rattle.v_scope.specs.declared.found.Found.TheVariants.{Sound}
-use Rattle.v_scope.specs.Scope.{nothing}
+use Rattle.v_flat.specs.declared.scope.rule.Broken.{Broken}
+use Rattle.v_flat.specs.declared.scope.rule.ElabRule.TheVariants as rule
+use Rattle.v_flat.specs.Scope.Limits.{most_parts}
+use Rattle.v_flat.specs.Scope.Found.{Holds, HoldsOk, ended, needs, next}
+use Rattle.v_flat.specs.declared.scope.found.Found.TheVariants.{Sound}
+use Rattle.v_flat.specs.Scope.Scope.{nothing}
 use Rattle.v_flat.specs.Headers.{all_names, items_in, later, module_name, parameters_of, port_name, ports_of}
 use Rattle.v_flat.specs.Declarations.{Declared, Entries, Given, declarations, in_order, parameters}
 use Rattle.v_flat.specs.Paths.{Path, below}
 use Rattle.v_flat.specs.Design.{Design, Joints, Outside, State, Sub, closed, find_module, flat_design, from_top, instance, instance_checked, instance_item, item, items, module_there, modules_checked, no_design, only, place_of, plain_item, top_of, unused, used_modules, walk, walk_items, with_child}
 use Rattle.v_flat.proofs.Holds.{holds_ended, holds_next}
-use Rattle.v_shape.proofs.Ends.{ended_sound, holds_next_so, needs_sound}
+use Rattle.v_flat.proofs.ShapeLemmas.Ends.{ended_sound, holds_next_so, needs_sound}
 use Rattle.v_laws.proofs.Members.{Member}
-use Rattle.v_shape.proofs.Names.{Differ}
-use Rattle.v_shape.proofs.Ports.{ports_apart}
-use Rattle.v_shape.proofs.Walk.{opening, scope_of}
+use Rattle.v_flat.proofs.ShapeLemmas.Names.{Differ}
+use Rattle.v_flat.proofs.ShapeLemmas.Ports.{ports_apart}
+use Rattle.v_flat.proofs.ShapeLemmas.Walk.{opening, scope_of}
 
 -- what is given to an instance among the items, where no rule is broken in it
 abbrev pub outside_of : State → List Given × Joints → Outside

@@ -13,10 +13,10 @@ use Rattle.gpi.specs.Targets.{whole_update}
 use Rattle.gpi.specs.Terms.{read}
 use Rattle.v_syntax.specs.ExpressionTrees.{Tree, Number, Named, Bracketed, Unary, Binary, Conditional, Concatenation, Replication, SelectsTree, Whole, One, OfWord, SelectTree, Bit, Part, IndexedPart, Trees, none, more, TargetTree, NamedTarget, JoinedTarget, TargetTrees, no_target, more_targets}
 use Rattle.v_syntax.specs.StatementTrees.{StatementTree, Null, Block, Assignment, If, IfElse, Case, For, TaskEnable, Delay, StatementTrees, no_statement, more_statements, CaseTree, Match, Default, CaseTrees, no_case, more_cases}
-use Rattle.v_scope.specs.declared.meaning.DataObject.{DataObject}
-use Rattle.v_scope.specs.declared.meaning.Meaning.{Meaning}
-use Rattle.v_scope.specs.declared.meaning.Meaning.TheVariants.{Constant, Object, Later}
-use Rattle.v_scope.specs.Scope.{Scope, find, width_of}
+use Rattle.v_flat.specs.declared.scope.meaning.DataObject.{DataObject}
+use Rattle.v_flat.specs.declared.scope.meaning.Meaning.{Meaning}
+use Rattle.v_flat.specs.declared.scope.meaning.Meaning.TheVariants.{Constant, Object, Later}
+use Rattle.v_flat.specs.Scope.Scope.{Scope, find, width_of}
 use Rattle.v_flat.specs.Objects.{count_of}
 use Rattle.v_flat.specs.Expressions.{width}
 use Rattle.v_flat.specs.Targets.{target_width, updates}

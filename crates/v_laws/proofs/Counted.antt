@@ -8,15 +8,15 @@ use Rattle.v_syntax.specs.declared.item.Direction.{Direction}
 use Rattle.v_syntax.specs.declared.item.Direction.TheVariants as direction
 use Rattle.v_syntax.specs.ExpressionTrees.{Tree, TargetTree, first_at}
 use Rattle.v_syntax.specs.SourceTrees.{ConnectionTree, Connection, ConnectionsTree, Ordered, Named as NamedConnections, ModuleTree}
-use Rattle.v_scope.specs.declared.rule.ElabRule.TheVariants as rule
-use Rattle.v_scope.specs.declared.found.Found.{Found}
-use Rattle.v_scope.specs.declared.found.Found.TheVariants.{Sound, Noted, Lost}
-use Rattle.v_scope.specs.declared.meaning.DataObject.{DataObject}
-use Rattle.v_scope.specs.declared.meaning.Meaning.{Meaning}
-use Rattle.v_scope.specs.declared.meaning.Meaning.TheVariants.{Object}
-use Rattle.v_scope.specs.Rules.{at}
-use Rattle.v_scope.specs.Found.{Holds, each}
-use Rattle.v_scope.specs.Scope.{Scope, find, means}
+use Rattle.v_flat.specs.declared.scope.rule.ElabRule.TheVariants as rule
+use Rattle.v_flat.specs.declared.scope.found.Found.{Found}
+use Rattle.v_flat.specs.declared.scope.found.Found.TheVariants.{Sound, Noted, Lost}
+use Rattle.v_flat.specs.declared.scope.meaning.DataObject.{DataObject}
+use Rattle.v_flat.specs.declared.scope.meaning.Meaning.{Meaning}
+use Rattle.v_flat.specs.declared.scope.meaning.Meaning.TheVariants.{Object}
+use Rattle.v_flat.specs.Scope.Rules.{at}
+use Rattle.v_flat.specs.Scope.Found.{Holds, each}
+use Rattle.v_flat.specs.Scope.Scope.{Scope, find, means}
 use Rattle.v_flat.specs.Objects.{count_of}
 use Rattle.v_flat.specs.Checks.{checked}
 use Rattle.v_flat.specs.Targets.{Drive, as_target, driving}
@@ -27,11 +27,11 @@ use Rattle.v_flat.specs.Design.{Design, Joint, Joints, any_change, entries, find
 use Rattle.v_flat.proofs.Holds.{holds_any, holds_each, holds_lost, holds_then}
 use Rattle.gpi.specs.declared.design.Kind.TheVariants as process_kind
 use Rattle.gpi.specs.Design.{Proc}
-use Rattle.v_shape.proofs.Declared.{Goes, declared_hold}
-use Rattle.v_shape.proofs.Joints.{as_many}
-use Rattle.v_shape.proofs.Names.{Among, Differ, among_first, among_later, is_itself, same_name}
-use Rattle.v_shape.proofs.Nodes.{one_if}
-use Rattle.v_shape.proofs.Ports.{ports_apart}
+use Rattle.v_flat.proofs.ShapeLemmas.Declared.{Goes, declared_hold}
+use Rattle.v_flat.proofs.ShapeLemmas.Joints.{as_many}
+use Rattle.v_flat.proofs.ShapeLemmas.Names.{Among, Differ, among_first, among_later, is_itself, same_name}
+use Rattle.v_flat.proofs.ShapeLemmas.Nodes.{one_if}
+use Rattle.v_flat.proofs.ShapeLemmas.Ports.{ports_apart}
 use Rattle.v_laws.specs.Joints.{Joints_are_counted}
 use Rattle.v_laws.proofs.Members.{Member, member_both}
 use Rattle.v_laws.proofs.Directions.{HasDirection, directed, found_member, put_member}

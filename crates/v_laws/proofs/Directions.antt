@@ -6,18 +6,18 @@ use Rattle.std.specs.Option.{is_some, option_or}
 use Rattle.v_syntax.specs.declared.statement.Identifier.{Identifier}
 use Rattle.v_syntax.specs.declared.item.Direction.{Direction}
 use Rattle.v_syntax.specs.SourceTrees.{RangeTree, Head, PortHeadTree, TailTree, Words, Initially, RegisterTree, Register as RegisterOf, KindTree, Ports, Nets, Registers, Integers, Parameters, Drivers, Always, Initial, Instance, ItemTree, ItemAt, HeaderPortsTree, NamedPorts, DeclaredPorts, ModuleTree}
-use Rattle.v_scope.specs.declared.rule.Broken.{Broken}
-use Rattle.v_scope.specs.declared.rule.ElabRule.TheVariants as rule
-use Rattle.v_scope.specs.declared.found.Found.{Found}
-use Rattle.v_scope.specs.declared.found.Found.TheVariants.{Sound}
-use Rattle.v_scope.specs.Found.{Holds, HoldsOk, and_then, ended, fine, needs, next}
-use Rattle.v_scope.specs.declared.meaning.Bounds.{Bounds}
-use Rattle.v_scope.specs.Limits.{most_parts}
+use Rattle.v_flat.specs.declared.scope.rule.Broken.{Broken}
+use Rattle.v_flat.specs.declared.scope.rule.ElabRule.TheVariants as rule
+use Rattle.v_flat.specs.declared.scope.found.Found.{Found}
+use Rattle.v_flat.specs.declared.scope.found.Found.TheVariants.{Sound}
+use Rattle.v_flat.specs.Scope.Found.{Holds, HoldsOk, and_then, ended, fine, needs, next}
+use Rattle.v_flat.specs.declared.scope.meaning.Bounds.{Bounds}
+use Rattle.v_flat.specs.Scope.Limits.{most_parts}
 use Rattle.v_flat.specs.Objects.{count_of}
 use Rattle.v_flat.specs.Headers.{HeadedPort, Port, declared_direction, direction_of, first_head, headed, headed_port, header_ports, items_in, name_of, ports_in, ports_of}
 use Rattle.v_flat.specs.Declarations.{Declared, Integer, Place, Reg, Sort, Wire, are_halves, bounds_in, declarations, declare, declare_again, declare_all, declare_header, declare_line, declare_lines, declare_memory, declare_ports, declare_register, declare_registers, declared_as, declared_too, find_declared, find_direction, header_declared, integer_bounds, is_direction_alone, is_free, is_input_reg, is_net_or_reg, is_new, is_port, is_sort_alone, known_names, names_checked, net_identifier, port_checked, same_bounds, signals_in, sort_of, vector_bounds, whole_of, with_declared}
 use Rattle.v_flat.proofs.Holds.{holds_any, holds_ended, holds_needs, holds_next, holds_ok_any, holds_then, holds_wants}
-use Rattle.v_shape.proofs.Names.{Among, is_itself, same_name}
+use Rattle.v_flat.proofs.ShapeLemmas.Names.{Among, is_itself, same_name}
 use Rattle.v_laws.proofs.Members.{Member, member_both, member_map}
 
 -- a memory has no direction, and is declared with `reg`

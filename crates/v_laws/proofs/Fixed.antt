@@ -3,20 +3,20 @@ use Rattle.std.proofs.Common.{◌≡◌, ℕ, ◌&&◌, ◌∙◌, List, Bool, t
 use Rattle.four_value.specs.declared.Digit.{Digit}
 use Rattle.four_value.specs.Vector.{number}
 use Rattle.v_syntax.specs.ExpressionTrees.{Tree, SelectsTree, Whole, One, OfWord, SelectTree, Bit, Part, IndexedPart, first_at}
-use Rattle.v_scope.specs.declared.rule.ElabRule.TheVariants as rule
-use Rattle.v_scope.specs.declared.found.Found.{Found}
-use Rattle.v_scope.specs.declared.found.Found.TheVariants.{Sound, Noted, Lost}
-use Rattle.v_scope.specs.Found.{Holds, and_then, both, broken, followed, needs, settled}
-use Rattle.v_scope.specs.declared.meaning.Bounds.{Bounds}
-use Rattle.v_scope.specs.declared.meaning.DataObject.{DataObject}
-use Rattle.v_scope.specs.declared.meaning.Meaning.TheVariants.{Object}
-use Rattle.v_scope.specs.Scope.{Scope}
+use Rattle.v_flat.specs.declared.scope.rule.ElabRule.TheVariants as rule
+use Rattle.v_flat.specs.declared.scope.found.Found.{Found}
+use Rattle.v_flat.specs.declared.scope.found.Found.TheVariants.{Sound, Noted, Lost}
+use Rattle.v_flat.specs.Scope.Found.{Holds, and_then, both, broken, followed, needs, settled}
+use Rattle.v_flat.specs.declared.scope.meaning.Bounds.{Bounds}
+use Rattle.v_flat.specs.declared.scope.meaning.DataObject.{DataObject}
+use Rattle.v_flat.specs.declared.scope.meaning.Meaning.TheVariants.{Object}
+use Rattle.v_flat.specs.Scope.Scope.{Scope}
 use Rattle.v_flat.specs.Objects.{nature_of, nature_of_object}
 use Rattle.v_flat.specs.Expressions.{Values, lesser, meaning, no_signals, number_or, select_base, width}
 use Rattle.v_flat.specs.Checks.{by_nature, checked, constant, constant_width, counted, index, known, made, narrow, of_memory, of_vector, part, part_width, select_at, select_made}
 use Rattle.v_flat.specs.declared.manner.Manner.TheVariants.{Continuous}
 use Rattle.v_flat.specs.Targets.{fits, named_target}
-use Rattle.v_constant.proofs.Unsignalled.{one_meaning}
+use Rattle.v_check.proofs.ConstantsLemmas.Unsignalled.{one_meaning}
 use Rattle.v_flat.proofs.Holds.{holds_any, holds_both, holds_each, holds_followed, holds_needs, holds_then}
 
 -- it is so wherever there is a value

@@ -1,9 +1,9 @@
 -- What is so of a value that was found.
 use Rattle.std.proofs.Common.{◌≡◌, Ok, Result, subst}
-use Rattle.v_scope.specs.declared.rule.Broken.{Broken}
-use Rattle.v_scope.specs.declared.found.Found.{Found}
-use Rattle.v_scope.specs.declared.found.Found.TheVariants.{Sound}
-use Rattle.v_scope.specs.Found.{Holds, HoldsOk}
+use Rattle.v_flat.specs.declared.scope.rule.Broken.{Broken}
+use Rattle.v_flat.specs.declared.scope.found.Found.{Found}
+use Rattle.v_flat.specs.declared.scope.found.Found.TheVariants.{Sound}
+use Rattle.v_flat.specs.Scope.Found.{Holds, HoldsOk}
 
 pub of_ok : {A : Type 0} (P : A → Type 0) (r : Result A Broken) (a : A) → HoldsOk P r → r ≡ Ok a → P a
 of_ok P r a h e = subst (HoldsOk P) e h

@@ -8,22 +8,22 @@ use Rattle.v_syntax.specs.declared.item.Direction.{Direction}
 use Rattle.v_syntax.specs.declared.item.Direction.TheVariants as direction
 use Rattle.v_syntax.specs.ExpressionTrees.{Tree, TargetTree, first_at}
 use Rattle.v_syntax.specs.SourceTrees.{ConnectionTree, Connection, ConnectionsTree, Ordered, Named as NamedConnections, ModuleTree}
-use Rattle.v_scope.specs.declared.rule.ElabRule.TheVariants as rule
-use Rattle.v_scope.specs.declared.found.Found.{Found}
-use Rattle.v_scope.specs.declared.found.Found.TheVariants.{Sound}
-use Rattle.v_scope.specs.Rules.{at}
-use Rattle.v_scope.specs.Found.{Holds, each, both, wants}
-use Rattle.v_scope.specs.Scope.{Scope}
+use Rattle.v_flat.specs.declared.scope.rule.ElabRule.TheVariants as rule
+use Rattle.v_flat.specs.declared.scope.found.Found.{Found}
+use Rattle.v_flat.specs.declared.scope.found.Found.TheVariants.{Sound}
+use Rattle.v_flat.specs.Scope.Rules.{at}
+use Rattle.v_flat.specs.Scope.Found.{Holds, each, both, wants}
+use Rattle.v_flat.specs.Scope.Scope.{Scope}
 use Rattle.v_flat.specs.Expressions.{Values}
 use Rattle.v_flat.specs.Checks.{checked}
 use Rattle.v_flat.specs.Targets.{Drive, as_target, driving, target_width, updates}
 use Rattle.v_flat.specs.Headers.{Port, find_port, port_name, open_parameters, parameters_of, ports_of}
-use Rattle.v_scope.specs.Limits.{most_parts}
+use Rattle.v_flat.specs.Scope.Limits.{most_parts}
 use Rattle.v_flat.specs.Declarations.{Given}
-use Rattle.v_shape.proofs.Ends.{sound_both, wants_sound}
+use Rattle.v_flat.proofs.ShapeLemmas.Ends.{sound_both, wants_sound}
 use Rattle.v_flat.specs.Design.{Joint, Joints, find_joint, joint, joined, joints_of, named_joint, named_joints, ordered_joints, output_joined, port_once, value_checked, State, given_of, instance_checked, is_fresh, joint_count}
 use Rattle.v_flat.proofs.Holds.{holds_any, holds_each, holds_lost, holds_then}
-use Rattle.v_shape.proofs.Names.{Among, Differ, one_of_more, same_name}
+use Rattle.v_flat.proofs.ShapeLemmas.Names.{Among, Differ, one_of_more, same_name}
 use Rattle.v_laws.specs.Digits.{IsDriven, IsWritten}
 use Rattle.v_laws.specs.Drivers.{NetsHaveNoWords}
 use Rattle.v_laws.proofs.Members.{Member}

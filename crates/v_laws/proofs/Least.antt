@@ -4,15 +4,15 @@ use Rattle.std.proofs.lemmas.Bool.Decides.{nat_tests}
 use Rattle.v_syntax.specs.declared.expression.BinaryOperator.{BinaryOperator}
 use Rattle.v_syntax.specs.declared.expression.UnaryOperator.{UnaryOperator}
 use Rattle.v_syntax.specs.ExpressionTrees.{Tree, Number, Named, Bracketed, Unary, Binary, Conditional, Concatenation, Replication, Trees, none, more, first_at}
-use Rattle.v_scope.specs.declared.rule.Broken.{Broken}
-use Rattle.v_scope.specs.declared.rule.ElabRule.{ElabRule}
-use Rattle.v_scope.specs.declared.rule.ElabRule.TheVariants as rule
-use Rattle.v_scope.specs.declared.found.Found.{Found}
-use Rattle.v_scope.specs.declared.found.Found.TheVariants.{Sound, Noted, Lost}
-use Rattle.v_scope.specs.Found.{and_then, both, each, lost, needs, noted, settled, wants}
-use Rattle.v_scope.specs.Limits.{most_digits}
-use Rattle.v_scope.specs.Rules.{at, earlier, number_of}
-use Rattle.v_scope.specs.Scope.{Scope}
+use Rattle.v_flat.specs.declared.scope.rule.Broken.{Broken}
+use Rattle.v_flat.specs.declared.scope.rule.ElabRule.{ElabRule}
+use Rattle.v_flat.specs.declared.scope.rule.ElabRule.TheVariants as rule
+use Rattle.v_flat.specs.declared.scope.found.Found.{Found}
+use Rattle.v_flat.specs.declared.scope.found.Found.TheVariants.{Sound, Noted, Lost}
+use Rattle.v_flat.specs.Scope.Found.{and_then, both, each, lost, needs, noted, settled, wants}
+use Rattle.v_flat.specs.Scope.Limits.{most_digits}
+use Rattle.v_flat.specs.Scope.Rules.{at, earlier, number_of}
+use Rattle.v_flat.specs.Scope.Scope.{Scope}
 use Rattle.v_flat.specs.Expressions.{binary_class, binary_width, meaning, no_signals, unary_class, unary_width}
 use Rattle.v_flat.specs.Checks.{all_checked, checked, constant, constant_width, counted, filled, known, made, sized}
 use Rattle.v_laws.specs.Least.{Counts, First_faults_count, IsFirst, IsIn, IsInOne, fault}

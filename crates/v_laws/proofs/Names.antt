@@ -8,22 +8,22 @@ use Rattle.gpi.specs.declared.design.Spot.{Spot}
 use Rattle.gpi.specs.declared.design.Spot.TheVariants.{Inner, Sig, Words}
 use Rattle.v_syntax.specs.declared.statement.Identifier.{Identifier}
 use Rattle.v_syntax.specs.SourceTrees.{ModuleTree}
-use Rattle.v_scope.specs.declared.meaning.Bounds.{Bounds}
-use Rattle.v_scope.specs.declared.meaning.DataObject.{DataObject}
-use Rattle.v_scope.specs.Limits.{most_parts}
-use Rattle.v_scope.specs.Scope.{find, low_of, width_of}
+use Rattle.v_flat.specs.declared.scope.meaning.Bounds.{Bounds}
+use Rattle.v_flat.specs.declared.scope.meaning.DataObject.{DataObject}
+use Rattle.v_flat.specs.Scope.Limits.{most_parts}
+use Rattle.v_flat.specs.Scope.Scope.{find, low_of, width_of}
 use Rattle.v_flat.specs.Objects.{count_of}
 use Rattle.v_flat.specs.Headers.{ports_of}
 use Rattle.v_flat.specs.Targets.{Drive}
 use Rattle.v_flat.specs.Declarations.{Declared, Entries, in_order}
 use Rattle.v_flat.specs.Paths.{NodeAt, Path, SignalAt, below}
 use Rattle.v_flat.specs.Design.{Design, Outside, State, all_signals, child_name, children, closed, is_fresh, object_of, opened, place_of, signals_of, spot_of, start_of, with_child, word_signals}
-use Rattle.v_shape.proofs.Kept.{Keeps, KeepsParts, joints_keep, plain_holds}
-use Rattle.v_shape.proofs.Names.{Among, Differ, differ_both, among_first, among_later, one_of_more}
-use Rattle.v_shape.proofs.Nodes.{Children}
-use Rattle.v_shape.proofs.Order.{AreGood, good_in_order, names}
-use Rattle.v_shape.proofs.Signals.{all_many}
-use Rattle.v_shape.proofs.Walk.{Steps, design_holds, opening, scope_of}
+use Rattle.v_flat.proofs.ShapeLemmas.Kept.{Keeps, KeepsParts, joints_keep, plain_holds}
+use Rattle.v_flat.proofs.ShapeLemmas.Names.{Among, Differ, differ_both, among_first, among_later, one_of_more}
+use Rattle.v_flat.proofs.ShapeLemmas.Nodes.{Children}
+use Rattle.v_flat.proofs.ShapeLemmas.Order.{AreGood, good_in_order, names}
+use Rattle.v_flat.proofs.ShapeLemmas.Signals.{all_many}
+use Rattle.v_flat.proofs.ShapeLemmas.Walk.{Steps, design_holds, opening, scope_of}
 use Rattle.v_laws.specs.Instances.{IsAt, IsSignalAt, Names_differ, Names_have_their_paths}
 
 -- ---- lists

@@ -9,13 +9,13 @@ use Rattle.v_syntax.specs.declared.statement.Identifier.{Identifier}
 use Rattle.v_syntax.specs.declared.item.Direction.TheVariants as direction
 use Rattle.v_syntax.specs.StatementTrees.{StatementTree}
 use Rattle.v_syntax.specs.SourceTrees.{NetTree, Net as NetOf, Words, Initially, RegisterTree, Register as RegisterOf, DriverTree, Driver, ControlTree, Implicit, Events, ConnectionsTree, KindTree, Ports, Nets, Registers, Integers, Parameters, Drivers, Always, Initial, Instance, ModuleTree}
-use Rattle.v_scope.specs.declared.rule.ElabRule.TheVariants as rule
-use Rattle.v_scope.specs.declared.found.Found.{Found}
-use Rattle.v_scope.specs.declared.found.Found.TheVariants.{Sound}
-use Rattle.v_scope.specs.declared.meaning.DataKind.TheVariants.{Input, Net}
-use Rattle.v_scope.specs.declared.meaning.DataObject.{DataObject}
-use Rattle.v_scope.specs.Found.{Holds, both, wants, HoldsOk}
-use Rattle.v_scope.specs.Limits.{most_parts}
+use Rattle.v_flat.specs.declared.scope.rule.ElabRule.TheVariants as rule
+use Rattle.v_flat.specs.declared.scope.found.Found.{Found}
+use Rattle.v_flat.specs.declared.scope.found.Found.TheVariants.{Sound}
+use Rattle.v_flat.specs.declared.scope.meaning.DataKind.TheVariants.{Input, Net}
+use Rattle.v_flat.specs.declared.scope.meaning.DataObject.{DataObject}
+use Rattle.v_flat.specs.Scope.Found.{Holds, both, wants, HoldsOk}
+use Rattle.v_flat.specs.Scope.Limits.{most_parts}
 use Rattle.v_flat.specs.Checks.{checked}
 use Rattle.v_flat.specs.Targets.{Drive, driving, target_width, updates}
 use Rattle.v_flat.specs.Statements.{assigned_value, reads, statement_checked, statement_reads}
@@ -24,10 +24,10 @@ use Rattle.v_flat.specs.Declarations.{Declared, Entries, Given, declarations, in
 use Rattle.v_flat.specs.Paths.{Path}
 use Rattle.v_flat.specs.Design.{Design, Joints, Outside, State, adding, all_signals, always, always_item, assigning, beginning, closed, driver, events_of, in_turn, initial_item, instance_checked, net, net_count, opened, place_of, plain_item, port_joints, register, register_count, running, wakes_of, whole_of, with_child, flat_design}
 use Rattle.v_flat.proofs.Holds.{holds_any, holds_both, holds_each, holds_then, holds_wants}
-use Rattle.v_shape.proofs.Kept.{joints_keep}
-use Rattle.v_shape.proofs.Signals.{all_many}
-use Rattle.v_shape.proofs.Walk.{opening, scope_of}
-use Rattle.v_shape.proofs.Ports.{ports_apart}
+use Rattle.v_flat.proofs.ShapeLemmas.Kept.{joints_keep}
+use Rattle.v_flat.proofs.ShapeLemmas.Signals.{all_many}
+use Rattle.v_flat.proofs.ShapeLemmas.Walk.{opening, scope_of}
+use Rattle.v_flat.proofs.ShapeLemmas.Ports.{ports_apart}
 use Rattle.v_laws.specs.Digits.{Changes, IsDriven}
 use Rattle.v_laws.specs.Drivers.{NetsHaveNoWords}
 use Rattle.v_laws.proofs.Along.{PortsDiffer, Steps, design_holds, outside_of}

@@ -12,17 +12,17 @@ use Rattle.gpi.specs.Terms.{read}
 use Rattle.v_syntax.specs.declared.item.Direction.{Direction}
 use Rattle.v_syntax.specs.declared.item.Direction.TheVariants as direction
 use Rattle.v_syntax.specs.ExpressionTrees.{Tree, TargetTree}
-use Rattle.v_scope.specs.declared.meaning.DataKind.TheVariants.{Input}
-use Rattle.v_scope.specs.declared.meaning.DataObject.{DataObject}
-use Rattle.v_scope.specs.declared.meaning.Meaning.{Meaning}
-use Rattle.v_scope.specs.declared.meaning.Meaning.TheVariants.{Constant, Object, Later}
-use Rattle.v_scope.specs.Scope.{Scope, find, width_of}
+use Rattle.v_flat.specs.declared.scope.meaning.DataKind.TheVariants.{Input}
+use Rattle.v_flat.specs.declared.scope.meaning.DataObject.{DataObject}
+use Rattle.v_flat.specs.declared.scope.meaning.Meaning.{Meaning}
+use Rattle.v_flat.specs.declared.scope.meaning.Meaning.TheVariants.{Constant, Object, Later}
+use Rattle.v_flat.specs.Scope.Scope.{Scope, find, width_of}
 use Rattle.v_flat.specs.Targets.{as_target, target_width, updates}
 use Rattle.v_flat.specs.Statements.{assigned_value, reads}
 use Rattle.v_flat.specs.Headers.{Port, port_name}
 use Rattle.v_flat.specs.Declarations.{Declared}
 use Rattle.v_flat.specs.Design.{Design, Joint, any_change, find_joint, input_joint, input_run, output_run, output_target, port_joint, port_joints, wakes_of, with_process}
-use Rattle.v_shape.proofs.Names.{Among, Differ, among_first, among_later}
+use Rattle.v_flat.proofs.ShapeLemmas.Names.{Among, Differ, among_first, among_later}
 use Rattle.v_laws.specs.Digits.{IsWritten}
 use Rattle.v_laws.proofs.Members.{Member}
 use Rattle.v_laws.proofs.Applied.{changed_written}

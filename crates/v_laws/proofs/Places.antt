@@ -6,24 +6,24 @@ use Rattle.four_value.specs.declared.Digit.{Digit}
 use Rattle.v_syntax.specs.declared.item.Direction.{Direction}
 use Rattle.v_syntax.specs.declared.item.Direction.TheVariants as direction
 use Rattle.v_syntax.specs.SourceTrees.{RangeTree}
-use Rattle.v_scope.specs.declared.rule.ElabRule.TheVariants as rule
-use Rattle.v_scope.specs.declared.found.Found.{Found}
-use Rattle.v_scope.specs.Found.{Holds, HoldsOk, both, each, ended}
-use Rattle.v_scope.specs.declared.meaning.Bounds.{Bounds}
-use Rattle.v_scope.specs.declared.meaning.DataKind.TheVariants.{Input, Net, Register}
-use Rattle.v_scope.specs.declared.meaning.DataObject.{DataObject}
-use Rattle.v_scope.specs.declared.meaning.Meaning.{Meaning}
-use Rattle.v_scope.specs.declared.meaning.Meaning.TheVariants.{Constant, Object, Later}
-use Rattle.v_scope.specs.Scope.{Scope, before, find, means, plain}
+use Rattle.v_flat.specs.declared.scope.rule.ElabRule.TheVariants as rule
+use Rattle.v_flat.specs.declared.scope.found.Found.{Found}
+use Rattle.v_flat.specs.Scope.Found.{Holds, HoldsOk, both, each, ended}
+use Rattle.v_flat.specs.declared.scope.meaning.Bounds.{Bounds}
+use Rattle.v_flat.specs.declared.scope.meaning.DataKind.TheVariants.{Input, Net, Register}
+use Rattle.v_flat.specs.declared.scope.meaning.DataObject.{DataObject}
+use Rattle.v_flat.specs.declared.scope.meaning.Meaning.{Meaning}
+use Rattle.v_flat.specs.declared.scope.meaning.Meaning.TheVariants.{Constant, Object, Later}
+use Rattle.v_flat.specs.Scope.Scope.{Scope, before, find, means, plain}
 use Rattle.v_flat.specs.Objects.{count_of}
 use Rattle.v_flat.specs.Checks.{constant_of}
 use Rattle.v_flat.specs.Headers.{Parameter, Port, port_name}
 use Rattle.v_flat.specs.Declarations.{Declared, Entries, Given, constant_meaning, find_declared, given_value, in_order, is_free, kind_of, listed, other_lines, parameter, parameters, port_lines, signals_in, vector_bounds}
 use Rattle.v_flat.specs.Design.{Design, entries, object_of}
 use Rattle.v_flat.proofs.Holds.{holds_any, holds_each, holds_ended, holds_next, holds_wants}
-use Rattle.v_shape.proofs.Declared.{span_some}
-use Rattle.v_shape.proofs.Names.{Among, among_first, same_name}
-use Rattle.v_shape.proofs.Walk.{scope_of}
+use Rattle.v_flat.proofs.ShapeLemmas.Declared.{span_some}
+use Rattle.v_flat.proofs.ShapeLemmas.Names.{Among, among_first, same_name}
+use Rattle.v_flat.proofs.ShapeLemmas.Walk.{scope_of}
 use Rattle.v_laws.proofs.Members.{Member, member_both}
 use Rattle.v_laws.proofs.Directions.{ArePlain, HasDirection, found_member}
 

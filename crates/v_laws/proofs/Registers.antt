@@ -9,24 +9,24 @@ use Rattle.v_syntax.specs.declared.item.Direction.{Direction}
 use Rattle.v_syntax.specs.declared.item.Direction.TheVariants as direction
 use Rattle.v_syntax.specs.ExpressionTrees.{Tree}
 use Rattle.v_syntax.specs.SourceTrees.{RangeTree, Initially, RegisterTree, Register as RegisterOf, Registers, ItemTree, ItemAt, ModuleTree}
-use Rattle.v_scope.specs.declared.rule.ElabRule.TheVariants as rule
-use Rattle.v_scope.specs.declared.found.Found.TheVariants.{Sound}
-use Rattle.v_scope.specs.Found.{Holds, HoldsOk, ended}
-use Rattle.v_scope.specs.declared.meaning.Bounds.{Bounds}
-use Rattle.v_scope.specs.declared.meaning.DataKind.TheVariants.{Register}
-use Rattle.v_scope.specs.declared.meaning.DataObject.{DataObject}
-use Rattle.v_scope.specs.declared.meaning.Meaning.TheVariants.{Object}
-use Rattle.v_scope.specs.Limits.{most_parts}
-use Rattle.v_scope.specs.Scope.{find, means}
+use Rattle.v_flat.specs.declared.scope.rule.ElabRule.TheVariants as rule
+use Rattle.v_flat.specs.declared.scope.found.Found.TheVariants.{Sound}
+use Rattle.v_flat.specs.Scope.Found.{Holds, HoldsOk, ended}
+use Rattle.v_flat.specs.declared.scope.meaning.Bounds.{Bounds}
+use Rattle.v_flat.specs.declared.scope.meaning.DataKind.TheVariants.{Register}
+use Rattle.v_flat.specs.declared.scope.meaning.DataObject.{DataObject}
+use Rattle.v_flat.specs.declared.scope.meaning.Meaning.TheVariants.{Object}
+use Rattle.v_flat.specs.Scope.Limits.{most_parts}
+use Rattle.v_flat.specs.Scope.Scope.{find, means}
 use Rattle.v_flat.specs.Objects.{count_of}
 use Rattle.v_flat.specs.Headers.{Port, items_in, port_name, ports_in, ports_of}
 use Rattle.v_flat.specs.Declarations.{Declared, Entries, Place, Reg, Sort, are_halves, declarations, declare, declare_again, declare_line, declare_lines, declare_register, declare_registers, declared_as, declared_too, find_declared, header_declared, in_order, is_free, is_input_reg, is_port, is_sort_alone, kind_of, known_names, other_lines, port_checked, port_lines, same_bounds, signals_in, vector_bounds, whole_of, with_declared}
 use Rattle.v_flat.specs.Design.{Design, entries, place_of}
 use Rattle.v_flat.proofs.Holds.{holds_any, holds_ended, holds_needs, holds_next, holds_ok_any, holds_then, holds_wants}
-use Rattle.v_shape.proofs.Declared as shape
-use Rattle.v_shape.proofs.Names.{Among, Differ, among_first, among_later, differ_both, is_itself, one_of_more, same_name}
-use Rattle.v_shape.proofs.Order.{names}
-use Rattle.v_shape.proofs.Walk.{scope_of}
+use Rattle.v_flat.proofs.ShapeLemmas.Declared as shape
+use Rattle.v_flat.proofs.ShapeLemmas.Names.{Among, Differ, among_first, among_later, differ_both, is_itself, one_of_more, same_name}
+use Rattle.v_flat.proofs.ShapeLemmas.Order.{names}
+use Rattle.v_flat.proofs.ShapeLemmas.Walk.{scope_of}
 use Rattle.v_laws.proofs.Found.{of_ok}
 use Rattle.v_laws.proofs.Members.{Member}
 use Rattle.v_laws.proofs.Directions.{Goes, both_true, find_last, find_more, found_member, lines_hold, put_other, put_same, registers_hold}

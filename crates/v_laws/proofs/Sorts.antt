@@ -19,19 +19,19 @@ use Rattle.v_syntax.specs.declared.item.Direction.TheVariants as direction
 use Rattle.v_syntax.specs.ExpressionTrees.{Tree, TargetTree, Whole}
 use Rattle.v_syntax.specs.StatementTrees.{StatementTree}
 use Rattle.v_syntax.specs.SourceTrees.{RangeTree, NetTree, Net as NetOf, Words, Initially, RegisterTree, Register as RegisterOf, DriverTree, Driver, ControlTree, Implicit, Events, KindTree, Ports, Nets, Registers, Integers, Parameters, Drivers, Always, Initial, Instance, ItemAt, ModuleTree}
-use Rattle.v_scope.specs.declared.rule.Broken.{Broken}
-use Rattle.v_scope.specs.declared.rule.ElabRule.TheVariants as rule
-use Rattle.v_scope.specs.declared.found.Found.{Found}
-use Rattle.v_scope.specs.declared.found.Found.TheVariants.{Sound, Noted, Lost}
-use Rattle.v_scope.specs.declared.meaning.Bounds.{Bounds}
-use Rattle.v_scope.specs.declared.meaning.DataKind.{DataKind}
-use Rattle.v_scope.specs.declared.meaning.DataKind.TheVariants.{Input, Net, Register}
-use Rattle.v_scope.specs.declared.meaning.DataObject.{DataObject}
-use Rattle.v_scope.specs.declared.meaning.Meaning.{Meaning}
-use Rattle.v_scope.specs.declared.meaning.Meaning.TheVariants.{Constant, Object, Later}
-use Rattle.v_scope.specs.Found.{Holds, HoldsOk, both, wants}
-use Rattle.v_scope.specs.Limits.{most_parts}
-use Rattle.v_scope.specs.Scope.{Scope, find, low_of, width_of}
+use Rattle.v_flat.specs.declared.scope.rule.Broken.{Broken}
+use Rattle.v_flat.specs.declared.scope.rule.ElabRule.TheVariants as rule
+use Rattle.v_flat.specs.declared.scope.found.Found.{Found}
+use Rattle.v_flat.specs.declared.scope.found.Found.TheVariants.{Sound, Noted, Lost}
+use Rattle.v_flat.specs.declared.scope.meaning.Bounds.{Bounds}
+use Rattle.v_flat.specs.declared.scope.meaning.DataKind.{DataKind}
+use Rattle.v_flat.specs.declared.scope.meaning.DataKind.TheVariants.{Input, Net, Register}
+use Rattle.v_flat.specs.declared.scope.meaning.DataObject.{DataObject}
+use Rattle.v_flat.specs.declared.scope.meaning.Meaning.{Meaning}
+use Rattle.v_flat.specs.declared.scope.meaning.Meaning.TheVariants.{Constant, Object, Later}
+use Rattle.v_flat.specs.Scope.Found.{Holds, HoldsOk, both, wants}
+use Rattle.v_flat.specs.Scope.Limits.{most_parts}
+use Rattle.v_flat.specs.Scope.Scope.{Scope, find, low_of, width_of}
 use Rattle.v_flat.specs.Objects.{count_of}
 use Rattle.v_flat.specs.Checks.{checked}
 use Rattle.v_flat.specs.Targets.{Drive, as_target, driving, name_update, object_update, target_width, updates}
@@ -41,8 +41,8 @@ use Rattle.v_flat.specs.Declarations.{Declared, Entries, Given, declarations, in
 use Rattle.v_flat.specs.Paths.{Path, SignalAt, below}
 use Rattle.v_flat.specs.Design.{Design, Joint, Joints, Outside, State, adding, all_signals, always, always_item, any_change, assigning, beginning, driver, events_of, find_joint, flat_design, from, in_turn, initial_item, input_joint, input_run, net, net_count, object_of, opened, output_run, output_target, place_of, plain_item, port_joint, port_joints, register, register_count, running, signals_of, start_of, wakes_of, whole_of, with_child, word_signals}
 use Rattle.v_flat.proofs.Holds.{holds_any, holds_both, holds_each, holds_then, holds_wants}
-use Rattle.v_shape.proofs.Kept.{joints_keep}
-use Rattle.v_shape.proofs.Walk.{opening, scope_of}
+use Rattle.v_flat.proofs.ShapeLemmas.Kept.{joints_keep}
+use Rattle.v_flat.proofs.ShapeLemmas.Walk.{opening, scope_of}
 use Rattle.v_laws.specs.Digits.{Changes, Gives, IsDriven, IsWritten, Leaves}
 use Rattle.v_laws.specs.Drivers.{NetsHaveNoWords, One_driver, Processes_keep_to_their_kind, start_for}
 use Rattle.v_laws.proofs.Along.{Steps, design_holds, outside_of}

@@ -4,24 +4,24 @@ use Rattle.four_value.specs.declared.Digit.{Digit}
 use Rattle.four_value.specs.Vector.{slice}
 use Rattle.gpi.specs.declared.types.Update.{Update}
 use Rattle.v_syntax.specs.ExpressionTrees.{Tree, SelectsTree, Whole, One, OfWord, SelectTree, Bit, Part, IndexedPart, TargetTree, NamedTarget, JoinedTarget, TargetTrees, no_target, more_targets}
-use Rattle.v_scope.specs.declared.rule.ElabRule.TheVariants as rule
-use Rattle.v_scope.specs.declared.found.Found.{Found}
-use Rattle.v_scope.specs.declared.found.Found.TheVariants.{Sound, Noted, Lost}
-use Rattle.v_scope.specs.declared.meaning.Bounds.{Bounds}
-use Rattle.v_scope.specs.declared.meaning.DataKind.{DataKind}
-use Rattle.v_scope.specs.declared.meaning.DataKind.TheVariants.{Input, Net, Register}
-use Rattle.v_scope.specs.declared.meaning.DataObject.{DataObject}
-use Rattle.v_scope.specs.declared.meaning.Meaning.{Meaning}
-use Rattle.v_scope.specs.declared.meaning.Meaning.TheVariants.{Constant, Object, Later}
-use Rattle.v_scope.specs.Rules.{at}
-use Rattle.v_scope.specs.Found.{Holds, both, followed}
-use Rattle.v_scope.specs.Scope.{Scope, find, width_of}
+use Rattle.v_flat.specs.declared.scope.rule.ElabRule.TheVariants as rule
+use Rattle.v_flat.specs.declared.scope.found.Found.{Found}
+use Rattle.v_flat.specs.declared.scope.found.Found.TheVariants.{Sound, Noted, Lost}
+use Rattle.v_flat.specs.declared.scope.meaning.Bounds.{Bounds}
+use Rattle.v_flat.specs.declared.scope.meaning.DataKind.{DataKind}
+use Rattle.v_flat.specs.declared.scope.meaning.DataKind.TheVariants.{Input, Net, Register}
+use Rattle.v_flat.specs.declared.scope.meaning.DataObject.{DataObject}
+use Rattle.v_flat.specs.declared.scope.meaning.Meaning.{Meaning}
+use Rattle.v_flat.specs.declared.scope.meaning.Meaning.TheVariants.{Constant, Object, Later}
+use Rattle.v_flat.specs.Scope.Rules.{at}
+use Rattle.v_flat.specs.Scope.Found.{Holds, both, followed}
+use Rattle.v_flat.specs.Scope.Scope.{Scope, find, width_of}
 use Rattle.v_flat.specs.Objects.{nature_of, nature_of_object}
 use Rattle.v_flat.specs.Expressions.{Values, width}
 use Rattle.v_flat.specs.Checks.{by_nature, checked, index, of_memory, of_vector, part, select_at, select_made, word}
 use Rattle.v_flat.specs.declared.manner.Manner.TheVariants.{Continuous}
 use Rattle.v_flat.specs.Targets.{Drive, all_driving, all_updates, driving, fits, is_driven, name_driving, name_update, named_target, net_driving, object_driving, once_more, place_or, selected_drive, target_width, targets_width, updates}
-use Rattle.v_constant.proofs.Unsignalled.{one_meaning}
+use Rattle.v_check.proofs.ConstantsLemmas.Unsignalled.{one_meaning}
 use Rattle.v_flat.proofs.Holds.{holds_both, holds_each, holds_followed, holds_lost, holds_needs}
 use Rattle.v_laws.proofs.Fixed.{IsMade, holds_all, made_index, made_part, one_base}
 use Rattle.v_laws.proofs.Recorded.{holds_braces}

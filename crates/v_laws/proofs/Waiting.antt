@@ -12,17 +12,17 @@ use Rattle.v_syntax.specs.declared.item.Direction.TheVariants as direction
 use Rattle.v_syntax.specs.ExpressionTrees.{Tree, TargetTree, first_at}
 use Rattle.v_syntax.specs.StatementTrees.{StatementTree}
 use Rattle.v_syntax.specs.SourceTrees.{NetTree, Net as NetOf, Words, Initially, RegisterTree, Register as RegisterOf, DriverTree, Driver, ControlTree, Implicit, Events, ConnectionTree, Connection, ConnectionsTree, Ordered, Named as NamedConnections, KindTree, Ports, Nets, Registers, Integers, Parameters, Drivers, Always, Initial, Instance, ItemAt, ModuleTree}
-use Rattle.v_scope.specs.declared.rule.ElabRule.TheVariants as rule
-use Rattle.v_scope.specs.declared.found.Found.{Found}
-use Rattle.v_scope.specs.declared.found.Found.TheVariants.{Sound, Noted, Lost}
-use Rattle.v_scope.specs.declared.meaning.DataObject.{DataObject}
-use Rattle.v_scope.specs.declared.meaning.Meaning.{Meaning}
-use Rattle.v_scope.specs.declared.meaning.Meaning.TheVariants.{Constant, Object, Later}
-use Rattle.v_scope.specs.Rules.{at}
-use Rattle.v_scope.specs.declared.rule.Broken.{Broken}
-use Rattle.v_scope.specs.Found.{Holds, HoldsOk, both, each, wants}
-use Rattle.v_scope.specs.Limits.{most_parts}
-use Rattle.v_scope.specs.Scope.{Scope, find}
+use Rattle.v_flat.specs.declared.scope.rule.ElabRule.TheVariants as rule
+use Rattle.v_flat.specs.declared.scope.found.Found.{Found}
+use Rattle.v_flat.specs.declared.scope.found.Found.TheVariants.{Sound, Noted, Lost}
+use Rattle.v_flat.specs.declared.scope.meaning.DataObject.{DataObject}
+use Rattle.v_flat.specs.declared.scope.meaning.Meaning.{Meaning}
+use Rattle.v_flat.specs.declared.scope.meaning.Meaning.TheVariants.{Constant, Object, Later}
+use Rattle.v_flat.specs.Scope.Rules.{at}
+use Rattle.v_flat.specs.declared.scope.rule.Broken.{Broken}
+use Rattle.v_flat.specs.Scope.Found.{Holds, HoldsOk, both, each, wants}
+use Rattle.v_flat.specs.Scope.Limits.{most_parts}
+use Rattle.v_flat.specs.Scope.Scope.{Scope, find}
 use Rattle.v_flat.specs.Objects.{count_of}
 use Rattle.v_flat.specs.Checks.{checked}
 use Rattle.v_flat.specs.Targets.{Drive, as_target, driving}
@@ -32,11 +32,11 @@ use Rattle.v_flat.specs.Declarations.{Declared, Entries, Given, in_order, parame
 use Rattle.v_flat.specs.Paths.{Path}
 use Rattle.v_flat.specs.Design.{Design, Joint, Joints, Outside, State, adding, all_signals, always, always_item, any_change, assigning, beginning, driver, events_of, find_joint, flat_design, given_of, in_turn, initial_item, input_joint, input_run, instance_checked, is_fresh, joined, joint, joint_count, joints_of, named_joint, named_joints, net, net_count, opened, ordered_joints, output_joined, output_run, output_target, plain_item, port_joint, port_joints, port_once, register, register_count, running, value_checked, wakes_of, whole_of, with_child}
 use Rattle.v_flat.proofs.Holds.{holds_any, holds_both, holds_each, holds_lost, holds_then, holds_wants}
-use Rattle.v_shape.proofs.Ends.{sound_both, wants_sound}
-use Rattle.v_shape.proofs.Kept.{joints_keep}
-use Rattle.v_shape.proofs.Names.{Differ, same_name}
-use Rattle.v_shape.proofs.Signals.{all_many}
-use Rattle.v_shape.proofs.Walk.{opening, scope_of}
+use Rattle.v_flat.proofs.ShapeLemmas.Ends.{sound_both, wants_sound}
+use Rattle.v_flat.proofs.ShapeLemmas.Kept.{joints_keep}
+use Rattle.v_flat.proofs.ShapeLemmas.Names.{Differ, same_name}
+use Rattle.v_flat.proofs.ShapeLemmas.Signals.{all_many}
+use Rattle.v_flat.proofs.ShapeLemmas.Walk.{opening, scope_of}
 use Rattle.v_laws.specs.Reads.{Assignments_wait_for_enough, Lies, ListsEvents, Procedures_wait_for_enough, Settled, Suffices, WaitsForEnough}
 use Rattle.v_laws.proofs.Along.{PortsDiffer, Steps, design_holds, outside_of}
 use Rattle.v_laws.proofs.Awaited.{assigning_waits, implicit_waits, input_waits, output_waits}

@@ -8,11 +8,11 @@ use Rattle.gpi.specs.declared.design.Kind.TheVariants as process_kind
 use Rattle.gpi.specs.Design.{Proc}
 use Rattle.v_syntax.specs.ExpressionTrees.{TargetTree}
 use Rattle.v_syntax.specs.SourceTrees.{ModuleTree}
-use Rattle.v_scope.specs.declared.meaning.DataKind.TheVariants.{Net}
-use Rattle.v_scope.specs.declared.meaning.DataObject.{DataObject}
-use Rattle.v_scope.specs.declared.meaning.Meaning.TheVariants.{Object}
-use Rattle.v_scope.specs.Found.{Holds, HoldsOk}
-use Rattle.v_scope.specs.Scope.{Scope, find}
+use Rattle.v_flat.specs.declared.scope.meaning.DataKind.TheVariants.{Net}
+use Rattle.v_flat.specs.declared.scope.meaning.DataObject.{DataObject}
+use Rattle.v_flat.specs.declared.scope.meaning.Meaning.TheVariants.{Object}
+use Rattle.v_flat.specs.Scope.Found.{Holds, HoldsOk}
+use Rattle.v_flat.specs.Scope.Scope.{Scope, find}
 use Rattle.v_flat.specs.Expressions.{Values}
 use Rattle.v_flat.specs.Targets.{Drive, driving, target_width, updates}
 use Rattle.v_flat.specs.Paths.{SignalAt}

@@ -3,7 +3,7 @@ use Rattle.std.specs.Prelude.{◌≡◌, ◌+◌, ◌<◌, ℕ, List, Option, So
 use Rattle.gpi.specs.declared.design.Spot.{Spot}
 use Rattle.gpi.specs.declared.design.Spot.TheVariants.{Inner, Sig, Words}
 use Rattle.v_syntax.specs.SourceTrees.{ModuleTree}
-use Rattle.v_scope.specs.Found.{HoldsOk}
+use Rattle.v_flat.specs.Scope.Found.{HoldsOk}
 use Rattle.v_flat.specs.Paths.{NodeAt, Path, SignalAt, below}
 use Rattle.v_flat.specs.Design.{Design, flat_design}
 

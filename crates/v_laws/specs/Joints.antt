@@ -1,8 +1,8 @@
 -- A means of proof: a law of connected ports (IEEE 1364-2005, clause 12.3), for the proofs of elaboration.
 use Rattle.std.specs.Prelude.{◌≡◌, ◌+◌, List, [], ◌++◌, Option, Ok, length}
 use Rattle.v_syntax.specs.SourceTrees.{ConnectionsTree, ModuleTree}
-use Rattle.v_scope.specs.declared.found.Found.TheVariants.{Sound}
-use Rattle.v_scope.specs.Scope.{Scope, means}
+use Rattle.v_flat.specs.declared.scope.found.Found.TheVariants.{Sound}
+use Rattle.v_flat.specs.Scope.Scope.{Scope, means}
 use Rattle.v_flat.specs.Targets.{Drive}
 use Rattle.v_flat.specs.Headers.{all_names, later, parameters_of, ports_of}
 use Rattle.v_flat.specs.Declarations.{Declared, Entries, Given, declarations, in_order, parameters}

@@ -4,7 +4,7 @@ ghost use Rattle.std.specs.Prelude.{◌≡◌};
 ghost use Rattle.v_laws.specs.Least.{Counts};
 ghost use Rattle.v_laws.specs.Steps.{with_fault};
 
-use v_scope::{Broken, earlier};
+use v_flat::scope::{Broken, earlier};
 
 /// Of the rules that are broken in one item the one that counts: the first by its place, and at one place the one that stands first in the
 /// table of rules. None where none is broken.

@@ -2,17 +2,17 @@
 use Rattle.std.proofs.Common.{◌≡◌, ℕ, ◌&&◌, List, [], ◌∷◌, ◌++◌, Option, Some, None, is_none, Bool, true, false, refl, sym, ◌∙◌, ap, arith}
 use Rattle.v_syntax.specs.declared.statement.Identifier.{Identifier}
 use Rattle.v_syntax.specs.SourceTrees.{RangeTree}
-use Rattle.v_scope.specs.declared.rule.ElabRule.TheVariants as rule
-use Rattle.v_scope.specs.declared.found.Found.{Found}
-use Rattle.v_scope.specs.declared.found.Found.TheVariants.{Sound, Noted, Lost}
-use Rattle.v_scope.specs.Rules.{at}
-use Rattle.v_scope.specs.Found.{lost, each, and_then, wants, needs}
-use Rattle.v_scope.proofs.Gathered.{each_wants, each_needs, each_then, then_same}
-use Rattle.v_scope.specs.declared.meaning.Bounds.{Bounds}
+use Rattle.v_flat.specs.declared.scope.rule.ElabRule.TheVariants as rule
+use Rattle.v_flat.specs.declared.scope.found.Found.{Found}
+use Rattle.v_flat.specs.declared.scope.found.Found.TheVariants.{Sound, Noted, Lost}
+use Rattle.v_flat.specs.Scope.Rules.{at}
+use Rattle.v_flat.specs.Scope.Found.{lost, each, and_then, wants, needs}
+use Rattle.v_flat.proofs.ScopeLemmas.Gathered.{each_wants, each_needs, each_then, then_same}
+use Rattle.v_flat.specs.declared.scope.meaning.Bounds.{Bounds}
 use Rattle.v_flat.specs.Declarations.{Declared, Place, is_free, is_new, are_halves, same_bounds, whole_of, find_declared, with_declared, declared_too, declare_again, declare, declare_memory, bounds_in, known_names}
 use Rattle.v_layout.specs.Kept.{put_declared}
 use Rattle.v_layout.specs.DeclareSteps.{may_be, has_room, first_found, again_found, either_found, name_found, memory_of, sized_found, memory_found}
-use Rattle.v_scope.proofs.Chains.{lost_each}
+use Rattle.v_flat.proofs.ScopeLemmas.Chains.{lost_each}
 use Rattle.v_layout.proofs.Counts.{put_absent, put_present, found_name}
 
 abbrev put_in : List Declared → Declared → List Declared

@@ -1,9 +1,9 @@
 -- How many signals there are with one declaration more.
 use Rattle.std.proofs.Common.{◌≡◌, ℕ, ◌+◌, List, [], ◌∷◌, ◌++◌, Option, Some, None, Bool, true, false, refl, sym, ◌∙◌, ap, bytes_eq, if◌then◌else◌, arith}
-use Rattle.v_scope.specs.declared.meaning.Bounds.{Bounds}
+use Rattle.v_flat.specs.declared.scope.meaning.Bounds.{Bounds}
 use Rattle.v_flat.specs.Objects.{count_of}
 use Rattle.v_flat.specs.Declarations.{Declared, find_declared, with_declared, signals_in}
-use Rattle.v_parameter.proofs.Names.{same_name}
+use Rattle.v_header.proofs.ParameterLemmas.Names.{same_name}
 use Rattle.v_layout.specs.Kept.{put_declared, counted_signals}
 use Rattle.v_layout.specs.Counted.{KeepsWords}
 

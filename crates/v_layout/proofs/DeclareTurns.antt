@@ -6,17 +6,17 @@ use Rattle.v_syntax.specs.declared.item.NetDeclarator.{NetDeclarator}
 use Rattle.v_syntax.specs.declared.item.RegisterDeclarator.{RegisterDeclarator}
 use Rattle.v_syntax.specs.declared.item.Item.{Item}
 use Rattle.v_syntax.specs.SourceTrees.{RegisterTree, ItemTree, view_net, view_register, view_tail, view_kind, view_item}
-use Rattle.v_scope.specs.declared.rule.Broken.{Broken}
-use Rattle.v_scope.specs.declared.found.Found.{Found}
-use Rattle.v_scope.specs.Found.{and_then, ended}
-use Rattle.v_scope.specs.declared.meaning.Bounds.{Bounds}
+use Rattle.v_flat.specs.declared.scope.rule.Broken.{Broken}
+use Rattle.v_flat.specs.declared.scope.found.Found.{Found}
+use Rattle.v_flat.specs.Scope.Found.{and_then, ended}
+use Rattle.v_flat.specs.declared.scope.meaning.Bounds.{Bounds}
 use Rattle.v_flat.specs.Headers.{HeadedPort}
 use Rattle.v_flat.specs.Declarations.{Sort, Wire, Declared, Place, declare, declare_all, declare_register, declare_registers, declared_as, declare_ports, declare_line, declare_lines, declare_header, net_identifier}
 use Rattle.v_header.specs.declared.heads.HeadedPort as code_port
 use Rattle.v_header.specs.Heads.{headed_in, headed_port_in}
 use Rattle.v_layout.specs.declared.details.Declared as code
 use Rattle.v_layout.specs.Kept.{named_declared, sort_in}
-use Rattle.v_scope.proofs.Chains.{last_link}
+use Rattle.v_flat.proofs.ScopeLemmas.Chains.{last_link}
 use Rattle.v_layout.proofs.Loops.{one_name, one_register, one_item, item_broken, one_port, port_broken}
 
 -- what is left, from the element of this turn on

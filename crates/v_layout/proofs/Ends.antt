@@ -1,12 +1,12 @@
 -- All declarations, whatever names mean that are no constants.
 use Rattle.std.proofs.Common.{◌≡◌, List, Result, Ok, Err, IfOk, refl, sym, ap, ◌∙◌}
 use Rattle.v_syntax.specs.SourceTrees.{ItemTree, ModuleTree}
-use Rattle.v_scope.specs.declared.rule.Broken.{Broken}
-use Rattle.v_scope.specs.Found.{next}
-use Rattle.v_scope.specs.Scope.{Scope, means, before}
+use Rattle.v_flat.specs.declared.scope.rule.Broken.{Broken}
+use Rattle.v_flat.specs.Scope.Found.{next}
+use Rattle.v_flat.specs.Scope.Scope.{Scope, means, before}
 use Rattle.v_flat.specs.Headers.{ports_in, items_in}
 use Rattle.v_flat.specs.Declarations.{Declared, header_declared, declare_lines, declarations}
-use Rattle.v_parameter.specs.Constants.{entries_of}
+use Rattle.v_header.specs.Parameter.Constants.{entries_of}
 use Rattle.v_layout.specs.declared.place.Place as code
 use Rattle.v_layout.specs.Place.{place_in, AreDeclarations}
 use Rattle.v_layout.proofs.Places.{same_declarations}

@@ -3,15 +3,15 @@ use Rattle.std.proofs.Common.{ℕ, ◌+◌, ◌≤◌, List, [], ◌∷◌, Opti
 use Rattle.std.specs.List.{All}
 use Rattle.std.proofs.lemmas.List.Elements.{All-nil, All-cons}
 use Rattle.v_syntax.specs.SourceTrees.{ModuleTree}
-use Rattle.v_scope.specs.declared.rule.Broken.{Broken}
-use Rattle.v_scope.specs.Found.{HoldsOk}
-use Rattle.v_scope.specs.declared.meaning.Bounds.{Bounds}
-use Rattle.v_scope.specs.Limits.{most_parts}
+use Rattle.v_flat.specs.declared.scope.rule.Broken.{Broken}
+use Rattle.v_flat.specs.Scope.Found.{HoldsOk}
+use Rattle.v_flat.specs.declared.scope.meaning.Bounds.{Bounds}
+use Rattle.v_flat.specs.Scope.Limits.{most_parts}
 use Rattle.v_flat.specs.Objects.{count_of}
 use Rattle.v_flat.specs.Headers.{ports_of}
 use Rattle.v_flat.specs.Declarations.{Declared, Place, declarations, in_order, signals_in}
-use Rattle.v_names.specs.Proper.{HasFewWords}
-use Rattle.v_shape.proofs.Order.{AllWide, AreGood, ordered_good}
+use Rattle.v_check.specs.Names.Proper.{HasFewWords}
+use Rattle.v_flat.proofs.ShapeLemmas.Order.{AllWide, AreGood, ordered_good}
 use Rattle.v_layout.specs.Fits.{IsProperDeclared, Fit}
 
 few_words : (ws : Option Bounds) (n : ℕ) → count_of ws + n ≤ most_parts → HasFewWords ws

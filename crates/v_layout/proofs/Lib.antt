@@ -1,3 +1,4 @@
+pub mod BuildLemmas
 pub mod Tables
 pub mod Counts
 pub mod Changes

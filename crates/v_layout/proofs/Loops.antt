@@ -4,17 +4,17 @@ use Rattle.std.specs.List.{list_any}
 use Rattle.std.specs.Option.{option_or}
 use Rattle.v_syntax.specs.declared.statement.Identifier.{Identifier}
 use Rattle.v_syntax.specs.SourceTrees.{TailTree, RegisterTree, Register as RegisterOf, KindTree, ItemTree, ItemAt}
-use Rattle.v_scope.specs.declared.rule.Broken.{Broken}
-use Rattle.v_scope.specs.declared.rule.ElabRule.TheVariants as rule
-use Rattle.v_scope.specs.declared.found.Found.{Found}
-use Rattle.v_scope.specs.Found.{fine, and_then, needs, ended, next}
-use Rattle.v_scope.proofs.Gathered.{then_same}
-use Rattle.v_scope.specs.declared.meaning.Bounds.{Bounds}
+use Rattle.v_flat.specs.declared.scope.rule.Broken.{Broken}
+use Rattle.v_flat.specs.declared.scope.rule.ElabRule.TheVariants as rule
+use Rattle.v_flat.specs.declared.scope.found.Found.{Found}
+use Rattle.v_flat.specs.Scope.Found.{fine, and_then, needs, ended, next}
+use Rattle.v_flat.proofs.ScopeLemmas.Gathered.{then_same}
+use Rattle.v_flat.specs.declared.scope.meaning.Bounds.{Bounds}
 use Rattle.v_syntax.specs.declared.item.Direction.{Direction}
 use Rattle.v_flat.specs.Declarations.{Sort, Declared, Place, declare, declare_all, declare_register, declare_registers, declared_as, declare_ports, declare_line, declare_lines, declare_header, names_checked, find_direction}
 use Rattle.v_flat.specs.Headers.{HeadedPort}
-use Rattle.test_names.specs.Places.{first_place, noted}
-use Rattle.v_scope.proofs.Chains.{one_link}
+use Rattle.name_table.specs.Places.{first_place, noted}
+use Rattle.v_flat.proofs.ScopeLemmas.Chains.{one_link}
 
 -- y is what is found with one name more, and left are the names behind it
 pub one_name : (w : Place) (d : Option Direction) (k : Option Sort) (b : Bounds) (i : Identifier) (is left : List Identifier) (x y whole : Found (List Declared))

@@ -4,13 +4,13 @@ use Rattle.std.specs.List.{list_any}
 use Rattle.v_syntax.specs.declared.statement.Identifier.{Identifier}
 use Rattle.v_syntax.specs.declared.item.Direction.{Direction}
 use Rattle.v_syntax.specs.SourceTrees.{RangeTree, PortHeadTree, Head, TailTree, Words, Initially, RegisterTree, Register as RegisterOf, KindTree, Ports, Nets, Registers, Integers, Parameters, Drivers, Always, Initial, Instance, ItemTree, ItemAt, HeaderPortsTree, NamedPorts, DeclaredPorts, ModuleTree, ModuleOf}
-use Rattle.v_scope.specs.declared.rule.Broken.{Broken}
-use Rattle.v_scope.specs.declared.rule.ElabRule.TheVariants as rule
-use Rattle.v_scope.specs.declared.found.Found.{Found}
-use Rattle.v_scope.specs.Found.{fine, and_then, needs, ended, next}
-use Rattle.v_scope.proofs.Gathered.{then_same}
-use Rattle.v_scope.specs.declared.meaning.Bounds.{Bounds}
-use Rattle.v_scope.specs.Scope.{Scope, means, before}
+use Rattle.v_flat.specs.declared.scope.rule.Broken.{Broken}
+use Rattle.v_flat.specs.declared.scope.rule.ElabRule.TheVariants as rule
+use Rattle.v_flat.specs.declared.scope.found.Found.{Found}
+use Rattle.v_flat.specs.Scope.Found.{fine, and_then, needs, ended, next}
+use Rattle.v_flat.proofs.ScopeLemmas.Gathered.{then_same}
+use Rattle.v_flat.specs.declared.scope.meaning.Bounds.{Bounds}
+use Rattle.v_flat.specs.Scope.Scope.{Scope, means, before}
 use Rattle.v_flat.specs.Headers.{HeadedPort, headed, first_head, Port, ports_in, items_in}
 use Rattle.v_flat.specs.Declarations.{Entries, Sort, Wire, Reg, Integer, Declared, Place, is_new, declared_too, declared_as, declare, declare_all, declare_memory, declare_register, declare_registers, declare_ports, declare_line, declare_lines, declare_header, header_declared, names_checked, declarations, bounds_in, vector_bounds, sort_of, integer_bounds, net_identifier, find_direction}
 

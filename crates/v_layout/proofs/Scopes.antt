@@ -8,23 +8,23 @@ use Rattle.four_value.specs.declared.Digit.{Digit}
 use Rattle.gpi.specs.declared.design.Signal.{Signal}
 use Rattle.gpi.specs.Design.{widths}
 use Rattle.gpi.specs.Terms.{IsWidth, AreWords}
-use Rattle.v_scope.specs.declared.meaning.Bounds.{Bounds}
-use Rattle.v_scope.specs.declared.meaning.DataObject.{DataObject}
-use Rattle.v_scope.specs.declared.meaning.Meaning.{Meaning}
-use Rattle.v_scope.specs.declared.meaning.Meaning.TheVariants.{Constant, Object}
-use Rattle.v_scope.specs.Scope.{Scope, find, means, width_of, low_of}
+use Rattle.v_flat.specs.declared.scope.meaning.Bounds.{Bounds}
+use Rattle.v_flat.specs.declared.scope.meaning.DataObject.{DataObject}
+use Rattle.v_flat.specs.declared.scope.meaning.Meaning.{Meaning}
+use Rattle.v_flat.specs.declared.scope.meaning.Meaning.TheVariants.{Constant, Object}
+use Rattle.v_flat.specs.Scope.Scope.{Scope, find, means, width_of, low_of}
 use Rattle.v_flat.specs.Objects.{count_of, words_of}
 use Rattle.v_flat.specs.Declarations.{Declared, Entries}
 use Rattle.v_flat.specs.Paths.{Path, SignalAt, below, signal_of}
 use Rattle.v_flat.specs.Design.{word_signals, signals_of, all_signals, object_of, start_of, entries}
-use Rattle.v_names.specs.Proper.{IsProper, AreProper}
-use Rattle.v_constant.specs.Checked.{IsNameOf, IsObjectOf}
-use Rattle.v_parameter.specs.declared.constants.Constant as code
-use Rattle.v_parameter.specs.declared.constants.Constants.{Constants}
-use Rattle.v_parameter.specs.Constants.{AreConstants, entries_of}
+use Rattle.v_check.specs.Names.Proper.{IsProper, AreProper}
+use Rattle.v_check.specs.Constants.Checked.{IsNameOf, IsObjectOf}
+use Rattle.v_header.specs.declared.parameter.constants.Constant as code
+use Rattle.v_header.specs.declared.parameter.constants.Constants.{Constants}
+use Rattle.v_header.specs.Parameter.Constants.{AreConstants, entries_of}
 use Rattle.v_layout.specs.Fits.{IsProperDeclared}
 use Rattle.v_layout.specs.Named.{AreSignals}
-use Rattle.v_shape.proofs.Declared.{span_some}
+use Rattle.v_flat.proofs.ShapeLemmas.Declared.{span_some}
 
 -- ---- constants, and behind them what is declared
 

@@ -2,15 +2,15 @@
 use Rattle.std.proofs.Common.{◌≡◌, ℕ, ◌&&◌, List, Option, Some, None, option_map, is_none, Bool, true, false, Result, Ok, Err, IfOk, refl, sym, ◌∙◌, ap, subst}
 use Rattle.v_syntax.specs.declared.statement.Identifier.{Identifier}
 use Rattle.v_syntax.specs.SourceTrees.{RangeTree}
-use Rattle.v_scope.specs.declared.rule.Broken.{Broken}
-use Rattle.v_scope.specs.declared.rule.ElabRule.{ElabRule}
-use Rattle.v_scope.specs.declared.rule.ElabRule.TheVariants as rule
-use Rattle.v_scope.specs.declared.found.Found.{Found}
-use Rattle.v_scope.specs.declared.found.Found.TheVariants.{Sound, Noted, Lost}
-use Rattle.v_scope.specs.Rules.{at}
-use Rattle.v_scope.specs.Found.{ForValue, noted, lost, each, and_then, wants, needs}
-use Rattle.v_scope.proofs.Gathered.{each_noted, each_wants, each_needs}
-use Rattle.v_scope.specs.declared.meaning.Bounds.{Bounds}
+use Rattle.v_flat.specs.declared.scope.rule.Broken.{Broken}
+use Rattle.v_flat.specs.declared.scope.rule.ElabRule.{ElabRule}
+use Rattle.v_flat.specs.declared.scope.rule.ElabRule.TheVariants as rule
+use Rattle.v_flat.specs.declared.scope.found.Found.{Found}
+use Rattle.v_flat.specs.declared.scope.found.Found.TheVariants.{Sound, Noted, Lost}
+use Rattle.v_flat.specs.Scope.Rules.{at}
+use Rattle.v_flat.specs.Scope.Found.{ForValue, noted, lost, each, and_then, wants, needs}
+use Rattle.v_flat.proofs.ScopeLemmas.Gathered.{each_noted, each_wants, each_needs}
+use Rattle.v_flat.specs.declared.scope.meaning.Bounds.{Bounds}
 use Rattle.v_flat.specs.Declarations.{Declared, Place, is_free, is_new, are_halves, same_bounds, whole_of, find_declared, declare, declare_memory, bounds_in, known_names}
 use Rattle.v_layout.specs.declared.details.Declared as code
 use Rattle.v_layout.specs.Kept.{named_declared, put_declared}

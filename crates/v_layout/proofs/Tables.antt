@@ -3,7 +3,7 @@ use Rattle.std.proofs.Common.{◌≡◌, ℕ, List, [], ◌∷◌, Option, Some,
 use Rattle.std.specs.Map.{lookup}
 use Rattle.indexmap.specs.IndexMap.{insert_entry}
 use Rattle.v_flat.specs.Declarations.{Declared, find_declared}
-use Rattle.v_parameter.proofs.Names.{same_name, either_way}
+use Rattle.v_header.proofs.ParameterLemmas.Names.{same_name, either_way}
 use Rattle.v_layout.specs.declared.details.Declared as code
 use Rattle.v_layout.specs.Kept.{named_declared, declared_in, put_declared}
 

@@ -4,10 +4,10 @@ use Rattle.std.proofs.lemmas.List.{append_assoc, append-nil}
 use Rattle.four_value.specs.declared.Digit.{Digit}
 use Rattle.gpi.specs.declared.design.Signal.{Signal}
 use Rattle.gpi.specs.declared.design.Spot.{Spot}
-use Rattle.v_scope.specs.declared.meaning.DataObject.{DataObject}
-use Rattle.v_scope.specs.declared.meaning.Meaning.{Meaning}
-use Rattle.v_scope.specs.declared.meaning.Meaning.TheVariants.{Object}
-use Rattle.v_scope.specs.Scope.{Scope, means, named}
+use Rattle.v_flat.specs.declared.scope.meaning.DataObject.{DataObject}
+use Rattle.v_flat.specs.declared.scope.meaning.Meaning.{Meaning}
+use Rattle.v_flat.specs.declared.scope.meaning.Meaning.TheVariants.{Object}
+use Rattle.v_flat.specs.Scope.Scope.{Scope, means, named}
 use Rattle.v_flat.specs.Objects.{count_of}
 use Rattle.v_flat.specs.Declarations.{Declared, Entries, signals_in}
 use Rattle.v_flat.specs.Paths.{word_text}
@@ -15,9 +15,9 @@ use Rattle.v_flat.specs.Design.{children, spot_of, object_of, entries}
 use Rattle.v_layout.specs.declared.details.Line.{Line}
 use Rattle.v_layout.specs.Order.{line_in, lines_in}
 use Rattle.v_layout.proofs.DeclareTurns.{here}
-use Rattle.v_parameter.specs.declared.constants.Constant.{Constant}
-use Rattle.v_parameter.specs.Constants.{entries_of}
-use Rattle.v_parameter.specs.Values.{meaning_of}
+use Rattle.v_header.specs.declared.parameter.constants.Constant.{Constant}
+use Rattle.v_header.specs.Parameter.Constants.{entries_of}
+use Rattle.v_header.specs.Parameter.Values.{meaning_of}
 use Rattle.v_layout.specs.Steps.{words_at, signals_at, signals_below, dotted}
 use Rattle.v_layout.proofs.InOrder.{line_here}
 

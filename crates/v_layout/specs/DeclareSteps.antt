@@ -1,12 +1,12 @@
 -- A means of proof: what stands under a name after one more declaration of it, before it is put there.
 use Rattle.std.specs.Prelude.{ℕ, ◌+◌, ◌&&◌, List, Option, None, Some, Bool, not, is_none, nat_le}
 use Rattle.v_syntax.specs.declared.statement.Identifier.{Identifier}
-use Rattle.v_scope.specs.declared.rule.ElabRule.TheVariants as rule
-use Rattle.v_scope.specs.declared.found.Found.{Found}
-use Rattle.v_scope.specs.declared.found.Found.TheVariants.{Sound}
-use Rattle.v_scope.specs.Found.{and_then, wants, needs}
-use Rattle.v_scope.specs.declared.meaning.Bounds.{Bounds}
-use Rattle.v_scope.specs.Limits.{most_parts}
+use Rattle.v_flat.specs.declared.scope.rule.ElabRule.TheVariants as rule
+use Rattle.v_flat.specs.declared.scope.found.Found.{Found}
+use Rattle.v_flat.specs.declared.scope.found.Found.TheVariants.{Sound}
+use Rattle.v_flat.specs.Scope.Found.{and_then, wants, needs}
+use Rattle.v_flat.specs.declared.scope.meaning.Bounds.{Bounds}
+use Rattle.v_flat.specs.Scope.Limits.{most_parts}
 use Rattle.v_syntax.specs.SourceTrees.{RangeTree}
 use Rattle.v_flat.specs.Objects.{count_of}
 use Rattle.v_flat.specs.Declarations.{Declared, Reg, Place, is_free, is_new, is_port, is_input_reg, are_halves, same_bounds, whole_of, find_declared, signals_in, declared_as, bounds_in, known_names}

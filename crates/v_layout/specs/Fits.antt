@@ -3,10 +3,10 @@
 use Rattle.std.specs.Prelude.{ℕ, ◌+◌, ◌≤◌, List}
 use Rattle.std.specs.List.{All}
 use Rattle.gpi.specs.Terms.{IsWidth}
-use Rattle.v_scope.specs.Limits.{most_parts}
-use Rattle.v_scope.specs.Scope.{width_of}
+use Rattle.v_flat.specs.Scope.Limits.{most_parts}
+use Rattle.v_flat.specs.Scope.Scope.{width_of}
 use Rattle.v_flat.specs.Declarations.{Declared, signals_in}
-use Rattle.v_names.specs.Proper.{HasFewWords}
+use Rattle.v_check.specs.Names.Proper.{HasFewWords}
 
 -- a vector, or the words of a memory
 abbrev pub IsProperDeclared : Declared → Type 0

@@ -1,6 +1,6 @@
 -- A means of proof: what is declared of names, as the code keeps it, for the proofs of elaboration.
 use Rattle.std.specs.Prelude.{ℕ, ◌+◌, List, [], ◌∷◌, map, Option, min, option_map, bytes_eq, if◌then◌else◌}
-use Rattle.v_scope.specs.Limits.{most_parts}
+use Rattle.v_flat.specs.Scope.Limits.{most_parts}
 use Rattle.v_flat.specs.Declarations.{Sort, Wire, Reg, Integer, Declared}
 use Rattle.v_layout.specs.declared.details.Sort as code_sort
 use Rattle.v_layout.specs.declared.details.Sort.TheVariants as code_sorts

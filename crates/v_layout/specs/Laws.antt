@@ -3,17 +3,17 @@ use Rattle.std.specs.Prelude.{ℕ, ◌≤◌, List, ◌++◌, length, map}
 use Rattle.std.specs.List.{All}
 use Rattle.gpi.specs.Design.{widths}
 use Rattle.v_syntax.specs.SourceTrees.{ModuleTree}
-use Rattle.v_scope.specs.Found.{HoldsOk}
-use Rattle.v_scope.specs.Limits.{most_parts}
-use Rattle.v_scope.specs.Scope.{Scope, means}
+use Rattle.v_flat.specs.Scope.Found.{HoldsOk}
+use Rattle.v_flat.specs.Scope.Limits.{most_parts}
+use Rattle.v_flat.specs.Scope.Scope.{Scope, means}
 use Rattle.v_flat.specs.Headers.{ports_of}
 use Rattle.v_flat.specs.Declarations.{Declared, Place, declarations, in_order}
 use Rattle.v_flat.specs.Paths.{Path, SignalAt, signal_of}
 use Rattle.v_flat.specs.Design.{entries, all_signals}
-use Rattle.v_names.specs.Proper.{AreProper}
-use Rattle.v_parameter.specs.declared.constants.Constant.{Constant}
-use Rattle.v_parameter.specs.declared.constants.Constants.{Constants}
-use Rattle.v_parameter.specs.Constants.{AreConstants, entries_of}
+use Rattle.v_check.specs.Names.Proper.{AreProper}
+use Rattle.v_header.specs.declared.parameter.constants.Constant.{Constant}
+use Rattle.v_header.specs.declared.parameter.constants.Constants.{Constants}
+use Rattle.v_header.specs.Parameter.Constants.{AreConstants, entries_of}
 use Rattle.v_layout.specs.Fits.{IsProperDeclared, Fit}
 use Rattle.v_layout.specs.Named.{AreSignals}
 

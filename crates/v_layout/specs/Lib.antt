@@ -1,3 +1,4 @@
+pub mod Build
 pub mod Kept
 pub mod Counted
 pub mod Place

@@ -1,11 +1,11 @@
 -- A means of proof: what is known in an instance before its declarations, as the code has it, for the proofs of elaboration.
 use Rattle.std.specs.Prelude.{◌≡◌, List, Result}
 use Rattle.v_syntax.specs.SourceTrees.{ModuleTree}
-use Rattle.v_scope.specs.declared.rule.Broken.{Broken}
-use Rattle.v_scope.specs.Scope.{Scope, means, before}
+use Rattle.v_flat.specs.declared.scope.rule.Broken.{Broken}
+use Rattle.v_flat.specs.Scope.Scope.{Scope, means, before}
 use Rattle.v_flat.specs.Declarations.{Declared, Place, declarations}
-use Rattle.v_parameter.specs.declared.constants.Constants.{Constants}
-use Rattle.v_parameter.specs.Constants.{entries_of}
+use Rattle.v_header.specs.declared.parameter.constants.Constants.{Constants}
+use Rattle.v_header.specs.Parameter.Constants.{entries_of}
 use Rattle.v_layout.specs.declared.place.Place as code
 
 -- names that are no constants mean what they do in the scope of the constants

@@ -2,8 +2,8 @@
 use Rattle.std.specs.Prelude.{ℕ, List, [], ◌∷◌, ◌++◌, map, option_map}
 use Rattle.four_value.specs.declared.Digit.{Digit}
 use Rattle.gpi.specs.declared.design.Signal.{Signal}
-use Rattle.v_scope.specs.declared.meaning.Bounds.{Bounds}
-use Rattle.v_scope.specs.Scope.{low_of, width_of}
+use Rattle.v_flat.specs.declared.scope.meaning.Bounds.{Bounds}
+use Rattle.v_flat.specs.Scope.Scope.{low_of, width_of}
 use Rattle.v_flat.specs.Declarations.{Declared, kind_of}
 use Rattle.v_flat.specs.Paths.{signal_of}
 use Rattle.v_flat.specs.Design.{word_signals, signals_of, object_of, start_of}

@@ -1,13 +1,13 @@
 //! One declaration more.
 
 ghost use Rattle.std.specs.Prelude.{◌≡◌, ℕ, List, IfOk};
-ghost use Rattle.v_scope.specs.Found.{ForValue, each};
-ghost use Rattle.v_scope.specs.declared.found.Found.TheVariants as found_kind;
+ghost use Rattle.v_flat.specs.Scope.Found.{ForValue, each};
+ghost use Rattle.v_flat.specs.declared.scope.found.Found.TheVariants as found_kind;
 ghost use Rattle.v_syntax.specs.SourceTrees.{view_range};
 ghost use Rattle.v_flat.specs.Declarations.{declare, declare_memory, find_declared, is_new};
 ghost use Rattle.v_layout.specs.Counted.{KeepsWords};
 ghost use Rattle.v_layout.specs.Kept.{named_declared};
-ghost use Rattle.v_parameter.specs.Constants.{AreConstants};
+ghost use Rattle.v_header.specs.Parameter.Constants.{AreConstants};
 ghost use Rattle.v_layout.specs.Place.{place_in};
 ghost use Rattle.v_layout.specs.DeclareSteps.{again_found, either_found, first_found, name_found, sized_found};
 
@@ -16,7 +16,7 @@ use crate::place::Place;
 use crate::so_far::DeclaredNames;
 use port_io::NoMemory;
 use std::alloc::Global;
-use v_scope::{Bounds, ElabRule, Found};
+use v_flat::scope::{Bounds, ElabRule, Found};
 use v_syntax::{Identifier, Range, TokenNumber};
 
 /// What is found in the first declaration of a name.

@@ -5,8 +5,8 @@ ghost use Rattle.v_flat.specs.Objects.{count_of};
 ghost use Rattle.v_flat.specs.Declarations.{are_halves, is_direction_alone, is_input_reg, is_sort_alone, kind_of, same_bounds, whole_of};
 ghost use Rattle.v_layout.specs.Kept.{named_declared, sort_in};
 
-use v_names::range_size;
-use v_scope::{Bounds, DataKind};
+use v_check::names::range_size;
+use v_flat::scope::{Bounds, DataKind};
 use v_syntax::Direction;
 
 /// The kind of a declaration.

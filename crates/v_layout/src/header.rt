@@ -1,24 +1,24 @@
 //! The declarations of a header.
 
 ghost use Rattle.std.specs.Prelude.{◌≡◌, ◌∷◌, ◌&&◌, [], IfOk, is_none};
-ghost use Rattle.test_names.specs.Places.{first_place};
-ghost use Rattle.v_scope.specs.Found.{fine, needs};
-ghost use Rattle.v_scope.specs.declared.rule.ElabRule.TheVariants as rule;
+ghost use Rattle.name_table.specs.Places.{first_place};
+ghost use Rattle.v_flat.specs.Scope.Found.{fine, needs};
+ghost use Rattle.v_flat.specs.declared.scope.rule.ElabRule.TheVariants as rule;
 ghost use Rattle.v_syntax.specs.SourceTrees.{view_ports};
 ghost use Rattle.v_flat.specs.Declarations.{declare_header, declare_ports, find_direction, header_declared, names_checked};
 ghost use Rattle.v_header.specs.Heads.{head_in, headed_in};
-ghost use Rattle.v_parameter.specs.Constants.{AreConstants};
+ghost use Rattle.v_header.specs.Parameter.Constants.{AreConstants};
 ghost use Rattle.v_layout.specs.Place.{place_in};
 
 use crate::lines::declare_ports;
 use crate::place::Place;
 use crate::so_far::DeclaredNames;
+use name_table::Names;
 use port_io::NoMemory;
 use std::alloc::Global;
 use std::slice;
-use test_names::Names;
+use v_flat::scope::{Broken, ElabRule, Found};
 use v_header::{Head, HeadedPort, headed_ports};
-use v_scope::{Broken, ElabRule, Found};
 use v_syntax::{HeaderPorts, Identifier};
 
 /// Declares a port. Only want of memory is an error.

@@ -6,8 +6,12 @@
 //! of the instance with the signals that they stand for, and [`scope`] what its names mean, its parameters too. [`path_below`] is the path
 //! of what stands in an instance. Laws of these stand in `specs/Laws.antt`, and the functions of `laws` carry them. What drives the
 //! signals is left to the crates above.
+//!
+//! Modules that the crates above use too:
+//! - [`build`]: a design while it is built.
 #![tactic(auto)]
 
+pub mod build;
 mod change;
 mod details;
 mod header;

@@ -1,7 +1,7 @@
 //! The declarations of an item.
 
 ghost use Rattle.std.specs.Prelude.{◌≡◌, None, Some, IfOk, map, option_map};
-ghost use Rattle.v_scope.specs.Found.{and_then};
+ghost use Rattle.v_flat.specs.Scope.Found.{and_then};
 ghost use Rattle.v_syntax.specs.SourceTrees.{view_kind, view_net, view_register, view_tail};
 ghost use Rattle.v_flat.specs.Declarations.{
   Integer,
@@ -18,7 +18,7 @@ ghost use Rattle.v_flat.specs.Declarations.{
 };
 ghost use Rattle.v_layout.specs.Kept.{named_declared, sort_in};
 ghost use Rattle.v_header.specs.Heads.{head_in};
-ghost use Rattle.v_parameter.specs.Constants.{AreConstants};
+ghost use Rattle.v_header.specs.Parameter.Constants.{AreConstants};
 ghost use Rattle.v_layout.specs.Place.{place_in};
 
 use crate::change::{declare, declare_memory};
@@ -27,8 +27,8 @@ use crate::place::Place;
 use crate::so_far::DeclaredNames;
 use port_io::NoMemory;
 use std::alloc::Global;
+use v_flat::scope::{Bounds, Found};
 use v_header::Head;
-use v_scope::{Bounds, Found};
 use v_syntax::{Identifier, ItemKind, NetDeclarator, PortKind, RegisterDeclarator, RegisterTail};
 
 /// Declares a name behind others. Only want of memory is an error.

@@ -1,18 +1,18 @@
 //! What the names of an instance mean.
 
 ghost use Rattle.std.specs.Prelude.{◌≡◌, ◌++◌, IfOk};
-ghost use Rattle.v_scope.specs.Scope.{means};
+ghost use Rattle.v_flat.specs.Scope.Scope.{means};
 ghost use Rattle.v_flat.specs.Design.{entries};
 ghost use Rattle.v_layout.specs.Order.{lines_in};
-ghost use Rattle.v_parameter.specs.Constants.{entries_of};
+ghost use Rattle.v_header.specs.Parameter.Constants.{entries_of};
 ghost use Rattle.v_layout.specs.Fits.{Fit};
 
 use crate::details::Line;
 use crate::numbers::{end_of, object, signal_count};
 use port_io::NoMemory;
 use std::alloc::Global;
-use v_parameter::Constant;
-use v_scope::{Meaning, Scope};
+use v_flat::scope::{Meaning, Scope};
+use v_header::parameter::Constant;
 
 /// The scope of declared names alone, the first signal of which has the number `first`. Only want of memory is an error.
 fn declared_scope(alloc: Global, lines: &[Line<'_>], first: u32) -> Result<Scope, NoMemory>

@@ -1,7 +1,7 @@
 //! The numbers of signals.
 
 ghost use Rattle.std.specs.Prelude.{◌≡◌, ◌+◌, ℕ, List};
-ghost use Rattle.v_names.specs.Proper.{HasFewWords};
+ghost use Rattle.v_check.specs.Names.Proper.{HasFewWords};
 ghost use Rattle.v_flat.specs.Objects.{count_of};
 ghost use Rattle.v_flat.specs.Declarations.{signals_in};
 ghost use Rattle.v_flat.specs.Design.{object_of};
@@ -10,8 +10,8 @@ ghost use Rattle.v_layout.specs.Order.{lines_in};
 ghost use Rattle.v_layout.specs.Fits.{Fit};
 
 use crate::details::{Declared, Line};
-use v_names::word_count;
-use v_scope::DataObject;
+use v_check::names::word_count;
+use v_flat::scope::DataObject;
 
 /// How many signals it has: one, or as many as a memory has words.
 pub(crate) fn signal_count(declared: Declared) -> u32

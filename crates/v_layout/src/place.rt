@@ -5,16 +5,16 @@ ghost use Rattle.v_syntax.specs.SourceTrees.{view_range};
 ghost use Rattle.v_flat.specs.Declarations.{bounds_in, find_direction, is_free, is_input_reg, is_port, known_names, vector_bounds};
 ghost use Rattle.v_header.specs.Parameters.{range_in};
 ghost use Rattle.v_layout.specs.Kept.{sort_in};
-ghost use Rattle.v_parameter.specs.Constants.{AreConstants};
+ghost use Rattle.v_header.specs.Parameter.Constants.{AreConstants};
 ghost use Rattle.v_layout.specs.Place.{place_in};
 
 use crate::details::Declared;
 use port_io::NoMemory;
 use std::alloc::Global;
-use v_constant::is_constant;
+use v_check::constants::is_constant;
+use v_flat::scope::{Bounds, Found};
 use v_header::Ports;
-use v_parameter::Constants;
-use v_scope::{Bounds, Found};
+use v_header::parameter::Constants;
 use v_syntax::Range;
 
 /// What is known in an instance before its declarations.
@@ -57,7 +57,7 @@ impl Place<'_> {
         requires { AreConstants self.now.constants.now }
         ensures { IfOk result (λ found. found ≡ bounds_in (view_range range.now) (known_names (place_in self.now))) }
     {
-        v_range::bounds(alloc, &self.constants.scope, range)
+        v_header::range::bounds(alloc, &self.constants.scope, range)
     }
 
     /// The bounds of a vector. Only want of memory is an error.
@@ -69,6 +69,6 @@ impl Place<'_> {
         requires { AreConstants self.now.constants.now }
         ensures { IfOk result (λ found. found ≡ vector_bounds (range_in range.entry) (known_names (place_in self.now))) }
     {
-        v_range::vector_bounds(alloc, &self.constants.scope, range)
+        v_header::range::vector_bounds(alloc, &self.constants.scope, range)
     }
 }

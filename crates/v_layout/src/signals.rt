@@ -3,7 +3,7 @@
 ghost use Rattle.std.specs.Prelude.{◌≡◌, ℕ, List, ◌++◌, ◌∷◌, [], map, IfOk, OnErr, OnOk};
 ghost use Rattle.std.specs.List.{All};
 ghost use Rattle.gpi.specs.Terms.{IsWidth};
-ghost use Rattle.v_scope.specs.Scope.{width_of};
+ghost use Rattle.v_flat.specs.Scope.Scope.{width_of};
 ghost use Rattle.v_flat.specs.Paths.{Path, signal_of};
 ghost use Rattle.v_flat.specs.Design.{all_signals, start_of};
 ghost use Rattle.v_layout.specs.Kept.{named_declared};
@@ -19,8 +19,8 @@ use four_value::Digit;
 use gpi::Signal;
 use port_io::{Name, NoMemory, Sequence};
 use std::alloc::Global;
-use v_names::width;
-use v_scope::{Bounds, DataKind};
+use v_check::names::width;
+use v_flat::scope::{Bounds, DataKind};
 
 /// The digit that a signal has everywhere at the start: x in a register, z on a net (IEEE 1364-2005, clauses 4.2.1 and 4.2.2).
 fn start(kind: DataKind) -> Digit

@@ -1,8 +1,8 @@
 //! What is declared so far.
 
 ghost use Rattle.std.specs.Prelude.{◌≡◌, ◌+◌, ◌≤◌, [], IfOk, OnErr, OnOk, length, nat_le, option_map, slice_get};
-ghost use Rattle.v_scope.specs.Found.{ForValue, each};
-ghost use Rattle.v_scope.specs.Limits.{most_parts};
+ghost use Rattle.v_flat.specs.Scope.Found.{ForValue, each};
+ghost use Rattle.v_flat.specs.Scope.Limits.{most_parts};
 ghost use Rattle.v_flat.specs.Objects.{count_of};
 ghost use Rattle.v_flat.specs.Declarations.{find_declared, signals_in};
 ghost use Rattle.v_layout.specs.Kept.{counted_signals, named_declared, put_declared};
@@ -14,7 +14,7 @@ use crate::table::Table;
 use port_io::NoMemory;
 use std::alloc::Global;
 use std::marker::Model;
-use v_scope::Found;
+use v_flat::scope::Found;
 
 /// The most signals that a design may have.
 const MOST_SIGNALS: u32 = 65_536;

@@ -1,7 +1,7 @@
 //! The names of an instance, with the signals that they stand for.
 
 ghost use Rattle.std.specs.Prelude.{◌≡◌, ℕ, List, IfOk};
-ghost use Rattle.v_names.specs.Proper.{HasFewWords};
+ghost use Rattle.v_check.specs.Names.Proper.{HasFewWords};
 ghost use Rattle.v_flat.specs.Design.{children, object_of, spot_of};
 ghost use Rattle.v_layout.specs.Kept.{named_declared};
 ghost use Rattle.v_layout.specs.Order.{lines_in};
@@ -12,7 +12,7 @@ use crate::numbers::signal_count;
 use gpi::{SigId, Spot};
 use port_io::{Name, NoMemory, Sequence};
 use std::alloc::Global;
-use v_names::words;
+use v_check::names::words;
 
 /// The signal of what is declared, or the words of a memory, from the number of its first signal on.
 fn spot(declared: Declared, first: u32) -> Spot

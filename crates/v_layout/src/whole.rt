@@ -3,7 +3,7 @@
 ghost use Rattle.std.specs.Prelude.{◌≡◌, IfOk, map};
 ghost use Rattle.v_syntax.specs.SourceTrees.{view_item, view_module};
 ghost use Rattle.v_flat.specs.Declarations.{declare_lines};
-ghost use Rattle.v_parameter.specs.Constants.{AreConstants};
+ghost use Rattle.v_header.specs.Parameter.Constants.{AreConstants};
 ghost use Rattle.v_layout.specs.Place.{AreDeclarations, place_in};
 
 use crate::header::declared_by_header;
@@ -12,7 +12,7 @@ use crate::place::Place;
 use crate::so_far::DeclaredNames;
 use port_io::NoMemory;
 use std::alloc::Global;
-use v_scope::Broken;
+use v_flat::scope::Broken;
 use v_syntax::{Item, Module};
 
 /// Declares what items do. Only want of memory is an error.

@@ -1,19 +1,19 @@
 -- A step in which a rule is broken.
 use Rattle.std.proofs.Common.{◌≡◌, ℕ, Err, sym, ap, ◌∙◌}
 use Rattle.v_syntax.specs.ExpressionTrees.{Tree, first_at}
-use Rattle.v_scope.specs.declared.rule.Broken.{Broken}
-use Rattle.v_scope.specs.declared.rule.ElabRule.TheVariants as rule
-use Rattle.v_scope.specs.declared.found.Found.{Found}
-use Rattle.v_scope.specs.declared.found.Found.TheVariants.{Sound, Noted, Lost}
-use Rattle.v_scope.specs.Found.{each, ended, needs, settled}
-use Rattle.v_scope.specs.Scope.{Scope}
-use Rattle.v_scope.specs.Limits.{counted_width}
-use Rattle.v_scope.proofs.Gathered.{each_needs}
+use Rattle.v_flat.specs.declared.scope.rule.Broken.{Broken}
+use Rattle.v_flat.specs.declared.scope.rule.ElabRule.TheVariants as rule
+use Rattle.v_flat.specs.declared.scope.found.Found.{Found}
+use Rattle.v_flat.specs.declared.scope.found.Found.TheVariants.{Sound, Noted, Lost}
+use Rattle.v_flat.specs.Scope.Found.{each, ended, needs, settled}
+use Rattle.v_flat.specs.Scope.Scope.{Scope}
+use Rattle.v_flat.specs.Scope.Limits.{counted_width}
+use Rattle.v_flat.proofs.ScopeLemmas.Gathered.{each_needs}
 use Rattle.v_flat.specs.Checks.{checked, made}
 use Rattle.v_flat.specs.Statements.{done, step_checked}
-use Rattle.v_constant.specs.declared.checked.Checked.{Checked}
-use Rattle.v_constant.specs.Checked.{IsChecked}
-use Rattle.v_constant.proofs.Values.{asked, lost_is, noted_is}
+use Rattle.v_check.specs.declared.constants.checked.Checked.{Checked}
+use Rattle.v_check.specs.Constants.Checked.{IsChecked}
+use Rattle.v_check.proofs.ConstantsLemmas.Values.{asked, lost_is, noted_is}
 
 same_rule : (f : Found Checked) (x : Found ℕ) (b : Broken) → each (λ (c : Checked). c.width) f ≡ each counted_width x → ended f ≡ Err b → settled x ≡ Lost b
 same_rule (Sound a) x b h q = absurd (cc)

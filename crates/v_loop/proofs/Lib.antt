@@ -1,3 +1,4 @@
+pub mod WakesLemmas
 pub mod Settled
 pub mod Asked
 pub mod Steps
@@ -7,3 +8,4 @@ pub mod Widths
 pub mod Whole
 pub mod Rows
 pub mod Counted
+pub mod SensitivityLemmas

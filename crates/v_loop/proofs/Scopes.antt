@@ -1,10 +1,10 @@
 -- The scope of a turn.
 use Rattle.std.proofs.Common.{◌≡◌, ℕ, List, Some, ap, ◌∙◌}
 use Rattle.four_value.specs.declared.Digit.{Digit}
-use Rattle.v_scope.specs.declared.meaning.DataObject.{DataObject}
-use Rattle.v_scope.specs.declared.meaning.Meaning.TheVariants.{Constant, Object}
-use Rattle.v_scope.specs.Scope.{Scope, find, renamed}
-use Rattle.v_scope.proofs.Replaced.{back_again}
+use Rattle.v_flat.specs.declared.scope.meaning.DataObject.{DataObject}
+use Rattle.v_flat.specs.declared.scope.meaning.Meaning.TheVariants.{Constant, Object}
+use Rattle.v_flat.specs.Scope.Scope.{Scope, find, renamed}
+use Rattle.v_flat.proofs.ScopeLemmas.Replaced.{back_again}
 use Rattle.v_flat.specs.Statements.{turn}
 
 -- what the register's name meant is put back

@@ -1,9 +1,9 @@
 -- What the parts of a header make together.
 use Rattle.std.proofs.Common.{◌≡◌, Ok, Err, refl, ap}
-use Rattle.v_scope.specs.declared.rule.Broken.{Broken}
-use Rattle.v_scope.specs.declared.found.Found.{Found}
-use Rattle.v_scope.specs.declared.found.Found.TheVariants.{Sound, Noted, Lost}
-use Rattle.v_scope.specs.Found.{and_then, ended}
+use Rattle.v_flat.specs.declared.scope.rule.Broken.{Broken}
+use Rattle.v_flat.specs.declared.scope.found.Found.{Found}
+use Rattle.v_flat.specs.declared.scope.found.Found.TheVariants.{Sound, Noted, Lost}
+use Rattle.v_flat.specs.Scope.Found.{and_then, ended}
 use Rattle.v_loop.proofs.Settled.{IsSettled}
 
 -- what comes behind something in which no rule is broken

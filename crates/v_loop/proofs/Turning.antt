@@ -6,14 +6,14 @@ use Rattle.four_value.specs.declared.Digit.TheVariants.{Zero, One, X, Z}
 use Rattle.four_value.specs.Vector.{resize}
 use Rattle.gpi.specs.Operators.{truth}
 use Rattle.v_syntax.specs.ExpressionTrees.{Tree}
-use Rattle.v_scope.specs.declared.rule.Broken.{Broken}
-use Rattle.v_scope.specs.declared.rule.ElabRule.TheVariants as rule
-use Rattle.v_scope.specs.declared.meaning.DataObject.{DataObject}
-use Rattle.v_scope.specs.declared.found.Found.{Found}
-use Rattle.v_scope.specs.declared.found.Found.TheVariants.{Sound, Noted, Lost}
-use Rattle.v_scope.specs.Found.{and_then, broken, each, ended, next}
-use Rattle.v_scope.specs.Scope.{Scope, width_of}
-use Rattle.v_scope.proofs.Gathered.{each_each, each_same}
+use Rattle.v_flat.specs.declared.scope.rule.Broken.{Broken}
+use Rattle.v_flat.specs.declared.scope.rule.ElabRule.TheVariants as rule
+use Rattle.v_flat.specs.declared.scope.meaning.DataObject.{DataObject}
+use Rattle.v_flat.specs.declared.scope.found.Found.{Found}
+use Rattle.v_flat.specs.declared.scope.found.Found.TheVariants.{Sound, Noted, Lost}
+use Rattle.v_flat.specs.Scope.Found.{and_then, broken, each, ended, next}
+use Rattle.v_flat.specs.Scope.Scope.{Scope, width_of}
+use Rattle.v_flat.proofs.ScopeLemmas.Gathered.{each_each, each_same}
 use Rattle.v_flat.specs.Checks.{checked, constant_of, given_to}
 use Rattle.v_flat.specs.Statements.{Turns, more_turn, turn, turns_from, where_true}
 use Rattle.v_loop.specs.Steps.{condition_of, is_one, next_value, only_if}

@@ -5,10 +5,10 @@ use Rattle.four_value.specs.declared.Digit.{Digit}
 use Rattle.v_syntax.specs.declared.statement.Identifier.{Identifier}
 use Rattle.v_syntax.specs.ExpressionTrees.{Tree}
 use Rattle.v_syntax.specs.StatementTrees.{Header, Variable as Assigned}
-use Rattle.v_scope.specs.declared.meaning.DataObject.{DataObject}
-use Rattle.v_scope.specs.declared.found.Found.{Found}
-use Rattle.v_scope.specs.Found.{ForValue, and_then, ended}
-use Rattle.v_scope.specs.Scope.{Scope, width_of}
+use Rattle.v_flat.specs.declared.scope.meaning.DataObject.{DataObject}
+use Rattle.v_flat.specs.declared.scope.found.Found.{Found}
+use Rattle.v_flat.specs.Scope.Found.{ForValue, and_then, ended}
+use Rattle.v_flat.specs.Scope.Scope.{Scope, width_of}
 use Rattle.v_flat.specs.Statements.{Turns, first_value, most_turns, same_counter, step_checked, turn, turns, turns_from}
 use Rattle.v_loop.specs.Turns.{HaveWidth}
 use Rattle.v_loop.proofs.Steps.{behind_sound, second_sound}

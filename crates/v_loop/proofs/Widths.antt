@@ -8,13 +8,13 @@ use Rattle.four_value.proofs.Lengths.{length_resize}
 use Rattle.gpi.specs.Operators.{truth}
 use Rattle.v_syntax.specs.ExpressionTrees.{Tree}
 use Rattle.v_syntax.specs.StatementTrees.{HeaderTree, Header, Variable as Assigned}
-use Rattle.v_scope.specs.declared.rule.Broken.{Broken}
-use Rattle.v_scope.specs.declared.rule.ElabRule.TheVariants as rule
-use Rattle.v_scope.specs.declared.meaning.DataObject.{DataObject}
-use Rattle.v_scope.specs.declared.found.Found.{Found}
-use Rattle.v_scope.specs.declared.found.Found.TheVariants.{Sound, Noted, Lost}
-use Rattle.v_scope.specs.Found.{ForValue, and_then, broken, each, noted}
-use Rattle.v_scope.specs.Scope.{Scope, width_of}
+use Rattle.v_flat.specs.declared.scope.rule.Broken.{Broken}
+use Rattle.v_flat.specs.declared.scope.rule.ElabRule.TheVariants as rule
+use Rattle.v_flat.specs.declared.scope.meaning.DataObject.{DataObject}
+use Rattle.v_flat.specs.declared.scope.found.Found.{Found}
+use Rattle.v_flat.specs.declared.scope.found.Found.TheVariants.{Sound, Noted, Lost}
+use Rattle.v_flat.specs.Scope.Found.{ForValue, and_then, broken, each, noted}
+use Rattle.v_flat.specs.Scope.Scope.{Scope, width_of}
 use Rattle.v_flat.specs.Checks.{constant_of, given_to}
 use Rattle.v_flat.specs.Statements.{Turns, first_value, more_turn, most_turns, same_counter, step_checked, turn, turns, turns_from, where_true}
 use Rattle.v_loop.specs.Turns.{HaveWidth}

@@ -5,9 +5,9 @@ use Rattle.four_value.specs.declared.Digit.TheVariants.{Zero, One, X, Z}
 use Rattle.four_value.specs.Vector.{resize}
 use Rattle.gpi.specs.Operators.{truth}
 use Rattle.v_syntax.specs.ExpressionTrees.{Tree}
-use Rattle.v_scope.specs.declared.rule.Broken.{Broken}
-use Rattle.v_scope.specs.Found.{each, ended, next}
-use Rattle.v_scope.specs.Scope.{Scope}
+use Rattle.v_flat.specs.declared.scope.rule.Broken.{Broken}
+use Rattle.v_flat.specs.Scope.Found.{each, ended, next}
+use Rattle.v_flat.specs.Scope.Scope.{Scope}
 use Rattle.v_flat.specs.Checks.{constant_of, given_to}
 
 abbrev pub is_one : Digit → Bool

@@ -1,12 +1,12 @@
 //! The scope of a turn.
 
 ghost use Rattle.std.specs.Prelude.{◌≡◌, length, IfOk, IfSome, Some};
-ghost use Rattle.v_scope.specs.declared.meaning.Meaning.TheVariants.{Object};
-ghost use Rattle.v_scope.specs.Found.{ended};
-ghost use Rattle.v_scope.specs.Scope.{find, means, renamed, width_of};
+ghost use Rattle.v_flat.specs.declared.scope.meaning.Meaning.TheVariants.{Object};
+ghost use Rattle.v_flat.specs.Scope.Found.{ended};
+ghost use Rattle.v_flat.specs.Scope.Scope.{find, means, renamed, width_of};
 ghost use Rattle.v_syntax.specs.ExpressionTrees.{view};
 ghost use Rattle.v_flat.specs.Statements.{step_checked, turn};
-ghost use Rattle.v_names.specs.Proper.{AreProper};
+ghost use Rattle.v_check.specs.Names.Proper.{AreProper};
 ghost use Rattle.v_loop.specs.Steps.{condition_of, next_value};
 ghost use Rattle.v_loop.specs.Turns.{LeavesTurn};
 
@@ -14,8 +14,8 @@ use crate::step::{holds, next_value, step_checked};
 use four_value::Bits;
 use port_io::NoMemory;
 use std::alloc::Global;
-use v_names::width;
-use v_scope::{Broken, DataObject, Meaning, Scope};
+use v_check::names::width;
+use v_flat::scope::{Broken, DataObject, Meaning, Scope};
 use v_syntax::{Expression, ForHeader};
 
 /// From now on the name of a loop's register is that of a constant, which has the register's value in this turn, and its range. It takes

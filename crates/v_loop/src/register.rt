@@ -1,12 +1,12 @@
 //! The register that a loop counts in.
 
 ghost use Rattle.std.specs.Prelude.{◌≡◌, Some};
-ghost use Rattle.v_scope.specs.declared.meaning.Meaning.TheVariants.{Object};
-ghost use Rattle.v_scope.specs.Found.{ForValue, ended};
-ghost use Rattle.v_scope.specs.Scope.{find, means};
+ghost use Rattle.v_flat.specs.declared.scope.meaning.Meaning.TheVariants.{Object};
+ghost use Rattle.v_flat.specs.Scope.Found.{ForValue, ended};
+ghost use Rattle.v_flat.specs.Scope.Scope.{find, means};
 ghost use Rattle.v_flat.specs.Statements.{counter, counter_in, same_counter};
 
-use v_scope::{Broken, DataKind, DataObject, ElabRule, Found, Meaning, Scope};
+use v_flat::scope::{Broken, DataKind, DataObject, ElabRule, Found, Meaning, Scope};
 use v_syntax::{Identifier, TokenNumber};
 
 /// A register that is no memory, or else BadRange is broken at this token by a memory, and BadTarget by a net.

@@ -3,19 +3,19 @@
 ghost use Rattle.std.specs.Prelude.{◌≡◌, length, IfOk, IfSome};
 ghost use Rattle.gpi.specs.Operators.{truth};
 ghost use Rattle.gpi.specs.Terms.{IsWidth};
-ghost use Rattle.v_scope.specs.Found.{ended};
-ghost use Rattle.v_scope.specs.Scope.{means};
+ghost use Rattle.v_flat.specs.Scope.Found.{ended};
+ghost use Rattle.v_flat.specs.Scope.Scope.{means};
 ghost use Rattle.v_syntax.specs.ExpressionTrees.{view};
 ghost use Rattle.v_flat.specs.Statements.{step_checked};
-ghost use Rattle.v_names.specs.Proper.{AreProper};
+ghost use Rattle.v_check.specs.Names.Proper.{AreProper};
 ghost use Rattle.v_loop.specs.Steps.{condition_of, is_one, next_value, value_for};
 
 use four_value::{Bits, Digit};
 use port_io::NoMemory;
 use std::alloc::Global;
+use v_check::constants::{given_to, is_made};
 use v_check::{check, constant};
-use v_constant::{given_to, is_made};
-use v_scope::{Broken, ElabRule, Scope};
+use v_flat::scope::{Broken, ElabRule, Scope};
 use v_syntax::{Expression, ForHeader};
 
 /// A condition with this value holds: a digit is 1 (clause 9.4).

@@ -1,13 +1,13 @@
 //! The turns of a loop, one after the other.
 
 ghost use Rattle.std.specs.Prelude.{◌≡◌, length, IfOk, Some};
-ghost use Rattle.v_scope.specs.declared.meaning.Meaning.TheVariants.{Object};
-ghost use Rattle.v_scope.specs.Found.{ForValue, and_then, ended};
-ghost use Rattle.v_scope.specs.Scope.{find, means, width_of};
+ghost use Rattle.v_flat.specs.declared.scope.meaning.Meaning.TheVariants.{Object};
+ghost use Rattle.v_flat.specs.Scope.Found.{ForValue, and_then, ended};
+ghost use Rattle.v_flat.specs.Scope.Scope.{find, means, width_of};
 ghost use Rattle.v_syntax.specs.ExpressionTrees.{view};
 ghost use Rattle.v_syntax.specs.StatementTrees.{view_header};
 ghost use Rattle.v_flat.specs.Statements.{first_value, most_turns, same_counter, step_checked, turn, turns, turns_from};
-ghost use Rattle.v_names.specs.Proper.{AreProper};
+ghost use Rattle.v_check.specs.Names.Proper.{AreProper};
 ghost use Rattle.v_loop.specs.Turns.{HaveWidth};
 
 use crate::in_turn::{holds_in_turn, next_in_turn, step_in_turn};
@@ -17,8 +17,8 @@ use crate::{LoopTurns, Unrolled};
 use four_value::Bits;
 use port_io::NoMemory;
 use std::alloc::Global;
-use v_names::width;
-use v_scope::{Broken, DataObject, ElabRule, Found, Scope};
+use v_check::names::width;
+use v_flat::scope::{Broken, DataObject, ElabRule, Found, Scope};
 use v_syntax::{ForHeader, TokenNumber};
 
 /// The most turns that a loop may have.

@@ -1,3 +1,4 @@
+pub mod ItemLemmas
 pub mod Steps
 pub mod ModuleLaws
 pub mod Lowest

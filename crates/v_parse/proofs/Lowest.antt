@@ -6,8 +6,8 @@ use Rattle.v_syntax.specs.SourceTrees.{HeaderParameterOf, HeaderPortOf, NamedPor
 use Rattle.v_syntax.specs.Phrases.{nothing, ◌⊛◌, ◌◃◌, ◌▹◌}
 use Rattle.v_syntax.specs.Statements.{sign, word_of, listed, identifier}
 use Rattle.v_syntax.specs.Sources.{parameter_head, headed, first_parameter, next_parameter, header_parameters, with_head, first_port, next_port, declared_ports, ports, port_list, module_tree, module_definition, source}
-use Rattle.v_phrase.proofs.Below.{Below, same, both_below, apply_below, keep_below, skip_below, maybe_below, many_below, either_below}
-use Rattle.v_item.proofs.Lowest.{range_below, value_below, port_head_below, item_below}
+use Rattle.v_expression.proofs.PhraseLemmas.Below.{Below, same, both_below, apply_below, keep_below, skip_below, maybe_below, many_below, either_below}
+use Rattle.v_parse.proofs.ItemLemmas.Lowest.{range_below, value_below, port_head_below, item_below}
 
 module _ (end : ℕ) where
   parameter_head_below : Below (parameter_head end 0) (parameter_head end 1)

@@ -10,24 +10,24 @@ use Rattle.v_syntax.specs.Statements.{identifier}
 use Rattle.v_syntax.specs.Items.{item, value}
 use Rattle.v_syntax.specs.Sources.{headed, with_head, module_tree}
 use Rattle.v_syntax.specs.Sources as rule
-use Rattle.v_phrase.specs.Readers.{starts_mark, starts_word, identifier_of}
-use Rattle.v_phrase.specs.Readers as read
-use Rattle.v_phrase.specs.Kinds.{Kinds, any_kind, a_mark, a_word, a_name, either_of, without, Tells}
-use Rattle.v_phrase.proofs.KindLaws.{tells_mark, tells_word}
-use Rattle.v_phrase.proofs.Laws.{Laws}
-use Rattle.v_phrase.proofs.Tokens.{nothing_laws, mark_laws, word_laws, tells_meaning}
-use Rattle.v_phrase.proofs.Meanings.{of_direction, direction_tells, identifier_laws}
-use Rattle.v_phrase.proofs.Both.{both_laws, apply_laws, keep_laws, skip_laws}
-use Rattle.v_phrase.proofs.Maybe.{maybe_laws}
-use Rattle.v_phrase.proofs.Many.{many_laws}
-use Rattle.v_phrase.proofs.Lists.{ends_list}
-use Rattle.v_phrase.proofs.Either.{either_second}
-use Rattle.v_phrase.proofs.Branches.{no_else}
-use Rattle.v_phrase.proofs.Change.{narrow, reread}
+use Rattle.v_expression.specs.Phrase.Readers.{starts_mark, starts_word, identifier_of}
+use Rattle.v_expression.specs.Phrase.Readers as read
+use Rattle.v_expression.specs.Phrase.Kinds.{Kinds, any_kind, a_mark, a_word, a_name, either_of, without, Tells}
+use Rattle.v_expression.proofs.PhraseLemmas.KindLaws.{tells_mark, tells_word}
+use Rattle.v_expression.proofs.PhraseLemmas.Laws.{Laws}
+use Rattle.v_expression.proofs.PhraseLemmas.Tokens.{nothing_laws, mark_laws, word_laws, tells_meaning}
+use Rattle.v_expression.proofs.PhraseLemmas.Meanings.{of_direction, direction_tells, identifier_laws}
+use Rattle.v_expression.proofs.PhraseLemmas.Both.{both_laws, apply_laws, keep_laws, skip_laws}
+use Rattle.v_expression.proofs.PhraseLemmas.Maybe.{maybe_laws}
+use Rattle.v_expression.proofs.PhraseLemmas.Many.{many_laws}
+use Rattle.v_expression.proofs.PhraseLemmas.Lists.{ends_list}
+use Rattle.v_expression.proofs.PhraseLemmas.Either.{either_second}
+use Rattle.v_expression.proofs.PhraseLemmas.Branches.{no_else}
+use Rattle.v_expression.proofs.PhraseLemmas.Change.{narrow, reread}
 use Rattle.v_expression.proofs.Phrases.{ends_expression}
-use Rattle.v_item.specs.Firsts.{starts_item, starts_direction}
-use Rattle.v_item.proofs.Rules.{maybe_range_laws, value_laws, port_head_laws, identifiers_laws}
-use Rattle.v_item.proofs.Laws.{of_item, tells_item, item_laws, item_missing}
+use Rattle.v_parse.specs.Item.Firsts.{starts_item, starts_direction}
+use Rattle.v_parse.proofs.ItemLemmas.Rules.{maybe_range_laws, value_laws, port_head_laws, identifiers_laws}
+use Rattle.v_parse.proofs.ItemLemmas.Laws.{of_item, tells_item, item_laws, item_missing}
 use Rattle.v_parse.proofs.Steps.{module_steps}
 use Rattle.v_parse.specs.Firsts.{starts_ports}
 use Rattle.v_parse.specs.Reading.{parameter_head_of, first_parameter_of, next_parameter_of, parameter_list_of, header_parameters_of, first_port_of, next_port_of, declared_ports_of, ports_of, port_list_of, items_of, module_name_of, module_body_of, module_of, modules_of}

@@ -3,7 +3,7 @@ use Rattle.std.proofs.Common.{◌≡◌, ℕ, suc, ◌+◌, ◌-◌, List, lengt
 use Rattle.v_syntax.specs.declared.token.Token.{Token}
 use Rattle.v_syntax.specs.SourceTrees.{ModuleTree}
 use Rattle.v_syntax.specs.Refusal.{IsSource, IsSyntaxAt, IsTooDeepAt}
-use Rattle.v_phrase.specs.Stops.{Syntax, TooDeep}
+use Rattle.v_expression.specs.Phrase.Stops.{Syntax, TooDeep}
 use Rattle.v_parse.specs.Reading.{source_of}
 use Rattle.v_lex.specs.Row.{Part, Reads, told}
 use Rattle.v_lex.specs.Lexing.{Lexed, start}

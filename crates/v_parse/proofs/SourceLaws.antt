@@ -6,12 +6,12 @@ use Rattle.v_syntax.specs.Phrases.{Phrase}
 use Rattle.v_syntax.specs.SourceTrees.{ModuleTree}
 use Rattle.v_syntax.specs.Sources.{source}
 use Rattle.v_syntax.specs.Refusal.{IsSource, Reaches, IsRefused, IsSyntaxAt, IsTooDeepAt}
-use Rattle.v_phrase.specs.Stops.{Stop, Syntax, TooDeep}
-use Rattle.v_phrase.specs.Readers.{to_the_end}
-use Rattle.v_phrase.specs.Kinds.{any_kind, a_word, without}
-use Rattle.v_phrase.proofs.Laws.{left, Laws}
-use Rattle.v_phrase.proofs.Ending.{ReachesTo, all_found, all_read, reaches_before, reaches_no_further, reaches_above, never_reached}
-use Rattle.v_phrase.proofs.Ending as whole
+use Rattle.v_expression.specs.Phrase.Stops.{Stop, Syntax, TooDeep}
+use Rattle.v_expression.specs.Phrase.Readers.{to_the_end}
+use Rattle.v_expression.specs.Phrase.Kinds.{any_kind, a_word, without}
+use Rattle.v_expression.proofs.PhraseLemmas.Laws.{left, Laws}
+use Rattle.v_expression.proofs.PhraseLemmas.Ending.{ReachesTo, all_found, all_read, reaches_before, reaches_no_further, reaches_above, never_reached}
+use Rattle.v_expression.proofs.PhraseLemmas.Ending as whole
 use Rattle.v_parse.specs.Reading.{modules_of, source_of}
 use Rattle.v_parse.proofs.ModuleLaws.{source_laws}
 use Rattle.v_parse.proofs.Lowest.{source_below}

@@ -4,8 +4,8 @@ use Rattle.v_syntax.specs.declared.token.Token.{Token}
 use Rattle.v_syntax.specs.declared.statement.Identifier.{Identifier}
 use Rattle.v_syntax.specs.SourceTrees.{HeaderParameterTree, HeaderPortsTree, ItemTree}
 use Rattle.v_syntax.specs.Sources.{module_tree}
-use Rattle.v_phrase.specs.Stops.{Answer, ◌>>=◌}
-use Rattle.v_phrase.specs.Readers.{Reader, nothing, ◌⊛◌, ◌◃◌, ◌▹◌}
+use Rattle.v_expression.specs.Phrase.Stops.{Answer, ◌>>=◌}
+use Rattle.v_expression.specs.Phrase.Readers.{Reader, nothing, ◌⊛◌, ◌◃◌, ◌▹◌}
 
 module _ (w : Reader (Unit {0})) (n : Reader Identifier) (p : Reader (Option (List HeaderParameterTree))) (q : Reader (Option (Option HeaderPortsTree))) (s : Reader (Unit {0})) (i : Reader (List ItemTree)) (e : Reader (Unit {0})) (ts : List Token) where
   abbrev ModuleSame : Type 0

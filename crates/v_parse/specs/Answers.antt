@@ -6,7 +6,7 @@ use Rattle.v_syntax.specs.declared.source.Source.{Source}
 use Rattle.v_syntax.specs.SourceTrees.{ModuleTree}
 use Rattle.v_syntax.specs.Refusal.{IsSyntaxAt, IsTooDeepAt}
 use Rattle.v_lex.specs.Lexing.{Lexed}
-use Rattle.v_phrase.specs.Stops.{Stop, Syntax, TooDeep}
+use Rattle.v_expression.specs.Phrase.Stops.{Stop, Syntax, TooDeep}
 use Rattle.v_parse.specs.declared.fault.ParseFault.{ParseFault}
 use Rattle.v_parse.specs.declared.fault.ParseFault.TheVariants as faults
 

@@ -4,7 +4,7 @@ use Rattle.v_syntax.specs.declared.token.Token.{Token}
 use Rattle.v_syntax.specs.declared.token.Token.TheVariants as token
 use Rattle.v_syntax.specs.declared.word.Keyword.{Keyword}
 use Rattle.v_syntax.specs.declared.word.Keyword.TheVariants as word
-use Rattle.v_phrase.specs.Readers.{starts_with}
+use Rattle.v_expression.specs.Phrase.Readers.{starts_with}
 
 abbrev pub word_begins_ports : Keyword → Bool
 word_begins_ports word.Input = true

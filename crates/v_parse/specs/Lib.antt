@@ -1,3 +1,4 @@
+pub mod Item
 pub mod Answers
 pub mod Firsts
 pub mod Reading

@@ -7,10 +7,10 @@ use Rattle.v_syntax.specs.declared.word.Keyword.TheVariants as word
 use Rattle.v_syntax.specs.declared.statement.Identifier.{Identifier}
 use Rattle.v_syntax.specs.SourceTrees.{RangeTree, HeaderParameterTree, HeaderParameterOf, HeaderPortTree, HeaderPortOf, HeaderPortsTree, NamedPorts, DeclaredPorts, ItemTree, ModuleTree}
 use Rattle.v_syntax.specs.Sources.{headed, with_head, module_tree}
-use Rattle.v_phrase.specs.Stops.{Stop, ◌>>=◌}
-use Rattle.v_phrase.specs.Readers.{Reader, nothing, both, ◌⊛◌, ◌◃◌, ◌▹◌, maybe, many, either, starts_mark, starts_word, sign, word_of, identifier_of, listed, to_the_end}
-use Rattle.v_item.specs.Firsts.{starts_item, starts_direction}
-use Rattle.v_item.specs.Reading.{maybe_range_of, value_of, port_head_of, item_of}
+use Rattle.v_expression.specs.Phrase.Stops.{Stop, ◌>>=◌}
+use Rattle.v_expression.specs.Phrase.Readers.{Reader, nothing, both, ◌⊛◌, ◌◃◌, ◌▹◌, maybe, many, either, starts_mark, starts_word, sign, word_of, identifier_of, listed, to_the_end}
+use Rattle.v_parse.specs.Item.Firsts.{starts_item, starts_direction}
+use Rattle.v_parse.specs.Item.Reading.{maybe_range_of, value_of, port_head_of, item_of}
 use Rattle.v_parse.specs.Firsts.{starts_ports}
 
 -- ---- parameters

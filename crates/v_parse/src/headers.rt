@@ -14,11 +14,11 @@ ghost use Rattle.v_syntax.specs.SourceTrees.{
 };
 ghost use Rattle.v_syntax.specs.declared.mark.Mark.TheVariants as mark;
 ghost use Rattle.v_syntax.specs.declared.word.Keyword.TheVariants as word;
-ghost use Rattle.v_phrase.specs.Stops.{Gives};
-ghost use Rattle.v_phrase.specs.Readers;
-ghost use Rattle.v_phrase.specs.Readers.{maybe};
-ghost use Rattle.v_item.specs.Firsts as item_firsts;
-ghost use Rattle.v_item.specs.Reading.{port_head_of};
+ghost use Rattle.v_expression.specs.Phrase.Stops.{Gives};
+ghost use Rattle.v_expression.specs.Phrase.Readers;
+ghost use Rattle.v_expression.specs.Phrase.Readers.{maybe};
+ghost use Rattle.v_parse.specs.Item.Firsts as item_firsts;
+ghost use Rattle.v_parse.specs.Item.Reading.{port_head_of};
 ghost use Rattle.v_parse.specs.Firsts as firsts;
 ghost use Rattle.v_parse.specs.Reading.{
   parameter_head_of,
@@ -33,10 +33,10 @@ ghost use Rattle.v_parse.specs.Reading.{
   port_list_of,
 };
 
+use crate::item::{maybe_range, port_head, starts_direction, value};
 use port_io::{boxed, unboxed};
 use std::alloc::Global;
-use v_item::{maybe_range, port_head, starts_direction, value};
-use v_phrase::{
+use v_expression::phrase::{
     Element, IdentifierPhrase, ReadError, after, after_word, identifier, listed, next, others,
     starts_mark, starts_word,
 };

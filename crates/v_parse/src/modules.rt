@@ -3,14 +3,14 @@
 ghost use Rattle.std.specs.Prelude.{◌≡◌, ◌<◌, [], ◌∷◌, ◌++◌, map, option_map, IfOk};
 ghost use Rattle.v_syntax.specs.SourceTrees.{view_header_parameter, view_ports, view_item, view_module};
 ghost use Rattle.v_syntax.specs.Sources.{module_tree};
-ghost use Rattle.v_phrase.specs.Stops.{Gives};
+ghost use Rattle.v_expression.specs.Phrase.Stops.{Gives};
 ghost use Rattle.v_parse.specs.Reading.{items_of, module_name_of, module_body_of, module_of, modules_of};
 
 use crate::headers::{maybe_parameters, maybe_ports};
+use crate::item::{item, starts_item};
 use port_io::boxed;
 use std::alloc::{AllocError, Global};
-use v_item::{item, starts_item};
-use v_phrase::{ReadError, after, after_word, identifier, starts_word};
+use v_expression::phrase::{ReadError, after, after_word, identifier, starts_word};
 use v_syntax::{HeaderParameter, HeaderPorts, Identifier, Item, Keyword, Mark, Module, Token};
 
 /// The values, and behind them one that stood on the heap.

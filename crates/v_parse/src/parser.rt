@@ -6,15 +6,15 @@ ghost use Rattle.v_syntax.specs.SourceTrees.{ModuleTree, view, view_module};
 ghost use Rattle.v_syntax.specs.Refusal.{IsSource, height_limit};
 ghost use Rattle.v_lex.specs.Row.{Reads};
 ghost use Rattle.v_lex.specs.Lexing.{Lexed};
-ghost use Rattle.v_phrase.specs.Stops.{Gives};
+ghost use Rattle.v_expression.specs.Phrase.Stops.{Gives};
 ghost use Rattle.v_parse.specs.Reading.{source_of};
 ghost use Rattle.v_parse.specs.Answers.{IsFault, IsPlaced, IsRead, MakesSource, Tells};
 
 use crate::ParseFault;
 use crate::modules::modules;
 use std::alloc::Global;
+use v_expression::phrase::{ReadError, next, syntax_error};
 use v_lex::Tokens;
-use v_phrase::{ReadError, next, syntax_error};
 use v_syntax::{Module, Source, Token};
 
 /// The levels below a tree of the greatest height.

@@ -6,17 +6,17 @@ use Rattle.v_syntax.specs.declared.statement.Statement as code
 use Rattle.v_syntax.specs.declared.statement.CaseItem as code_item
 use Rattle.v_syntax.specs.ExpressionTrees as expression
 use Rattle.v_syntax.specs.StatementTrees.{more_statements, more_cases, view, view_case}
-use Rattle.v_scope.specs.declared.found.Found.{Found}
-use Rattle.v_scope.specs.Scope.{Scope}
+use Rattle.v_flat.specs.declared.scope.found.Found.{Found}
+use Rattle.v_flat.specs.Scope.Scope.{Scope}
 use Rattle.v_flat.specs.Statements.{statement_checked, statements_checked}
-use Rattle.v_constant.specs.declared.checked.Checked.{Checked}
-use Rattle.v_constant.specs.Checked.{IsChecked}
+use Rattle.v_check.specs.declared.constants.checked.Checked.{Checked}
+use Rattle.v_check.specs.Constants.Checked.{IsChecked}
 use Rattle.gpi.specs.declared.acts.Act.{Act}
-use Rattle.v_act.specs.declared.sequences.BlockParts.{BlockParts}
-use Rattle.v_act.specs.declared.cases.CaseLabels.{CaseLabels}
-use Rattle.v_act.specs.declared.cases.CaseParts.{CaseParts}
-use Rattle.v_act.specs.Statements.{ChecksMoreStatements, IsFoundStatement}
-use Rattle.v_act.specs.Cases.{AreLabels, ChecksMoreLabels}
+use Rattle.v_process.specs.declared.act.sequences.BlockParts.{BlockParts}
+use Rattle.v_process.specs.declared.act.cases.CaseLabels.{CaseLabels}
+use Rattle.v_process.specs.declared.act.cases.CaseParts.{CaseParts}
+use Rattle.v_process.specs.Act.Statements.{ChecksMoreStatements, IsFoundStatement}
+use Rattle.v_process.specs.Act.Cases.{AreLabels, ChecksMoreLabels}
 use Rattle.v_process.specs.Lists.{AreFoundStatements, AreFoundCases, IsFoundCase, statement_list, case_list}
 
 pub more_labels : (s : Scope) (xs : List code_expression.Expression) (i : ℕ) (d : code_expression.Expression) (x : Found Checked) (y f : Found CaseLabels)

@@ -7,19 +7,19 @@ use Rattle.gpi.specs.declared.design.Process.{Process}
 use Rattle.v_syntax.specs.declared.statement.AssignmentKind.TheVariants.{Blocking}
 use Rattle.v_syntax.specs.ExpressionTrees.{Tree, TargetTree}
 use Rattle.v_syntax.specs.StatementTrees.{Assignment}
-use Rattle.v_scope.specs.declared.found.Found.{Found}
-use Rattle.v_scope.specs.Found.{each, both}
-use Rattle.v_scope.specs.Scope.{Scope}
+use Rattle.v_flat.specs.declared.scope.found.Found.{Found}
+use Rattle.v_flat.specs.Scope.Found.{each, both}
+use Rattle.v_flat.specs.Scope.Scope.{Scope}
 use Rattle.v_flat.specs.Checks.{checked}
 use Rattle.v_flat.specs.Targets.{driving}
 use Rattle.v_flat.specs.Statements.{done}
-use Rattle.v_drive.specs.declared.digits.DrivenDigits.{DrivenDigits}
-use Rattle.v_constant.specs.declared.checked.Checked.{Checked}
-use Rattle.v_constant.specs.Checked.{IsChecked}
-use Rattle.v_target.specs.declared.checked.CheckedTarget.{CheckedTarget}
-use Rattle.v_assign.specs.Continuous.{IsContinuous, KeepsOrGrows}
-use Rattle.v_assign.proofs.Grown.{on_err, target_grown}
-use Rattle.v_act.specs.Statements.{ChecksAssignment}
+use Rattle.v_process.specs.declared.drive.digits.DrivenDigits.{DrivenDigits}
+use Rattle.v_check.specs.declared.constants.checked.Checked.{Checked}
+use Rattle.v_check.specs.Constants.Checked.{IsChecked}
+use Rattle.v_process.specs.declared.target.checked.CheckedTarget.{CheckedTarget}
+use Rattle.v_process.specs.Assign.Continuous.{IsContinuous, KeepsOrGrows}
+use Rattle.v_process.proofs.AssignLemmas.Grown.{on_err, target_grown}
+use Rattle.v_process.specs.Act.Statements.{ChecksAssignment}
 use Rattle.v_process.specs.Made.{process, IsAssigning}
 use Rattle.v_process.specs.Processes.{IsDriver}
 use Rattle.v_process.proofs.Run.{found_process}

@@ -6,18 +6,18 @@ use Rattle.four_value.specs.Vector.{resize}
 use Rattle.gpi.specs.Operators.{truth}
 use Rattle.v_syntax.specs.ExpressionTrees.{Tree}
 use Rattle.v_syntax.specs.StatementTrees.{HeaderTree, Header, Variable as Assigned}
-use Rattle.v_scope.specs.declared.rule.Broken.{Broken}
-use Rattle.v_scope.specs.declared.rule.ElabRule.TheVariants as rule
-use Rattle.v_scope.specs.declared.meaning.Bounds.{Bounds}
-use Rattle.v_scope.specs.declared.meaning.DataKind.{DataKind}
-use Rattle.v_scope.specs.declared.meaning.DataKind.TheVariants.{Input, Net, Register}
-use Rattle.v_scope.specs.declared.meaning.DataObject.{DataObject}
-use Rattle.v_scope.specs.declared.meaning.Meaning.{Meaning}
-use Rattle.v_scope.specs.declared.meaning.Meaning.TheVariants.{Constant, Object, Later}
-use Rattle.v_scope.specs.declared.found.Found.{Found}
-use Rattle.v_scope.specs.declared.found.Found.TheVariants.{Sound, Noted, Lost}
-use Rattle.v_scope.specs.Found.{ForValue, and_then, broken, each, ended}
-use Rattle.v_scope.specs.Scope.{Scope, width_of}
+use Rattle.v_flat.specs.declared.scope.rule.Broken.{Broken}
+use Rattle.v_flat.specs.declared.scope.rule.ElabRule.TheVariants as rule
+use Rattle.v_flat.specs.declared.scope.meaning.Bounds.{Bounds}
+use Rattle.v_flat.specs.declared.scope.meaning.DataKind.{DataKind}
+use Rattle.v_flat.specs.declared.scope.meaning.DataKind.TheVariants.{Input, Net, Register}
+use Rattle.v_flat.specs.declared.scope.meaning.DataObject.{DataObject}
+use Rattle.v_flat.specs.declared.scope.meaning.Meaning.{Meaning}
+use Rattle.v_flat.specs.declared.scope.meaning.Meaning.TheVariants.{Constant, Object, Later}
+use Rattle.v_flat.specs.declared.scope.found.Found.{Found}
+use Rattle.v_flat.specs.declared.scope.found.Found.TheVariants.{Sound, Noted, Lost}
+use Rattle.v_flat.specs.Scope.Found.{ForValue, and_then, broken, each, ended}
+use Rattle.v_flat.specs.Scope.Scope.{Scope, width_of}
 use Rattle.v_flat.specs.Checks.{checked, constant_of, given_to}
 use Rattle.v_flat.specs.Statements.{Turns, counter, counter_in, first_value, more_turn, most_turns, same_counter, step_checked, turn, turns, turns_from, where_true}
 use Rattle.v_loop.proofs.Settled.{IsSettled, constant_settled, same_settled, step_settled}

@@ -4,16 +4,16 @@ use Rattle.gpi.specs.declared.acts.Act.{Act}
 use Rattle.v_syntax.specs.declared.statement.CaseKind.{CaseKind}
 use Rattle.v_syntax.specs.ExpressionTrees.{Tree}
 use Rattle.v_syntax.specs.StatementTrees.{StatementTree, StatementTrees, CaseTrees, Block, If, IfElse, Case, Match, Default}
-use Rattle.v_scope.specs.declared.found.Found.{Found}
-use Rattle.v_scope.specs.Scope.{Scope}
+use Rattle.v_flat.specs.declared.scope.found.Found.{Found}
+use Rattle.v_flat.specs.Scope.Scope.{Scope}
 use Rattle.v_flat.specs.Statements.{statement_checked, statements_checked, cases_checked}
-use Rattle.v_constant.specs.declared.checked.Checked.{Checked}
-use Rattle.v_constant.specs.Checked.{IsChecked}
-use Rattle.v_act.specs.declared.sequences.BlockParts.{BlockParts}
-use Rattle.v_act.specs.declared.cases.CaseLabels.{CaseLabels}
-use Rattle.v_act.specs.declared.cases.CaseParts.{CaseParts}
-use Rattle.v_act.specs.Statements.{ChecksBlock, ChecksIf, ChecksIfElse, IsFoundStatement}
-use Rattle.v_act.specs.Cases.{AreLabels, ChecksCase, ChecksItem, ChecksDefault}
+use Rattle.v_check.specs.declared.constants.checked.Checked.{Checked}
+use Rattle.v_check.specs.Constants.Checked.{IsChecked}
+use Rattle.v_process.specs.declared.act.sequences.BlockParts.{BlockParts}
+use Rattle.v_process.specs.declared.act.cases.CaseLabels.{CaseLabels}
+use Rattle.v_process.specs.declared.act.cases.CaseParts.{CaseParts}
+use Rattle.v_process.specs.Act.Statements.{ChecksBlock, ChecksIf, ChecksIfElse, IsFoundStatement}
+use Rattle.v_process.specs.Act.Cases.{AreLabels, ChecksCase, ChecksItem, ChecksDefault}
 use Rattle.v_process.specs.Lists.{AreFoundStatements, AreFoundCases, IsFoundCase}
 
 module _ (s : Scope) where

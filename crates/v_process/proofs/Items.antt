@@ -10,22 +10,22 @@ use Rattle.v_syntax.specs.declared.item.Event.{Event}
 use Rattle.v_syntax.specs.ExpressionTrees.{Tree, TargetTree}
 use Rattle.v_syntax.specs.StatementTrees.{StatementTree, Assignment}
 use Rattle.v_syntax.specs.SourceTrees.{Driver, Net, Register, Initially, Implicit, Events}
-use Rattle.v_scope.specs.declared.found.Found.{Found}
-use Rattle.v_scope.specs.declared.found.Found.TheVariants.{Sound, Noted, Lost}
-use Rattle.v_scope.specs.Found.{each, both, ForValue, Holds}
-use Rattle.v_scope.specs.declared.meaning.DataObject.{DataObject}
-use Rattle.v_scope.specs.Scope.{Scope}
+use Rattle.v_flat.specs.declared.scope.found.Found.{Found}
+use Rattle.v_flat.specs.declared.scope.found.Found.TheVariants.{Sound, Noted, Lost}
+use Rattle.v_flat.specs.Scope.Found.{each, both, ForValue, Holds}
+use Rattle.v_flat.specs.declared.scope.meaning.DataObject.{DataObject}
+use Rattle.v_flat.specs.Scope.Scope.{Scope}
 use Rattle.v_flat.specs.Checks.{checked}
 use Rattle.v_flat.specs.Targets.{Drive, driving}
 use Rattle.v_flat.specs.Statements.{done, reads, statement_reads, statement_checked}
 use Rattle.v_flat.specs.Design.{Design, State, adding, always, always_item, assigning, beginning, driver, events_of, initial_item, input_joint, net, output_target, register, running, wakes_of, whole_of, with_process}
-use Rattle.v_drive.specs.declared.digits.DrivenDigits.{DrivenDigits}
-use Rattle.v_drive.specs.Digits.{Keeps}
-use Rattle.v_constant.specs.declared.checked.Checked.{Checked}
-use Rattle.v_constant.specs.Checked.{StandsFor}
-use Rattle.v_target.specs.declared.checked.CheckedTarget.{CheckedTarget}
-use Rattle.v_assign.specs.Targets.{GetsAs}
-use Rattle.v_act.proofs.Done.{done_each, done_unit}
+use Rattle.v_process.specs.declared.drive.digits.DrivenDigits.{DrivenDigits}
+use Rattle.v_process.specs.Drive.Digits.{Keeps}
+use Rattle.v_check.specs.declared.constants.checked.Checked.{Checked}
+use Rattle.v_check.specs.Constants.Checked.{StandsFor}
+use Rattle.v_process.specs.declared.target.checked.CheckedTarget.{CheckedTarget}
+use Rattle.v_process.specs.Assign.Targets.{GetsAs}
+use Rattle.v_process.proofs.ActLemmas.Done.{done_each, done_unit}
 use Rattle.v_process.specs.Processes.{Runs, IsFoundProcess, IsDriver, IsAlways}
 use Rattle.v_process.specs.Ports.{AssignsInput, AssignsOutput}
 use Rattle.v_process.specs.Items.{HasDrives, AddsProcess}

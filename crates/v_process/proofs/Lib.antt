@@ -1,3 +1,8 @@
+pub mod DriveLemmas
+pub mod TargetLemmas
+pub mod AssignLemmas
+pub mod OutputsLemmas
+pub mod ActLemmas
 pub mod Rows
 pub mod Ended
 pub mod Forms

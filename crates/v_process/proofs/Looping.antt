@@ -5,24 +5,24 @@ use Rattle.four_value.specs.declared.Digit.{Digit}
 use Rattle.gpi.specs.declared.acts.Act.{Act}
 use Rattle.gpi.specs.Activation.{Run, SoundList}
 use Rattle.v_syntax.specs.StatementTrees.{HeaderTree, StatementTree, For, no_statement}
-use Rattle.v_scope.specs.declared.rule.Broken.{Broken}
-use Rattle.v_scope.specs.declared.found.Found.{Found}
-use Rattle.v_scope.specs.declared.found.Found.TheVariants.{Sound, Lost}
-use Rattle.v_scope.specs.Found.{fine, both, and_then, ended}
-use Rattle.v_scope.specs.declared.meaning.Bounds.{Bounds}
-use Rattle.v_scope.specs.declared.meaning.DataObject.{DataObject}
-use Rattle.v_scope.specs.declared.meaning.Meaning.{Meaning}
-use Rattle.v_scope.specs.declared.meaning.Meaning.TheVariants.{Object}
-use Rattle.v_scope.specs.Scope.{Scope, find, nothing}
+use Rattle.v_flat.specs.declared.scope.rule.Broken.{Broken}
+use Rattle.v_flat.specs.declared.scope.found.Found.{Found}
+use Rattle.v_flat.specs.declared.scope.found.Found.TheVariants.{Sound, Lost}
+use Rattle.v_flat.specs.Scope.Found.{fine, both, and_then, ended}
+use Rattle.v_flat.specs.declared.scope.meaning.Bounds.{Bounds}
+use Rattle.v_flat.specs.declared.scope.meaning.DataObject.{DataObject}
+use Rattle.v_flat.specs.declared.scope.meaning.Meaning.{Meaning}
+use Rattle.v_flat.specs.declared.scope.meaning.Meaning.TheVariants.{Object}
+use Rattle.v_flat.specs.Scope.Scope.{Scope, find, nothing}
 use Rattle.v_flat.specs.Statements.{Turns, turn, turns, known_turns, counter, loop_name, all_turns, run_turns, leave_counter, with_counter, statement_checked, activation}
 use Rattle.v_flat.proofs.Holds.{holds_both}
-use Rattle.v_constant.specs.Checked.{IsObjectOf}
-use Rattle.v_constant.proofs.Combined.{made_holds}
-use Rattle.v_act.specs.declared.sequences.BlockParts.{BlockParts}
-use Rattle.v_act.specs.Statements.{OfCounter, InTurns, StatementNamesOf, DoesAs, DoAsAll, run_back, ChecksNoStatement, IsFoundStatement}
-use Rattle.v_act.specs.Sequences.{HasFirst, AreMoreStatements, MakesWhole, AreBlocks}
-use Rattle.v_act.proofs.Blocks.{back_first, sound_first}
-use Rattle.v_act.proofs.Done.{done_unit, two_done, done_made}
+use Rattle.v_check.specs.Constants.Checked.{IsObjectOf}
+use Rattle.v_check.proofs.ConstantsLemmas.Combined.{made_holds}
+use Rattle.v_process.specs.declared.act.sequences.BlockParts.{BlockParts}
+use Rattle.v_process.specs.Act.Statements.{OfCounter, InTurns, StatementNamesOf, DoesAs, DoAsAll, run_back, ChecksNoStatement, IsFoundStatement}
+use Rattle.v_process.specs.Act.Sequences.{HasFirst, AreMoreStatements, MakesWhole, AreBlocks}
+use Rattle.v_process.proofs.ActLemmas.Blocks.{back_first, sound_first}
+use Rattle.v_process.proofs.ActLemmas.Done.{done_unit, two_done, done_made}
 use Rattle.v_process.specs.Turns.{AssignsLast, DoAsTurns, AreTurns, EndsTurns}
 use Rattle.v_process.proofs.Ended.{counter_settled, turns_settled, ended_sound, ended_lost}
 

@@ -9,26 +9,26 @@ use Rattle.v_syntax.specs.declared.statement.Identifier.{Identifier}
 use Rattle.v_syntax.specs.declared.statement.AssignmentKind.TheVariants.{Blocking}
 use Rattle.v_syntax.specs.ExpressionTrees.{Tree, Whole}
 use Rattle.v_syntax.specs.StatementTrees.{Assignment}
-use Rattle.v_scope.specs.declared.found.Found.{Found}
-use Rattle.v_scope.specs.declared.found.Found.TheVariants.{Sound, Noted, Lost}
-use Rattle.v_scope.specs.Found.{each, both, Holds}
-use Rattle.v_scope.specs.Limits.{counted_width}
-use Rattle.v_scope.specs.declared.meaning.Bounds.{Bounds}
-use Rattle.v_scope.specs.declared.meaning.DataObject.{DataObject}
-use Rattle.v_scope.specs.declared.meaning.Meaning.{Meaning}
-use Rattle.v_scope.specs.declared.meaning.Meaning.TheVariants.{Constant, Object, Later}
-use Rattle.v_scope.specs.Scope.{Scope, find, width_of}
+use Rattle.v_flat.specs.declared.scope.found.Found.{Found}
+use Rattle.v_flat.specs.declared.scope.found.Found.TheVariants.{Sound, Noted, Lost}
+use Rattle.v_flat.specs.Scope.Found.{each, both, Holds}
+use Rattle.v_flat.specs.Scope.Limits.{counted_width}
+use Rattle.v_flat.specs.declared.scope.meaning.Bounds.{Bounds}
+use Rattle.v_flat.specs.declared.scope.meaning.DataObject.{DataObject}
+use Rattle.v_flat.specs.declared.scope.meaning.Meaning.{Meaning}
+use Rattle.v_flat.specs.declared.scope.meaning.Meaning.TheVariants.{Constant, Object, Later}
+use Rattle.v_flat.specs.Scope.Scope.{Scope, find, width_of}
 use Rattle.v_flat.specs.Expressions.{Values, whole_width}
 use Rattle.v_flat.specs.Checks.{checked}
 use Rattle.v_flat.specs.Targets.{name_update, object_update, target_width}
 use Rattle.v_flat.specs.Statements.{done, values_of, assigned_value}
 use Rattle.v_flat.specs.Design.{whole_of}
-use Rattle.v_constant.specs.declared.checked.Checked.{Checked}
-use Rattle.v_constant.specs.Checked.{IsNameOf, IsObjectOf, IsChecked}
-use Rattle.v_names.specs.Proper.{IsProper}
-use Rattle.v_assign.specs.Targets.{GetsAs, IsTarget}
-use Rattle.v_act.specs.Statements.{DoesAs, IsStatement}
-use Rattle.v_act.proofs.Done.{done_each, done_as}
+use Rattle.v_check.specs.declared.constants.checked.Checked.{Checked}
+use Rattle.v_check.specs.Constants.Checked.{IsNameOf, IsObjectOf, IsChecked}
+use Rattle.v_check.specs.Names.Proper.{IsProper}
+use Rattle.v_process.specs.Assign.Targets.{GetsAs, IsTarget}
+use Rattle.v_process.specs.Act.Statements.{DoesAs, IsStatement}
+use Rattle.v_process.proofs.ActLemmas.Done.{done_each, done_as}
 use Rattle.v_process.specs.Made.{whole_object, whole_in, whole_target, OpensWith}
 
 done_value : {A : Type 0} (n : ℕ) (x : Found A) → done (both (let r : Found ℕ = Sound n in r) x) ≡ done x

@@ -6,14 +6,14 @@ use Rattle.gpi.specs.declared.design.Kind.TheVariants.{Always}
 use Rattle.gpi.specs.declared.design.Wake.{Wake}
 use Rattle.gpi.specs.declared.design.Process.{Process}
 use Rattle.v_syntax.specs.StatementTrees.{StatementTree}
-use Rattle.v_scope.specs.declared.found.Found.{Found}
-use Rattle.v_scope.specs.declared.found.Found.TheVariants.{Sound, Noted, Lost}
-use Rattle.v_scope.specs.Found.{each, both, Holds}
-use Rattle.v_scope.specs.Scope.{Scope}
+use Rattle.v_flat.specs.declared.scope.found.Found.{Found}
+use Rattle.v_flat.specs.declared.scope.found.Found.TheVariants.{Sound, Noted, Lost}
+use Rattle.v_flat.specs.Scope.Found.{each, both, Holds}
+use Rattle.v_flat.specs.Scope.Scope.{Scope}
 use Rattle.v_flat.specs.Statements.{statement_checked}
 use Rattle.v_flat.specs.Design.{from}
-use Rattle.v_act.specs.Statements.{DoesAs, IsStatement, IsFoundStatement}
-use Rattle.v_act.proofs.Done.{done_unit, done_each, two_done}
+use Rattle.v_process.specs.Act.Statements.{DoesAs, IsStatement, IsFoundStatement}
+use Rattle.v_process.proofs.ActLemmas.Done.{done_unit, done_each, two_done}
 use Rattle.v_process.specs.Made.{process, waiting}
 use Rattle.v_process.specs.Processes.{Runs, IsFoundProcess, IsAlways}
 

@@ -3,9 +3,9 @@
 use Rattle.std.specs.Prelude.{◌≡◌, List}
 use Rattle.gpi.specs.declared.design.Process.{Process}
 use Rattle.gpi.specs.Design.{proc_of}
-use Rattle.v_scope.specs.declared.found.Found.{Found}
-use Rattle.v_scope.specs.declared.found.Found.TheVariants.{Sound}
-use Rattle.v_scope.specs.Found.{ForValue, Holds}
+use Rattle.v_flat.specs.declared.scope.found.Found.{Found}
+use Rattle.v_flat.specs.declared.scope.found.Found.TheVariants.{Sound}
+use Rattle.v_flat.specs.Scope.Found.{ForValue, Holds}
 use Rattle.v_flat.specs.Targets.{Drive}
 use Rattle.v_flat.specs.Statements.{done}
 use Rattle.v_flat.specs.Design.{State, adding}

@@ -1,3 +1,8 @@
+pub mod Drive
+pub mod Target
+pub mod Assign
+pub mod Outputs
+pub mod Act
 pub mod Lists
 pub mod Turns
 pub mod Processes

@@ -4,13 +4,13 @@ use Rattle.std.specs.Prelude.{List, map}
 use Rattle.v_syntax.specs.declared.statement.Statement as code
 use Rattle.v_syntax.specs.declared.statement.CaseItem as code_item
 use Rattle.v_syntax.specs.StatementTrees.{StatementTrees, CaseTree, CaseTrees, more_cases, statement_trees, case_trees, view, view_case}
-use Rattle.v_scope.specs.declared.found.Found.{Found}
-use Rattle.v_scope.specs.Scope.{Scope}
+use Rattle.v_flat.specs.declared.scope.found.Found.{Found}
+use Rattle.v_flat.specs.Scope.Scope.{Scope}
 use Rattle.v_flat.specs.Statements.{statements_checked, cases_checked}
-use Rattle.v_act.specs.declared.sequences.BlockParts.{BlockParts}
-use Rattle.v_act.specs.declared.cases.CaseParts.{CaseParts}
-use Rattle.v_act.specs.Statements.{AreStatements}
-use Rattle.v_act.specs.Cases.{AreCases}
+use Rattle.v_process.specs.declared.act.sequences.BlockParts.{BlockParts}
+use Rattle.v_process.specs.declared.act.cases.CaseParts.{CaseParts}
+use Rattle.v_process.specs.Act.Statements.{AreStatements}
+use Rattle.v_process.specs.Act.Cases.{AreCases}
 
 -- the trees of the code's statements, and of its items
 abbrev pub statement_list : List code.Statement → StatementTrees

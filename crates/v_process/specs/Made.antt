@@ -10,21 +10,21 @@ use Rattle.gpi.specs.declared.targets.Target.TheVariants as target
 use Rattle.v_syntax.specs.declared.statement.AssignmentKind.TheVariants.{Blocking}
 use Rattle.v_syntax.specs.ExpressionTrees.{Tree, TargetTree}
 use Rattle.v_syntax.specs.StatementTrees.{Assignment}
-use Rattle.v_scope.specs.declared.found.Found.{Found}
-use Rattle.v_scope.specs.declared.found.Found.TheVariants.{Sound}
-use Rattle.v_scope.specs.Found.{each, both}
-use Rattle.v_scope.specs.declared.meaning.Bounds.{Bounds}
-use Rattle.v_scope.specs.declared.meaning.DataObject.{DataObject}
-use Rattle.v_scope.specs.declared.meaning.Meaning.{Meaning}
-use Rattle.v_scope.specs.declared.meaning.Meaning.TheVariants.{Constant, Object, Later}
-use Rattle.v_scope.specs.Scope.{Scope, width_of}
+use Rattle.v_flat.specs.declared.scope.found.Found.{Found}
+use Rattle.v_flat.specs.declared.scope.found.Found.TheVariants.{Sound}
+use Rattle.v_flat.specs.Scope.Found.{each, both}
+use Rattle.v_flat.specs.declared.scope.meaning.Bounds.{Bounds}
+use Rattle.v_flat.specs.declared.scope.meaning.DataObject.{DataObject}
+use Rattle.v_flat.specs.declared.scope.meaning.Meaning.{Meaning}
+use Rattle.v_flat.specs.declared.scope.meaning.Meaning.TheVariants.{Constant, Object, Later}
+use Rattle.v_flat.specs.Scope.Scope.{Scope, width_of}
 use Rattle.v_flat.specs.Checks.{checked}
 use Rattle.v_flat.specs.Statements.{done}
-use Rattle.v_constant.specs.declared.checked.Checked.{Checked}
-use Rattle.v_constant.specs.Checked.{IsChecked}
-use Rattle.v_target.specs.declared.checked.CheckedTarget.{CheckedTarget}
-use Rattle.v_assign.specs.Targets.{IsTarget}
-use Rattle.v_act.specs.Statements.{ChecksAssignment}
+use Rattle.v_check.specs.declared.constants.checked.Checked.{Checked}
+use Rattle.v_check.specs.Constants.Checked.{IsChecked}
+use Rattle.v_process.specs.declared.target.checked.CheckedTarget.{CheckedTarget}
+use Rattle.v_process.specs.Assign.Targets.{IsTarget}
+use Rattle.v_process.specs.Act.Statements.{ChecksAssignment}
 use Rattle.v_process.specs.Processes.{IsFoundProcess}
 
 abbrev pub process : Kind → List Wake → Act → Process

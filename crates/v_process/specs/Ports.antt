@@ -5,13 +5,13 @@ use Rattle.gpi.specs.declared.design.Kind.TheVariants.{Assign}
 use Rattle.gpi.specs.declared.design.Wake.{Wake}
 use Rattle.gpi.specs.declared.design.Process.{Process}
 use Rattle.v_syntax.specs.ExpressionTrees.{Tree, TargetTree}
-use Rattle.v_scope.specs.declared.meaning.DataObject.{DataObject}
-use Rattle.v_scope.specs.Scope.{Scope}
+use Rattle.v_flat.specs.declared.scope.meaning.DataObject.{DataObject}
+use Rattle.v_flat.specs.Scope.Scope.{Scope}
 use Rattle.v_flat.specs.Design.{any_change, input_run, output_run}
-use Rattle.v_constant.specs.declared.checked.Checked.{Checked}
-use Rattle.v_constant.specs.Checked.{IsObjectOf, AreNamesOf, StandsFor}
-use Rattle.v_target.specs.declared.checked.CheckedTarget.{CheckedTarget}
-use Rattle.v_assign.specs.Targets.{TargetNamesOf, GetsAs}
+use Rattle.v_check.specs.declared.constants.checked.Checked.{Checked}
+use Rattle.v_check.specs.Constants.Checked.{IsObjectOf, AreNamesOf, StandsFor}
+use Rattle.v_process.specs.declared.target.checked.CheckedTarget.{CheckedTarget}
+use Rattle.v_process.specs.Assign.Targets.{TargetNamesOf, GetsAs}
 use Rattle.v_process.specs.Processes.{IsProcess}
 
 -- the input o gets the value of whatever expression v stands for, in whatever scope

@@ -10,17 +10,17 @@ use Rattle.gpi.specs.Design.{Proc, proc_of}
 use Rattle.v_syntax.specs.declared.statement.AssignmentKind.TheVariants.{Blocking}
 use Rattle.v_syntax.specs.ExpressionTrees.{Tree, TargetTree}
 use Rattle.v_syntax.specs.StatementTrees.{StatementTree, Assignment}
-use Rattle.v_scope.specs.declared.found.Found.{Found}
-use Rattle.v_scope.specs.declared.found.Found.TheVariants.{Sound}
-use Rattle.v_scope.specs.Found.{both, Holds}
-use Rattle.v_scope.specs.Scope.{Scope}
+use Rattle.v_flat.specs.declared.scope.found.Found.{Found}
+use Rattle.v_flat.specs.declared.scope.found.Found.TheVariants.{Sound}
+use Rattle.v_flat.specs.Scope.Found.{both, Holds}
+use Rattle.v_flat.specs.Scope.Scope.{Scope}
 use Rattle.v_flat.specs.Checks.{checked}
 use Rattle.v_flat.specs.Targets.{Drive, Driving, driving}
 use Rattle.v_flat.specs.Statements.{done, statement_checked}
 use Rattle.v_flat.specs.Design.{running}
-use Rattle.v_drive.specs.declared.digits.DrivenDigits.{DrivenDigits}
-use Rattle.v_drive.specs.Digits.{Keeps}
-use Rattle.v_act.specs.Statements.{StatementNamesOf}
+use Rattle.v_process.specs.declared.drive.digits.DrivenDigits.{DrivenDigits}
+use Rattle.v_process.specs.Drive.Digits.{Keeps}
+use Rattle.v_process.specs.Act.Statements.{StatementNamesOf}
 
 -- the simulator sees x of the process; and its statement is sound in each design in which the names are signals
 pub record IsProcess (x : Proc) (Names : List ℕ → Type 0) (p : Process) : Type 0 where

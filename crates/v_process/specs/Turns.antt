@@ -5,14 +5,14 @@ use Rattle.four_value.specs.declared.Digit.{Digit}
 use Rattle.gpi.specs.declared.acts.Act.{Act}
 use Rattle.gpi.specs.Activation.{Run, MakesAct, SoundList}
 use Rattle.v_syntax.specs.StatementTrees.{StatementTree}
-use Rattle.v_scope.specs.declared.found.Found.{Found}
-use Rattle.v_scope.specs.Found.{Holds}
-use Rattle.v_scope.specs.declared.meaning.DataObject.{DataObject}
-use Rattle.v_scope.specs.Scope.{Scope}
+use Rattle.v_flat.specs.declared.scope.found.Found.{Found}
+use Rattle.v_flat.specs.Scope.Found.{Holds}
+use Rattle.v_flat.specs.declared.scope.meaning.DataObject.{DataObject}
+use Rattle.v_flat.specs.Scope.Scope.{Scope}
 use Rattle.v_flat.specs.Statements.{Turns, done, turn, all_turns, statement_checked, activation, run_turns, leave_counter}
-use Rattle.v_constant.specs.Checked.{IsObjectOf}
-use Rattle.v_act.specs.declared.sequences.BlockParts.{BlockParts}
-use Rattle.v_act.specs.Statements.{InTurns, StatementNamesOf, run_back}
+use Rattle.v_check.specs.Constants.Checked.{IsObjectOf}
+use Rattle.v_process.specs.declared.act.sequences.BlockParts.{BlockParts}
+use Rattle.v_process.specs.Act.Statements.{InTurns, StatementNamesOf, run_back}
 
 -- the register o has the value v at once; and it is sound wherever the register is a signal of the design
 abbrev pub AssignsLast : DataObject → List Digit → Act → Type 0

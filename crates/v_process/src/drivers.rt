@@ -1,26 +1,26 @@
 //! Continuous assignments.
 
 ghost use Rattle.std.specs.Prelude.{◌≡◌, IfOk, OnErr};
-ghost use Rattle.v_scope.specs.Found.{each};
-ghost use Rattle.v_scope.specs.Scope.{means};
+ghost use Rattle.v_flat.specs.Scope.Found.{each};
+ghost use Rattle.v_flat.specs.Scope.Scope.{means};
 ghost use Rattle.v_syntax.specs.ExpressionTrees.{NamedTarget, view, view_selects, view_target};
 ghost use Rattle.v_flat.specs.Design.{whole_of};
-ghost use Rattle.v_names.specs.Proper.{AreProper};
-ghost use Rattle.v_assign.specs.Continuous.{KeepsOrGrows};
+ghost use Rattle.v_check.specs.Names.Proper.{AreProper};
+ghost use Rattle.v_process.specs.Assign.Continuous.{KeepsOrGrows};
 ghost use Rattle.v_process.specs.Made.{IsAssigning, process};
 ghost use Rattle.v_process.specs.Processes.{IsDriver};
 
+use crate::act::assigned;
+use crate::assign::{net_name, net_target};
+use crate::drive::DrivenDigits;
+use crate::target::CheckedTarget;
 use gpi::{Act, Kind, Process, Wake};
 use port_io::{Name, NoMemory, Sequence};
 use std::alloc::Global;
-use v_act::assigned;
-use v_assign::{net_name, net_target};
 use v_check::check;
-use v_constant::Checked;
-use v_drive::DrivenDigits;
-use v_scope::{Found, Scope};
+use v_check::constants::Checked;
+use v_flat::scope::{Found, Scope};
 use v_syntax::{AssignmentKind, Expression, Identifier, Operand, Selects, Target};
-use v_target::CheckedTarget;
 
 /// A process of that kind, from what was found in its statement.
 pub(crate) fn of_kind(kind: Kind, wakes: Sequence<Wake>, body: Found<Act>) -> Found<Process>

@@ -1,18 +1,18 @@
 //! What a loop is without its body: its register and its turns.
 
 ghost use Rattle.std.specs.Prelude.{◌≡◌, IfOk, None, Some};
-ghost use Rattle.v_scope.specs.declared.meaning.Meaning.TheVariants.{Object};
-ghost use Rattle.v_scope.specs.Found.{ended};
-ghost use Rattle.v_scope.specs.Scope.{find, means, width_of};
+ghost use Rattle.v_flat.specs.declared.scope.meaning.Meaning.TheVariants.{Object};
+ghost use Rattle.v_flat.specs.Scope.Found.{ended};
+ghost use Rattle.v_flat.specs.Scope.Scope.{find, means, width_of};
 ghost use Rattle.v_syntax.specs.StatementTrees.{view_header};
 ghost use Rattle.v_flat.specs.Statements.{counter, turns};
-ghost use Rattle.v_names.specs.Proper.{AreProper};
+ghost use Rattle.v_check.specs.Names.Proper.{AreProper};
 ghost use Rattle.v_loop.specs.Turns.{HaveWidth};
 
 use port_io::NoMemory;
 use std::alloc::Global;
+use v_flat::scope::{Broken, DataObject, Scope};
 use v_loop::{LoopTurns, Unrolled, counter};
-use v_scope::{Broken, DataObject, Scope};
 use v_syntax::{ForHeader, Identifier, TokenNumber};
 
 /// The register that a loop counts in, or the rule that is broken at its name (IEEE 1364-2005, clause 9.6).

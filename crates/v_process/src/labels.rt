@@ -1,16 +1,16 @@
 //! The labels of an item of a case statement.
 
 ghost use Rattle.std.specs.Prelude.{IfOk, map};
-ghost use Rattle.v_scope.specs.Scope.{means};
+ghost use Rattle.v_flat.specs.Scope.Scope.{means};
 ghost use Rattle.v_syntax.specs.ExpressionTrees.{view};
-ghost use Rattle.v_names.specs.Proper.{AreProper};
-ghost use Rattle.v_act.specs.Cases.{AreLabels};
+ghost use Rattle.v_check.specs.Names.Proper.{AreProper};
+ghost use Rattle.v_process.specs.Act.Cases.{AreLabels};
 
+use crate::act::CaseLabels;
 use port_io::NoMemory;
 use std::alloc::Global;
-use v_act::CaseLabels;
 use v_check::check;
-use v_scope::{Found, Scope};
+use v_flat::scope::{Found, Scope};
 use v_syntax::Expression;
 
 /// The labels of an item, from the last one to the first (IEEE 1364-2005, clause 9.5). Only want of memory is an error.

@@ -2,16 +2,16 @@
 
 ghost use Rattle.std.specs.Prelude.{◌≡◌, length, IfOk, None};
 ghost use Rattle.gpi.specs.Terms.{IsWidth};
-ghost use Rattle.v_scope.specs.Scope.{width_of};
+ghost use Rattle.v_flat.specs.Scope.Scope.{width_of};
 ghost use Rattle.v_process.specs.Turns.{AssignsLast, EndsTurns};
 
+use crate::act::BlockParts;
 use four_value::Bits;
 use gpi::{Act, Object, SigId, Target, Term};
 use port_io::NoMemory;
 use std::alloc::Global;
-use v_act::BlockParts;
-use v_names::width;
-use v_scope::{DataObject, Found};
+use v_check::names::width;
+use v_flat::scope::{DataObject, Found};
 
 /// What a loop leaves behind: its register has the last value, at once (IEEE 1364-2005, clause 9.6).
 fn last_assignment(object: DataObject, value: Bits) -> Act

@@ -6,15 +6,27 @@
 //! scope of its own. [`input`] and [`output`] are the assignments of connected ports, of what was found in their connections. What a
 //! process waits for is given from outside, but for an output's. Instances, and how many processes there may be, are left to the crates
 //! above.
+//!
+//! Modules that the crates above use too:
+//! - [`act`]: what statements are, from what was found in their parts;
+//! - [`assign`]: the targets of assignments, whole: names with selects, and braces;
+//! - [`drive`]: which digits of nets are driven;
+//! - [`outputs`]: what an output of an instance is connected to;
+//! - [`target`]: the target that one name with selects is.
 #![tactic(auto)]
 
+pub mod act;
+pub mod assign;
+pub mod drive;
 mod drivers;
 mod header;
 mod labels;
 mod last_value;
+pub mod outputs;
 mod ports;
 mod procedures;
 mod registers;
+pub mod target;
 mod walk;
 
 pub use drivers::{continuous, net};

@@ -2,20 +2,20 @@
 
 ghost use Rattle.std.specs.Prelude.{◌≡◌, ◌∷◌, [], IfOk};
 ghost use Rattle.gpi.specs.Terms.{IsWidth};
-ghost use Rattle.v_scope.specs.Scope.{width_of};
+ghost use Rattle.v_flat.specs.Scope.Scope.{width_of};
 ghost use Rattle.v_flat.specs.Design.{any_change};
 ghost use Rattle.v_process.specs.Ports.{AssignsInput, AssignsOutput};
 
+use crate::act::assign;
 use crate::registers::all_digits;
+use crate::target::CheckedTarget;
 use gpi::{Act, Kind, Process, SigId, Term, Wake, WakeEdge};
 use port_io::{NoMemory, Sequence};
 use std::alloc::Global;
-use v_act::assign;
-use v_constant::Checked;
-use v_names::width;
-use v_scope::DataObject;
+use v_check::constants::Checked;
+use v_check::names::width;
+use v_flat::scope::DataObject;
 use v_syntax::AssignmentKind;
-use v_target::CheckedTarget;
 
 /// The continuous assignment of its connection's value to an input (IEEE 1364-2005, clause 12.3.9.2), which waits for `wakes`, the changes
 /// of the signals that the value reads. Only want of memory is an error.

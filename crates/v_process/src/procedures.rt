@@ -2,11 +2,11 @@
 
 ghost use Rattle.std.specs.Prelude.{◌≡◌, IfOk, []};
 ghost use Rattle.gpi.specs.declared.design.Kind.TheVariants.{Initial};
-ghost use Rattle.v_scope.specs.Found.{both, each};
-ghost use Rattle.v_scope.specs.Scope.{means};
+ghost use Rattle.v_flat.specs.Scope.Found.{both, each};
+ghost use Rattle.v_flat.specs.Scope.Scope.{means};
 ghost use Rattle.v_syntax.specs.StatementTrees.{view};
 ghost use Rattle.v_flat.specs.Statements.{statement_checked};
-ghost use Rattle.v_names.specs.Proper.{AreProper};
+ghost use Rattle.v_check.specs.Names.Proper.{AreProper};
 ghost use Rattle.v_process.specs.Made.{waiting};
 ghost use Rattle.v_process.specs.Processes.{IsAlways, IsFoundProcess};
 
@@ -15,8 +15,8 @@ use crate::walk::statement as found_in;
 use gpi::{Act, Kind, Process, Wake};
 use port_io::{NoMemory, Sequence};
 use std::alloc::Global;
+use v_flat::scope::{Found, Scope};
 use v_loop::Unrolled;
-use v_scope::{Found, Scope};
 use v_syntax::Statement;
 
 /// What is made of the events and the statement of an `always`.

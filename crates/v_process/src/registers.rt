@@ -3,28 +3,28 @@
 ghost use Rattle.std.specs.Prelude.{◌≡◌, IfOk, []};
 ghost use Rattle.gpi.specs.declared.design.Kind.TheVariants.{Initial};
 ghost use Rattle.gpi.specs.Terms.{IsWidth};
-ghost use Rattle.v_scope.specs.Scope.{find, means, width_of};
+ghost use Rattle.v_flat.specs.Scope.Scope.{find, means, width_of};
 ghost use Rattle.v_syntax.specs.declared.statement.AssignmentKind.TheVariants.{Blocking};
 ghost use Rattle.v_syntax.specs.ExpressionTrees.{view};
 ghost use Rattle.v_syntax.specs.StatementTrees.{Assignment};
 ghost use Rattle.v_flat.specs.Checks.{checked};
 ghost use Rattle.v_flat.specs.Design.{whole_of};
 ghost use Rattle.v_flat.specs.Statements.{done};
-ghost use Rattle.v_names.specs.Proper.{AreProper};
+ghost use Rattle.v_check.specs.Names.Proper.{AreProper};
 ghost use Rattle.v_process.specs.Made.{OpensWith, whole_object, whole_target};
 ghost use Rattle.v_process.specs.Processes.{IsFoundProcess};
 
+use crate::act::assigned;
 use crate::drivers::of_kind;
+use crate::target::CheckedTarget;
 use gpi::{Act, Kind, Object, Process, SigId, Target};
 use port_io::{NoMemory, Sequence};
 use std::alloc::Global;
-use v_act::assigned;
 use v_check::check;
-use v_constant::Checked;
-use v_names::width;
-use v_scope::{DataObject, Found, Meaning, Scope};
+use v_check::constants::Checked;
+use v_check::names::width;
+use v_flat::scope::{DataObject, Found, Meaning, Scope};
 use v_syntax::{AssignmentKind, Expression, Identifier};
-use v_target::CheckedTarget;
 
 /// All digits of a net or a register that is no memory.
 pub(crate) fn all_digits(object: DataObject) -> CheckedTarget

@@ -1,16 +1,19 @@
 //! The walk over the statements of a procedure.
 
 ghost use Rattle.std.specs.Prelude.{◌≡◌, length, IfOk, None, Some};
-ghost use Rattle.v_scope.specs.declared.meaning.Meaning.TheVariants.{Object};
-ghost use Rattle.v_scope.specs.Scope.{find, means, width_of};
+ghost use Rattle.v_flat.specs.declared.scope.meaning.Meaning.TheVariants.{Object};
+ghost use Rattle.v_flat.specs.Scope.Scope.{find, means, width_of};
 ghost use Rattle.v_syntax.specs.StatementTrees.{For, view as view_statement, view_case, view_header};
 ghost use Rattle.v_flat.specs.Statements.{turn};
-ghost use Rattle.v_names.specs.Proper.{AreProper};
+ghost use Rattle.v_check.specs.Names.Proper.{AreProper};
 ghost use Rattle.v_loop.specs.Turns.{HaveWidth};
-ghost use Rattle.v_act.specs.Statements.{IsFoundStatement};
+ghost use Rattle.v_process.specs.Act.Statements.{IsFoundStatement};
 ghost use Rattle.v_process.specs.Lists.{AreFoundCases, AreFoundStatements, IsFoundCase, case_list, statement_list};
 ghost use Rattle.v_process.specs.Turns.{AreTurns};
 
+use crate::act::{
+    BlockParts, CaseParts, assignment, block, case, if_else, if_then, without_effect,
+};
 use crate::header::{register, turns};
 use crate::labels::labels;
 use crate::last_value::behind_turns;
@@ -18,10 +21,9 @@ use four_value::Bits;
 use gpi::Act;
 use port_io::NoMemory;
 use std::alloc::Global;
-use v_act::{BlockParts, CaseParts, assignment, block, case, if_else, if_then, without_effect};
 use v_check::check;
+use v_flat::scope::{DataObject, Found, Scope};
 use v_loop::{LoopTurns, Unrolled, enter_turn, leave_turn};
-use v_scope::{DataObject, Found, Scope};
 use v_syntax::{CaseItem, ForHeader, Statement, TokenNumber};
 
 /// What is found in a statement of a procedure: what is broken first in it, or else the statement of `gpi` that it is (IEEE 1364-2005,

@@ -6,12 +6,12 @@ use Rattle.v_syntax.specs.declared.statement.StatementPlace.{StatementPlace}
 use Rattle.v_syntax.specs.declared.word.Keyword.TheVariants as word
 use Rattle.v_syntax.specs.StatementTrees.{StatementTree}
 use Rattle.v_syntax.specs.Statements.{IsClosed, statement}
-use Rattle.v_phrase.specs.declared.read_error.ReadError.{ReadError}
-use Rattle.v_phrase.specs.Stops.{Gives}
-use Rattle.v_phrase.specs.Refusals.{IsRefusal, IsRead}
-use Rattle.v_phrase.specs.Readers.{starts_word}
-use Rattle.v_phrase.proofs.KindLaws.{tells_word}
-use Rattle.v_phrase.proofs.Callers as laws
+use Rattle.v_expression.specs.declared.phrase.read_error.ReadError.{ReadError}
+use Rattle.v_expression.specs.Phrase.Stops.{Gives}
+use Rattle.v_expression.specs.Phrase.Refusals.{IsRefusal, IsRead}
+use Rattle.v_expression.specs.Phrase.Readers.{starts_word}
+use Rattle.v_expression.proofs.PhraseLemmas.KindLaws.{tells_word}
+use Rattle.v_expression.proofs.PhraseLemmas.Callers as laws
 use Rattle.v_statement.specs.Reading.{lower, statement_of}
 use Rattle.v_statement.proofs.StatementLaws.{statement_laws, ended_laws, statement_missing}
 

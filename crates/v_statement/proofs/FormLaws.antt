@@ -11,17 +11,17 @@ use Rattle.v_syntax.specs.Phrases.{Phrase, nothing, ◌◃◌}
 use Rattle.v_syntax.specs.StatementTrees.{StatementTree, Null, Delay}
 use Rattle.v_syntax.specs.Statements.{sign, IsClosed, block_tree, delayed_tree, assignment_tree, case_tree, task_tree, delay, block, delayed_block, assignment, case_statement, task_enable, inside}
 use Rattle.v_syntax.specs.Statements as rule
-use Rattle.v_phrase.specs.Stops.{syntax_at}
-use Rattle.v_phrase.specs.Readers.{Reader, maybe, starts_mark, word_of}
-use Rattle.v_phrase.specs.Kinds.{Kind, Kinds, no_kind, any_kind, a_mark, a_word, Within}
-use Rattle.v_phrase.proofs.KindLaws.{within}
-use Rattle.v_phrase.proofs.Laws.{Spells, Laws, Ready}
-use Rattle.v_phrase.proofs.Tokens.{nothing_laws, mark_laws}
-use Rattle.v_phrase.proofs.Meanings.{of_case_kind}
-use Rattle.v_phrase.proofs.Both.{keep_laws}
-use Rattle.v_phrase.proofs.Change.{reread, widen, widen_spells}
-use Rattle.v_phrase.proofs.Never.{never_laws}
-use Rattle.v_phrase.proofs.Branches.{ended, closed_laws}
+use Rattle.v_expression.specs.Phrase.Stops.{syntax_at}
+use Rattle.v_expression.specs.Phrase.Readers.{Reader, maybe, starts_mark, word_of}
+use Rattle.v_expression.specs.Phrase.Kinds.{Kind, Kinds, no_kind, any_kind, a_mark, a_word, Within}
+use Rattle.v_expression.proofs.PhraseLemmas.KindLaws.{within}
+use Rattle.v_expression.proofs.PhraseLemmas.Laws.{Spells, Laws, Ready}
+use Rattle.v_expression.proofs.PhraseLemmas.Tokens.{nothing_laws, mark_laws}
+use Rattle.v_expression.proofs.PhraseLemmas.Meanings.{of_case_kind}
+use Rattle.v_expression.proofs.PhraseLemmas.Both.{keep_laws}
+use Rattle.v_expression.proofs.PhraseLemmas.Change.{reread, widen, widen_spells}
+use Rattle.v_expression.proofs.PhraseLemmas.Never.{never_laws}
+use Rattle.v_expression.proofs.PhraseLemmas.Branches.{ended, closed_laws}
 use Rattle.v_expression.proofs.Phrases.{of_target}
 use Rattle.v_statement.specs.Reading.{label_of, maybe_label_of, block_head_of, statements_of, delay_below_of, maybe_delay_of, last_delay_of, block_end_of, block_of, null_of}
 use Rattle.v_statement.specs.Reading as read

@@ -12,12 +12,12 @@ use Rattle.v_syntax.specs.StatementTrees.{Null, Delay}
 use Rattle.v_syntax.specs.TokenMeanings.{task_of, case_kind}
 use Rattle.v_syntax.specs.Statements.{block_tree, delayed_tree, assignment_tree, case_tree, task_tree, numbered, inside, statement}
 use Rattle.v_syntax.specs.Statements as rule
-use Rattle.v_phrase.specs.Readers.{is_some}
-use Rattle.v_phrase.specs.Kinds.{Kind, kind_at, a_mark, a_word, a_task, Within}
-use Rattle.v_phrase.proofs.KindLaws.{within}
-use Rattle.v_phrase.proofs.Laws.{Goes}
-use Rattle.v_phrase.proofs.Tokens.{word_here, mark_here, meant_here}
-use Rattle.v_phrase.proofs.Meanings.{of_case_kind, case_tells, task_tells}
+use Rattle.v_expression.specs.Phrase.Readers.{is_some}
+use Rattle.v_expression.specs.Phrase.Kinds.{Kind, kind_at, a_mark, a_word, a_task, Within}
+use Rattle.v_expression.proofs.PhraseLemmas.KindLaws.{within}
+use Rattle.v_expression.proofs.PhraseLemmas.Laws.{Goes}
+use Rattle.v_expression.proofs.PhraseLemmas.Tokens.{word_here, mark_here, meant_here}
+use Rattle.v_expression.proofs.PhraseLemmas.Meanings.{of_case_kind, case_tells, task_tells}
 use Rattle.v_expression.proofs.Phrases.{of_target, target_front}
 use Rattle.v_statement.proofs.Rules.{form_at, of_statement}
 use Rattle.v_statement.proofs.FormLaws.{is_form, is_form_self, of_form, no_task, no_delay}

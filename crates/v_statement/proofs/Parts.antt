@@ -9,21 +9,21 @@ use Rattle.v_expression.specs.Starts.{mark_begins_expression}
 use Rattle.v_syntax.specs.Statements.{listed, assignment_tree, task_tree, label, delay, delay_below, assignment, argument, arguments, task_enable, variable_assignment, expression}
 use Rattle.v_expression.specs.Starts.{starts_expression}
 use Rattle.v_expression.specs.Reading.{expression_of, target_of}
-use Rattle.v_phrase.specs.Readers.{Reader, down, starts_mark, identifier_of}
-use Rattle.v_phrase.specs.Readers as read
-use Rattle.v_phrase.specs.Kinds.{Kinds, kind_at, any_kind, a_mark, a_name, a_text, a_task, either_of, Tells}
-use Rattle.v_phrase.proofs.KindLaws.{tells_mark}
-use Rattle.v_phrase.proofs.Laws.{Goes, Laws, Ready}
-use Rattle.v_phrase.proofs.Tokens.{nothing_laws, place_in_laws, mark_laws, mark_here}
-use Rattle.v_phrase.proofs.Meanings.{identifier_laws, name_laws, number_laws, text_laws, task_laws, assignment_kind_laws}
-use Rattle.v_phrase.proofs.Both.{apply_laws, keep_laws, skip_laws}
-use Rattle.v_phrase.proofs.Ready.{ready_behind}
-use Rattle.v_phrase.proofs.Maybe.{maybe_laws}
-use Rattle.v_phrase.proofs.Lists.{ends_list, listed_laws}
-use Rattle.v_phrase.proofs.Either.{either_first}
-use Rattle.v_phrase.proofs.Change.{narrow, raise}
-use Rattle.v_phrase.proofs.Never.{never_deep}
-use Rattle.v_phrase.proofs.Levels.{down_laws, down_ready}
+use Rattle.v_expression.specs.Phrase.Readers.{Reader, down, starts_mark, identifier_of}
+use Rattle.v_expression.specs.Phrase.Readers as read
+use Rattle.v_expression.specs.Phrase.Kinds.{Kinds, kind_at, any_kind, a_mark, a_name, a_text, a_task, either_of, Tells}
+use Rattle.v_expression.proofs.PhraseLemmas.KindLaws.{tells_mark}
+use Rattle.v_expression.proofs.PhraseLemmas.Laws.{Goes, Laws, Ready}
+use Rattle.v_expression.proofs.PhraseLemmas.Tokens.{nothing_laws, place_in_laws, mark_laws, mark_here}
+use Rattle.v_expression.proofs.PhraseLemmas.Meanings.{identifier_laws, name_laws, number_laws, text_laws, task_laws, assignment_kind_laws}
+use Rattle.v_expression.proofs.PhraseLemmas.Both.{apply_laws, keep_laws, skip_laws}
+use Rattle.v_expression.proofs.PhraseLemmas.Ready.{ready_behind}
+use Rattle.v_expression.proofs.PhraseLemmas.Maybe.{maybe_laws}
+use Rattle.v_expression.proofs.PhraseLemmas.Lists.{ends_list, listed_laws}
+use Rattle.v_expression.proofs.PhraseLemmas.Either.{either_first}
+use Rattle.v_expression.proofs.PhraseLemmas.Change.{narrow, raise}
+use Rattle.v_expression.proofs.PhraseLemmas.Never.{never_deep}
+use Rattle.v_expression.proofs.PhraseLemmas.Levels.{down_laws, down_ready}
 use Rattle.v_expression.proofs.Phrases.{of_expression, ends_expression, of_target, tells_expression, expression_phrase_laws, expression_ready, target_phrase_laws}
 use Rattle.v_statement.specs.Firsts.{starts_argument}
 use Rattle.v_statement.specs.Reading.{label_of, delay_of, delay_below_of, assignment_of, value_below, argument_of, arguments_of, task_of_room}

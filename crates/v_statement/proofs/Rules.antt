@@ -16,21 +16,21 @@ use Rattle.v_syntax.specs.TokenMeanings.{case_kind}
 use Rattle.v_syntax.specs.Statements.{sign, word_of, IsClosed, label, block_tree, delayed_tree, block, delayed_block, if_tree, conditional, listed, match_item, default_item, case_item, case_tree, case_statement, for_header, numbered, for_tree, for_statement, expression}
 use Rattle.v_expression.specs.Starts.{mark_begins_expression}
 use Rattle.v_expression.specs.Reading.{expression_of}
-use Rattle.v_phrase.specs.Readers.{Reader, down, starts_mark, starts_word, is_some}
-use Rattle.v_phrase.specs.Readers as read
-use Rattle.v_phrase.specs.Kinds.{Kind, AtEnd, AtName, AtKeyword, AtReserved, AtTask, AtNumber, AtText, AtMark, kind_at, Kinds, any_kind, a_mark, a_word, either_of, without, Within, Tells}
-use Rattle.v_phrase.proofs.KindLaws.{tells_mark, tells_word}
-use Rattle.v_phrase.proofs.Laws.{Spells, Laws, Ready}
-use Rattle.v_phrase.proofs.Tokens.{nothing_laws, place_in_laws, mark_laws, word_laws}
-use Rattle.v_phrase.proofs.Meanings.{of_case_kind, case_kind_laws}
-use Rattle.v_phrase.proofs.Both.{both_spells, both_by, apply_laws, keep_laws, skip_laws}
-use Rattle.v_phrase.proofs.Maybe.{maybe_laws}
-use Rattle.v_phrase.proofs.Many.{many_spells, many_laws}
-use Rattle.v_phrase.proofs.Lists.{ends_list, some_laws, listed_laws, listed_spells}
-use Rattle.v_phrase.proofs.Either.{either_spells, either_second}
-use Rattle.v_phrase.proofs.Change.{reread, rewhole}
-use Rattle.v_phrase.proofs.Levels.{down_laws}
-use Rattle.v_phrase.proofs.Branches.{Ends, ended, ended_branches, branches_laws, plain_laws, plain_spells, no_else}
+use Rattle.v_expression.specs.Phrase.Readers.{Reader, down, starts_mark, starts_word, is_some}
+use Rattle.v_expression.specs.Phrase.Readers as read
+use Rattle.v_expression.specs.Phrase.Kinds.{Kind, AtEnd, AtName, AtKeyword, AtReserved, AtTask, AtNumber, AtText, AtMark, kind_at, Kinds, any_kind, a_mark, a_word, either_of, without, Within, Tells}
+use Rattle.v_expression.proofs.PhraseLemmas.KindLaws.{tells_mark, tells_word}
+use Rattle.v_expression.proofs.PhraseLemmas.Laws.{Spells, Laws, Ready}
+use Rattle.v_expression.proofs.PhraseLemmas.Tokens.{nothing_laws, place_in_laws, mark_laws, word_laws}
+use Rattle.v_expression.proofs.PhraseLemmas.Meanings.{of_case_kind, case_kind_laws}
+use Rattle.v_expression.proofs.PhraseLemmas.Both.{both_spells, both_by, apply_laws, keep_laws, skip_laws}
+use Rattle.v_expression.proofs.PhraseLemmas.Maybe.{maybe_laws}
+use Rattle.v_expression.proofs.PhraseLemmas.Many.{many_spells, many_laws}
+use Rattle.v_expression.proofs.PhraseLemmas.Lists.{ends_list, some_laws, listed_laws, listed_spells}
+use Rattle.v_expression.proofs.PhraseLemmas.Either.{either_spells, either_second}
+use Rattle.v_expression.proofs.PhraseLemmas.Change.{reread, rewhole}
+use Rattle.v_expression.proofs.PhraseLemmas.Levels.{down_laws}
+use Rattle.v_expression.proofs.PhraseLemmas.Branches.{Ends, ended, ended_branches, branches_laws, plain_laws, plain_spells, no_else}
 use Rattle.v_expression.proofs.Phrases.{of_expression, ends_expression, expression_phrase_laws}
 use Rattle.v_statement.specs.Firsts.{task_form, mark_form, word_form, form_of, starts_statement, starts_case}
 use Rattle.v_statement.specs.Reading.{label_of, delay_below_of, statements_of, condition_of, conditional_of, default_of, matched_of, choices_of, case_item_tree, case_item_of, case_items_of, case_head_of, case_of, variable_of, header_of, for_head_of, for_of}

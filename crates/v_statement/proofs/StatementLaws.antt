@@ -10,15 +10,15 @@ use Rattle.v_syntax.specs.Phrases as phrase
 use Rattle.v_syntax.specs.StatementTrees.{StatementTree}
 use Rattle.v_syntax.specs.Statements.{inside, statement}
 use Rattle.v_syntax.specs.Statements as rule
-use Rattle.v_phrase.specs.Readers.{Reader, is_some}
-use Rattle.v_phrase.specs.Readers as read
-use Rattle.v_phrase.specs.Kinds.{Kind, kind_at, any_kind}
-use Rattle.v_phrase.proofs.Laws.{Goes, Spells, Laws, Ready}
-use Rattle.v_phrase.proofs.OneOf.{Fits, ready_fits, one_spells, one_laws}
-use Rattle.v_phrase.proofs.Change.{reread, rewhole, raise, raise_spells}
-use Rattle.v_phrase.proofs.Levels.{down_ready}
-use Rattle.v_phrase.proofs.Never.{never_spells, never_deep}
-use Rattle.v_phrase.proofs.Branches.{Ends, ended, plain_laws, no_else}
+use Rattle.v_expression.specs.Phrase.Readers.{Reader, is_some}
+use Rattle.v_expression.specs.Phrase.Readers as read
+use Rattle.v_expression.specs.Phrase.Kinds.{Kind, kind_at, any_kind}
+use Rattle.v_expression.proofs.PhraseLemmas.Laws.{Goes, Spells, Laws, Ready}
+use Rattle.v_expression.proofs.PhraseLemmas.OneOf.{Fits, ready_fits, one_spells, one_laws}
+use Rattle.v_expression.proofs.PhraseLemmas.Change.{reread, rewhole, raise, raise_spells}
+use Rattle.v_expression.proofs.PhraseLemmas.Levels.{down_ready}
+use Rattle.v_expression.proofs.PhraseLemmas.Never.{never_spells, never_deep}
+use Rattle.v_expression.proofs.PhraseLemmas.Branches.{Ends, ended, plain_laws, no_else}
 use Rattle.v_statement.specs.Firsts.{form_of}
 use Rattle.v_statement.specs.Reading.{assignment_of, condition_of, conditional_of, case_head_of, case_of, for_head_of, for_of, statement_of_form, lower}
 use Rattle.v_statement.proofs.Rules.{form_at, of_statement, form_told}

@@ -8,8 +8,8 @@ use Rattle.v_syntax.specs.ExpressionTrees.{Tree}
 use Rattle.v_syntax.specs.StatementTrees.{StatementTree, CaseTree, Match, Default}
 use Rattle.v_syntax.specs.Statements.{block_tree, delayed_tree, if_tree, case_tree}
 use Rattle.v_expression.specs.Reading.{expression_of}
-use Rattle.v_phrase.specs.Stops.{Answer, ◌>>=◌}
-use Rattle.v_phrase.specs.Readers.{Reader, nothing, both, ◌⊛◌, ◌◃◌, ◌▹◌, either, branches, down, starts_word, sign, word_of, listed}
+use Rattle.v_expression.specs.Phrase.Stops.{Answer, ◌>>=◌}
+use Rattle.v_expression.specs.Phrase.Readers.{Reader, nothing, both, ◌⊛◌, ◌◃◌, ◌▹◌, either, branches, down, starts_word, sign, word_of, listed}
 use Rattle.v_statement.specs.Reading.{matched_of, otherwise_of, pair, case_item_tree, case_with}
 
 module _ (w : Reader (Unit {0})) (l : Reader (Option (List ℕ))) (ss : Reader (List StatementTree)) (d : Reader (Option StatementTree)) (e : Reader (Unit {0})) (ts : List Token) where

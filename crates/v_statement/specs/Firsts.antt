@@ -11,7 +11,7 @@ use Rattle.v_syntax.specs.declared.statement.StatementForm.TheVariants as form
 use Rattle.v_syntax.specs.declared.statement.StatementPlace.{StatementPlace}
 use Rattle.v_syntax.specs.declared.statement.StatementPlace.TheVariants.{InAlways, InInitial, WholeInitial}
 use Rattle.v_expression.specs.Starts.{begins_expression}
-use Rattle.v_phrase.specs.Readers.{is_some}
+use Rattle.v_expression.specs.Phrase.Readers.{is_some}
 
 -- a system task stands inside of an `initial`
 abbrev pub task_form : StatementPlace → Option StatementForm

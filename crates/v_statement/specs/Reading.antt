@@ -13,10 +13,10 @@ use Rattle.v_syntax.specs.ExpressionTrees.{Tree}
 use Rattle.v_syntax.specs.StatementTrees.{ArgumentTree, Value, Text, VariableTree, Variable, HeaderTree, Header, StatementTree, Null, Delay, CaseTree, Match, Default}
 use Rattle.v_syntax.specs.TokenMeanings.{name_of, number_of, text_of, task_of, assignment_kind, case_kind}
 use Rattle.v_syntax.specs.Statements.{inside, delayed_tree, assignment_tree, if_tree, case_tree, numbered, for_tree, task_tree}
-use Rattle.v_phrase.specs.Stops.{Stop, ◌>>=◌, deep_at}
+use Rattle.v_expression.specs.Phrase.Stops.{Stop, ◌>>=◌, deep_at}
 use Rattle.v_expression.specs.Reading.{expression_of, target_of}
 use Rattle.v_expression.specs.Starts.{starts_expression}
-use Rattle.v_phrase.specs.Readers.{Reader, nothing, token_of, place_in, both, ◌⊛◌, ◌◃◌, ◌▹◌, maybe, many, some, one_of, either, down, starts_mark, starts_word, sign, word_of, identifier_of, listed}
+use Rattle.v_expression.specs.Phrase.Readers.{Reader, nothing, token_of, place_in, both, ◌⊛◌, ◌◃◌, ◌▹◌, maybe, many, some, one_of, either, down, starts_mark, starts_word, sign, word_of, identifier_of, listed}
 use Rattle.v_statement.specs.Firsts.{form_of, starts_statement, starts_argument, starts_case}
 
 unfoldable pub label_of : Reader (List ℕ)

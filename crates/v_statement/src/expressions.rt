@@ -2,14 +2,14 @@
 
 ghost use Rattle.std.specs.Prelude.{◌≡◌, ◌<◌};
 ghost use Rattle.v_syntax.specs.ExpressionTrees;
-ghost use Rattle.v_phrase.specs.Stops.{Gives};
+ghost use Rattle.v_expression.specs.Phrase.Stops.{Gives};
 ghost use Rattle.v_expression.specs.Starts;
 ghost use Rattle.v_statement.specs.Reading.{value_below};
 
 use crate::levels::below;
 use std::alloc::Global;
 use v_expression::expression;
-use v_phrase::{ReadError, next};
+use v_expression::phrase::{ReadError, next};
 use v_syntax::{Expression, Mark, Token};
 
 /// Whether an expression begins with the first token.

@@ -5,7 +5,7 @@ ghost use Rattle.v_statement.specs.Firsts;
 ghost use Rattle.v_statement.specs.Firsts.{form_of, mark_form, word_form};
 
 use crate::expressions::begins_expression;
-use v_phrase::next;
+use v_expression::phrase::next;
 use v_syntax::{Keyword, Mark, StatementForm, StatementPlace, Token};
 
 /// The form of the statement that begins with the first token, if one does.

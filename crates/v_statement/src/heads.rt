@@ -3,7 +3,7 @@
 ghost use Rattle.std.specs.Prelude.{◌≡◌, ◌<◌, map, option_map};
 ghost use Rattle.v_syntax.specs.ExpressionTrees;
 ghost use Rattle.v_syntax.specs.StatementTrees.{view, view_header};
-ghost use Rattle.v_phrase.specs.Stops.{Gives};
+ghost use Rattle.v_expression.specs.Phrase.Stops.{Gives};
 ghost use Rattle.v_statement.specs.Reading.{
   label_of,
   maybe_label_of,
@@ -26,10 +26,10 @@ use crate::simple::{delay, for_header};
 use crate::trees::{block, with_delay};
 use port_io::{Name, boxed};
 use std::alloc::Global;
-use v_expression::{ExpressionPhrase, expression};
-use v_phrase::{
+use v_expression::phrase::{
     ReadError, after, after_word, listed, name, place as number_of, starts_mark, starts_word,
 };
+use v_expression::{ExpressionPhrase, expression};
 use v_syntax::{
     CaseKind, Expression, ForHeader, Keyword, Mark, Statement, StatementPlace, Token, TokenNumber,
 };

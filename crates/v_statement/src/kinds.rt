@@ -2,10 +2,10 @@
 
 ghost use Rattle.std.specs.Prelude.{◌≡◌, Option, Some, None};
 ghost use Rattle.v_syntax.specs.TokenMeanings as meanings;
-ghost use Rattle.v_phrase.specs.Readers.{token_of};
-ghost use Rattle.v_phrase.specs.Stops.{Gives};
+ghost use Rattle.v_expression.specs.Phrase.Readers.{token_of};
+ghost use Rattle.v_expression.specs.Phrase.Stops.{Gives};
 
-use v_phrase::{ReadError, next, syntax_error};
+use v_expression::phrase::{ReadError, next, syntax_error};
 use v_syntax::{AssignmentKind, CaseKind, Keyword, Mark, Token};
 
 /// `=` or `<=`

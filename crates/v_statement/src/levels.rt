@@ -1,10 +1,10 @@
 //! The levels that are left below a statement.
 
 ghost use Rattle.std.specs.Prelude.{◌≡◌, ◌+◌, IfOk};
-ghost use Rattle.v_phrase.specs.Stops.{Gives};
+ghost use Rattle.v_expression.specs.Phrase.Stops.{Gives};
 ghost use Rattle.v_statement.specs.Reading.{levels, lower, statement_of};
 
-use v_phrase::{ReadError, too_deep};
+use v_expression::phrase::{ReadError, too_deep};
 use v_syntax::{StatementPlace, Token};
 
 /// How many levels are left below what begins here and needs one. Without one it is too deep.

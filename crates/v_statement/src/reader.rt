@@ -7,14 +7,14 @@ ghost use Rattle.v_syntax.specs.declared.statement.StatementPlace.{StatementPlac
 ghost use Rattle.v_syntax.specs.StatementTrees.{StatementTree, view};
 ghost use Rattle.v_syntax.specs.Statements;
 ghost use Rattle.v_syntax.specs.Statements.{IsClosed};
-ghost use Rattle.v_phrase.specs.Stops.{Gives};
-ghost use Rattle.v_phrase.specs.Refusals.{IsRefusal, IsRead};
-ghost use Rattle.v_phrase.specs.Readers.{starts_word};
+ghost use Rattle.v_expression.specs.Phrase.Stops.{Gives};
+ghost use Rattle.v_expression.specs.Phrase.Refusals.{IsRefusal, IsRead};
+ghost use Rattle.v_expression.specs.Phrase.Readers.{starts_word};
 ghost use Rattle.v_statement.specs.Reading.{statement_of};
 
 use crate::statements::statement_at;
 use std::alloc::Global;
-use v_phrase::ReadError;
+use v_expression::phrase::ReadError;
 use v_syntax::{Statement, StatementPlace, Token};
 
 /// Reads a statement (IEEE 1364-2005, annex A.6.4) that stands in that place, at the front of the tokens, which are the last

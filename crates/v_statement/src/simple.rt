@@ -2,15 +2,15 @@
 
 ghost use Rattle.std.specs.Prelude.{◌≡◌, ◌<◌};
 ghost use Rattle.v_syntax.specs.StatementTrees.{view, view_variable, view_header};
-ghost use Rattle.v_phrase.specs.Stops.{Gives};
+ghost use Rattle.v_expression.specs.Phrase.Stops.{Gives};
 ghost use Rattle.v_statement.specs.Reading.{delay_of, assignment_of, variable_of, header_of, null_of};
 
 use crate::kinds::assignment_kind;
 use crate::levels::below;
 use port_io::boxed;
 use std::alloc::Global;
+use v_expression::phrase::{ReadError, after, identifier, next, place, syntax_error};
 use v_expression::{expression, target};
-use v_phrase::{ReadError, after, identifier, next, place, syntax_error};
 use v_syntax::{ForHeader, Mark, Statement, Token, VariableAssignment};
 
 /// `;`

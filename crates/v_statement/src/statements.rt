@@ -3,7 +3,7 @@
 ghost use Rattle.std.specs.Prelude.{◌≡◌, ◌<◌, map, option_map};
 ghost use Rattle.v_syntax.specs.StatementTrees.{view, view_case};
 ghost use Rattle.v_syntax.specs.Statements;
-ghost use Rattle.v_phrase.specs.Stops.{Gives};
+ghost use Rattle.v_expression.specs.Phrase.Stops.{Gives};
 ghost use Rattle.v_statement.specs.Reading.{
   lower,
   statement_of,
@@ -25,7 +25,7 @@ use crate::tasks::task_enable;
 use crate::trees::{case_item, case_statement, for_statement, if_statement};
 use port_io::boxed;
 use std::alloc::Global;
-use v_phrase::{ReadError, after_word, starts_word, syntax_error};
+use v_expression::phrase::{ReadError, after_word, starts_word, syntax_error};
 use v_syntax::{CaseItem, Keyword, Statement, StatementForm, StatementPlace, Token};
 
 /// A statement with so many levels below its own.

@@ -2,14 +2,16 @@
 
 ghost use Rattle.std.specs.Prelude.{◌≡◌, ◌<◌, map, option_map};
 ghost use Rattle.v_syntax.specs.StatementTrees.{view, ArgumentTree, view_argument};
-ghost use Rattle.v_phrase.specs.Stops.{Gives};
+ghost use Rattle.v_expression.specs.Phrase.Stops.{Gives};
 ghost use Rattle.v_statement.specs.Firsts;
 ghost use Rattle.v_statement.specs.Reading.{argument_of, arguments_of, task_of_room};
 
 use crate::expressions::{begins_expression, expression_below, starts_expression};
 use port_io::boxed;
 use std::alloc::Global;
-use v_phrase::{Element, ReadError, after, listed, next, starts_mark, system_task, text};
+use v_expression::phrase::{
+    Element, ReadError, after, listed, next, starts_mark, system_task, text,
+};
 use v_syntax::{Mark, Statement, TaskArgument, Token};
 
 /// Whether an argument of a system task begins with the first token.

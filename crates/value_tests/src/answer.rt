@@ -5,17 +5,17 @@
 ghost use Rattle.std.specs.Prelude.{IsTrue};
 ghost use Rattle.py_value.specs.Places.{places_of};
 ghost use Rattle.py_value.specs.Shown.{IsOf};
-ghost use Rattle.py_attribute.specs.Gives.{HasNumbers};
+ghost use Rattle.py_evaluate.specs.Attribute.Gives.{HasNumbers};
 
 use crate::operators::{binary_of, unary_of};
 use crate::value::value_of;
 use gpi::{Flat, SigId};
 use port_io::NoMemory;
-use py_attribute::{
+use py_evaluate::attribute::{
     OperationFault, indexed, path_attribute, signal_of, str_value, text_value, vector_attribute,
 };
-use py_operator::{binary, int, unary};
 use py_syntax::FaultKind;
+use py_value::operator::{binary, int, unary};
 use py_value::{Paths, Value, copy, show, truth};
 use std::alloc::Global;
 use table_rows::cut;

@@ -5,7 +5,7 @@
 #![tactic(auto)]
 
 use anyhow::{Result, ensure};
-use command_words::{Reading, WordsFault, Work, read_words};
+use command::command_words::{Reading, WordsFault, Work, read_words};
 use std::alloc::{AllocError, Global};
 use std::io::Read;
 use table_rows::{Row, push_bytes};

@@ -1,4 +1,4 @@
-use Rattle.test_body.specs.Views.{view_case}
+use Rattle.test_meaning.specs.Body.Views.{view_case}
 use Rattle.check_tests.specs.Files.{case_text, most_shown}
 use Rattle.check_tests.proofs.Fronts.{seen_front}
 use Rattle.check_tests.proofs.file.front_text.Goals as goal

@@ -1,4 +1,4 @@
-use Rattle.test_body.specs.Views.{view_function}
+use Rattle.test_meaning.specs.Body.Views.{view_function}
 use Rattle.check_tests.specs.Files.{function_text}
 use Rattle.check_tests.proofs.Fronts.{seen_all}
 use Rattle.check_tests.proofs.file.functions_text.Goals as goal

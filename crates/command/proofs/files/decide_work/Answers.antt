@@ -1,8 +1,8 @@
 use Rattle.std.specs.Prelude.{IfOk}
 use Rattle.std.proofs.Common.{subst, sym}
 use Rattle.port_io.specs.Means.{store_means}
-use Rattle.command_words.specs.Forms.{asked_of}
-use Rattle.command_words.specs.declared.reading.Work.{Work}
+use Rattle.command.specs.CommandWords.Forms.{asked_of}
+use Rattle.command.specs.declared.command_words.reading.Work.{Work}
 use Rattle.command.specs.Reading.{ReadsAsked, reading_of}
 use Rattle.command.proofs.files.decide_work.Goals as goal
 

@@ -1,5 +1,5 @@
 use Rattle.port_io.specs.Means.{sink_means}
-use Rattle.test_body.specs.Views.{view_file}
+use Rattle.test_meaning.specs.Body.Views.{view_file}
 use Rattle.command.proofs.Leaving.{shown_leaves}
 use Rattle.command.proofs.top.answer.Goals as goal
 

@@ -1,12 +1,12 @@
 use Rattle.std.proofs.Common.{map, sym, subst, inl, List, ℕ}
 use Rattle.std.specs.Prelude.{string_bytes}
 use Rattle.port_io.specs.Means.{store_means, sink_means}
-use Rattle.command_words.specs.Forms.{form_of}
+use Rattle.command.specs.CommandWords.Forms.{form_of}
 use Rattle.command.specs.declared.options.RunOptions.{RunOptions}
 use Rattle.command.specs.Reading.{Reads, reading_of, refused, usage_line}
 use Rattle.command.proofs.Words.{any_options, reads_none, reads_asked, reads_told}
 use Rattle.command.proofs.AnswerLaws.{answered, words_answered, words_write, write_raised}
-use Rattle.regression.specs.declared.status.Status.TheVariants.{Usage}
+use Rattle.command.specs.declared.regression.status.Status.TheVariants.{Usage}
 use Rattle.command.proofs.top.cocorun.Goals as goal
 
 -- ---- words without a reading

@@ -1,6 +1,6 @@
 use Rattle.std.specs.Result.{result_err}
 use Rattle.port_io.specs.Means.{sink_means}
-use Rattle.engine.proofs.PutLaws.{put_done}
+use Rattle.scheduler.proofs.PutLaws.{put_done}
 use Rattle.command.proofs.top.put_line.Goals as goal
 
 pub returns : goal.returns

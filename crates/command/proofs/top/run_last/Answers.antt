@@ -1,8 +1,8 @@
 use Rattle.std.specs.Prelude.{ℕ, List, [], ◌∷◌}
 use Rattle.std.proofs.Common.{subst}
 use Rattle.port_io.specs.Means.{sink_means}
-use Rattle.test_body.specs.Views.{view_file}
-use Rattle.regression.specs.Runs.{EndsTo}
+use Rattle.test_meaning.specs.Body.Views.{view_file}
+use Rattle.command.specs.Regression.Runs.{EndsTo}
 use Rattle.command.proofs.LastRuns.{last_put}
 use Rattle.command.proofs.top.run_last.Goals as goal
 

@@ -1,6 +1,6 @@
 use Rattle.std.proofs.Common.{subst, sym}
-use Rattle.test_body.specs.Views.{view_file}
-use Rattle.regression.specs.Runs.{status_in}
+use Rattle.test_meaning.specs.Body.Views.{view_file}
+use Rattle.command.specs.Regression.Runs.{status_in}
 use Rattle.port_io.specs.Means.{sink_means}
 use Rattle.command.specs.declared.options.Shown.{Shown}
 use Rattle.command.specs.Answer.{RunsShown}

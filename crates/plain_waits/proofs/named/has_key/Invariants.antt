@@ -1,6 +1,6 @@
 use Rattle.std.proofs.Common.{◌≡◌, ◌≤◌, length, drop}
 use Rattle.gpi.specs.Keys.{among}
-use Rattle.wait_list.specs.Waiting.{keys_among}
+use Rattle.await_tree.specs.WaitList.Waiting.{keys_among}
 use Rattle.plain_waits.proofs.named.has_key.Given as goal
 
 abbrev pub invariant-back : goal.invariant-back

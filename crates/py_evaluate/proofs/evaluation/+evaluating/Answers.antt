@@ -6,7 +6,7 @@ use Rattle.py_evaluate.specs.Eval.{eval_row, eval_parts}
 use Rattle.py_evaluate.specs.Gives.{scope}
 use Rattle.py_evaluate.specs.Rows.{trees_of, parts_of, PartWants}
 use Rattle.py_evaluate.specs.Wants.{Wants, RowWants, PartsWant}
-use Rattle.py_attribute.proofs.Want.{wants, want_on}
+use Rattle.py_evaluate.proofs.AttributeLemmas.Want.{wants, want_on}
 use Rattle.py_evaluate.proofs.Steps.{row_trees, row_parts, behind_none, values_step, values_fault, values_end, known_more, argument_wants, others_want, part_wants, parts_want, text_step, text_fault, text_end}
 use Rattle.py_evaluate.proofs.evaluation.+evaluating.Goals as goal
 

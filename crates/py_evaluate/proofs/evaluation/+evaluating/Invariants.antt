@@ -1,7 +1,7 @@
 use Rattle.std.proofs.Common.{◌≡◌, ℕ, ◌≤◌, ◌+◌, ◌*◌, drop}
 use Rattle.std.specs.Prelude.{max}
 use Rattle.py_syntax.proofs.expression.Expression.TheLaws.{the_size}
-use Rattle.py_attribute.specs.Knows.{KnowsAll}
+use Rattle.py_evaluate.specs.Attribute.Knows.{KnowsAll}
 use Rattle.py_evaluate.specs.Eval.{eval_row, eval_parts}
 use Rattle.py_evaluate.specs.Gives.{scope}
 use Rattle.py_evaluate.specs.Rows.{trees_of, parts_of}

@@ -2,7 +2,7 @@ use Rattle.std.proofs.Common.{◌≡◌, ◌⊎◌, ℕ, List, [], ◌∷◌, �
 use Rattle.std.specs.Prelude.{string_bytes}
 use Rattle.port_io.specs.Memory.{Files, Lines}
 use Rattle.gpi.specs.Content.{Content}
-use Rattle.regression.specs.declared.status.Status.{Status}
+use Rattle.command.specs.declared.regression.status.Status.{Status}
 use Rattle.command.specs.Answer.{Answered, Quit}
 use Rattle.runner_tests.specs.Commands.{Ends, words_of}
 use Rattle.runner_tests.specs.Files.{file_means, line_means, sink_failing}

@@ -1,12 +1,12 @@
 use Rattle.std.proofs.Common.{Ok, ap}
 use Rattle.std.specs.Prelude.{string_bytes}
 use Rattle.port_io.specs.Means.{sink_means}
-use Rattle.test_body.specs.Views.{view_case}
-use Rattle.run_model.specs.Rig.{Rig, Setup}
-use Rattle.engine.specs.Parts.{means}
-use Rattle.engine.specs.Engine.{rig_of, setup_of}
-use Rattle.regression.proofs.CaseRuns.{begins_went}
-use Rattle.regression.proofs.TestBegins.{begun_planned}
+use Rattle.test_meaning.specs.Body.Views.{view_case}
+use Rattle.rig_model.specs.Run.Rig.{Rig, Setup}
+use Rattle.scheduler.specs.Parts.{means}
+use Rattle.scheduler.specs.Engine.{rig_of, setup_of}
+use Rattle.command.proofs.RegressionLemmas.CaseRuns.{begins_went}
+use Rattle.command.proofs.RegressionLemmas.TestBegins.{begun_planned}
 use Rattle.runner_tests.specs.Turns.{turns_budget}
 use Rattle.runner_tests.proofs.Told.{test_over, test_went}
 use Rattle.runner_tests.proofs.turns.begun_told.Goals as goal

@@ -1,8 +1,8 @@
 use Rattle.std.proofs.Common.{map, refl}
 use Rattle.std.specs.Prelude.{string_bytes}
-use Rattle.test_body.specs.Sound.{is_sound_case}
-use Rattle.test_body.specs.Views.{view_file, view_function}
-use Rattle.regression.proofs.Skipping.{sound_at}
+use Rattle.test_meaning.specs.Body.Sound.{is_sound_case}
+use Rattle.test_meaning.specs.Body.Views.{view_file, view_function}
+use Rattle.command.proofs.RegressionLemmas.Skipping.{sound_at}
 use Rattle.command.specs.Answer.{setup_with}
 use Rattle.command.proofs.FileRuns.{engine_cases}
 use Rattle.runner_tests.proofs.Told.{first_is, options}

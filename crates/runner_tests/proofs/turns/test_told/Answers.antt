@@ -1,11 +1,11 @@
 use Rattle.std.proofs.Common.{◌≡◌, ◌∙◌, List, ap, false, map, subst, sym, true}
 use Rattle.std.specs.Prelude.{string_bytes}
 use Rattle.port_io.specs.Means.{sink_means}
-use Rattle.test_body.specs.BodyTrees.{Function}
-use Rattle.test_body.specs.Sound.{is_sound_case}
-use Rattle.test_body.specs.Views.{view_case, view_file, view_function}
-use Rattle.run_model.specs.Rig.{Setup}
-use Rattle.regression.proofs.Stands.{empty_of}
+use Rattle.test_meaning.specs.Body.BodyTrees.{Function}
+use Rattle.test_meaning.specs.Body.Sound.{is_sound_case}
+use Rattle.test_meaning.specs.Body.Views.{view_case, view_file, view_function}
+use Rattle.rig_model.specs.Run.Rig.{Setup}
+use Rattle.command.proofs.RegressionLemmas.Stands.{empty_of}
 use Rattle.command.specs.Answer.{setup_with}
 use Rattle.command.proofs.FileRuns.{maker_sound, opens, setup_same}
 use Rattle.runner_tests.specs.Turns.{opening_rig}

@@ -1,10 +1,10 @@
 use Rattle.std.proofs.Common.{◌∙◌, ◌++◌, ℕ, suc, List, [], Ok, ap, append_assoc, append-nil, inl, refl, sym, subst}
 use Rattle.std.specs.Prelude.{string_bytes}
 use Rattle.port_io.specs.Means.{sink_means}
-use Rattle.engine.specs.Turns.{turn_fault}
-use Rattle.engine.specs.Parts.{means}
-use Rattle.engine.specs.Engine.{rig_of, setup_of}
-use Rattle.regression.proofs.Waiting.{alone, not_gone, place_still, turns_fall}
+use Rattle.scheduler.specs.Turns.{turn_fault}
+use Rattle.scheduler.specs.Parts.{means}
+use Rattle.scheduler.specs.Engine.{rig_of, setup_of}
+use Rattle.command.proofs.RegressionLemmas.Waiting.{alone, not_gone, place_still, turns_fall}
 use Rattle.runner_tests.specs.Turns.{TellsTurns, number_word, turns_budget}
 use Rattle.runner_tests.proofs.Told.{tells_last, tells_one}
 use Rattle.runner_tests.proofs.turns.turns_told.Goals as goal

@@ -1,12 +1,12 @@
 use Rattle.std.proofs.Common.{◌≡◌, ◌⊎◌, ◌++◌, ℕ, List, None}
 use Rattle.std.specs.Prelude.{string_bytes}
 use Rattle.port_io.specs.Means.{sink_means}
-use Rattle.run_parts.specs.Steps.{anywhere}
-use Rattle.engine.specs.Parts.{means}
-use Rattle.engine.specs.Engine.{rig_of, setup_of}
-use Rattle.engine.specs.Fits.{FitsKernel}
-use Rattle.engine.proofs.StepsLeft.{steps_left}
-use Rattle.engine.specs.BetweenTests.{IsBetween}
+use Rattle.rig_model.specs.Parts.Steps.{anywhere}
+use Rattle.scheduler.specs.Parts.{means}
+use Rattle.scheduler.specs.Engine.{rig_of, setup_of}
+use Rattle.scheduler.specs.Fits.{FitsKernel}
+use Rattle.scheduler.proofs.StepsLeft.{steps_left}
+use Rattle.scheduler.specs.BetweenTests.{IsBetween}
 use Rattle.runner_tests.specs.Turns.{TellsTurns, turns_budget}
 use Rattle.runner_tests.proofs.turns.turns_told.Given as goal
 

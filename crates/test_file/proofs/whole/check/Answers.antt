@@ -1,7 +1,7 @@
 -- The first fault, or what the file stands for.
 use Rattle.py_syntax.specs.BlockTrees.{view_module}
-use Rattle.test_body.specs.Views.{view_file}
-use Rattle.test_rules.specs.File.{file_of}
+use Rattle.test_meaning.specs.Body.Views.{view_file}
+use Rattle.test_meaning.specs.Rules.File.{file_of}
 use Rattle.test_file.proofs.Checked.{accepted, refused, sound, unbroken}
 use Rattle.test_file.proofs.whole.check.Goals as goal
 

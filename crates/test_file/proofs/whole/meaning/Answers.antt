@@ -1,10 +1,10 @@
 -- Its functions, and its tests.
 use Rattle.std.proofs.Common.{List, ap, ◌∙◌}
-use Rattle.test_body.specs.BodyTrees as body
+use Rattle.test_meaning.specs.Body.BodyTrees as body
 use Rattle.py_syntax.specs.BlockTrees.{view_module}
-use Rattle.test_body.specs.Views.{view_case}
+use Rattle.test_meaning.specs.Body.Views.{view_case}
 use Rattle.test_meaning.specs.Library.{functions}
-use Rattle.test_rules.specs.File.{file_of}
+use Rattle.test_meaning.specs.Rules.File.{file_of}
 use Rattle.std.specs.Prelude.{map}
 use Rattle.test_file.proofs.whole.meaning.Goals as goal
 

@@ -1,6 +1,6 @@
 -- The functions so far, and those of the items behind them.
 use Rattle.std.proofs.Common.{◌≡◌, ◌++◌, map}
-use Rattle.test_body.specs.Views.{view_function}
+use Rattle.test_meaning.specs.Body.Views.{view_function}
 use Rattle.test_functions.specs.Inside.{file_of_whole}
 use Rattle.test_functions.proofs.Ordered.{made_from}
 use Rattle.test_functions.proofs.file.functions_of.Given as goal

@@ -1,6 +1,6 @@
 -- One name more.
 use Rattle.std.proofs.Common.{List, ◌+◌, refl, sym, ◌∙◌, subst, arith}
-use Rattle.test_rules.specs.Names.{Name}
+use Rattle.test_meaning.specs.Rules.Names.{Name}
 use Rattle.test_functions.proofs.Copied.{AreCopied, none_copied, one_copied, all_copied}
 use Rattle.test_functions.proofs.function.names_between.Goals as goal
 

@@ -3,7 +3,7 @@ use Rattle.std.proofs.Common.{ap, arith}
 use Rattle.std.specs.List.{position_from}
 use Rattle.std.specs.Option.{option_or}
 use Rattle.std.specs.Str.{bytes_eq}
-use Rattle.test_names.specs.Places.{Places}
+use Rattle.name_table.specs.Places.{Places}
 use Rattle.test_functions.proofs.Ordered.{names_from, all_numbered}
 use Rattle.test_functions.proofs.numbers.function_numbers.Goals as goal
 

@@ -3,8 +3,8 @@ use Rattle.std.proofs.Common.{◌≡◌, ◌≤◌, ◌+◌, length}
 use Rattle.std.specs.List.{position_from}
 use Rattle.std.specs.Option.{option_or}
 use Rattle.std.specs.Str.{bytes_eq}
-use Rattle.test_names.specs.Places.{first_place}
-use Rattle.test_rules.specs.Names.{Name}
+use Rattle.name_table.specs.Places.{first_place}
+use Rattle.test_meaning.specs.Rules.Names.{Name}
 use Rattle.test_functions.proofs.Ordered.{names_from}
 use Rattle.test_functions.proofs.numbers.function_numbers.Given as goal
 

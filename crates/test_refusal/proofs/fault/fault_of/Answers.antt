@@ -1,9 +1,9 @@
 -- What the pass comes to.
 use Rattle.std.proofs.Common.{subst}
 use Rattle.py_syntax.specs.BlockTrees.{view_module}
-use Rattle.test_rules.specs.File.{file_of}
-use Rattle.test_rules.specs.Rules.{first_broken}
-use Rattle.test_rules.specs.Uses.{file_lines}
+use Rattle.test_meaning.specs.Rules.File.{file_of}
+use Rattle.test_meaning.specs.Rules.Rules.{first_broken}
+use Rattle.test_meaning.specs.Rules.Uses.{file_lines}
 use Rattle.test_refusal.specs.Pass.{IsStepTo}
 use Rattle.test_refusal.specs.declared.seen.Step as code
 use Rattle.test_refusal.proofs.Steps.{refused_before, refused_behind}

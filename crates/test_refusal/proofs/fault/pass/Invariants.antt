@@ -1,6 +1,6 @@
 -- What the items so far have, and that none of their lines breaks a rule.
 use Rattle.py_syntax.specs.BlockTrees.{view_module}
-use Rattle.test_rules.specs.File.{file_of}
+use Rattle.test_meaning.specs.Rules.File.{file_of}
 use Rattle.test_refusal.proofs.Steps.{HasPassed}
 use Rattle.test_refusal.proofs.fault.pass.Given as goal
 

@@ -2,8 +2,8 @@
 use Rattle.std.proofs.Common.{◌≡◌, ◌∙◌, ap, sym, map}
 use Rattle.std.proofs.lemmas.Result.{IfOk-weaker}
 use Rattle.py_syntax.specs.BlockTrees.{view_module_item}
-use Rattle.test_rules.specs.File.{file_of}
-use Rattle.test_rules.specs.Rules.{are_right_settings, has_right_options}
+use Rattle.test_meaning.specs.Rules.File.{file_of}
+use Rattle.test_meaning.specs.Rules.Rules.{are_right_settings, has_right_options}
 use Rattle.test_refusal.specs.Places.{file_of_whole, place_of}
 use Rattle.test_refusal.proofs.Scopes.{undecorated}
 use Rattle.test_refusal.proofs.options.has_right_options.Goals as goal

@@ -1,5 +1,5 @@
 -- What the item adds.
-use Rattle.test_item.proofs.Functions.{decorated_by_last}
+use Rattle.test_refusal.proofs.ItemsLemmas.Functions.{decorated_by_last}
 use Rattle.std.proofs.Common.{◌∙◌, sym}
 use Rattle.test_refusal.specs.Places.{place_of}
 use Rattle.test_refusal.proofs.step.below.Goals as goal

@@ -1,10 +1,10 @@
 -- What is defined twice, and then the later rules.
 use Rattle.std.proofs.Common.{◌&&◌, not, ◌∙◌, Option, ap, sym, subst}
-use Rattle.test_duplicates.specs.Twice.{IsBelow, Table}
-use Rattle.test_item.specs.Functions.{function_name}
-use Rattle.test_rules.specs.File.{is_function, is_made_name, line_of}
-use Rattle.test_rules.specs.Rules.{refused_at}
-use Rattle.test_rules.specs.declared.rule.FileRule.{FileRule}
+use Rattle.test_names.specs.Duplicates.Twice.{IsBelow, Table}
+use Rattle.test_refusal.specs.Items.Functions.{function_name}
+use Rattle.test_meaning.specs.Rules.File.{is_function, is_made_name, line_of}
+use Rattle.test_meaning.specs.Rules.Rules.{refused_at}
+use Rattle.test_meaning.specs.declared.rules.rule.FileRule.{FileRule}
 use Rattle.test_refusal.specs.Places.{file_of_whole, place_of}
 use Rattle.test_refusal.proofs.Parts.{none_left, once_defined}
 use Rattle.test_refusal.proofs.Steps.{tests_more}

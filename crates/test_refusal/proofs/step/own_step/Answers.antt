@@ -1,7 +1,7 @@
 -- What counts before definitions, or else what they break.
 use Rattle.std.proofs.Common.{Option, IfOk, subst, sym}
-use Rattle.test_rules.specs.File.{line_of}
-use Rattle.test_rules.specs.declared.rule.Refusal.{Refusal}
+use Rattle.test_meaning.specs.Rules.File.{line_of}
+use Rattle.test_meaning.specs.declared.rules.rule.Refusal.{Refusal}
 use Rattle.test_refusal.specs.Pass.{IsStepTo}
 use Rattle.test_refusal.specs.Places.{file_of_whole, items_to, place_of}
 use Rattle.test_refusal.proofs.Parts.{own_defined, own_placed}

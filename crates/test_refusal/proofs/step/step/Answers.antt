@@ -1,9 +1,9 @@
 -- The item's own line, and then its block.
 use Rattle.std.proofs.Common.{Option, IfOk, subst, sym}
-use Rattle.test_item.specs.OwnLine.{own_rule}
-use Rattle.test_rules.specs.File.{line_of}
-use Rattle.test_rules.specs.Rules.{refused_at}
-use Rattle.test_rules.specs.declared.rule.Refusal.{Refusal}
+use Rattle.test_refusal.specs.Items.OwnLine.{own_rule}
+use Rattle.test_meaning.specs.Rules.File.{line_of}
+use Rattle.test_meaning.specs.Rules.Rules.{refused_at}
+use Rattle.test_meaning.specs.declared.rules.rule.Refusal.{Refusal}
 use Rattle.test_refusal.specs.Pass.{IsStepTo}
 use Rattle.test_refusal.specs.Places.{file_of_whole, items_to, place_of}
 use Rattle.test_refusal.specs.declared.seen.Step as code

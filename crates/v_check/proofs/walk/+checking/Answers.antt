@@ -4,10 +4,10 @@ use Rattle.std.proofs.lemmas.List.{drop_all}
 use Rattle.v_syntax.specs.declared.expression.Expression as code
 use Rattle.v_syntax.specs.declared.expression.Expression.TheViews.{the_lemmas}
 use Rattle.v_syntax.specs.ExpressionTrees.{Tree, Concatenation, Replication, more, view, views, first_at}
-use Rattle.v_scope.specs.Scope.{means}
-use Rattle.v_constant.specs.Checked.{IsChecked, IsCount}
-use Rattle.v_parts.specs.Parts.{AreChecked}
-use Rattle.v_constant.proofs.Rows.{row_views}
+use Rattle.v_flat.specs.Scope.Scope.{means}
+use Rattle.v_check.specs.Constants.Checked.{IsChecked, IsCount}
+use Rattle.v_check.specs.Parts.Parts.{AreChecked}
+use Rattle.v_check.proofs.ConstantsLemmas.Rows.{row_views}
 use Rattle.v_check.proofs.Behind.{one_more}
 use Rattle.v_check.proofs.walk.+checking.Goals as goal
 

@@ -1,8 +1,8 @@
 -- The parts behind.
 use Rattle.std.proofs.Common.{drop}
-use Rattle.v_scope.specs.Scope.{means}
+use Rattle.v_flat.specs.Scope.Scope.{means}
 use Rattle.v_syntax.specs.ExpressionTrees.{views}
-use Rattle.v_parts.specs.Parts.{AreChecked}
+use Rattle.v_check.specs.Parts.Parts.{AreChecked}
 use Rattle.v_check.proofs.walk.+checking.Given as goal
 
 abbrev pub invariant-all-loop-at : goal.invariant-all-loop-at

@@ -1,6 +1,6 @@
 -- What was found, beside the instance around it.
 use Rattle.std.proofs.Common.{Result, subst}
-use Rattle.v_scope.specs.declared.rule.Broken.{Broken}
+use Rattle.v_flat.specs.declared.scope.rule.Broken.{Broken}
 use Rattle.v_syntax.specs.SourceTrees.{view_module}
 use Rattle.v_elab.specs.declared.outside.Outside.{Outside}
 use Rattle.v_elab.specs.InnerSteps.{Checks, beside}

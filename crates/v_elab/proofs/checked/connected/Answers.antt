@@ -1,12 +1,12 @@
 -- The values of parameters, and the joints.
 use Rattle.std.proofs.Common.{ap, subst, ◌∙◌}
 use Rattle.v_syntax.specs.SourceTrees.{view_module}
-use Rattle.v_scope.specs.Scope.{means}
+use Rattle.v_flat.specs.Scope.Scope.{means}
 use Rattle.v_header.specs.Names.{texts}
 use Rattle.v_header.specs.Parameters.{parameters_in}
 use Rattle.v_flat.specs.Headers.{open_parameters}
 use Rattle.v_flat.specs.Design.{given_of}
-use Rattle.v_given.specs.Given.{FindsTheSame}
+use Rattle.v_header.specs.Given.Given.{FindsTheSame}
 use Rattle.v_elab.specs.Enters.{connections_in}
 use Rattle.v_elab.proofs.Checks.{both_found}
 use Rattle.v_elab.proofs.checked.connected.Goals as goal

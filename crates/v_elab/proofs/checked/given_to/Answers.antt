@@ -1,9 +1,9 @@
 -- What was found in the connections, with what else is broken.
 use Rattle.std.proofs.Common.{◌+◌, ◌&&◌, nat_le, is_none, refl, ap, ◌∙◌}
-use Rattle.test_names.specs.Places.{first_place}
+use Rattle.name_table.specs.Places.{first_place}
 use Rattle.v_syntax.specs.SourceTrees.{view_module}
-use Rattle.v_scope.specs.Limits.{most_parts}
-use Rattle.v_scope.specs.Scope.{means}
+use Rattle.v_flat.specs.Scope.Limits.{most_parts}
+use Rattle.v_flat.specs.Scope.Scope.{means}
 use Rattle.v_elab.proofs.Checks.{checks_broken, checks_ok}
 use Rattle.v_elab.proofs.Fresh.{fresh_as}
 use Rattle.v_elab.proofs.checked.given_to.Goals as goal

@@ -1,7 +1,7 @@
 -- The module, what it is given, and all of it.
 use Rattle.std.proofs.Common.{◌≡◌, length, subst, arith}
 use Rattle.v_header.specs.Names.{texts}
-use Rattle.v_top.specs.Found.{modules_of}
+use Rattle.v_header.specs.Top.Found.{modules_of}
 use Rattle.v_elab.specs.InnerSteps.{IsThere}
 use Rattle.v_elab.proofs.InnerMade.{enters_ok, not_there, unchecked}
 use Rattle.v_elab.proofs.entering.enter.Goals as goal

@@ -1,7 +1,7 @@
 -- What is found behind what was found before.
 use Rattle.std.proofs.Common.{sym, subst}
 use Rattle.std.proofs.lemmas.Result.{IfOk-weaker}
-use Rattle.v_scope.specs.declared.found.Found.{Found}
+use Rattle.v_flat.specs.declared.scope.found.Found.{Found}
 use Rattle.v_elab.specs.declared.state.State as code
 use Rattle.v_elab.specs.ItemsSteps.{GoesThrough, IsStep}
 use Rattle.v_elab.proofs.Turns.{after_value, after_noted}

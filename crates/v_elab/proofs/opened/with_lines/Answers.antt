@@ -1,8 +1,8 @@
 -- The state, by what it is made of.
 use Rattle.std.proofs.Common.{◌∙◌, ◌++◌, ap, length}
-use Rattle.v_scope.specs.Scope.{means}
+use Rattle.v_flat.specs.Scope.Scope.{means}
 use Rattle.v_flat.specs.Design.{children, entries}
-use Rattle.v_parameter.specs.Constants.{entries_of}
+use Rattle.v_header.specs.Parameter.Constants.{entries_of}
 use Rattle.v_layout.specs.Order.{lines_in}
 use Rattle.v_elab.proofs.Begun.{is_ready, more_there, node_there, opens}
 use Rattle.v_elab.proofs.opened.with_lines.Goals as goal

@@ -1,6 +1,6 @@
 -- One port more.
 use Rattle.std.proofs.Common.{◌+◌, [], None, ap, arith, option_map, sym, ◌∙◌}
-use Rattle.v_scope.specs.Scope.{means}
+use Rattle.v_flat.specs.Scope.Scope.{means}
 use Rattle.v_header.specs.Ports.{port_in, port_of}
 use Rattle.v_elab.specs.PortsSteps.{first_joined, joined_at}
 use Rattle.v_elab.proofs.Loop.{a_port, going_end, going_more, going_none, same_end}

@@ -1,5 +1,5 @@
 -- The ports so far have added their assignments.
-use Rattle.v_scope.specs.Scope.{means}
+use Rattle.v_flat.specs.Scope.Scope.{means}
 use Rattle.v_elab.specs.PortsSteps.{first_joined, joined_at}
 use Rattle.v_elab.proofs.Loop.{Going}
 use Rattle.v_elab.proofs.ports.with_ports.Given as goal

@@ -1,7 +1,7 @@
 -- The process that was found is added.
 use Rattle.std.proofs.Common.{refl, Some}
 use Rattle.std.proofs.lemmas.Result.{IfOk-weaker}
-use Rattle.v_scope.specs.declared.found.Found.{Found}
+use Rattle.v_flat.specs.declared.scope.found.Found.{Found}
 use Rattle.v_elab.specs.declared.state.State as code
 use Rattle.v_elab.specs.ItemsSteps.{AddsFound, IsStep}
 use Rattle.v_syntax.specs.ExpressionTrees.{view}

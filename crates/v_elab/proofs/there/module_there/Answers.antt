@@ -2,11 +2,11 @@
 use Rattle.std.proofs.Common.{ap, not, bytes_eq, sym, ◌∙◌}
 use Rattle.std.specs.List.{list_any}
 use Rattle.v_syntax.specs.SourceTrees.{view_module}
-use Rattle.v_scope.specs.declared.rule.ElabRule.TheVariants as rule
-use Rattle.v_scope.specs.Found.{ended, needs}
+use Rattle.v_flat.specs.declared.scope.rule.ElabRule.TheVariants as rule
+use Rattle.v_flat.specs.Scope.Found.{ended, needs}
 use Rattle.v_header.specs.Names.{texts}
 use Rattle.v_flat.specs.Design.{find_module}
-use Rattle.v_top.specs.Found.{module_in, modules_of}
+use Rattle.v_header.specs.Top.Found.{module_in, modules_of}
 use Rattle.v_elab.proofs.Known.{there_is}
 use Rattle.v_elab.proofs.there.module_there.Goals as goal
 

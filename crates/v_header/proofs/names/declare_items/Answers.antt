@@ -1,7 +1,7 @@
 -- The items, one after another.
 use Rattle.std.proofs.Common.{map}
 use Rattle.v_syntax.specs.SourceTrees.{view_item}
-use Rattle.v_scope.specs.Scope.{means}
+use Rattle.v_flat.specs.Scope.Scope.{means}
 use Rattle.v_flat.specs.Headers.{names_in}
 use Rattle.v_header.specs.Names.{and_later}
 use Rattle.v_header.proofs.LaterNames.{item_turn, items_done}

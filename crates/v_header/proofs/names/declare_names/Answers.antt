@@ -1,6 +1,6 @@
 -- The names, one after another.
 use Rattle.std.proofs.Common.{map}
-use Rattle.v_scope.specs.Scope.{means}
+use Rattle.v_flat.specs.Scope.Scope.{means}
 use Rattle.v_header.specs.Names.{and_later}
 use Rattle.v_header.proofs.LaterNames.{name_turn, names_done}
 use Rattle.v_header.proofs.names.declare_names.Goals as goal

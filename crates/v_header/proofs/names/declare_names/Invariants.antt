@@ -1,6 +1,6 @@
 -- The scope so far, and the names that are left.
 use Rattle.std.proofs.Common.{◌≡◌, drop, map}
-use Rattle.v_scope.specs.Scope.{means}
+use Rattle.v_flat.specs.Scope.Scope.{means}
 use Rattle.v_header.specs.Names.{and_later}
 use Rattle.v_header.proofs.names.declare_names.Given as goal
 

@@ -1,6 +1,6 @@
 -- At first no name meant anything.
 use Rattle.v_syntax.specs.SourceTrees.{view_module}
-use Rattle.v_scope.specs.Scope.{means}
+use Rattle.v_flat.specs.Scope.Scope.{means}
 use Rattle.v_flat.specs.Headers.{all_names}
 use Rattle.v_header.proofs.LaterNames.{only_later}
 use Rattle.v_header.proofs.names.later_names.Goals as goal

@@ -1,7 +1,7 @@
 -- A memory with the words that were found.
 use Rattle.std.proofs.Common.{ap, ◌∙◌, sym}
-use Rattle.v_scope.specs.declared.found.Found.{Found}
-use Rattle.v_scope.specs.declared.meaning.Bounds.{Bounds}
+use Rattle.v_flat.specs.declared.scope.found.Found.{Found}
+use Rattle.v_flat.specs.declared.scope.meaning.Bounds.{Bounds}
 use Rattle.v_layout.specs.Place.{place_in}
 use Rattle.v_layout.specs.DeclareSteps.{sized_found}
 use Rattle.v_layout.proofs.Steps.{noted_named}

@@ -1,6 +1,6 @@
 -- What is found, and the names that are left.
 use Rattle.std.proofs.Common.{◌≡◌, drop, option_map}
-use Rattle.v_scope.specs.Found.{and_then}
+use Rattle.v_flat.specs.Scope.Found.{and_then}
 use Rattle.v_flat.specs.Declarations.{declare_all}
 use Rattle.v_layout.specs.Kept.{sort_in}
 use Rattle.v_layout.specs.Place.{place_in}

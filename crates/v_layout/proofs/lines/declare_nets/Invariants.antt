@@ -1,7 +1,7 @@
 -- What is found, and the nets that are left.
 use Rattle.std.proofs.Common.{◌≡◌, drop, map, None, Some}
 use Rattle.v_syntax.specs.SourceTrees.{view_net}
-use Rattle.v_scope.specs.Found.{and_then}
+use Rattle.v_flat.specs.Scope.Found.{and_then}
 use Rattle.v_flat.specs.Declarations.{Wire, declare_all, net_identifier}
 use Rattle.v_layout.specs.Place.{place_in}
 use Rattle.v_layout.proofs.lines.declare_nets.Given as goal

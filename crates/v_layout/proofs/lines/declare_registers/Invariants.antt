@@ -1,7 +1,7 @@
 -- What is found, and the registers that are left.
 use Rattle.std.proofs.Common.{◌≡◌, drop, map}
 use Rattle.v_syntax.specs.SourceTrees.{view_register}
-use Rattle.v_scope.specs.Found.{and_then}
+use Rattle.v_flat.specs.Scope.Found.{and_then}
 use Rattle.v_flat.specs.Declarations.{declare_registers}
 use Rattle.v_layout.specs.Place.{place_in}
 use Rattle.v_layout.proofs.lines.declare_registers.Given as goal

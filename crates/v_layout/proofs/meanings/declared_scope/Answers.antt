@@ -1,6 +1,6 @@
 -- One name more, before those behind it.
 use Rattle.std.proofs.Common.{◌≡◌, ℕ, ◌+◌, ◌-◌, ◌<◌, List, length, drop, get_or, sym, ap, subst, arith}
-use Rattle.v_scope.specs.Scope.{means}
+use Rattle.v_flat.specs.Scope.Scope.{means}
 use Rattle.v_flat.specs.Declarations.{signals_in}
 use Rattle.v_flat.specs.Design.{entries}
 use Rattle.v_layout.specs.declared.details.Line.{Line}

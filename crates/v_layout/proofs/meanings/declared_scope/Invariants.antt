@@ -1,6 +1,6 @@
 -- The names behind, and the number of the first of their signals.
 use Rattle.std.proofs.Common.{◌≡◌, ◌+◌, drop}
-use Rattle.v_scope.specs.Scope.{means}
+use Rattle.v_flat.specs.Scope.Scope.{means}
 use Rattle.v_flat.specs.Declarations.{signals_in}
 use Rattle.v_flat.specs.Design.{entries}
 use Rattle.v_layout.specs.Order.{lines_in}

@@ -1,8 +1,8 @@
 -- The constants behind, and then what is declared.
 use Rattle.std.proofs.Common.{◌≡◌, ◌++◌, drop}
-use Rattle.v_scope.specs.Scope.{means}
+use Rattle.v_flat.specs.Scope.Scope.{means}
 use Rattle.v_flat.specs.Design.{entries}
-use Rattle.v_parameter.specs.Constants.{entries_of}
+use Rattle.v_header.specs.Parameter.Constants.{entries_of}
 use Rattle.v_layout.specs.Order.{lines_in}
 use Rattle.v_layout.proofs.meanings.scope.Given as goal
 

@@ -2,7 +2,7 @@
 use Rattle.std.proofs.Common.{◌≡◌, ℕ, ◌+◌, ◌-◌, ◌<◌, List, [], ◌∷◌, ◌++◌, Some, option_map, ◌∙◌, ap, arith}
 use Rattle.four_value.specs.declared.Digit.{Digit}
 use Rattle.gpi.specs.declared.design.Signal.{Signal}
-use Rattle.v_scope.specs.Scope.{width_of}
+use Rattle.v_flat.specs.Scope.Scope.{width_of}
 use Rattle.v_flat.specs.Declarations.{kind_of}
 use Rattle.v_flat.specs.Paths.{word_text}
 use Rattle.v_flat.specs.Design.{start_of}

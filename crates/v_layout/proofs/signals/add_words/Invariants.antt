@@ -1,6 +1,6 @@
 -- The words that are left.
 use Rattle.std.proofs.Common.{◌+◌, ◌-◌, option_map}
-use Rattle.v_scope.specs.Scope.{width_of}
+use Rattle.v_flat.specs.Scope.Scope.{width_of}
 use Rattle.v_flat.specs.Declarations.{kind_of}
 use Rattle.v_flat.specs.Design.{start_of}
 use Rattle.v_layout.specs.Kept.{sort_in}

@@ -1,5 +1,5 @@
 -- The register is put back.
-use Rattle.v_scope.specs.Scope.{means}
+use Rattle.v_flat.specs.Scope.Scope.{means}
 use Rattle.v_loop.proofs.Scopes.{left_again}
 use Rattle.v_loop.proofs.in_turn.leave_turn.Goals as goal
 

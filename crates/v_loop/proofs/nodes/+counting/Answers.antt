@@ -1,7 +1,7 @@
 -- The parts of braces.
 use Rattle.std.proofs.Common.{rules}
 use Rattle.v_syntax.specs.declared.expression.Expression.TheViews.{the_lemmas}
-use Rattle.v_constant.proofs.Rows.{row_views}
+use Rattle.v_check.proofs.ConstantsLemmas.Rows.{row_views}
 use Rattle.v_syntax.specs.ExpressionTrees.{view}
 use Rattle.v_loop.specs.Unrolled.{most_unrolled, nodes}
 use Rattle.v_loop.proofs.Counted.{none_counted, some_nodes}

@@ -1,8 +1,8 @@
 -- What the code asks of a step.
 use Rattle.std.proofs.Common.{Err, sym}
-use Rattle.v_scope.specs.Scope.{means}
+use Rattle.v_flat.specs.Scope.Scope.{means}
 use Rattle.v_syntax.specs.ExpressionTrees.{view}
-use Rattle.v_constant.proofs.Values.{asked_ends}
+use Rattle.v_check.proofs.ConstantsLemmas.Values.{asked_ends}
 use Rattle.v_loop.proofs.Asked.{step_lost}
 use Rattle.v_loop.proofs.step.step_checked.Goals as goal
 

@@ -1,6 +1,6 @@
 -- The turns behind the first value.
 use Rattle.std.proofs.Common.{sym, ◌∙◌}
-use Rattle.v_scope.specs.Scope.{means}
+use Rattle.v_flat.specs.Scope.Scope.{means}
 use Rattle.v_syntax.specs.ExpressionTrees.{view}
 use Rattle.v_loop.proofs.Whole.{first_is_sound, first_is_wide}
 use Rattle.v_loop.proofs.unroll.turns.Goals as goal

@@ -1,6 +1,6 @@
 -- The turns behind what is asked of the step.
 use Rattle.std.proofs.Common.{sym, ◌∙◌}
-use Rattle.v_scope.specs.Scope.{means}
+use Rattle.v_flat.specs.Scope.Scope.{means}
 use Rattle.v_syntax.specs.ExpressionTrees.{view}
 use Rattle.v_flat.specs.Statements.{most_turns, same_counter, step_checked, turn, turns_from}
 use Rattle.v_loop.proofs.Settled.{same_settled, step_settled}

@@ -1,9 +1,9 @@
 -- One more turn, and the ends of a loop.
 use Rattle.std.proofs.Common.{rules, ◌≡◌, ℕ, ◌-◌, ◌+◌, ◌<◌, ◌≤◌, List, Option, Result, Ok, sym, ap, ◌∙◌, subst}
 use Rattle.four_value.specs.declared.Digit.{Digit}
-use Rattle.v_scope.specs.declared.rule.Broken.{Broken}
-use Rattle.v_scope.specs.Found.{each}
-use Rattle.v_scope.specs.Scope.{Scope, means, width_of}
+use Rattle.v_flat.specs.declared.scope.rule.Broken.{Broken}
+use Rattle.v_flat.specs.Scope.Found.{each}
+use Rattle.v_flat.specs.Scope.Scope.{Scope, means, width_of}
 use Rattle.v_syntax.specs.ExpressionTrees.{view}
 use Rattle.v_flat.specs.Statements.{turn, turns_from}
 use Rattle.v_loop.specs.Steps.{condition_of, next_value}

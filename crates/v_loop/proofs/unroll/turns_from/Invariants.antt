@@ -1,7 +1,7 @@
 -- The values of the turns before those that are left; each name means what it meant.
 use Rattle.std.proofs.Common.{◌≡◌, ◌-◌, length}
-use Rattle.v_scope.specs.Found.{each}
-use Rattle.v_scope.specs.Scope.{means, width_of}
+use Rattle.v_flat.specs.Scope.Found.{each}
+use Rattle.v_flat.specs.Scope.Scope.{means, width_of}
 use Rattle.v_syntax.specs.ExpressionTrees.{view}
 use Rattle.v_flat.specs.Statements.{turns_from}
 use Rattle.v_loop.proofs.Turning.{after}

@@ -1,9 +1,9 @@
 use Rattle.std.proofs.Common.{length, arith, sym, ◌∙◌}
 use Rattle.std.proofs.lemmas.Result.{err_from_is_err_and}
 use Rattle.v_syntax.specs.SourceTrees.{view_item}
-use Rattle.v_item.specs.Firsts.{starts_item}
-use Rattle.v_item.specs.Reading.{item_of}
-use Rattle.v_phrase.proofs.Loops.{items_stop, items_empty, items_more, items_fail}
+use Rattle.v_parse.specs.Item.Firsts.{starts_item}
+use Rattle.v_parse.specs.Item.Reading.{item_of}
+use Rattle.v_expression.proofs.PhraseLemmas.Loops.{items_stop, items_empty, items_more, items_fail}
 use Rattle.v_parse.proofs.modules.items.Goals as goal
 use Rattle.v_parse.proofs.modules.items.Goals.{else-loop-test, then-loop-test+then-not-starts_item}
 

@@ -1,9 +1,9 @@
 use Rattle.std.proofs.Common.{◌≡◌, ◌-◌, map}
 use Rattle.v_syntax.specs.SourceTrees.{view_item}
-use Rattle.v_item.specs.Firsts.{starts_item}
-use Rattle.v_item.specs.Reading.{item_of}
+use Rattle.v_parse.specs.Item.Firsts.{starts_item}
+use Rattle.v_parse.specs.Item.Reading.{item_of}
 use Rattle.v_parse.specs.Reading.{items_of}
-use Rattle.v_phrase.specs.Readers.{many_by, with_front}
+use Rattle.v_expression.specs.Phrase.Readers.{many_by, with_front}
 use Rattle.v_parse.proofs.modules.items.Given as goal
 
 abbrev pub invariant-loop : goal.invariant-loop

@@ -3,8 +3,8 @@ use Rattle.std.proofs.lemmas.Result.{err_from_is_err_and}
 use Rattle.v_syntax.specs.declared.word.Keyword.TheVariants as word
 use Rattle.v_syntax.specs.SourceTrees.{view_module}
 use Rattle.v_parse.specs.Reading.{module_of}
-use Rattle.v_phrase.specs.Readers.{starts_word}
-use Rattle.v_phrase.proofs.Loops.{items_stop, items_empty, items_more, items_fail}
+use Rattle.v_expression.specs.Phrase.Readers.{starts_word}
+use Rattle.v_expression.proofs.PhraseLemmas.Loops.{items_stop, items_empty, items_more, items_fail}
 use Rattle.v_parse.proofs.modules.modules.Goals as goal
 use Rattle.v_parse.proofs.modules.modules.Goals.{else-loop-test, then-loop-test+then-not-starts_word}
 

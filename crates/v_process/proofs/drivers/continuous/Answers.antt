@@ -1,6 +1,6 @@
 -- A continuous assignment, and which digits are driven then.
 use Rattle.v_syntax.specs.ExpressionTrees.{view, view_target}
-use Rattle.v_scope.specs.Scope.{means}
+use Rattle.v_flat.specs.Scope.Scope.{means}
 use Rattle.v_process.proofs.Driving.{driver_result, grown_result}
 use Rattle.v_process.proofs.drivers.continuous.Goals as goal
 

@@ -1,9 +1,9 @@
 -- A continuous assignment to a whole net, and which digits are driven then.
 use Rattle.std.proofs.Common.{None, subst}
 use Rattle.v_syntax.specs.ExpressionTrees.{TargetTree, view}
-use Rattle.v_scope.specs.Scope.{means}
+use Rattle.v_flat.specs.Scope.Scope.{means}
 use Rattle.v_flat.specs.Design.{whole_of}
-use Rattle.v_assign.specs.Continuous.{IsContinuous}
+use Rattle.v_process.specs.Assign.Continuous.{IsContinuous}
 use Rattle.v_process.proofs.Driving.{driver_result, grown_result}
 use Rattle.v_process.proofs.drivers.net.Goals as goal
 

@@ -1,10 +1,10 @@
 -- What is so of the register that is found.
 use Rattle.std.proofs.Common.{◌≡◌, Some, ap, ◌∙◌}
-use Rattle.v_scope.specs.declared.found.Found.{Found}
-use Rattle.v_scope.specs.declared.meaning.DataObject.{DataObject}
-use Rattle.v_scope.specs.declared.meaning.Meaning.TheVariants.{Object}
-use Rattle.v_scope.specs.Found.{ended}
-use Rattle.v_scope.specs.Scope.{find, means}
+use Rattle.v_flat.specs.declared.scope.found.Found.{Found}
+use Rattle.v_flat.specs.declared.scope.meaning.DataObject.{DataObject}
+use Rattle.v_flat.specs.declared.scope.meaning.Meaning.TheVariants.{Object}
+use Rattle.v_flat.specs.Scope.Found.{ended}
+use Rattle.v_flat.specs.Scope.Scope.{find, means}
 use Rattle.v_process.proofs.Ended.{plain_result, value_result}
 use Rattle.v_process.proofs.header.register.Goals as goal
 

@@ -1,5 +1,5 @@
 -- What is so of the turns that are found.
-use Rattle.v_scope.specs.Scope.{width_of}
+use Rattle.v_flat.specs.Scope.Scope.{width_of}
 use Rattle.v_loop.specs.Turns.{HaveWidth}
 use Rattle.v_process.proofs.Ended.{value_result}
 use Rattle.v_process.proofs.header.turns.Goals as goal

@@ -3,8 +3,8 @@ use Rattle.std.proofs.Common.{rules, ◌≡◌, ℕ, ◌+◌, ◌-◌, ◌≤◌
 use Rattle.std.proofs.lemmas.List.{drop_all}
 use Rattle.v_syntax.specs.declared.expression.Expression as code
 use Rattle.v_syntax.specs.ExpressionTrees.{view}
-use Rattle.v_scope.specs.Scope.{means}
-use Rattle.v_act.specs.Cases.{AreLabels}
+use Rattle.v_flat.specs.Scope.Scope.{means}
+use Rattle.v_process.specs.Act.Cases.{AreLabels}
 use Rattle.v_process.proofs.Behind.{more_labels}
 use Rattle.v_process.proofs.labels.labels.Goals as goal
 

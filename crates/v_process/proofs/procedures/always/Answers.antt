@@ -1,6 +1,6 @@
 -- An `always` from what was found in its events and in its statement.
 use Rattle.v_syntax.specs.StatementTrees.{view}
-use Rattle.v_scope.specs.Scope.{means}
+use Rattle.v_flat.specs.Scope.Scope.{means}
 use Rattle.v_process.proofs.Run.{found_always}
 use Rattle.v_process.proofs.procedures.always.Goals as goal
 

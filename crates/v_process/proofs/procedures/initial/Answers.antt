@@ -3,8 +3,8 @@ use Rattle.std.proofs.Common.{List, [], ap, ◌∙◌}
 use Rattle.gpi.specs.declared.design.Kind.TheVariants.{Initial}
 use Rattle.gpi.specs.declared.design.Wake.{Wake}
 use Rattle.v_syntax.specs.StatementTrees.{view}
-use Rattle.v_scope.specs.Found.{each}
-use Rattle.v_scope.specs.Scope.{means}
+use Rattle.v_flat.specs.Scope.Found.{each}
+use Rattle.v_flat.specs.Scope.Scope.{means}
 use Rattle.v_flat.specs.Statements.{statement_checked}
 use Rattle.v_process.specs.Made.{process}
 use Rattle.v_process.proofs.Run.{found_process}

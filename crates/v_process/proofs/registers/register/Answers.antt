@@ -5,12 +5,12 @@ use Rattle.gpi.specs.declared.design.Wake.{Wake}
 use Rattle.v_syntax.specs.declared.statement.AssignmentKind.TheVariants.{Blocking}
 use Rattle.v_syntax.specs.ExpressionTrees.{view}
 use Rattle.v_syntax.specs.StatementTrees.{Assignment}
-use Rattle.v_scope.specs.Found.{each}
-use Rattle.v_scope.specs.Scope.{find, means}
+use Rattle.v_flat.specs.Scope.Found.{each}
+use Rattle.v_flat.specs.Scope.Scope.{find, means}
 use Rattle.v_flat.specs.Checks.{checked}
 use Rattle.v_flat.specs.Statements.{done}
 use Rattle.v_flat.specs.Design.{whole_of}
-use Rattle.v_target.specs.declared.checked.CheckedTarget.{CheckedTarget}
+use Rattle.v_process.specs.declared.target.checked.CheckedTarget.{CheckedTarget}
 use Rattle.v_process.specs.Made.{process, whole_target, OpensWith}
 use Rattle.v_process.proofs.Run.{found_process}
 use Rattle.v_process.proofs.Opened.{opened}

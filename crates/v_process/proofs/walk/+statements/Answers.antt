@@ -8,12 +8,12 @@ use Rattle.v_syntax.specs.declared.statement.CaseItem as code_item
 use Rattle.v_syntax.specs.declared.statement.CaseItem.TheViews.{the_lemmas}
 use Rattle.v_syntax.specs.ExpressionTrees as expression
 use Rattle.v_syntax.specs.StatementTrees.{StatementTree, Block, Case, CaseTree, view, view_case, view_header}
-use Rattle.v_scope.specs.declared.rule.Broken.{Broken}
-use Rattle.v_scope.specs.declared.meaning.DataObject.{DataObject}
-use Rattle.v_scope.specs.declared.meaning.Meaning.TheVariants.{Object}
-use Rattle.v_scope.specs.Scope.{Scope, find, means}
-use Rattle.v_act.specs.Statements.{IsFoundStatement}
-use Rattle.v_act.specs.Cases.{AreLabels}
+use Rattle.v_flat.specs.declared.scope.rule.Broken.{Broken}
+use Rattle.v_flat.specs.declared.scope.meaning.DataObject.{DataObject}
+use Rattle.v_flat.specs.declared.scope.meaning.Meaning.TheVariants.{Object}
+use Rattle.v_flat.specs.Scope.Scope.{Scope, find, means}
+use Rattle.v_process.specs.Act.Statements.{IsFoundStatement}
+use Rattle.v_process.specs.Act.Cases.{AreLabels}
 use Rattle.v_process.specs.Lists.{AreFoundStatements, AreFoundCases, IsFoundCase, statement_list, case_list}
 use Rattle.v_process.specs.Turns.{AreTurns}
 use Rattle.v_process.proofs.Rows.{row_statements, row_cases}

@@ -1,6 +1,6 @@
 -- What stands behind, and how the calls come to an end.
 use Rattle.std.proofs.Common.{◌≡◌, ◌+◌, ◌*◌, drop}
-use Rattle.v_scope.specs.Scope.{means}
+use Rattle.v_flat.specs.Scope.Scope.{means}
 use Rattle.v_syntax.specs.StatementTrees.{view}
 use Rattle.v_process.specs.Lists.{AreFoundStatements, AreFoundCases, statement_list, case_list}
 use Rattle.v_process.specs.Turns.{AreTurns}

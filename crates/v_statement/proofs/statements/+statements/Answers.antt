@@ -1,7 +1,7 @@
 use Rattle.std.proofs.Common.{length, arith, sym, ap, ◌∙◌, ◌++◌, ◌∷◌, []}
 use Rattle.std.proofs.lemmas.Result.{err_from_is_err_and}
 use Rattle.v_syntax.specs.StatementTrees.{view, view_case}
-use Rattle.v_phrase.proofs.Loops.{items_stop, items_empty, items_more, items_fail}
+use Rattle.v_expression.proofs.PhraseLemmas.Loops.{items_stop, items_empty, items_more, items_fail}
 use Rattle.v_statement.specs.Firsts.{starts_statement, starts_case}
 use Rattle.v_statement.specs.Reading.{lower, case_item_of}
 use Rattle.v_statement.proofs.statements.+statements.Goals as goal

@@ -1,6 +1,6 @@
 use Rattle.std.proofs.Common.{◌≡◌, ◌+◌, ◌-◌, ◌*◌, map}
 use Rattle.v_syntax.specs.StatementTrees.{view, view_case}
-use Rattle.v_phrase.specs.Readers.{many_by, with_front}
+use Rattle.v_expression.specs.Phrase.Readers.{many_by, with_front}
 use Rattle.v_statement.specs.Firsts.{starts_statement, starts_case}
 use Rattle.v_statement.specs.Reading.{lower, statements_of, case_item_of, case_items_of}
 use Rattle.v_statement.proofs.statements.+statements.Given as goal

@@ -1,5 +1,5 @@
 use Rattle.std.proofs.Common.{◌≡◌, drop}
-use Rattle.py_attribute.specs.Look.{local}
+use Rattle.py_evaluate.specs.Attribute.Look.{local}
 use Rattle.evaluate_tests.specs.Variables.{locals_of}
 use Rattle.evaluate_tests.proofs.variables.VariablesLocals.local.Given as goal
 

@@ -3,8 +3,8 @@ use Rattle.std.specs.Prelude.{map}
 use Rattle.std.proofs.lemmas.List.{length-map}
 use Rattle.await_tree.specs.Whole.{tree_in}
 use Rattle.await_tree.specs.declared.cause.Awaited.{Awaited}
-use Rattle.wait_list.specs.Keys.{AreAsked}
-use Rattle.wait_list.specs.Waiting.{Waiting, keys_among}
+use Rattle.await_tree.specs.WaitList.Keys.{AreAsked}
+use Rattle.await_tree.specs.WaitList.Waiting.{Waiting, keys_among}
 use Rattle.plain_waits.specs.Kept.{waiting_in, waiting_of}
 use Rattle.plain_waits.proofs.Calls.{begun_few, begun_list, begun_rekeyed, held_items}
 use Rattle.plain_waits.proofs.awaits.WaitListAwaits.begin.Goals as goal

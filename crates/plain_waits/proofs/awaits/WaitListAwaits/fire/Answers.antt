@@ -1,6 +1,6 @@
 use Rattle.std.proofs.Common.{◌||◌, List, [], ◌++◌, sym, ap, ◌∙◌}
 use Rattle.gpi.specs.Keys.{among, has}
-use Rattle.wait_list.specs.Waiting.{Waiting, all_waiting, all_woken, fired_keys}
+use Rattle.await_tree.specs.WaitList.Waiting.{Waiting, all_waiting, all_woken, fired_keys}
 use Rattle.plain_waits.specs.Kept.{names_of}
 use Rattle.plain_waits.proofs.Awaited.{fired_again, fired_kept}
 use Rattle.plain_waits.proofs.Calls.{fits_taken, held_items, narrows_taken, served_edges, waiting_same}

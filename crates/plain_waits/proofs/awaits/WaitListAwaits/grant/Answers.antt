@@ -2,7 +2,7 @@ use Rattle.std.proofs.Common.{◌<◌, ◌++◌, length, refl, sym, ap, ◌∙�
 use Rattle.std.proofs.lemmas.List.{length-map}
 use Rattle.await_tree.specs.Fire.{awaits}
 use Rattle.await_tree.specs.declared.cause.Awaited.TheVariants as awaited
-use Rattle.wait_list.specs.Waiting.{Waiting, Granted}
+use Rattle.await_tree.specs.WaitList.Waiting.{Waiting, Granted}
 use Rattle.plain_waits.specs.Kept.{names_of, waiting_in, waiting_of}
 use Rattle.plain_waits.proofs.Rekeys.{fits_unfired, rekeyed_none}
 use Rattle.plain_waits.proofs.Walks.{any_at, granted_here, granted_none, none_there}

@@ -1,7 +1,7 @@
 use Rattle.std.proofs.Common.{List, [], sym, ap, ◌∙◌, subst}
 use Rattle.gpi.specs.Keys.{among}
-use Rattle.wait_list.specs.Keys.{Rekeyed}
-use Rattle.wait_list.specs.Waiting.{Waiting, keys_of, named}
+use Rattle.await_tree.specs.WaitList.Keys.{Rekeyed}
+use Rattle.await_tree.specs.WaitList.Waiting.{Waiting, keys_of, named}
 use Rattle.plain_waits.specs.Kept.{names_of, waiting_in}
 use Rattle.plain_waits.proofs.Awaited.{released_gone, released_waited}
 use Rattle.plain_waits.proofs.Calls.{waiting_same}

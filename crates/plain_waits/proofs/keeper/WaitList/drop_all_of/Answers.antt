@@ -1,6 +1,6 @@
 use Rattle.std.proofs.Common.{[], take, drop, refl, ◌∙◌, arith}
 use Rattle.std.proofs.lemmas.List.{length-map}
-use Rattle.wait_list.specs.Waiting.{without_task}
+use Rattle.await_tree.specs.WaitList.Waiting.{without_task}
 use Rattle.plain_waits.specs.Kept.{names_of, waiting_in, waiting_of}
 use Rattle.plain_waits.proofs.Calls.{fits_on}
 use Rattle.plain_waits.proofs.Members.{within_self}

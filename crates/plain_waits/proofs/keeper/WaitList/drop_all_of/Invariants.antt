@@ -1,5 +1,5 @@
 use Rattle.std.proofs.Common.{◌≡◌, ◌≤◌, ◌-◌, ◌++◌, length, take, drop}
-use Rattle.wait_list.specs.Waiting.{without_task}
+use Rattle.await_tree.specs.WaitList.Waiting.{without_task}
 use Rattle.plain_waits.specs.Kept.{names_of, waiting_in}
 use Rattle.plain_waits.specs.Parts.{Narrows}
 use Rattle.plain_waits.proofs.keeper.WaitList.drop_all_of.Given as goal

@@ -1,6 +1,6 @@
 use Rattle.std.proofs.Common.{◌∙◌, arith}
 use Rattle.await_tree.specs.Fire.{awaits}
-use Rattle.wait_list.specs.Waiting.{Waiting}
+use Rattle.await_tree.specs.WaitList.Waiting.{Waiting}
 use Rattle.plain_waits.specs.Kept.{waiting_in}
 use Rattle.plain_waits.proofs.Walks.{any_here, any_more}
 use Rattle.plain_waits.proofs.keeper.WaitList.first_on.Goals as goal

@@ -1,7 +1,7 @@
 use Rattle.std.proofs.Common.{◌≡◌, ◌≤◌, ◌-◌, false, length, take}
 use Rattle.std.specs.List.{list_any}
 use Rattle.await_tree.specs.Fire.{awaits}
-use Rattle.wait_list.specs.Waiting.{Waiting}
+use Rattle.await_tree.specs.WaitList.Waiting.{Waiting}
 use Rattle.plain_waits.specs.Kept.{waiting_in}
 use Rattle.plain_waits.proofs.keeper.WaitList.first_on.Given as goal
 

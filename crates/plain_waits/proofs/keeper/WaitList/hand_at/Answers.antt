@@ -1,7 +1,7 @@
 use Rattle.std.proofs.Common.{List, ◌++◌, refl, ap, ◌∙◌}
 use Rattle.std.specs.Prelude.{slice_set}
 use Rattle.await_tree.specs.Fire.{grant}
-use Rattle.wait_list.specs.declared.ready.Entry.{Entry}
+use Rattle.await_tree.specs.declared.wait_list.ready.Entry.{Entry}
 use Rattle.plain_waits.specs.Kept.{waiting_in}
 use Rattle.plain_waits.proofs.Walks.{changed_passes, changed_woken, set_few}
 use Rattle.plain_waits.proofs.keeper.WaitList.hand_at.Goals as goal

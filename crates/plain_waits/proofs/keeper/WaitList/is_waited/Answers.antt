@@ -1,6 +1,6 @@
 use Rattle.std.proofs.Common.{◌≡◌, ◌∙◌, ◌||◌, ◌-◌, Bool, false, ap, sym, arith, drop}
 use Rattle.gpi.specs.Keys.{among}
-use Rattle.wait_list.specs.Waiting.{keys_of}
+use Rattle.await_tree.specs.WaitList.Waiting.{keys_of}
 use Rattle.plain_waits.specs.Kept.{waiting_in}
 use Rattle.plain_waits.proofs.Walks.{waited_back, waited_from}
 use Rattle.plain_waits.proofs.keeper.WaitList.is_waited.Goals as goal

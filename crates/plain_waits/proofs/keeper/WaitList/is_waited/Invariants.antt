@@ -1,6 +1,6 @@
 use Rattle.std.proofs.Common.{◌≡◌, ◌≤◌, false, length, drop}
 use Rattle.gpi.specs.Keys.{among}
-use Rattle.wait_list.specs.Waiting.{keys_of}
+use Rattle.await_tree.specs.WaitList.Waiting.{keys_of}
 use Rattle.plain_waits.specs.Kept.{waiting_in}
 use Rattle.plain_waits.proofs.keeper.WaitList.is_waited.Given as goal
 

@@ -1,5 +1,5 @@
 use Rattle.std.proofs.Common.{◌+◌, ◌++◌, drop, arith}
-use Rattle.wait_list.specs.Waiting.{fired_keys, keys_among}
+use Rattle.await_tree.specs.WaitList.Waiting.{fired_keys, keys_among}
 use Rattle.plain_waits.specs.Kept.{names_of}
 use Rattle.plain_waits.proofs.Awaited.{fits_from, narrows_end, narrows_from, some_left}
 use Rattle.plain_waits.proofs.Members.{within_self}

@@ -1,7 +1,7 @@
 use Rattle.std.proofs.Common.{true, false}
 use Rattle.gpi.specs.declared.types.Key.TheVariants.{At}
 use Rattle.await_tree.specs.declared.cause.Awaited.TheVariants as awaited
-use Rattle.wait_list.specs.Waiting.{fired_keys}
+use Rattle.await_tree.specs.WaitList.Waiting.{fired_keys}
 use Rattle.plain_waits.specs.Kept.{names_of, waiting_in}
 use Rattle.plain_waits.proofs.Awaited.{key_front, left_known, list_goes, list_other, list_stays, list_there}
 use Rattle.plain_waits.proofs.Members.{named_held}

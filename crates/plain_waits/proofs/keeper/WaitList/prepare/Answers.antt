@@ -1,8 +1,8 @@
 use Rattle.std.proofs.Common.{List, ◌++◌, sym, ap, ◌∙◌, subst, arith}
 use Rattle.std.specs.Prelude.{map, OnOk}
 use Rattle.gpi.specs.Keys.{among}
-use Rattle.wait_list.specs.Keys.{Rekeyed}
-use Rattle.wait_list.specs.Waiting.{keys_among, named}
+use Rattle.await_tree.specs.WaitList.Keys.{Rekeyed}
+use Rattle.await_tree.specs.WaitList.Waiting.{keys_among, named}
 use Rattle.plain_waits.specs.Kept.{waiting_of}
 use Rattle.plain_waits.specs.declared.waiter.Waiter.{Waiter}
 use Rattle.plain_waits.proofs.Calls.{always_err, always_ok, kept_same}

@@ -1,7 +1,7 @@
 use Rattle.std.proofs.Common.{◌≡◌, ◌≤◌, length, drop}
 use Rattle.std.specs.Prelude.{filter}
 use Rattle.await_tree.specs.Fire.{awaits}
-use Rattle.wait_list.specs.Waiting.{Waiting}
+use Rattle.await_tree.specs.WaitList.Waiting.{Waiting}
 use Rattle.plain_waits.specs.Kept.{waiting_in}
 use Rattle.plain_waits.proofs.keeper.WaitList.reached.Given as goal
 

@@ -1,6 +1,6 @@
 use Rattle.std.proofs.Common.{◌≤◌, ◌-◌, ◌++◌, length, take}
-use Rattle.wait_list.specs.Keys.{Rekeyed}
-use Rattle.wait_list.specs.Waiting.{keys_among}
+use Rattle.await_tree.specs.WaitList.Keys.{Rekeyed}
+use Rattle.await_tree.specs.WaitList.Waiting.{keys_among}
 use Rattle.plain_waits.specs.Kept.{names_of}
 use Rattle.plain_waits.proofs.keeper.WaitList.register_all.Given as goal
 

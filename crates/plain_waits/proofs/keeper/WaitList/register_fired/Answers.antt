@@ -1,6 +1,6 @@
 use Rattle.std.proofs.Common.{◌||◌, sym, ◌∙◌}
 use Rattle.gpi.specs.Keys.{among, has}
-use Rattle.wait_list.specs.Waiting.{key_list}
+use Rattle.await_tree.specs.WaitList.Waiting.{key_list}
 use Rattle.plain_waits.specs.Kept.{names_of}
 use Rattle.plain_waits.proofs.Awaited.{design_kept, out_second}
 use Rattle.plain_waits.proofs.Members.{among_left, among_right, and_left}

@@ -1,8 +1,8 @@
 use Rattle.std.proofs.Common.{List, ◌++◌, length, take, drop, refl, ap, ◌∙◌, arith}
 use Rattle.std.proofs.lemmas.List.{length-map}
 use Rattle.await_tree.specs.Fire.{fire}
-use Rattle.wait_list.specs.Waiting.{fired_keys}
-use Rattle.wait_list.specs.declared.ready.Entry.{Entry}
+use Rattle.await_tree.specs.WaitList.Waiting.{fired_keys}
+use Rattle.await_tree.specs.declared.wait_list.ready.Entry.{Entry}
 use Rattle.plain_waits.specs.Kept.{names_of, waiting_in, waiting_of}
 use Rattle.plain_waits.specs.Parts.{left_after, woken_after}
 use Rattle.plain_waits.proofs.Calls.{fits_on}

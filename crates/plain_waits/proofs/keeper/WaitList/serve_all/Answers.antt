@@ -1,6 +1,6 @@
 use Rattle.std.proofs.Common.{List, ◌++◌, refl, sym, ap, ◌∙◌, append_assoc}
-use Rattle.wait_list.specs.Waiting.{Waiting, all_waiting, all_woken, fired_keys, key_list}
-use Rattle.wait_list.specs.declared.ready.Entry.{Entry}
+use Rattle.await_tree.specs.WaitList.Waiting.{Waiting, all_waiting, all_woken, fired_keys, key_list}
+use Rattle.await_tree.specs.declared.wait_list.ready.Entry.{Entry}
 use Rattle.plain_waits.specs.Kept.{names_of, waiting_in}
 use Rattle.plain_waits.proofs.Calls.{all_both, fits_on, woken_both}
 use Rattle.plain_waits.proofs.Rekeys.{narrows_through}

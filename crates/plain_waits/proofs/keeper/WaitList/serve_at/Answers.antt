@@ -1,7 +1,7 @@
 use Rattle.std.proofs.Common.{take, drop, ◌∙◌}
 use Rattle.await_tree.proofs.Within.{leaves_only_go}
 use Rattle.await_tree.specs.Fire.{fire}
-use Rattle.wait_list.specs.Waiting.{fired_keys}
+use Rattle.await_tree.specs.WaitList.Waiting.{fired_keys}
 use Rattle.plain_waits.specs.Kept.{waiting_in}
 use Rattle.plain_waits.specs.Parts.{left_after}
 use Rattle.plain_waits.proofs.Calls.{changed_names, fits_left, narrows_left}

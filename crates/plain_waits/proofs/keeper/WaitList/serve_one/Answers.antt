@@ -1,8 +1,8 @@
 use Rattle.std.proofs.Common.{List, ◌++◌, sym, ap, ◌∙◌, append-nil}
 use Rattle.gpi.specs.declared.types.Key.{Key}
 use Rattle.await_tree.specs.declared.cause.Cause.TheVariants as cause
-use Rattle.wait_list.specs.Waiting.{all_waiting, all_woken, woken}
-use Rattle.wait_list.specs.declared.ready.Entry.{Entry}
+use Rattle.await_tree.specs.WaitList.Waiting.{all_waiting, all_woken, woken}
+use Rattle.await_tree.specs.declared.wait_list.ready.Entry.{Entry}
 use Rattle.plain_waits.specs.Kept.{names_of, waiting_in}
 use Rattle.plain_waits.proofs.Members.{within_self}
 use Rattle.plain_waits.proofs.Rekeys.{narrows_none}

@@ -1,5 +1,5 @@
 use Rattle.std.proofs.Common.{◌≡◌, ◌≤◌, ◌-◌, ◌++◌, length, take, drop}
-use Rattle.wait_list.specs.Keys.{without}
+use Rattle.await_tree.specs.WaitList.Keys.{without}
 use Rattle.plain_waits.proofs.keeper.WaitList.take_out.Given as goal
 
 abbrev pub invariant-loop-at : goal.invariant-loop-at

@@ -1,6 +1,6 @@
 use Rattle.std.proofs.Common.{sym, ap, ◌∙◌}
-use Rattle.wait_list.specs.Keys.{without_all}
-use Rattle.wait_list.specs.Waiting.{key_list}
+use Rattle.await_tree.specs.WaitList.Keys.{without_all}
+use Rattle.await_tree.specs.WaitList.Waiting.{key_list}
 use Rattle.plain_waits.proofs.Calls.{without_both}
 use Rattle.plain_waits.proofs.keeper.WaitList.take_out_all.Goals as goal
 

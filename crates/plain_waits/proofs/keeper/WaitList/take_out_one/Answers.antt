@@ -1,6 +1,6 @@
 use Rattle.std.proofs.Common.{List, sym, ap, ◌∙◌}
 use Rattle.gpi.specs.declared.types.Key.{Key}
-use Rattle.wait_list.specs.Keys.{without_all}
+use Rattle.await_tree.specs.WaitList.Keys.{without_all}
 use Rattle.plain_waits.proofs.Walks.{none_list, some_list}
 use Rattle.plain_waits.proofs.keeper.WaitList.take_out_one.Goals as goal
 

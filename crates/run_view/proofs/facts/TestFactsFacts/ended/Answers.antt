@@ -4,7 +4,7 @@ use Rattle.std.specs.Prelude.{slice_index_or}
 use Rattle.std.proofs.lemmas.List.{length-map}
 use Rattle.std.proofs.Math.ListN.{get_or-map}
 use Rattle.await_tree.specs.Begin.{Facts}
-use Rattle.ended_tasks.specs.Endings.{failed_of}
+use Rattle.await_tree.specs.EndedTasks.Endings.{failed_of}
 use Rattle.run_view.proofs.facts.TestFactsFacts.ended.Goals as goal
 
 pub failed-requires : goal.failed-requires

@@ -3,9 +3,9 @@ use Rattle.std.proofs.Common.{◌≡◌, List, length, Option, IfSome, arith, ap
 use Rattle.std.proofs.lemmas.List.{length-map}
 use Rattle.gpi.specs.declared.design.Node.{Node}
 use Rattle.gpi.specs.declared.design.Spot.{Spot}
-use Rattle.py_attribute.specs.Knows.{Knows, KnowsDesign}
-use Rattle.py_attribute.specs.Look.{View, child, spot_value}
-use Rattle.design_names.specs.Names.{child_of}
+use Rattle.py_evaluate.specs.Attribute.Knows.{Knows, KnowsDesign}
+use Rattle.py_evaluate.specs.Attribute.Look.{View, child, spot_value}
+use Rattle.run_view.specs.DesignNames.Names.{child_of}
 use Rattle.run_view.proofs.Known.{names_known}
 use Rattle.run_view.proofs.view.RunViewLook.child.Goals as goal
 

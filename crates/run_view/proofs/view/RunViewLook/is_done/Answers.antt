@@ -3,7 +3,7 @@ use Rattle.std.proofs.Common.{length, None, is_some, arith, ap, sym, ◌∙◌}
 use Rattle.std.specs.Prelude.{false, slice_index_or}
 use Rattle.std.proofs.lemmas.List.{length-map}
 use Rattle.std.proofs.Math.ListN.{get_or-map}
-use Rattle.py_attribute.specs.Look.{View}
+use Rattle.py_evaluate.specs.Attribute.Look.{View}
 use Rattle.run_view.proofs.view.RunViewLook.is_done.Goals as goal
 
 pub is_done-requires : goal.is_done-requires

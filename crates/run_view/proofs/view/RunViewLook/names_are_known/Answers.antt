@@ -1,7 +1,7 @@
 -- The design is sound.
 use Rattle.std.proofs.Common.{subst}
-use Rattle.py_attribute.specs.Knows.{KnowsDesign}
-use Rattle.py_attribute.specs.Look.{View}
+use Rattle.py_evaluate.specs.Attribute.Knows.{KnowsDesign}
+use Rattle.py_evaluate.specs.Attribute.Look.{View}
 use Rattle.run_view.proofs.Known.{names_known}
 use Rattle.run_view.proofs.view.RunViewLook.names_are_known.Goals as goal
 

@@ -3,7 +3,7 @@ use Rattle.std.proofs.Common.{ℕ, List, Option, Bor, map, slice_get, option_cop
 use Rattle.std.specs.Option.{option_map, option_and_then}
 use Rattle.py_syntax.specs.BlockTrees.{view_module_item}
 use Rattle.py_syntax.specs.declared.module.Parameter.{Parameter}
-use Rattle.test_rules.specs.File.{parameters_of}
+use Rattle.test_meaning.specs.Rules.File.{parameters_of}
 use Rattle.test_functions.proofs.Found.{parameters_there, no_parameters, called}
 use Rattle.test_functions.proofs.whole.Whole.function.Goals as goal
 

@@ -1,8 +1,8 @@
 -- No name is a local.
 use Rattle.std.proofs.Common.{ap, refl, take}
 use Rattle.py_syntax.specs.BlockTrees.{view_module}
-use Rattle.test_rules.specs.File.{file_of}
-use Rattle.test_rules.specs.Uses.{with_names}
+use Rattle.test_meaning.specs.Rules.File.{file_of}
+use Rattle.test_meaning.specs.Rules.Uses.{with_names}
 use Rattle.test_refusal.proofs.Scopes.{no_name}
 use Rattle.test_refusal.proofs.place.Place.scope.Goals as goal
 

@@ -1,6 +1,0 @@
-use Rattle.clap.specs.Matches.{found_of}
-use Rattle.command_words.proofs.Found.{value_found}
-use Rattle.command_words.proofs.top.value_of.Goals as goal
-
-pub returns : goal.returns
-returns c = value_found (found_of c.args.matches.now) c.args.name.now c.get_str.result c.get_str.ensures

@@ -1,5 +1,0 @@
-use Rattle.engine.proofs.Runs.{begin_timely}
-use Rattle.engine.proofs.laws.begin_is_timely.Goals as goal
-
-pub returns : goal.returns
-returns c = begin_timely

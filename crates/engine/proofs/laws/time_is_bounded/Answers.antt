@@ -1,5 +1,0 @@
-use Rattle.engine.proofs.Runs.{time_bounded}
-use Rattle.engine.proofs.laws.time_is_bounded.Goals as goal
-
-pub returns : goal.returns
-returns c = time_bounded

@@ -1,5 +1,0 @@
-use Rattle.engine.proofs.Runs.{verdicts_few}
-use Rattle.engine.proofs.laws.verdicts_are_few.Goals as goal
-
-pub returns : goal.returns
-returns c = verdicts_few

@@ -1,7 +1,0 @@
-use Rattle.std.proofs.Common.{ap, Err}
-use Rattle.port_io.specs.Means.{sink_means}
-use Rattle.engine.proofs.PutLaws.{put_one}
-use Rattle.engine.proofs.puts.put_line.Goals as goal
-
-pub returns-in-Err : goal.returns-in-Err
-returns-in-Err g c = put_one (sink_means g.O.Sink) c.in-Err.fault c.args.out.now _ _ (λ e. c.in-Err.ensures.broken (ap Err e)) c.in-Err.ensures.part

@@ -1,7 +1,0 @@
-use Rattle.std.proofs.Common.{◌≡◌, drop}
-use Rattle.run_model.specs.Case.{values_of}
-use Rattle.engine.proofs.InOrder.{behind}
-use Rattle.engine.proofs.starts.with_values.Given as goal
-
-abbrev pub invariant-loop-at : goal.invariant-loop-at
-invariant-loop-at l = behind l.values (values_of (drop l.at l.constants)) ≡ behind l.initial.values (values_of l.constants)

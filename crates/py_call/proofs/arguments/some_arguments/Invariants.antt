@@ -1,8 +1,0 @@
-use Rattle.py_expression.specs.Shown.{height_limit}
-use Rattle.std.proofs.Common.{◌≡◌, ◌-◌}
-use Rattle.py_call.specs.Views.{arguments_in}
-use Rattle.py_call.specs.Reading.{some_arguments_of, more_of}
-use Rattle.py_call.proofs.arguments.some_arguments.Given as goal
-
-abbrev pub invariant-loop : goal.invariant-loop
-invariant-loop l = more_of height_limit (l.end - l.counter) (arguments_in l.all) l.rest ≡ some_arguments_of height_limit l.fn.tokens

@@ -1,7 +1,0 @@
-use Rattle.std.proofs.Common.{◌≡◌, drop, map}
-use Rattle.py_syntax.specs.StatementTrees.{view_argument}
-use Rattle.py_call.specs.Reading.{are_placed}
-use Rattle.py_call.proofs.right.are_placed.Given as goal
-
-abbrev pub invariant-loop-argument : goal.invariant-loop-argument
-invariant-loop-argument l = are_placed (map view_argument (drop l.argument-index l.list)) ≡ are_placed (map view_argument l.list)

@@ -1,4 +1,0 @@
-use Rattle.py_function.proofs.calls.len_call.Goals as goal
-
-pub len-requires : goal.len-requires
-len-requires g c = c.in_ok-argument.ensures.known (g.V.Look.view c.args.view.now) c.requires

@@ -1,8 +1,0 @@
-use Rattle.py_function.proofs.Onward.{called_rises, method_rises}
-use Rattle.py_function.proofs.laws.numbers_never_fall_by_calls.Goals as goal
-
-pub returns-clause-function : goal.returns-clause-function
-returns-clause-function c = called_rises
-
-pub returns-clause-method : goal.returns-clause-method
-returns-clause-method c = method_rises

@@ -1,5 +1,0 @@
-use Rattle.regression.proofs.Skipping.{skip_at}
-use Rattle.regression.proofs.lines.is_skipped.Goals as goal
-
-pub returns-then-at-len : goal.returns-then-at-len
-returns-then-at-len c = skip_at c.args.cases.now c.args.at c.get.result.now c.get.ensures

@@ -1,9 +1,0 @@
-use Rattle.std.proofs.Common.{rules}
-use Rattle.regression.proofs.Puts.{failed_status, passed_status}
-use Rattle.regression.proofs.lines.status_of.Goals as goal
-
-pub returns-then-tally-eq0 : goal.returns-then-tally-eq0
-returns-then-tally-eq0 c = λ verdicts e. passed_status c.args.tally verdicts (search rules) e
-
-pub returns-else-tally-eq0 : goal.returns-else-tally-eq0
-returns-else-tally-eq0 c = λ verdicts e. failed_status c.args.tally verdicts (λ z. search rules) e

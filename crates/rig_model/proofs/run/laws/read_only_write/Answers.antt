@@ -1,0 +1,5 @@
+use Rattle.rig_model.proofs.RunLemmas.Worked.{read_only_write}
+use Rattle.rig_model.proofs.run.laws.read_only_write.Goals as goal
+
+pub returns : goal.returns
+returns c = read_only_write

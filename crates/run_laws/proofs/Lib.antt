@@ -1,0 +1,3 @@
+pub mod SeparateTestsLemmas
+pub mod RemainderLemmas
+pub mod PlacesLemmas

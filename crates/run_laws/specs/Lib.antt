@@ -1,0 +1,3 @@
+pub mod SeparateTests
+pub mod Remainder
+pub mod Places

@@ -1,0 +1,10 @@
+//! Laws of runs: what follows from the definition of a run for each test, each task and each awaited key.
+//!
+//! [`separate_tests`] says that a test knows nothing of those before it, [`remainder`] that what a task never comes to has no effect, and
+//! [`places`] that each
+//! started task stands in exactly one place and that the awaited keys are those that are needed.
+#![tactic(auto)]
+
+pub mod places;
+pub mod remainder;
+pub mod separate_tests;

@@ -1,5 +1,0 @@
-use Rattle.run_model.proofs.Worked.{ties}
-use Rattle.run_model.proofs.laws.ties.Goals as goal
-
-pub returns : goal.returns
-returns c = ties

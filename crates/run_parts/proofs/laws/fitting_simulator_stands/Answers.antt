@@ -1,8 +1,0 @@
-use Rattle.run_parts.proofs.Queues.{own_keys, stands}
-use Rattle.run_parts.proofs.laws.fitting_simulator_stands.Goals as goal
-
-pub returns-clause-stands : goal.returns-clause-stands
-returns-clause-stands c = λ setup room held q content d fits. stands setup room held q content fits d
-
-pub returns-clause-own : goal.returns-clause-own
-returns-clause-own c = own_keys

@@ -1,5 +1,0 @@
-use Rattle.run_parts.proofs.Steps.{short_stops}
-use Rattle.run_parts.proofs.laws.short_steps_end_the_run.Goals as goal
-
-pub returns : goal.returns
-returns c = λ from setup budget fuel run case cases lines left e. short_stops setup budget fuel run from case cases lines left e

@@ -1,0 +1,4 @@
+pub mod LiveTasksLemmas
+pub mod QueueLemmas
+pub mod TestTasksLemmas
+pub mod LinesLemmas

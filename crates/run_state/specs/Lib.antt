@@ -1,0 +1,4 @@
+pub mod LiveTasks
+pub mod Queue
+pub mod TestTasks
+pub mod Lines

@@ -1,0 +1,16 @@
+pub mod EffectLaws
+pub mod Timely
+pub mod Turns
+pub mod BetweenTests
+pub mod Amid
+pub mod Evented
+pub mod Fires
+pub mod Puts
+pub mod Setups
+pub mod Parts
+pub mod TestFits
+pub mod Waits
+pub mod Engine
+pub mod Fits
+pub mod Begins
+pub mod Events

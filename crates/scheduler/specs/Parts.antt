@@ -1,0 +1,59 @@
+-- A means of proof: the configuration that a running test stands for, together with a simulator, for the proofs of the runner's turns.
+use Rattle.std.specs.Prelude.{List, [], None}
+use Rattle.gpi.specs.Content.{Content}
+use Rattle.gpi.specs.declared.types.Key.{Key}
+use Rattle.await_tree.specs.EndedTasks.Endings.{Endings}
+use Rattle.run_view.specs.RandomStream.Generator.{Generator}
+use Rattle.await_tree.specs.SyncObjects.States.{States}
+use Rattle.test_meaning.specs.Body.BodyTrees.{Function}
+use Rattle.rig_model.specs.Task.Frame.{Task}
+use Rattle.await_tree.specs.WaitList.Waiting.{Waiting}
+use Rattle.rig_model.specs.Run.Rig.{Rig}
+use Rattle.rig_model.specs.Parts.Queue.{Queue}
+use Rattle.run_state.specs.Queue.Fits.{queue_of}
+use Rattle.run_state.specs.TestTasks.Tasks.{live_in}
+use Rattle.scheduler.specs.declared.test.RunningTest.{RunningTest}
+
+-- what the types of a running test mean: the functions of a maker's file, the file of a flow and its task, who waits and which keys are held
+pub record Means (M W F : Type 0) : Type 0 where
+  pub functions : M → List Function
+  pub file : F → List Function
+  pub task : F → Task
+  pub waiting : W → List Waiting
+  pub held : W → List Key
+
+abbrev pub means : {M W F : Type 0} → (M → List Function) → (F → List Function) → (F → Task) → (W → List Waiting) → (W → List Key) → Means M W F
+means functions file task waiting held = record { functions = functions; file = file; task = task; waiting = waiting; held = held }
+
+-- what a test has besides its queue
+pub record Parts : Type 0 where
+  pub tasks : List Task
+  pub endings : Endings
+  pub objects : States
+  pub random : Generator
+
+-- the configuration of these parts, of a queue and of what a simulator holds, in which no task has its turn
+abbrev pub rig_by : Parts → Queue → Content → Rig
+rig_by p q content = record {
+  sim = content.state;
+  tasks = p.tasks;
+  endings = p.endings;
+  running = None;
+  ready = q.ready;
+  waiting = q.waiting;
+  objects = p.objects;
+  staged = q.staged;
+  fired = [];
+  deadline = q.deadline;
+  planned = q.planned;
+  random = p.random;
+  counts = content.counts;
+  outcome = None;
+}
+
+abbrev pub parts_of : {M W F : Type 0} → Means M W F → RunningTest M W F → Parts
+parts_of m t = record { tasks = live_in m.task t.tasks; endings = t.tasks.ended; objects = t.objects; random = t.random }
+
+-- The configuration between the things that tasks want, where the turn is taken from the task that wanted the last one.
+abbrev pub rig_of : {M W F : Type 0} → Means M W F → RunningTest M W F → Content → Rig
+rig_of m t content = rig_by (parts_of m t) (queue_of m.waiting t.queue) content

@@ -1,5 +1,0 @@
-use Rattle.task_places.proofs.Places.{reached_out}
-use Rattle.task_places.proofs.laws.ended_are_out.Goals as goal
-
-pub returns : goal.returns
-returns c = λ setup seed cases run task r. reached_out setup seed cases run r task

@@ -1,0 +1,4 @@
+pub mod LoopSpanLemmas
+pub mod StatementValuesLemmas
+pub mod OpenCallLemmas
+pub mod TaskValuesLemmas

@@ -1,0 +1,4 @@
+pub mod LoopSpan
+pub mod StatementValues
+pub mod OpenCall
+pub mod TaskValues

@@ -1,9 +1,0 @@
--- The parameters so far are numbered.
-use Rattle.std.proofs.Common.{◌≡◌, ℕ, List, drop}
-use Rattle.test_names.specs.Places.{first_place}
-use Rattle.test_rules.specs.Rules.{index_of}
-use Rattle.test_arguments.specs.Marks.{found_or}
-use Rattle.test_arguments.proofs.arguments.numbers.Given as goal
-
-abbrev pub invariant-loop-number : goal.invariant-loop-number
-invariant-loop-number l = (n : List ℕ) → index_of n l.parameters ≡ found_or l.number (first_place l.names n) (index_of n (drop l.number l.parameters))

@@ -1,5 +1,0 @@
-use Rattle.std.proofs.Common.{refl}
-use Rattle.test_body.proofs.laws.call_rows.Goals as goal
-
-pub returns : goal.returns
-returns c = refl

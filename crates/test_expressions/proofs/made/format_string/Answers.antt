@@ -1,7 +1,0 @@
-use Rattle.std.proofs.Common.{rules}
-use Rattle.py_syntax.specs.declared.expression.Expression.TheViews.{the_lemmas}
-use Rattle.test_expressions.proofs.MadeRows.{row_parts}
-use Rattle.test_expressions.proofs.made.format_string.Goals as goal
-
-pub returns : goal.returns
-returns c = search (rules, the_lemmas, row_parts)

@@ -1,0 +1,4 @@
+pub mod Numbers
+pub mod Behind
+pub mod Steps
+pub mod Walked

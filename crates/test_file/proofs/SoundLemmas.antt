@@ -1,0 +1,5 @@
+pub mod Calls
+pub mod Fits
+pub mod Clocks
+pub mod Uses
+pub mod Files

@@ -1,4 +1,0 @@
-mod Numbers
-pub mod Behind
-mod Steps
-mod Walked

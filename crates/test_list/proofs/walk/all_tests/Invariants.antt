@@ -1,7 +1,0 @@
--- What is known of the items so far, and their tests.
-use Rattle.std.proofs.Common.{take}
-use Rattle.test_list.proofs.Walked.{HasWalked}
-use Rattle.test_list.proofs.walk.all_tests.Given as goal
-
-abbrev pub invariant-loop-item : goal.invariant-loop-item
-invariant-loop-item l = HasWalked l.whole (take l.item-index l.whole.values.now.items.now) l.above l.tests

@@ -1,8 +1,0 @@
--- The names so far have their places.
-use Rattle.std.proofs.Common.{List, take}
-use Rattle.test_rules.specs.Names.{Name}
-use Rattle.test_locals.specs.Own.{AreNumbered, with_names}
-use Rattle.test_locals.proofs.numbered.add_all.Given as goal
-
-abbrev pub invariant-loop-name : goal.invariant-loop-name
-invariant-loop-name l = (ns : List Name) → AreNumbered ns l.fn.before → AreNumbered (with_names ns (take l.name-index l.found)) l.names

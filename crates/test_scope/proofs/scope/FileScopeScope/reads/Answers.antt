@@ -1,9 +1,0 @@
--- The rule that the use breaks.
-use Rattle.test_scope.specs.Around.{around_in, file_in}
-use Rattle.test_scope.proofs.OneUse.{by_parts, read}
-use Rattle.test_scope.proofs.scope.FileScopeScope.reads.Goals as goal
-
-pub returns : goal.returns
-returns c =
-    by_parts _ _ c.knows.result c.has_value.result _ _ c.judged.ensures c.knows.ensures c.has_value.ensures
-    (read (file_in c.args.self.now) (around_in c.args.self.now) c.args.name.now)

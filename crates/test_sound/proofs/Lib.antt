@@ -1,5 +1,0 @@
-mod Calls
-mod Fits
-mod Clocks
-mod Uses
-pub mod Files

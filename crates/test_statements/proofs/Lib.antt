@@ -1,3 +1,0 @@
-mod Written
-mod Defaults
-mod Numbered

@@ -1,6 +1,0 @@
-use Rattle.test_text.proofs.AnswerLaws.{apart, one_file, one_refusal}
-use Rattle.test_text.proofs.SomeLaws.{has_answer}
-use Rattle.test_text.proofs.laws.one_answer.Goals as goal
-
-pub returns : goal.returns
-returns c = record { some = has_answer; file = one_file; refusal = one_refusal; apart = apart }

@@ -1,6 +1,0 @@
--- Two uses.
-use Rattle.test_uses.proofs.Answers.{first_and}
-use Rattle.test_uses.proofs.line.of_factory.Goals as goal
-
-pub returns : goal.returns
-returns g c = first_and _ _ _ _ _ _ _ c.first_of.ensures c.needs.ensures c.makes.ensures

@@ -1,0 +1,10 @@
+//! The modules of a text, and which of them is the top.
+//!
+//! [`module_numbers`] finds that no two modules have one name, and where each stands. [`Modules`] tells by that which module a name means
+//! ([`Modules::find`]) and which one is the top ([`Modules::top`]). Both are look-ups, and no scans.
+mod modules;
+mod numbers;
+mod unused;
+
+pub use modules::Modules;
+pub use numbers::module_numbers;

@@ -1,3 +1,0 @@
-mod Ranges
-mod Sweep
-mod Faults

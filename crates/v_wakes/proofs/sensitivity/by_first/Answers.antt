@@ -1,8 +1,0 @@
--- The spans ascend by their first signals.
-use Rattle.std.proofs.Common.{rules}
-use Rattle.std.proofs.lemmas.List.Sorted.{IsNonDecreasingBy-from_sort_by_key}
-use Rattle.v_wakes.specs.Wakes.{first_of}
-use Rattle.v_wakes.proofs.sensitivity.by_first.Goals as goal
-
-pub returns-clause-sorted : goal.returns-clause-sorted
-returns-clause-sorted c = IsNonDecreasingBy-from_sort_by_key first_of _ c.sort_unstable_by_key.ensures.sorted (λ a r q k. search rules)
