@@ -28,6 +28,15 @@ HANDED = [("port_io", "DirStore"), ("port_io", "WriteSink")]
 PORT = ("files", "gives", "misses", "told", "takes", "breaks", "faults")
 MODEL = ("Value", "view", "invariant")
 MEANS = "A means of proof:"
+# What these modules say, until their own head comments do: a word in one proves its crate anew, and all that stand on it.
+HEADS = {
+    "await_tree.specs.EndedTasks.Limits": "How many tasks may be started in a test.",
+    "await_tree.specs.SyncObjects.Limits": "How many events and how many locks may be made in a test.",
+    "gpi.specs.Made": MEANS + " what the constructors of expressions make, for the proofs of elaboration and of copies.",
+    "port_io.specs.Reading": "What a reader gives, read after read, and what becomes of a read of a named file.",
+    "port_io.specs.Written": "What a put does to a sink over a writer, write after write.",
+    "rig_model.specs.Parts.Queue": MEANS + " what is ready, what waits and what the runner itself awaits, for the proofs of the runner.",
+}
 TOKEN = re.compile(r"[^\s(){};,\[\]\"]+")
 HEAD = re.compile(r"^(\s*)((?:(?:abbrev|unfoldable|pub|record|data|mutual|private)\s+)+)([^\s:({]+)")
 
@@ -160,6 +169,8 @@ class Module:
 
     def comment(self):
         """The head comment, as one line."""
+        if told := HEADS.get(self.path.removeprefix("Rattle.")):
+            return told
         lines = []
         for line in self.source.split("\n"):
             if not line.startswith("--"):

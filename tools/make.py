@@ -22,14 +22,19 @@ import tempfile
 from collections import namedtuple
 from concurrent.futures import ThreadPoolExecutor
 from pathlib import Path
+from threading import Lock
+
+from rows.part_rows import span
 
 ROOT = Path(__file__).resolve().parent.parent
+# Several steps make parts of one file.
+ONE_AT_A_TIME = Lock()
 RUNS = "worked trigger pair order kill verdict signal budget key trace limit".split()
 
-# script, words: what is run; files: what it writes itself; into: where what it prints goes; behind: the rule of the first row by hand behind what it
-# prints; asks: a file that it reads as its standard input; at: the folder that it runs in; needs: `icarus`, `built` or nothing; is_last: does it read
-# what other steps make?
-Step = namedtuple("Step", "script words files into behind asks at needs is_last", defaults=([], [], None, None, None, ".", None, False))
+# script, words: what is run; files: what it writes itself; into: where what it prints goes; part: the part of a test program whose rows or answers that
+# is; behind: the rule of the part's first row by hand behind what it prints; asks: a file that it reads as its standard input; at: the folder that it runs
+# in; needs: `icarus`, `built` or nothing; is_last: does it read what other steps make?
+Step = namedtuple("Step", "script words files into part behind asks at needs is_last", defaults=([], [], None, None, None, None, ".", None, False))
 
 FIRST_VALUE = "a vector is equal to its number"
 FIRST_EXPRESSION = 'f"{w}{dut}{t}" or (4611686018427387904) or dut.u._name'
@@ -37,21 +42,22 @@ FIRST_EXPRESSION = 'f"{w}{dut}{t}" or (4611686018427387904) or dut.u._name'
 TABLES = [
     Step("rows/elaboration_rules.py", files=["tools/data/elaboration_rules.txt"], needs="icarus"),
     Step("rows/elaboration_values.py", files=["tools/data/elaboration_values.txt"], needs="icarus"),
-    Step("rows/elaboration_rows.py", files=["crates/elaboration_tests/stdin", "crates/elaboration_tests/stdout"], is_last=True),
+    Step("rows/elaboration_rows.py", files=["crates/design_tests/stdin", "crates/design_tests/stdout"], is_last=True),
     Step("rows/run_rows.py", files=[f"tools/data/{name}_rows.txt" for name in RUNS]),
     Step("rows/control_rows.py", files=["tools/data/control_rows.txt"]),
     Step("rows/examples.py", files=["tools/data/example_rows.txt"]),
     Step("rows/runner_rows.py", files=["crates/runner_tests/stdin", "crates/runner_tests/stdout"], is_last=True),
-    Step("rows/python_values.py", ["rows"], into="crates/value_tests/stdin", behind=FIRST_VALUE),
-    Step("rows/python_values.py", ["answers"], into="crates/value_tests/stdout", behind=FIRST_VALUE),
-    Step("rows/python_expressions.py", ["rows"], into="crates/evaluate_tests/stdin", behind=FIRST_EXPRESSION),
-    Step("rows/python_expressions.py", ["answers"], into="crates/evaluate_tests/stdout", behind=FIRST_EXPRESSION),
-    Step("rows/four_value_cases.py", into="crates/four_value_cases/data/cases.txt", needs="icarus"),
-    Step("models/made_texts.py", ["rows"], into="crates/generator_tests/stdout", asks="crates/generator_tests/stdin"),
-    Step("models/random_rows.py", into="crates/random_stream/specs/Rows.antt"),
+    Step("rows/python_values.py", ["rows"], into="crates/value_tests/stdin", part="values", behind=FIRST_VALUE),
+    Step("rows/python_values.py", ["answers"], into="crates/value_tests/stdout", part="values", behind=FIRST_VALUE),
+    Step("rows/python_expressions.py", ["rows"], into="crates/value_tests/stdin", part="expressions", behind=FIRST_EXPRESSION),
+    Step("rows/python_expressions.py", ["answers"], into="crates/value_tests/stdout", part="expressions", behind=FIRST_EXPRESSION),
+    Step("rows/four_value_cases.py", into="crates/value_tests/data/cases.txt", needs="icarus"),
+    Step("models/made_texts.py", ["rows"], into="crates/runner_tests/stdout", part="made_texts", asks="crates/runner_tests/stdin"),
+    Step("models/random_rows.py", into="crates/run_view/specs/RandomStream/Rows.antt"),
     Step("models/run_model.py", ["@crates/cocorun/args"], into="crates/cocorun/stdout", at="crates/cocorun/data"),
     Step("models/run_model.py", ["@crates/cocorun_failed/args"], into="crates/cocorun_failed/stdout", at="crates/cocorun_failed/data"),
     Step("crate_table.py", files=["docs/ARCHITECTURE.md"]),
+    Step("definitions.py", files=["docs/DEFINITIONS.md"]),
 ]
 
 COMPARISONS = [
@@ -67,7 +73,7 @@ COMPARISONS = [
     Step("wrong_bodies", ["--applies"]),
     Step("compare/runner_traces.py", needs="icarus"),
     Step("compare/verilog_texts.py", needs="icarus"),
-    Step("compare/py_lex_lines.py", ["%py_lex_lines"], needs="built"),
+    Step("compare/py_lex_lines.py", ["%python_tests", "*examples/*/t.py"], needs="built"),
     Step("compare/python_trees.py", ["%python_tests", "*examples/*/t.py"], needs="built"),
     Step("compare/python_accepts.py", ["%check_tests", "*examples/*/t.py"], needs="built"),
 ]
@@ -95,13 +101,18 @@ def given(word, top):
     return sorted(map(str, top.glob(word[1:]))) if word.startswith("*") else [word]
 
 
-def front(path, made, rule):
-    """The text of a file whose rows up to the first one by hand are made anew."""
+def placed(path, made, part, rule):
+    """The text of a test program's file in which the lines of a part are made anew, up to the first row by hand where that has a rule."""
+    is_asked = path.name == "stdin"
+    first, end = span((path.parent / "stdin").read_text(encoding="utf-8").splitlines(), part)
     lines = path.read_text(encoding="utf-8").splitlines(keepends=True)
-    at = [number for number, line in enumerate(lines) if line.startswith((rule + "\t", rule + ": "))]
-    if not at:
-        sys.exit(f"{path}: no row has the rule of the first one by hand: {rule}")
-    return made + "".join(lines[at[0]:])
+    if rule:
+        begins = f"{part}\t{rule}\t" if is_asked else f"{rule}: "
+        end = next((at for at, line in enumerate(lines) if at >= first and line.startswith(begins)), None)
+        if end is None:
+            sys.exit(f"{path}: no row has the rule of the first one by hand: {rule}")
+    lines[first:end] = [f"{part}\t{line}" if is_asked else line for line in made.splitlines(keepends=True)]
+    return "".join(lines)
 
 
 def failing(step, top):
@@ -114,14 +125,16 @@ def failing(step, top):
     if ran.returncode and (step.script != "models/run_model.py" or ran.stderr):
         return f"FAILED: {ran.stdout[-2000:]}{ran.stderr[-2000:]}"
     if step.into:
-        text = front(top / step.into, ran.stdout, step.behind) if step.behind else ran.stdout
-        (top / step.into).write_text(text, encoding="utf-8")
+        with ONE_AT_A_TIME:
+            text = placed(top / step.into, ran.stdout, step.part, step.behind) if step.part else ran.stdout
+            (top / step.into).write_text(text, encoding="utf-8")
     return ""
 
 
 def drift(file, top):
     """Where a file differs from the one that was made of it at `top`, or nothing."""
-    here, made = ((place / file).read_text(encoding="utf-8").splitlines() for place in (ROOT, top))
+    with ONE_AT_A_TIME:
+        here, made = ((place / file).read_text(encoding="utf-8").splitlines() for place in (ROOT, top))
     if here == made:
         return ""
     at = next((number for number, (one, other) in enumerate(zip(here, made)) if one != other), min(len(here), len(made)))

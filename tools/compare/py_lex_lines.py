@@ -1,22 +1,25 @@
 #!/usr/bin/env python3
 """Compares the logical lines of `py_lex` with those of CPython's `tokenize`.
 
-    tools/compare/py_lex_lines.py                      compares crates/py_lex_lines/stdout with the lines of the `stdin` beside it
+    tools/compare/py_lex_lines.py                      compares the `starts` rows of crates/python_tests
     tools/compare/py_lex_lines.py PROGRAM [FILE ..]    compares what the built program says
 
-PROGRAM is the built program `py_lex_lines`, which prints the number and the indentation of each logical line of the text on
-its standard input, or a fault. The texts are the FILEs, and some thousand that are made of pieces by a seed. Where the program
-has lines, CPython must read the text too, and find logical lines that begin on the same lines at the same indentations. The
-gate doesn't run this.
+PROGRAM is the built program `python_tests`, which answers a row `starts` by the number and the indentation of each logical line of
+the row's text, or by a fault. The texts are the FILEs, and some thousand that are made of pieces by a seed. Where the program has
+lines, CPython must read the text too, and find logical lines that begin on the same lines at the same indentations. The gate
+doesn't run this.
 """
 import io
 import random
+import re
 import subprocess
 import sys
 import tokenize
 from pathlib import Path
 
-CRATE = Path(__file__).resolve().parents[2] / "crates" / "py_lex_lines"
+CRATE = Path(__file__).resolve().parents[2] / "crates" / "python_tests"
+# so many rows are less than the program takes
+ROWS_AT_ONCE = 500
 SKIPPED = (tokenize.COMMENT, tokenize.NL, tokenize.INDENT, tokenize.DEDENT, tokenize.ENDMARKER, tokenize.ENCODING)
 
 WORDS = ["a", "if", "_b1", "f", "0", "17", "0x1F", "1_0", "True", "None", "r", "pass"]
@@ -85,47 +88,61 @@ def made(rng):
     return end.join(lines) + rng.choice(["", end])
 
 
+def plain(part):
+    """The text that a part of a row says."""
+    return re.sub(r"\\([0-9a-f]{2})", lambda found: chr(int(found[1], 16)), part)
+
+
+def escaped(text):
+    """A part of a row that says the text."""
+    return "".join(char if " " <= char <= "~" and char != "\\" else f"\\{ord(char):02x}" for char in text)
+
+
 def shown(answer):
-    """The lines that the program told."""
-    return [tuple(map(int, line.split())) for line in answer.splitlines()]
-
-
-def differs(name, text, answer):
-    """Whether CPython has other lines than the answer; it is told then."""
-    got, want = shown(answer), logical_lines(text)
-    if got != want:
-        print(f"{name}: {got} here, {want} in CPython:\n{text}")
-    return got != want
+    """The lines that the program told, or None where it told a fault."""
+    if answer[-1:] == ")":
+        return None
+    return [tuple(map(int, line.split(":"))) for line in answer.split(";")[:-1]]
 
 
 def stored():
-    """The comparison of what the gate expects."""
-    text, answer = ((CRATE / name).read_text(encoding="latin-1") for name in ("stdin", "stdout"))
-    if differs("stdin", text, answer):
-        return 1
-    print(f"{len(shown(answer))} lines, and CPython has the same")
-    return 0
+    """The texts of the rows of the table, each with its rule and its answer."""
+    rows, answers = ((CRATE / name).read_text(encoding="utf-8").splitlines() for name in ("stdin", "stdout"))
+    for row, answer in zip(rows, answers, strict=True):
+        asked, rule, part = row.split("\t", 2)
+        if asked == "starts":
+            yield rule, plain(part), answer.removeprefix(rule + ": ")
 
 
-def main():
-    if len(sys.argv) == 1:
-        return stored()
-    program, files = sys.argv[1], sys.argv[2:]
-    texts = [(name, open(name, newline="").read()) for name in files]
+def told(program, texts):
+    """The texts, each with its name and with what the program answers."""
+    for first in range(0, len(texts), ROWS_AT_ONCE):
+        some = texts[first : first + ROWS_AT_ONCE]
+        rows = "".join(f"starts\ttext\t{escaped(text)}\n" for _, text in some)
+        answers = subprocess.run([program], input=rows, capture_output=True, text=True, check=True).stdout.splitlines()
+        yield from ((*text, answer.removeprefix("text: ")) for text, answer in zip(some, answers, strict=True))
+
+
+def made_texts():
     rng = random.Random(1)
-    texts += [(f"text {k}", made(rng)) for k in range(3000)]
-    accepted = 0
-    for name, text in texts:
-        run = subprocess.run([program], input=text.encode("latin-1"), capture_output=True, check=True)
-        answer = run.stdout.decode()
-        if answer[:1].isalpha():
+    return [(f"text {k}", made(rng)) for k in range(3000)]
+
+
+def main(program=None, *files):
+    texts = [(name, Path(name).read_bytes().decode("latin-1")) for name in files] + made_texts()
+    count = accepted = 0
+    for name, text, answer in told(program, texts) if program else stored():
+        count += 1
+        got, want = shown(answer), logical_lines(text)
+        if got is None:
             continue
         accepted += 1
-        if differs(name, text, answer):
+        if got != want:
+            print(f"{name}: {got} here, {want} in CPython:\n{text}")
             return 1
-    print(f"{accepted} of {len(texts)} texts have lines, and CPython has the same")
-    return 0
+    print(f"{accepted} of {count} texts have lines, and CPython has the same")
+    return 0 if accepted else 1
 
 
 if __name__ == "__main__":
-    sys.exit(main())
+    sys.exit(main(*sys.argv[1:]))

@@ -1,5 +1,5 @@
 #!/usr/bin/env python3
-"""Compares the Verilog texts in crates/verilog_tests/stdin with Icarus Verilog.
+"""Compares the Verilog texts in crates/design_tests/stdin with Icarus Verilog.
 
     tools/compare/verilog_texts.py
 
@@ -15,16 +15,16 @@ import sys
 import tempfile
 from pathlib import Path
 
-FOLDER = Path(__file__).resolve().parents[2] / "crates" / "verilog_tests"
+sys.path.insert(0, str(Path(__file__).resolve().parents[1]))
+
+from rows.part_rows import stored
+
 WIDER = "wider than the standard"
 
 
 def rows():
     """The rule, the text and the answer of each row that asks for a tree."""
-    asked = (FOLDER / "stdin").read_text(encoding="ascii").splitlines()
-    answers = (FOLDER / "stdout").read_text(encoding="ascii").splitlines()
-    for row, answer in zip(asked, answers):
-        kind, rule, *parts = row.split("\t")
+    for (kind, rule, *parts), answer in stored("design_tests", "verilog"):
         if kind == "tree":
             yield rule, re.sub(r"\\([0-9a-f]{2})", lambda byte: chr(int(byte[1], 16)), parts[0]), answer[len(rule) + 2 :]
 

@@ -3,7 +3,7 @@
 
     tools/models/made_texts.py design              the design
     tools/models/made_texts.py tests N             the tests of a number
-    tools/models/made_texts.py rows < ROWS         what crates/generator_tests prints for these rows: its `stdout` for its `stdin`
+    tools/models/made_texts.py rows < ROWS         what crates/runner_tests prints for the rows of its part `made_texts` among these
 
 A number N allows A = 1 + N mod 16 workers and B = 1 + (N div 16) mod 16 cycles of the clock. This was written from the rules, apart from the
 definitions and the code of `made_texts`. Each text of tests is parsed by CPython's `ast`, which has to find the lists of numbers in it.
@@ -72,12 +72,16 @@ def check(number, text):
 
 
 def rows(lines):
-    print(f"the design:\n{DESIGN}", end="")
     for line in lines:
-        rule, number = line.rstrip("\n").split("\t")
+        part, rule, number, *_ = line.rstrip("\n").split("\t")
+        if part != "made_texts":
+            continue
+        if number == "-":
+            print(f"{rule}:\n{DESIGN}")
+            continue
         text = tests(int(number))
         check(int(number), text)
-        print(f"{rule}, {number}:\n{text}", end="")
+        print(f"{rule}, {number}:\n{text}")
 
 
 def main(words):

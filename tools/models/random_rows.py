@@ -1,7 +1,7 @@
 #!/usr/bin/env python3
-"""Makes the worked draws of the crate random_stream.
+"""Makes the worked draws of `run_view::random_stream`.
 
-Usage: tools/models/random_rows.py > crates/random_stream/specs/Rows.antt
+Usage: tools/models/random_rows.py > crates/run_view/specs/RandomStream/Rows.antt
 
 It reckons the words of PCG XSH RR 64/32 in Python's own whole numbers, by the algorithm of M. E. O'Neill's paper and by how the Rust
 crates rand_core and rand_pcg make a generator of a number, and first compares itself with values that these publish. The gate proves the
@@ -88,8 +88,8 @@ def row(seed, first, last):
 HEAD = """\
 -- A means of proof: worked draws, which tools/random_rows.py reckoned, by which the definition of the generator is tried.
 use Rattle.std.specs.Prelude.{◌≡◌, ℕ, zero, suc, List, [], ◌∷◌, ℤ, pos, neg_ℤ}
-use Rattle.random_stream.specs.Generator.{Generator, next, word, seeded}
-use Rattle.random_stream.specs.Draw.{drawn}
+use Rattle.run_view.specs.RandomStream.Generator.{Generator, next, word, seeded}
+use Rattle.run_view.specs.RandomStream.Draw.{drawn}
 
 -- the next draws, all of one range
 abbrev pub draws : ℕ → ℤ → ℕ → Generator → List ℤ

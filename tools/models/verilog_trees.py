@@ -1,10 +1,10 @@
 #!/usr/bin/env python3
 """A second reader of Verilog texts, written from the grammar of docs/VERILOG.md.
 
-    tools/models/verilog_trees.py            compares the trees in crates/verilog_tests/stdout with its own
+    tools/models/verilog_trees.py            compares the trees in crates/design_tests/stdout with its own
     tools/models/verilog_trees.py TEXT ..    prints the trees of these texts
 
-It prints a tree in the form of the program `verilog_tests`, whose output the gate compares with that file. It reads accepted
+It prints a tree in the form of the part `verilog` of the program `design_tests`, whose output the gate compares with that file. It reads accepted
 texts only: heights and refusals are none of its business, and it ends with an error where a text isn't of the grammar. It
 shares no code with the crates: tokens by regular expressions, rules by recursive descent, operators by a table of their levels.
 The gate doesn't need it.
@@ -13,7 +13,9 @@ import re
 import sys
 from pathlib import Path
 
-FOLDER = Path(__file__).resolve().parents[2] / "crates" / "verilog_tests"
+sys.path.insert(0, str(Path(__file__).resolve().parents[1]))
+
+from rows.part_rows import stored
 
 TOKEN = re.compile(
     r"\s*(?:(?P<number>(?:[0-9][0-9_]*)?'[bBoOdDhH][0-9a-fA-FxXzZ?_]+|[0-9][0-9_]*)|(?P<name>[A-Za-z_][A-Za-z0-9_$]*)|(?P<task>\$[A-Za-z0-9_$]+)"
@@ -366,11 +368,8 @@ def main(texts):
         for text in texts:
             print(Reader(text).source())
         return 0
-    rows = (FOLDER / "stdin").read_text(encoding="ascii").splitlines()
-    answers = (FOLDER / "stdout").read_text(encoding="ascii").splitlines()
     same = wrong = 0
-    for row, answer in zip(rows, answers):
-        asked, rule, *parts = row.split("\t")
+    for (asked, rule, *parts), answer in stored("design_tests", "verilog"):
         tree = answer[len(rule) + 2 :]
         if asked != "tree" or not tree.startswith("("):
             continue

@@ -1,7 +1,7 @@
 """Rows of the command: its words, its two files, the read and the put that fail, and what it answers.
 
 `command(..)` is such a row, `kept(..)` one on the simulator that other rows had before, with the counts of keys that it then holds; `model_lines` tells the
-status and the lines of a run by `tools/models/run_model.py`. `tools/rows/runner_rows.py` writes the rows; crates/runner_tests/src/main.rt tells their form.
+status and the lines of a run by `tools/models/run_model.py`. `tools/rows/runner_rows.py` writes the rows; crates/runner_tests/src/runner.rt tells their form.
 """
 from collections import namedtuple
 

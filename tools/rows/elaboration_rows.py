@@ -1,12 +1,12 @@
 #!/usr/bin/env python3
-"""Makes what the program `elaboration_tests` is run on, and what it must print.
+"""Makes what the part `elaboration` of the program `design_tests` is run on, and what it must print.
 
-    tools/rows/elaboration_rows.py          writes crates/elaboration_tests/stdin and crates/elaboration_tests/stdout
+    tools/rows/elaboration_rows.py          writes the part's rows of crates/design_tests/stdin and crates/design_tests/stdout
 
 Both are made of the two tables of `tools/data` and of nothing else, so no expected answer comes from the program. The heads of
 `tools/rows/elaboration_rules.py` and `tools/rows/elaboration_values.py` tell how those are made, and what their parts are.
 
-A line of `stdin` is a row without its answer and without the parts that only explain it, with a tab between two parts:
+A line of `stdin` is, behind the part's name, a row without its answer and without the parts that only explain it, with a tab between two parts:
 
     rule    name  top  text
     KIND    name  top  text  stimulus                   where KIND is `expression`, `body` or `hierarchy`
@@ -20,7 +20,11 @@ import sys
 from pathlib import Path
 
 ROOT = Path(__file__).resolve().parents[2]
-TABLES, PROGRAM = ROOT / "tools" / "data", ROOT / "crates" / "elaboration_tests"
+sys.path.insert(0, str(ROOT / "tools"))
+
+from rows.part_rows import put
+
+TABLES = ROOT / "tools" / "data"
 
 
 def rows(table):
@@ -44,8 +48,7 @@ def values(row):
 
 def main():
     answered = [*map(rule, rows("elaboration_rules.txt")), *map(values, rows("elaboration_values.txt"))]
-    (PROGRAM / "stdin").write_text("".join("\t".join(asked) + "\n" for asked, _ in answered), encoding="ascii")
-    (PROGRAM / "stdout").write_text("".join(answer + "\n" for _, answer in answered), encoding="ascii")
+    put("design_tests", "elaboration", *zip(*answered))
     print(f"{len(answered)} rows")
     return 0
 

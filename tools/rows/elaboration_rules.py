@@ -11,7 +11,7 @@ have the rules. No expected answer comes from a program. Each text is also given
 - a text that is refused here and that Icarus takes has the reason in its row (`takes`), and one that Icarus refuses has none.
 
 The script ends with the status 1, and writes nothing, where that doesn't hold, where a rule has fewer than four texts, or none in
-which a second rule is broken that counts less. `tools/rows/elaboration_rows.py` makes of the rows what `elaboration_tests` is run on.
+which a second rule is broken that counts less. `tools/rows/elaboration_rows.py` makes of the rows what `design_tests` is run on.
 
 A line of the table that begins with `#` is no row. A row has these parts, with a tab between two of them:
 

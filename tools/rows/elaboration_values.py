@@ -6,7 +6,7 @@
 The designs are expressions of every operator (each as `assign y = ..`), bodies of processes, and small hierarchies. The values are
 those of Icarus Verilog (`iverilog -g2005`): for each design the script writes a bench whose registers, z at first, stand behind the
 top's inputs, and prints all signals after each step. Which signals there are, and in which order, stands in this script, worked out
-by hand from the rules. `tools/rows/elaboration_rows.py` makes of the rows what `elaboration_tests` is run on.
+by hand from the rules. `tools/rows/elaboration_rows.py` makes of the rows what `design_tests` is run on.
 
 Where the standard or `docs/VERILOG.md` has another value than Icarus on purpose, the row says why (`differs`), and what the signals
 have instead (`own`); the script looks that Icarus does differ there. It ends with the status 1, and writes nothing, where that isn't

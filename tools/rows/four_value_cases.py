@@ -1,7 +1,7 @@
 #!/usr/bin/env python3
-"""Makes the table of cases that the program four_value_cases compares with the crate four_value.
+"""Makes the table of cases that the part `vectors` of the program value_tests compares with the crate four_value.
 
-Usage: tools/rows/four_value_cases.py > crates/four_value_cases/data/cases.txt
+Usage: tools/rows/four_value_cases.py > crates/value_tests/data/cases.txt
 
 It draws operands, writes a Verilog module that applies each operator to them, and has Icarus Verilog (the commands
 `iverilog` and `vvp`) print the rows. So every answer in the table is Icarus's. The draws are fixed by a seed. The gate

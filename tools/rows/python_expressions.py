@@ -1,10 +1,10 @@
 #!/usr/bin/env python3
-"""Rows of expressions for crates/evaluate_tests, with CPython's answers.
+"""Rows of the part `expressions` of crates/value_tests, with CPython's answers.
 
-    tools/rows/python_expressions.py rows       the rows, for `stdin`
+    tools/rows/python_expressions.py rows       the rows, for the front of the part in `stdin`
     tools/rows/python_expressions.py answers    their answers, for `stdout`
 
-The names are those of crates/evaluate_tests/src/variables.rt that Python knows by itself. A number outside of -2^127 .. 2^127 - 1 is an
+The names are those of crates/value_tests/src/expressions/variables.rt that Python knows by itself. A number outside of -2^127 .. 2^127 - 1 is an
 OverflowError in the profile, wherever an operator gives one.
 """
 import ast

@@ -1,8 +1,8 @@
 #!/usr/bin/env python3
-"""Makes the rows of `value_tests` whose answers are CPython's: operators on whole numbers, truth values, texts and None.
+"""Makes the rows of the part `values` of `value_tests` whose answers are CPython's: operators on whole numbers, truth values, texts and None.
 
-    tools/rows/python_values.py rows       the rows, for the front of `stdin`
-    tools/rows/python_values.py answers    their answers, for the front of `stdout`
+    tools/rows/python_values.py rows       the rows, for the front of the part in `stdin`
+    tools/rows/python_values.py answers    their answers, for `stdout`
 
 Results that no value can hold are OverflowErrors, as `docs/VALUES.md` says, and `is` is asked of kind and value, since CPython makes equal numbers twice. All
 else is what CPython answers.

@@ -3,12 +3,11 @@
 By hand, but for the tests among the rows of crates/check_tests and crates/python_tests, whose rules and lines were worked out there by hand too.
 """
 import re
-from pathlib import Path
 
 from rows.command_rows import USAGE, Asked, command, kept, numbered, quoted
+from rows.part_rows import lines_of
 from rows.row_texts import HEADER, SMALL, escaped, passing, test
 
-CRATES = Path(__file__).resolve().parents[2] / "crates"
 PASSES = HEADER + test("pass")
 FRAME = "import cocotb\n@cocotb.test()\nasync def t(dut):\n"
 TEXT = FRAME + "    pass\n"
@@ -61,8 +60,8 @@ BAD_LINES = 30
 
 
 def stored(crate):
-    """The rows of a test program: what is asked and given, and the answer."""
-    lines = [(CRATES / crate / name).read_text(encoding="ascii").splitlines() for name in ("stdin", "stdout")]
+    """The rows of a test program without parts: what is asked and given, and the answer."""
+    lines = [lines_of(crate, name) for name in ("stdin", "stdout")]
     return [(line.split("\t"), answer) for line, answer in zip(*lines)]
 
 

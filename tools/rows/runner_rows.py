@@ -1,13 +1,13 @@
 #!/usr/bin/env python3
-"""Makes of the tables of runs, and of the rows of the command, what the program `runner_tests` is run on, and what it must print.
+"""Makes of the tables of runs, and of the rows of the command, what the part `runner` of the program `runner_tests` is run on, and what it must print.
 
-    tools/rows/runner_rows.py            writes crates/runner_tests/stdin and crates/runner_tests/stdout
-    tools/rows/runner_rows.py --check    compares the two that are there
+    tools/rows/runner_rows.py            writes the part's rows of crates/runner_tests/stdin and crates/runner_tests/stdout
+    tools/rows/runner_rows.py --check    compares those that are there
     tools/rows/runner_rows.py TABLE ..   lists the rules of these tables, with their numbers of lines in `stdin`
 
 Each row of the tables tools/data/TABLE_rows.txt (`tools/rows/row_texts.py` tells their form) becomes a row `kept`, whose words name its budget, and `--trace` where the
 changes of signals are told. Behind these stand what refusals leave, and the rows of words, tops, refusals, faults and cuts (`tools/rows/command_rows.py` tells their
-form), of designs (tools/data/design_rows.txt), of tests, and of kills turn by turn. The first word of a row says what is asked; crates/runner_tests/src/main.rt tells which parts follow.
+form), of designs (tools/data/design_rows.txt), of tests, and of kills turn by turn. Behind the part's name stands what is asked; crates/runner_tests/src/runner.rt tells which parts follow.
 No answer comes from the program: they were worked out by hand, or come from CPython or from the model of `tools/models/run_model.py`.
 """
 import sys
@@ -17,13 +17,14 @@ ROOT = Path(__file__).resolve().parents[2]
 sys.path.insert(0, str(ROOT / "tools"))
 
 from rows.command_rows import Asked
+from rows.part_rows import changed, lines_of, put
 from rows.row_texts import DATA
 from rows.rows_of_faults import FAULTS
 from rows.rows_of_refusals import KEPT, READ, REFUSALS
 from rows.rows_of_tops import TOPS
 from rows.rows_of_words import WORDS
 
-PROGRAM = ROOT / "crates" / "runner_tests"
+PROGRAM, PART = "runner_tests", "runner"
 TABLES = ["worked", "control", "trigger", "pair", "order", "kill", "verdict", "signal", "budget", "key", "trace", "limit", "example"]
 # the program takes no more bytes
 MOST = 2 * 1_048_576
@@ -62,17 +63,15 @@ def main(words):
         wanted = {row[1] for table in words for row in stored(table)}
         print("\n".join(f"{at} {row.rule}" for at, row in enumerate(rows, 1) if row.rule in wanted))
         return 0
-    texts = {
-        "stdin": "".join("\t".join([row.kind, row.rule, *row.parts]) + "\n" for row in rows),
-        "stdout": "".join(f"{row.rule}: {row.answer}\n" for row in rows),
-    }
+    made = [[row.kind, row.rule, *row.parts] for row in rows], [f"{row.rule}: {row.answer}" for row in rows]
+    texts = changed(PROGRAM, PART, *made)
     assert len(texts["stdin"]) <= MOST
     wrong = 0
     for name, text in texts.items():
-        wrong += words == ["--check"] and (PROGRAM / name).read_text(encoding="ascii") != text
-        if not words:
-            (PROGRAM / name).write_text(text, encoding="ascii")
+        wrong += words == ["--check"] and lines_of(PROGRAM, name) != text.splitlines()
         print(f"{name}: {len(text)} bytes")
+    if not words:
+        put(PROGRAM, PART, *made)
     kinds = {row.kind: sum(other.kind == row.kind for other in rows) for row in rows}
     print(f"{len(rows)} rows: " + ", ".join(f"{count} {kind}" for kind, count in kinds.items()))
     return wrong

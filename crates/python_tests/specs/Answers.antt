@@ -1,5 +1,6 @@
 -- A means of proof: what is asked of a text, and what the answer shows, for the test program of Python's texts.
 use Rattle.std.specs.Prelude.{◌≡◌, ◌⊎◌, ℕ, ◌<◌, ◌≤◌, List, ◌++◌, length, Option, None, Some, Ok, Err, codes, if◌then◌else◌}
+use Rattle.std.specs.List.{flat_map}
 use Rattle.std.specs.Str.{bytes_eq}
 use Rattle.std.specs.Fmt.{decimal}
 use Rattle.port_io.specs.Limits.{most_bytes}
@@ -11,24 +12,26 @@ use Rattle.py_syntax.specs.declared.piece.LineRule.{LineRule}
 use Rattle.py_syntax.specs.declared.piece.LineRule.TheVariants as rule
 use Rattle.py_syntax.specs.declared.piece.Broken.{Broken}
 use Rattle.py_lex.specs.Answer.{IsAnswered, fault_of}
-use Rattle.py_print.specs.ModuleText.{module_text}
+use Rattle.python_tests.specs.Trees.ModuleText.{module_text}
 use Rattle.table_rows.specs.Rows.{part_at, written}
 use Rattle.python_tests.specs.declared.answer.Asked.{Asked}
 use Rattle.python_tests.specs.declared.answer.Asked.TheVariants as asked
 use Rattle.python_tests.specs.Row.{repeated}
-use Rattle.python_tests.specs.Shown.{lines_text}
+use Rattle.python_tests.specs.Shown.{lines_text, start_text}
 
 -- what a word asks, if anything
 abbrev pub asked_by : List ℕ → Option Asked
 asked_by word =
     if bytes_eq word (codes "lines") then Some asked.Lines
+    else (if bytes_eq word (codes "starts") then Some asked.Starts
     else (if bytes_eq word (codes "tree") then Some asked.Tree
     else (if bytes_eq word (codes "read") then Some asked.Read
-    else (if bytes_eq word (codes "repeat") then Some asked.Repeat else None)))
+    else (if bytes_eq word (codes "repeat") then Some asked.Repeat else None))))
 
 -- the text that a row asks about
 abbrev pub source_of : Asked → List ℕ → List ℕ
 source_of asked.Lines row = written (part_at 2 row)
+source_of asked.Starts row = written (part_at 2 row)
 source_of asked.Tree row = written (part_at 2 row)
 source_of asked.Read row = written (part_at 2 row)
 source_of asked.Repeat row = repeated row
@@ -55,6 +58,7 @@ refusal_text (too_deep n) = at_line (codes "TooDeep") n
 -- the text of a module where it is asked for, else that there is a tree
 abbrev pub shown_module : Asked → List ModuleItem → List ℕ
 shown_module asked.Lines items = codes "a tree"
+shown_module asked.Starts items = codes "a tree"
 shown_module asked.Tree items = module_text items
 shown_module asked.Read items = codes "a tree"
 shown_module asked.Repeat items = codes "a tree"
@@ -77,6 +81,7 @@ ShowsParsed a lines text = ShowsTree a lines text ⊎ ShowsRefusal lines text
 
 abbrev pub ShowsLines : Asked → List Line → List ℕ → Type 0
 ShowsLines asked.Lines lines text = text ≡ lines_text lines
+ShowsLines asked.Starts lines text = text ≡ flat_map start_text lines
 ShowsLines asked.Tree lines text = ShowsParsed asked.Tree lines text
 ShowsLines asked.Read lines text = ShowsParsed asked.Read lines text
 ShowsLines asked.Repeat lines text = ShowsParsed asked.Repeat lines text

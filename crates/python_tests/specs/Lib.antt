@@ -1,3 +1,4 @@
 pub mod Row
 pub mod Shown
 pub mod Answers
+pub mod Trees

@@ -95,3 +95,7 @@ next_line line = between_lines ++ line_text line
 -- the lines, with `; ` between them
 abbrev pub lines_text : List Line → List ℕ
 lines_text lines = join_by line_text between_lines lines
+
+-- where a line begins: its number, `:`, its indentation and `;`
+abbrev pub start_text : Line → List ℕ
+start_text line = decimal line.number ++ codes ":" ++ decimal line.indentation ++ codes ";"

@@ -19,12 +19,12 @@ ghost use Rattle.python_tests.specs.Answers.{
   source_of,
 };
 
-use crate::lines::lines_text;
+use crate::lines::{lines_text, starts_text};
 use crate::row::repeated;
+use crate::trees::module_text;
 use port_io::MOST_BYTES;
 use py_lex::{LineFault, logical_lines};
 use py_parse::{PyFault, parse};
-use py_print::module_text;
 use py_syntax::{Lines, Module};
 use std::alloc::{AllocError, Global};
 use table_rows::Row;
@@ -33,6 +33,7 @@ use table_rows::Row;
 #[derive(Clone, Copy, Debug, PartialEq, Eq)]
 enum Asked {
     Lines,
+    Starts,
     Tree,
     Read,
     Repeat,
@@ -44,6 +45,8 @@ fn asked_by(word: &[u8]) -> Option<Asked>
 {
     if word == b"lines".as_slice() {
         Some(Asked::Lines)
+    } else if word == b"starts".as_slice() {
+        Some(Asked::Starts)
     } else if word == b"tree".as_slice() {
         Some(Asked::Tree)
     } else if word == b"read".as_slice() {
@@ -93,7 +96,7 @@ fn of_module(alloc: Global, asked: Asked, module: &Module) -> Result<Vec<u8>, Al
 {
     match asked {
         Asked::Tree => module_text(alloc, module),
-        Asked::Lines | Asked::Read | Asked::Repeat => b"a tree".to_vec(alloc),
+        Asked::Lines | Asked::Starts | Asked::Read | Asked::Repeat => b"a tree".to_vec(alloc),
     }
 }
 
@@ -113,6 +116,7 @@ fn of_lines(alloc: Global, asked: Asked, lines: &Lines) -> Result<Vec<u8>, Alloc
 {
     match asked {
         Asked::Lines => lines_text(alloc, lines),
+        Asked::Starts => starts_text(alloc, lines),
         Asked::Tree | Asked::Read | Asked::Repeat => of_parsed(alloc, asked, lines),
     }
 }
@@ -136,7 +140,7 @@ fn source_of(alloc: Global, asked: Asked, row: &Row<'_>) -> Result<Vec<u8>, Allo
 {
     match asked {
         Asked::Repeat => repeated(alloc, row),
-        Asked::Lines | Asked::Tree | Asked::Read => row.text(alloc, 2),
+        Asked::Lines | Asked::Starts | Asked::Tree | Asked::Read => row.text(alloc, 2),
     }
 }
 

@@ -3,7 +3,7 @@
 //! A line is shown as its number, `:`, its indentation and its tokens; `doc` is a docstring.
 ghost use Rattle.std.specs.Prelude.{◌≡◌, IfOk};
 ghost use Rattle.std.specs.List.{flat_map};
-ghost use Rattle.python_tests.specs.Shown.{docstring_mark, line_text, lines_text, next_line, next_token};
+ghost use Rattle.python_tests.specs.Shown.{docstring_mark, line_text, lines_text, next_line, next_token, start_text};
 
 use crate::tokens::token_text;
 use py_syntax::{Lines, LogicalLine, Token};
@@ -60,5 +60,23 @@ pub fn lines_text(alloc: Global, lines: &Lines) -> Result<Vec<u8>, AllocError>
     };
     let mut text = line_text(alloc, first)?;
     text.extend_from_slice(&others_text(alloc, others)?)?;
+    Ok(text)
+}
+
+/// Where a line begins: its number, `:`, its indentation and `;`.
+fn start_text(alloc: Global, line: &LogicalLine) -> Result<Vec<u8>, AllocError>
+    ensures { IfOk result (λ text. text.items ≡ start_text line.now) }
+{
+    Ok(format!(in alloc; "{}:{};", line.number().0, line.indentation())?.into_bytes())
+}
+
+/// Where all lines begin, one behind the other.
+pub fn starts_text(alloc: Global, lines: &Lines) -> Result<Vec<u8>, AllocError>
+    ensures { IfOk result (λ text. text.items ≡ flat_map start_text lines.now) }
+{
+    let mut text = Vec::new(alloc);
+    for line in lines.as_slice() {
+        text.extend_from_slice(&start_text(alloc, line)?)?;
+    }
     Ok(text)
 }

@@ -1,3 +1,1 @@
-pub mod Written
-pub mod Shown
-pub mod Told
+pub mod RunnerLemmas

@@ -1,7 +1,1 @@
-pub mod Files
-pub mod Words
-pub mod Commands
-pub mod Designs
-pub mod Tests
-pub mod Turns
-pub mod Answers
+pub mod Runner

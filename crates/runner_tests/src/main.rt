@@ -1,44 +1,43 @@
-//! Answers rows of commands and texts: its standard input has one row in each line, and it prints a line for each.
+//! Answers rows of commands, of their words and of generated texts: its standard input has one row in each line, and it prints what each
+//! comes to.
 //!
-//! A row is parted by tabs: what is asked, the rule that the row shows, and what is given, in whose texts `\` stands before two
-//! hexadecimal digits of a byte.
-//! Asked is one of:
-//!
-//! - `command`: the command with its words, the design `d.v` and the tests `t.py` (`-` where there is no such file), the number of
-//!   the read and of the put that fails, none where these parts are left out: its status, by its number and its
-//!   name, and what was put;
-//! - `kept`: the same, where all these rows have one simulator, with the status by its name alone and the counts of its keys;
-//! - `long`: the command with the words `d.v t.py`, of a number of bytes, a design, tests and a number of bytes: each text is cut, or
-//!   filled up with spaces, to its number of bytes;
-//! - `design`: what a design is read as; `tests`: what tests are read as;
-//! - `turns`: a design and tests: how many keys are registered after each turn of the first test, but the one in which it ends.
-//!
-//! Where it is another word, the answer is `not asked`.
-//! The gate compares what is printed with `stdout`.
+//! The first word of a row names the part that answers what stands behind the tab: `runner` (commands and texts, `src/runner.rt`),
+//! `command_words` (the words of a command, `src/command_words.rt`) or `made_texts` (the texts of generated work, `src/made_texts.rt`). The
+//! gate compares what is printed with `stdout`.
 #![tactic(auto)]
 
-mod answer;
-mod commands;
-mod designs;
-mod files;
-mod texts;
-mod turns;
-mod words;
+mod command_words;
+mod made_texts;
+mod runner;
 
-use answer::answer;
 use anyhow::{Result, ensure};
 use list_kernel::ListKernel;
-use port_io::MOST_BYTES;
+use port_io::{MOST_BYTES, NoMemory};
+use std::alloc::Global;
 use std::io::Read;
+use table_rows::cut;
+
+/// The answer for a row, by the part that its first word names. The kernel is that of the `kept` rows of `runner`. Only want of memory is an
+/// error.
+fn answer(alloc: Global, line: &[u8], kernel: &mut ListKernel) -> Result<String, NoMemory> {
+    let (part, row) = cut(line, b'\t');
+    match part {
+        b"runner" => runner::answer(alloc, row, kernel),
+        b"command_words" => Ok(command_words::answer(alloc, row)?),
+        b"made_texts" => made_texts::answer(alloc, row),
+        _ => Ok(String::from_str(alloc, "no such part")?),
+    }
+}
 
 fn main(rt: HostRuntime) -> Result<()> {
-    let mut rows = Vec::new(rt.alloc());
+    let alloc = rt.alloc();
+    let mut rows = Vec::new(alloc);
     rt.reader().read_to_end(&mut rows)?;
     ensure!(rows.len() <= 2 * MOST_BYTES, "the rows are too long");
-    let mut kernel = ListKernel::new(rt.alloc());
+    let mut kernel = ListKernel::new(alloc);
     for line in rows.split(|byte| *byte == b'\n') {
         if !line.is_empty() {
-            let shown = answer(rt.alloc(), line, &mut kernel)?;
+            let shown = answer(alloc, line, &mut kernel)?;
             println!(rt; "{shown}")?;
         }
     }

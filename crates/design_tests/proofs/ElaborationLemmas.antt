@@ -1,0 +1,5 @@
+pub mod DigitLaws
+pub mod EventLaws
+pub mod FoundLaws
+pub mod ListLaws
+pub mod RowLaws

@@ -1,5 +1,0 @@
-mod DigitLaws
-mod EventLaws
-mod FoundLaws
-mod ListLaws
-mod RowLaws

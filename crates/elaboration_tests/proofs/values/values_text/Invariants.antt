@@ -1,7 +1,0 @@
-use Rattle.std.proofs.Common.{◌≡◌, take}
-use Rattle.std.specs.List.{flat_map}
-use Rattle.elaboration_tests.specs.Runs.{value_text}
-use Rattle.elaboration_tests.proofs.values.values_text.Given as goal
-
-abbrev pub invariant-loop-number : goal.invariant-loop-number
-invariant-loop-number g l = l.text.items ≡ flat_map value_text (take l.number (g.K.Gpi.content l.kernel).state.signals)

@@ -1,5 +1,0 @@
-pub mod Names
-pub mod Known
-pub mod RowLaws
-pub mod WholeLaws
-mod Declared

@@ -1,8 +1,0 @@
--- How many triggers a row has.
-use Rattle.std.proofs.Common.{◌≡◌, List, [], ◌∷◌, length, refl, arith}
-use Rattle.py_value.specs.Trigger.{Trig, row}
-use Rattle.evaluate_tests.specs.Printed.{count}
-
-pub count_row : (ts : List Trig) → count (row ts) ≡ length ts
-count_row [] = refl
-count_row (t ∷ ts) = omega (arith, count_row ts)

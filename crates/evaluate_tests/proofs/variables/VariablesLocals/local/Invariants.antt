@@ -1,7 +1,0 @@
-use Rattle.std.proofs.Common.{◌≡◌, drop}
-use Rattle.py_evaluate.specs.Attribute.Look.{local}
-use Rattle.evaluate_tests.specs.Variables.{locals_of}
-use Rattle.evaluate_tests.proofs.variables.VariablesLocals.local.Given as goal
-
-abbrev pub invariant-loop-variable : goal.invariant-loop-variable
-invariant-loop-variable l = local (locals_of (drop l.variable-index l.variable-items)) l.name ≡ local (locals_of l.variable-items) l.name

@@ -1,8 +1,0 @@
-use Rattle.list_kernel.specs.Kernel.{IsLoaded, content_of}
-use Rattle.kernel_tests.specs.Calls.{IsBook}
-use Rattle.kernel_tests.proofs.main.Given as goal
-
-abbrev pub invariant-loop-line : goal.invariant-loop-line
-invariant-loop-line l =
-    (goal.iterator-loop-line).can_next l.line-iterator × (goal.iterator-loop-line).is_finite l.line-iterator
-    × IsLoaded l.kernel × IsBook l.book (content_of l.kernel)

@@ -1,3 +1,0 @@
-mod CallLaws
-mod FolderLaws
-mod NumberLaws

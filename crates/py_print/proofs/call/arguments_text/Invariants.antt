@@ -1,8 +1,0 @@
-use Rattle.std.proofs.Common.{◌≡◌, map, take}
-use Rattle.std.specs.List.{flat_map}
-use Rattle.py_syntax.specs.StatementTrees.{view_argument}
-use Rattle.py_print.specs.CallText.{argument_text}
-use Rattle.py_print.proofs.call.arguments_text.Given as goal
-
-abbrev pub invariant-loop-argument : goal.invariant-loop-argument
-invariant-loop-argument l = l.text.items ≡ flat_map argument_text (map view_argument (take l.argument-index l.arguments))

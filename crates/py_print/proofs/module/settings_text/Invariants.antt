@@ -1,7 +1,0 @@
-use Rattle.std.proofs.Common.{◌≡◌, take}
-use Rattle.std.specs.List.{flat_map}
-use Rattle.py_print.specs.ModuleText.{setting_text}
-use Rattle.py_print.proofs.module.settings_text.Given as goal
-
-abbrev pub invariant-loop-setting : goal.invariant-loop-setting
-invariant-loop-setting l = l.text.items ≡ flat_map setting_text (take l.setting-index l.settings)

@@ -1,7 +1,0 @@
-use Rattle.std.proofs.Common.{◌≡◌, take}
-use Rattle.std.specs.List.{flat_map}
-use Rattle.py_print.specs.StatementText.{spaced_kind}
-use Rattle.py_print.proofs.statement.spaced_kinds.Given as goal
-
-abbrev pub invariant-loop-kind : goal.invariant-loop-kind
-invariant-loop-kind l = l.text.items ≡ flat_map spaced_kind (take l.kind-index l.kinds)
