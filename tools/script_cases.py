@@ -1,7 +1,7 @@
 """Cases of the script `./cocorun`, with a stand-in for the program, which puts a line and ends with a status (`tools/suite.py` goes through them).
 
 A case has the stand-in's status and line, the words, and what standard error must hold; standard output and the status must be the stand-in's.
-The script must also find fault with exactly those words of the rows of `word_tests` that have no reading there. Other cases change what lies
+The script must also find fault with exactly those words of the rows of words of `runner_tests` that have no reading there. Other cases change what lies
 around the script: its sources, the release, a program of these sources, what builds one.
 """
 import functools

@@ -29,7 +29,7 @@ import script_cases
 TOP = Path(__file__).resolve().parent.parent
 # Where the tables stand, each by a test program and by the first word of its rows there, if the program has several: the commands and runs, the
 # words, the rules of designs, the generated texts; and the programs that the gate runs.
-RUNS, WORDS, RULES, MADE = ("runner_tests", None), ("word_tests", None), ("elaboration_tests", None), ("generator_tests", None)
+RUNS, WORDS, RULES, MADE = ("runner_tests", "runner"), ("runner_tests", "command_words"), ("design_tests", "elaboration"), ("runner_tests", "made_texts")
 PROGRAMS = [TOP / "crates" / name for name in ("cocorun", "cocorun_failed")]
 EXAMPLES = TOP / "examples"
 

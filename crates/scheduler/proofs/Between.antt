@@ -1,5 +1,5 @@
 -- A turn in which no task runs and none is ready is one event.
-use Rattle.std.proofs.Common.{◌≡◌, ℕ, zero, suc, ◌-◌, Bool, true, false, List, [], ◌∷◌, ◌++◌, Option, None, Some, refl, ap, sym, subst, ◌∙◌}
+use Rattle.std.proofs.Common.{◌≡◌, ℕ, zero, suc, Bool, true, false, List, [], ◌∷◌, ◌++◌, Option, None, Some, refl, ap, sym, ◌∙◌}
 use Rattle.std.specs.Prelude.{is_some}
 use Rattle.four_value.specs.declared.Digit.{Digit}
 use Rattle.gpi.specs.Keys.{among, set_of}
@@ -11,8 +11,8 @@ use Rattle.await_tree.specs.declared.cause.Cause.TheVariants as cause
 use Rattle.run_view.specs.declared.signal_port.staged.Staged.{Staged}
 use Rattle.await_tree.specs.declared.wait_list.ready.Entry.{Entry}
 use Rattle.rig_model.specs.Run.Rig.{Rig, Setup, Running, event_of, awaited, procs}
-use Rattle.rig_model.specs.Run.Serve.{wake, serve_keys, with_fired, after_put, deposit, flushed, flushed_if, ended_if, served, is_due, serve}
-use Rattle.rig_model.specs.Run.Step.{Stepped, chosen, after_event, event_step, rig_step}
+use Rattle.rig_model.specs.Run.Serve.{wake, serve_keys, with_fired, after_put, deposit, flushed, flushed_if, ended_if, is_due, serve}
+use Rattle.rig_model.specs.Run.Step.{chosen, after_event, rig_step}
 use Rattle.rig_model.specs.Parts.Steps.{FitSteps, TurnSteps, in_turn}
 
 serve_keys_running : (keys others : List Key) (c : Rig) → (serve_keys keys others c).running ≡ c.running

@@ -1,5 +1,5 @@
 -- After steps there is less fuel, or less is left to do.
-use Rattle.std.proofs.Common.{◌≡◌, ℕ, zero, suc, ◌-◌, ◌<◌, ◌≤◌, ◌⊎◌, Bool, List, refl, subst, sym, arith, inl, inr}
+use Rattle.std.proofs.Common.{◌≡◌, ℕ, zero, suc, ◌-◌, ◌<◌, ◌≤◌, ◌⊎◌, Bool, List, subst, sym, arith, inl, inr}
 use Rattle.rig_model.specs.Run.Rig.{Rig, Setup}
 use Rattle.rig_model.specs.Run.Step.{rig_step}
 use Rattle.rig_model.proofs.RunLemmas.Falls.{mass, rig_falls}

@@ -9,6 +9,7 @@ use Rattle.gpi.specs.Soundness.{IsSoundFlat}
 use Rattle.gpi.specs.State.{State}
 use Rattle.gpi.specs.Terms.{widths_of}
 use Rattle.gpi.specs.declared.design.Flat.{Flat}
+use Rattle.gpi.specs.declared.interface.Gpi.{Ghosts as GpiGhosts}
 use Rattle.gpi.specs.declared.design.Node.{Node}
 use Rattle.gpi.specs.declared.design.Signal.{Signal}
 use Rattle.gpi.specs.declared.types.Counts.{Counts}
@@ -50,7 +51,7 @@ use Rattle.scheduler.specs.Parts.{Means, Parts, rig_by, parts_of}
 use Rattle.scheduler.specs.Parts as parts
 use Rattle.scheduler.specs.declared.test.RunningTest.{RunningTest}
 use Rattle.scheduler.specs.Engine.{rig_of, setup_of}
-use Rattle.scheduler.specs.Fits.{FitsAt, FitsKernel}
+use Rattle.scheduler.specs.Fits.{FitsAt, FitsKernel, KeepsAll}
 use Rattle.scheduler.specs.declared.engine.Engine.{Engine}
 use Rattle.scheduler.proofs.EventTurns.{event_known, event_stands, event_timely}
 use Rattle.scheduler.proofs.Known.{bare_known, first_given, kept_known, told_known}
@@ -246,3 +247,9 @@ module _ {M W F : Type 0} (m : Means M W F) where
           known = after_known;
           timely = after_timely;
         }
+
+-- what a turn keeps, where queue and simulator fit and what the tests share is the same
+pub keeps_all : {M W F K : Type 0} (m : Means M W F) (gpi : GpiGhosts K) (flat : Flat) (d e : Engine M W F) (kernel : K)
+    → setup_of m e ≡ setup_of m d → gpi.is_loaded kernel → Fits flat m.waiting m.held e.test.queue (gpi.content kernel) → KeepsAll m gpi d e kernel
+keeps_all m gpi flat d e kernel setup loaded fits =
+    record { setup = setup; loaded = loaded; keys = record { keys_are = fits.queue.keys_are; held_are = fits.queue.held_are } }

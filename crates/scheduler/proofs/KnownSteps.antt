@@ -1,5 +1,5 @@
 -- What is known of a configuration is known after what a task wants, where the design stays as wide as it is.
-use Rattle.std.proofs.Common.{◌≡◌, ℕ, zero, suc, ◌-◌, Bool, List, [], Option, None, Some, refl, ap, sym, subst, ◌∙◌, inl, inr}
+use Rattle.std.proofs.Common.{◌≡◌, ℕ, zero, suc, ◌-◌, List, [], Option, None, Some, ap, sym, subst, ◌∙◌, inl, inr}
 use Rattle.gpi.specs.Terms.{widths_of}
 use Rattle.py_value.specs.declared.trigger.TaskNo.{TaskNo}
 use Rattle.await_tree.specs.declared.cause.Given.{Given}
@@ -11,10 +11,10 @@ use Rattle.rig_model.specs.Task.Poll.{Polls, Polled}
 use Rattle.rig_model.proofs.TaskLemmas.Bounds.{number_stays}
 use Rattle.rig_model.specs.declared.task.task.Turned.{Turned}
 use Rattle.rig_model.specs.declared.task.task.Turned.TheVariants.{Spent}
-use Rattle.rig_model.specs.Run.Rig.{Rig, Setup, Running, view_of}
+use Rattle.rig_model.specs.Run.Rig.{Rig, Setup, view_of}
 use Rattle.rig_model.specs.Run.Effect.{goes_on, effect, effect_of}
-use Rattle.rig_model.specs.Run.Step.{Stepped, costing, task_at, stored, kept, rig_step}
-use Rattle.rig_model.specs.Run.Known.{IsKnown, AreAsWide, KnowsRunning}
+use Rattle.rig_model.specs.Run.Step.{Stepped, costing, task_at, kept, rig_step}
+use Rattle.rig_model.specs.Run.Known.{IsKnown, AreAsWide}
 use Rattle.rig_model.proofs.RunLemmas.Known.{step_is_known}
 use Rattle.scheduler.proofs.PollSteps.{task_at-stored, stored-stored, task_step_is}
 

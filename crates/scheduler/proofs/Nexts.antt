@@ -3,6 +3,7 @@ use Rattle.std.proofs.Common.{◌≡◌, ℕ, ◌≤◌, ◌<◌, ◌+◌, arith
 use Rattle.std.specs.Prelude.{◌||◌, nat_le, Result, Ok, Err, IfOk}
 use Rattle.gpi.specs.Content.{Content}
 use Rattle.gpi.specs.declared.design.Flat.{Flat}
+use Rattle.gpi.specs.declared.interface.Gpi.{Ghosts as GpiGhosts}
 use Rattle.port_io.specs.Means.{SinkMeans, PutsTo}
 use Rattle.port_io.specs.Ports.{AppendsPart}
 use Rattle.port_io.proofs.PartLaws.{part_one}
@@ -31,7 +32,7 @@ use Rattle.scheduler.specs.declared.turned.Next.{Next}
 use Rattle.scheduler.specs.declared.turned.Next.TheVariants.{GoesOn, Ends}
 use Rattle.scheduler.specs.declared.turned.Turn.TheVariants.{Went, Due, Over, Spent, WriteFault}
 use Rattle.scheduler.specs.Parts.{Means, rig_of}
-use Rattle.scheduler.specs.TestFits.{HasRoom, FitsNext}
+use Rattle.scheduler.specs.TestFits.{FitsAt, FitsNext, HasRoom, HasTurn}
 use Rattle.scheduler.specs.declared.test.RunningTest.{RunningTest}
 use Rattle.run_state.specs.declared.queue.queue.RunQueue.{RunQueue}
 use Rattle.run_state.specs.LiveTasks.Flows.{meanings}
@@ -121,6 +122,12 @@ module _ {M W F : Type 0} (m : Means M W F) (t : RunningTest M W F) (room : HasR
 -- the registered keys are the awaited ones where queue and simulator fit
 pub fits_keeps : {W : Type 0} (flat : Flat) (waiting : W → List Waiting) (held : W → List Key) (q : RunQueue W) (content : Content) → Fits flat waiting held q content → Keeps waiting held q content
 fits_keeps flat waiting held q content f = record { keys_are = f.queue.keys_are; held_are = f.queue.held_are }
+
+-- a task has its turn where test and simulator fit so
+pub has_turn : {M W F K : Type 0} (m : Means M W F) (gpi : GpiGhosts K) (task : TaskNo) (flat : Flat) (t : RunningTest M W F) (kernel : K) → gpi.is_loaded kernel
+    → FitsAt (Some task) flat m t (gpi.content kernel) → HasTurn m gpi task t kernel
+has_turn m gpi task flat t kernel loaded fits =
+    record { loaded = loaded; keeps = fits_keeps flat m.waiting m.held t.queue (gpi.content kernel) fits.queue; room = fits.room; stands = fits.stands }
 
 -- a task more is ready
 pub keeps_ready : {W : Type 0} (waiting : W → List Waiting) (held : W → List Key) (q q' : RunQueue W) (task : TaskNo) (given : Given) (content : Content)

@@ -4,7 +4,7 @@ use Rattle.port_io.specs.declared.ports.NoMemory.{NoMemory}
 use Rattle.port_io.specs.declared.ports.SinkFault.{SinkFault}
 use Rattle.port_io.specs.declared.ports.SinkFault.TheVariants.{Failed, OutOfMemory}
 use Rattle.scheduler.specs.declared.turned.Turn.{Turn}
-use Rattle.scheduler.specs.declared.turned.Turn.TheVariants.{Spent, WriteFault}
+use Rattle.scheduler.specs.declared.turned.Turn.TheVariants.{Spent}
 use Rattle.scheduler.specs.Events.{IsEventTurn, event_turn}
 
 not_spent : (is_late is_due : Bool) → event_turn is_late is_due ≡ Spent → ⊥

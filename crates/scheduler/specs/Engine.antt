@@ -1,6 +1,7 @@
 -- A means of proof: the configuration that an engine stands for, together with a simulator, for the proofs of the runner's turns.
 use Rattle.std.specs.Prelude.{Bool}
 use Rattle.gpi.specs.Content.{Content}
+use Rattle.gpi.specs.declared.interface.Gpi.{Ghosts as GpiGhosts}
 use Rattle.gpi.specs.declared.types.Counts.{Counts}
 use Rattle.scheduler.specs.Setups as events
 use Rattle.rig_model.specs.Run.Rig.{Rig, Setup}
@@ -24,3 +25,11 @@ counting counts c = record c { counts = counts }
 -- a test was begun, and has no outcome yet: a turn may follow
 abbrev pub runs_test : {M W F : Type 0} → Engine M W F → Bool
 runs_test e = e.runs_test
+
+-- P holds of what all tests share and of the configuration: those of the engine and the simulator.
+abbrev pub Holds : {M W F K : Type 0} → Means M W F → GpiGhosts K → (Setup → Rig → Type 0) → Engine M W F → K → Type 0
+Holds m gpi P e kernel = P (setup_of m e) (rig_of m e (gpi.content kernel))
+
+-- R relates what all tests share and the configuration before with the one after: those of the engine and the simulator before, and of the two after.
+abbrev pub Relates : {M W F K : Type 0} → Means M W F → GpiGhosts K → (Setup → Rig → Rig → Type 0) → Engine M W F → K → Engine M W F → K → Type 0
+Relates m gpi R before kernel after kernel' = R (setup_of m before) (rig_of m before (gpi.content kernel)) (rig_of m after (gpi.content kernel'))

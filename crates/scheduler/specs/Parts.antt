@@ -1,6 +1,7 @@
 -- A means of proof: the configuration that a running test stands for, together with a simulator, for the proofs of the runner's turns.
 use Rattle.std.specs.Prelude.{List, [], None}
 use Rattle.gpi.specs.Content.{Content}
+use Rattle.gpi.specs.declared.interface.Gpi.{Ghosts as GpiGhosts}
 use Rattle.gpi.specs.declared.types.Key.{Key}
 use Rattle.await_tree.specs.EndedTasks.Endings.{Endings}
 use Rattle.run_view.specs.RandomStream.Generator.{Generator}
@@ -8,6 +9,9 @@ use Rattle.await_tree.specs.SyncObjects.States.{States}
 use Rattle.test_meaning.specs.Body.BodyTrees.{Function}
 use Rattle.rig_model.specs.Task.Frame.{Task}
 use Rattle.await_tree.specs.WaitList.Waiting.{Waiting}
+use Rattle.await_tree.specs.declared.wait_list.awaits.Awaits.{Ghosts as AwaitsGhosts}
+use Rattle.rig_model.specs.declared.task.flow.Flow.{Ghosts as FlowGhosts}
+use Rattle.rig_model.specs.declared.task.flow.FlowMaker.{Ghosts as MakerGhosts}
 use Rattle.rig_model.specs.Run.Rig.{Rig}
 use Rattle.rig_model.specs.Parts.Queue.{Queue}
 use Rattle.run_state.specs.Queue.Fits.{queue_of}
@@ -22,8 +26,10 @@ pub record Means (M W F : Type 0) : Type 0 where
   pub waiting : W → List Waiting
   pub held : W → List Key
 
-abbrev pub means : {M W F : Type 0} → (M → List Function) → (F → List Function) → (F → Task) → (W → List Waiting) → (W → List Key) → Means M W F
-means functions file task waiting held = record { functions = functions; file = file; task = task; waiting = waiting; held = held }
+-- those of a type that makes tasks, of the tasks that it makes, and of a type that keeps who waits
+abbrev pub means : {M W F : Type 0} → MakerGhosts M F → FlowGhosts F → AwaitsGhosts W → Means M W F
+means maker flow awaits
+    = record { functions = maker.functions; file = flow.functions; task = flow.meaning; waiting = awaits.waiting; held = awaits.held }
 
 -- what a test has besides its queue
 pub record Parts : Type 0 where
@@ -57,3 +63,11 @@ parts_of m t = record { tasks = live_in m.task t.tasks; endings = t.tasks.ended;
 -- The configuration between the things that tasks want, where the turn is taken from the task that wanted the last one.
 abbrev pub rig_of : {M W F : Type 0} → Means M W F → RunningTest M W F → Content → Rig
 rig_of m t content = rig_by (parts_of m t) (queue_of m.waiting t.queue) content
+
+-- R relates the configuration before with the one after: that of the test and the simulator before, and of the two after.
+abbrev pub Relates : {M W F K : Type 0} → Means M W F → GpiGhosts K → (Rig → Rig → Type 0) → RunningTest M W F → K → RunningTest M W F → K → Type 0
+Relates m gpi R before kernel after kernel' = R (rig_of m before (gpi.content kernel)) (rig_of m after (gpi.content kernel'))
+
+-- the same of a step that is no matter of the simulator, whatever it holds
+abbrev pub RelatesAside : {M W F : Type 0} → Means M W F → (Rig → Rig → Type 0) → RunningTest M W F → RunningTest M W F → Type 0
+RelatesAside m R before after = (content : Content) → R (rig_of m before content) (rig_of m after content)

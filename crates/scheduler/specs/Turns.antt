@@ -14,7 +14,6 @@ use Rattle.rig_model.specs.Run.Rig.{Rig, Setup}
 use Rattle.rig_model.specs.Run.Effect.{effect, goes_on}
 use Rattle.rig_model.specs.Run.Case.{test_begun}
 use Rattle.rig_model.specs.Run.Line.{test_line}
-use Rattle.rig_model.specs.declared.run.outcome.Outcome.{Outcome}
 use Rattle.rig_model.specs.Parts.Steps.{Moves, Short, Begins}
 use Rattle.scheduler.specs.declared.turned.Turn.{Turn}
 use Rattle.scheduler.specs.declared.turned.Turn.TheVariants.{Went, Due, Over, Spent, WriteFault}

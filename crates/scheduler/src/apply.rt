@@ -23,7 +23,7 @@ use std::sync::ledger::Ledger;
 
 impl<M: FlowMaker + Drop, W: Awaits> RunningTest<M, W> {
     ghost use Rattle.scheduler.specs.TestFits.{FitsAt, FitsNext, Kept};
-    ghost use Rattle.scheduler.specs.Parts.{means, rig_of};
+    ghost use Rattle.scheduler.specs.Parts.{Relates, means, rig_of};
 
     /// What the task wants that has its turn is done, once the turn is taken from it. What tasks see must know what it wants. The task goes on and
     /// is given something, or its turn ends. After a failed put and after `NoMemory` only `clear` is called.
@@ -39,20 +39,19 @@ impl<M: FlowMaker + Drop, W: Awaits> RunningTest<M, W> {
     ) -> Result<Next, NoMemory>
         requires loaded { K.is_loaded kernel.old }
         requires fits { FitsAt (Some task) teller.now.flat.now
-            (means M.functions M.Flow.functions M.Flow.meaning W.waiting W.held) self.old (K.content kernel.old) }
+            (means M.FlowMaker M.Flow.Flow W.Awaits) self.old (K.content kernel.old) }
         requires time { (K.content kernel.old).state.time ≤ latest_time }
         requires known { KnowsTurned (M.functions self.old.tasks.maker) (view_of (setup_of (M.functions self.old.tasks.maker) teller.now)
-            (rig_of (means M.functions M.Flow.functions M.Flow.meaning W.waiting W.held) self.old (K.content kernel.old))) turned }
+            (rig_of (means M.FlowMaker M.Flow.Flow W.Awaits) self.old (K.content kernel.old))) turned }
         requires wanted { turned ≢ Turned.Spent }
-        ensures leads { IfOk result (λ next. LeadsTo (setup_of (M.functions self.old.tasks.maker) teller.now) task turned
-            (rig_of (means M.functions M.Flow.functions M.Flow.meaning W.waiting W.held) self.old (K.content kernel.old)) next
-            (rig_of (means M.functions M.Flow.functions M.Flow.meaning W.waiting W.held) self.new (K.content kernel.new))) }
+        ensures leads { IfOk result (λ next. Relates (means M.FlowMaker M.Flow.Flow W.Awaits) K.Gpi
+            (λ c d. LeadsTo (setup_of (M.functions self.old.tasks.maker) teller.now) task turned c next d) self.old kernel.old self.new kernel.new) }
         ensures puts { PutsTo (sink_means O.Sink) out.old (effect (setup_of (M.functions self.old.tasks.maker) teller.now) task turned
-            (rig_of (means M.functions M.Flow.functions M.Flow.meaning W.waiting W.held) self.old (K.content kernel.old))).lines
+            (rig_of (means M.FlowMaker M.Flow.Flow W.Awaits) self.old (K.content kernel.old))).lines
             (next_fault result) out.new }
         ensures fits { IfOk result (λ next. FitsNext task next teller.now.flat.now
-            (means M.functions M.Flow.functions M.Flow.meaning W.waiting W.held) self.new (K.content kernel.new)) }
-        ensures kept { Kept (means M.functions M.Flow.functions M.Flow.meaning W.waiting W.held) K.is_loaded K.content self.old self.new kernel.new }
+            (means M.FlowMaker M.Flow.Flow W.Awaits) self.new (K.content kernel.new)) }
+        ensures kept { Kept (means M.FlowMaker M.Flow.Flow W.Awaits) K.Gpi self.old self.new kernel.new }
     {
         match turned {
             Turned::Await(trig) => self.wait(alloc, kernel, task, trig, steps),

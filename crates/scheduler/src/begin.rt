@@ -42,8 +42,8 @@ fn begun(fault: Option<FaultKind>) -> Turn
 }
 
 impl<'a, M: FlowMaker + Drop, W: Awaits> Engine<'a, M, W> {
-    ghost use Rattle.scheduler.specs.Engine.{rig_of, runs_test, setup_of};
-    ghost use Rattle.scheduler.specs.Fits.{FitsKernel, KeepsAll};
+    ghost use Rattle.scheduler.specs.Engine.{Relates, rig_of, runs_test};
+    ghost use Rattle.scheduler.specs.Fits.{FitsKernel, KeepsAll, Prepares};
 
     /// Sets the deadline of a test whose own task is ready, so many steps from now; where that time can't come there is none.
     fn set_steps<K: Gpi, L: Ledger>(
@@ -53,18 +53,13 @@ impl<'a, M: FlowMaker + Drop, W: Awaits> Engine<'a, M, W> {
         steps: &mut Steps<L>,
     ) -> Result<(), NoMemory>
         requires loaded { K.is_loaded kernel.old }
-        requires fits { FitsKernel (means M.functions M.Flow.functions M.Flow.meaning W.waiting W.held) self.old (K.content kernel.old) }
-        requires none { awaited (rig_of (means M.functions M.Flow.functions M.Flow.meaning W.waiting W.held) self.old (K.content kernel.old)) ≡ [] }
+        requires fits { FitsKernel (means M.FlowMaker M.Flow.Flow W.Awaits) self.old (K.content kernel.old) }
+        requires none { awaited (rig_of (means M.FlowMaker M.Flow.Flow W.Awaits) self.old (K.content kernel.old)) ≡ [] }
         requires new { self.old.test.queue.deadline ≡ None }
         requires some { 1 ≤ after }
-        ensures limited { OnOk result (rig_of (means M.functions M.Flow.functions M.Flow.meaning W.waiting W.held) self.new (K.content kernel.new)
-            ≡ counted [] (rig_of (means M.functions M.Flow.functions M.Flow.meaning W.waiting W.held) self.old (K.content kernel.old))
-            (with_deadline (Ok after)
-            (rig_of (means M.functions M.Flow.functions M.Flow.meaning W.waiting W.held) self.old (K.content kernel.old)))) }
-        ensures fits { OnOk result (FitsKernel (means M.functions M.Flow.functions M.Flow.meaning W.waiting W.held) self.new (K.content kernel.new)) }
-        ensures keeps { KeepsAll (means M.functions M.Flow.functions M.Flow.meaning W.waiting W.held)
-            K.is_loaded K.content self.old self.new kernel.new }
-        ensures runs { self.new.runs_test ≡ self.old.runs_test }
+        ensures limited { OnOk result (Relates (means M.FlowMaker M.Flow.Flow W.Awaits) K.Gpi
+            (λ setup c d. d ≡ counted [] c (with_deadline (Ok after) c)) self.old kernel.old self.new kernel.new) }
+        ensures stays { Prepares (means M.FlowMaker M.Flow.Flow W.Awaits) K.Gpi self.old result self.new kernel.new }
     {
         match deadline_at(kernel.now(), after) {
             None => Ok(()),
@@ -81,19 +76,13 @@ impl<'a, M: FlowMaker + Drop, W: Awaits> Engine<'a, M, W> {
         steps: &mut Steps<L>,
     ) -> Result<Option<FaultKind>, NoMemory>
         requires loaded { K.is_loaded kernel.old }
-        requires fits { FitsKernel (means M.functions M.Flow.functions M.Flow.meaning W.waiting W.held) self.old (K.content kernel.old) }
-        requires none { awaited (rig_of (means M.functions M.Flow.functions M.Flow.meaning W.waiting W.held) self.old (K.content kernel.old)) ≡ [] }
+        requires fits { FitsKernel (means M.FlowMaker M.Flow.Flow W.Awaits) self.old (K.content kernel.old) }
+        requires none { awaited (rig_of (means M.FlowMaker M.Flow.Flow W.Awaits) self.old (K.content kernel.old)) ≡ [] }
         requires new { self.old.test.queue.deadline ≡ None }
-        ensures limited { IfOk result
-            (λ fault. faulted fault (rig_of (means M.functions M.Flow.functions M.Flow.meaning W.waiting W.held) self.new (K.content kernel.new))
-            ≡ counted [] (rig_of (means M.functions M.Flow.functions M.Flow.meaning W.waiting W.held) self.old (K.content kernel.old))
-            (with_limit (setup_of (means M.functions M.Flow.functions M.Flow.meaning W.waiting W.held) self.old).flat.step_fs
-            (Some (view_limit limit.now))
-            (rig_of (means M.functions M.Flow.functions M.Flow.meaning W.waiting W.held) self.old (K.content kernel.old)))) }
-        ensures fits { OnOk result (FitsKernel (means M.functions M.Flow.functions M.Flow.meaning W.waiting W.held) self.new (K.content kernel.new)) }
-        ensures keeps { KeepsAll (means M.functions M.Flow.functions M.Flow.meaning W.waiting W.held)
-            K.is_loaded K.content self.old self.new kernel.new }
-        ensures runs { self.new.runs_test ≡ self.old.runs_test }
+        ensures limited { IfOk result (λ fault. Relates (means M.FlowMaker M.Flow.Flow W.Awaits) K.Gpi
+            (λ setup c d. faulted fault d ≡ counted [] c (with_limit setup.flat.step_fs (Some (view_limit limit.now)) c))
+            self.old kernel.old self.new kernel.new) }
+        ensures stays { Prepares (means M.FlowMaker M.Flow.Flow W.Awaits) K.Gpi self.old result self.new kernel.new }
     {
         match limit_steps(alloc, self.teller.flat.step_fs, limit) {
             Ok(after) => {
@@ -115,21 +104,15 @@ impl<'a, M: FlowMaker + Drop, W: Awaits> Engine<'a, M, W> {
         steps: &mut Steps<L>,
     ) -> Result<Option<FaultKind>, NoMemory>
         requires loaded { K.is_loaded kernel.old }
-        requires fits { FitsKernel (means M.functions M.Flow.functions M.Flow.meaning W.waiting W.held) self.old (K.content kernel.old) }
-        requires empty { rig_of (means M.functions M.Flow.functions M.Flow.meaning W.waiting W.held) self.old (K.content kernel.old)
+        requires fits { FitsKernel (means M.FlowMaker M.Flow.Flow W.Awaits) self.old (K.content kernel.old) }
+        requires empty { rig_of (means M.FlowMaker M.Flow.Flow W.Awaits) self.old (K.content kernel.old)
             ≡ emptied (K.content kernel.old).state self.old.test.random (K.content kernel.old).counts }
         requires sound { is_sound_case (M.functions self.old.test.tasks.maker) (view_case case.now) ≡ true }
         requires known { (view : View) → KnowsNode view 0 → KnowsAll view values }
-        ensures begins { IfOk result
-            (λ fault. faulted fault (rig_of (means M.functions M.Flow.functions M.Flow.meaning W.waiting W.held) self.new (K.content kernel.new))
-            ≡ counted [] (rig_of (means M.functions M.Flow.functions M.Flow.meaning W.waiting W.held) self.old (K.content kernel.old))
-            (with_limit (setup_of (means M.functions M.Flow.functions M.Flow.meaning W.waiting W.held) self.old).flat.step_fs
-            (view_case case.now).time (with_new_task (function_at (M.functions self.old.test.tasks.maker) case.now.func) values
-            (rig_of (means M.functions M.Flow.functions M.Flow.meaning W.waiting W.held) self.old (K.content kernel.old))))) }
-        ensures fits { OnOk result (FitsKernel (means M.functions M.Flow.functions M.Flow.meaning W.waiting W.held) self.new (K.content kernel.new)) }
-        ensures keeps { KeepsAll (means M.functions M.Flow.functions M.Flow.meaning W.waiting W.held)
-            K.is_loaded K.content self.old self.new kernel.new }
-        ensures runs { self.new.runs_test ≡ self.old.runs_test }
+        ensures begins { IfOk result (λ fault. Relates (means M.FlowMaker M.Flow.Flow W.Awaits) K.Gpi
+            (λ setup c d. faulted fault d ≡ counted [] c (with_limit setup.flat.step_fs (view_case case.now).time
+            (with_new_task (function_at setup.functions case.now.func) values c))) self.old kernel.old self.new kernel.new) }
+        ensures stays { Prepares (means M.FlowMaker M.Flow.Flow W.Awaits) K.Gpi self.old result self.new kernel.new }
     {
         self.test.begin(alloc, case.func, values)?;
         match &case.time {
@@ -147,18 +130,13 @@ impl<'a, M: FlowMaker + Drop, W: Awaits> Engine<'a, M, W> {
         steps: &mut Steps<L>,
     ) -> Result<Option<FaultKind>, NoMemory>
         requires loaded { K.is_loaded kernel.old }
-        requires fits { FitsKernel (means M.functions M.Flow.functions M.Flow.meaning W.waiting W.held) self.old (K.content kernel.old) }
-        requires empty { rig_of (means M.functions M.Flow.functions M.Flow.meaning W.waiting W.held) self.old (K.content kernel.old)
+        requires fits { FitsKernel (means M.FlowMaker M.Flow.Flow W.Awaits) self.old (K.content kernel.old) }
+        requires empty { rig_of (means M.FlowMaker M.Flow.Flow W.Awaits) self.old (K.content kernel.old)
             ≡ emptied (K.content kernel.old).state self.old.test.random (K.content kernel.old).counts }
         requires sound { is_sound_case (M.functions self.old.test.tasks.maker) (view_case case.now) ≡ true }
-        ensures begins { IfOk result
-            (λ fault. faulted fault (rig_of (means M.functions M.Flow.functions M.Flow.meaning W.waiting W.held) self.new (K.content kernel.new))
-            ≡ test_begun (setup_of (means M.functions M.Flow.functions M.Flow.meaning W.waiting W.held) self.old) (view_case case.now)
-            (rig_of (means M.functions M.Flow.functions M.Flow.meaning W.waiting W.held) self.old (K.content kernel.old))) }
-        ensures fits { OnOk result (FitsKernel (means M.functions M.Flow.functions M.Flow.meaning W.waiting W.held) self.new (K.content kernel.new)) }
-        ensures keeps { KeepsAll (means M.functions M.Flow.functions M.Flow.meaning W.waiting W.held)
-            K.is_loaded K.content self.old self.new kernel.new }
-        ensures runs { self.new.runs_test ≡ self.old.runs_test }
+        ensures begins { IfOk result (λ fault. Relates (means M.FlowMaker M.Flow.Flow W.Awaits) K.Gpi
+            (λ setup c d. faulted fault d ≡ test_begun setup (view_case case.now) c) self.old kernel.old self.new kernel.new) }
+        ensures stays { Prepares (means M.FlowMaker M.Flow.Flow W.Awaits) K.Gpi self.old result self.new kernel.new }
     {
         match task_arguments(alloc, &case.args) {
             Ok(values) => self.start_with(alloc, kernel, case, values, steps),
@@ -179,16 +157,15 @@ impl<'a, M: FlowMaker + Drop, W: Awaits> Engine<'a, M, W> {
         steps: &mut Steps<L>,
     ) -> Result<Turn, NoMemory>
         requires loaded { K.is_loaded kernel.old }
-        requires fits { FitsKernel (means M.functions M.Flow.functions M.Flow.meaning W.waiting W.held) self.old (K.content kernel.old) }
-        requires empty { rig_of (means M.functions M.Flow.functions M.Flow.meaning W.waiting W.held) self.old (K.content kernel.old)
+        requires fits { FitsKernel (means M.FlowMaker M.Flow.Flow W.Awaits) self.old (K.content kernel.old) }
+        requires empty { rig_of (means M.FlowMaker M.Flow.Flow W.Awaits) self.old (K.content kernel.old)
             ≡ emptied (K.content kernel.old).state self.old.test.random (K.content kernel.old).counts }
         requires sound { is_sound_case (M.functions self.old.test.tasks.maker) (view_case case.now) ≡ true }
-        ensures begins { BeginsTo (sink_means O.Sink) (setup_of (means M.functions M.Flow.functions M.Flow.meaning W.waiting W.held) self.old)
-            (view_case case.now) (rig_of (means M.functions M.Flow.functions M.Flow.meaning W.waiting W.held) self.old (K.content kernel.old)) result
-            (rig_of (means M.functions M.Flow.functions M.Flow.meaning W.waiting W.held) self.new (K.content kernel.new)) out.old out.new }
-        ensures fits { OnOk result (FitsKernel (means M.functions M.Flow.functions M.Flow.meaning W.waiting W.held) self.new (K.content kernel.new)) }
-        ensures keeps { KeepsAll (means M.functions M.Flow.functions M.Flow.meaning W.waiting W.held)
-            K.is_loaded K.content self.old self.new kernel.new }
+        ensures begins { Relates (means M.FlowMaker M.Flow.Flow W.Awaits) K.Gpi
+            (λ setup c d. BeginsTo (sink_means O.Sink) setup (view_case case.now) c result d out.old out.new)
+            self.old kernel.old self.new kernel.new }
+        ensures fits { OnOk result (FitsKernel (means M.FlowMaker M.Flow.Flow W.Awaits) self.new (K.content kernel.new)) }
+        ensures keeps { KeepsAll (means M.FlowMaker M.Flow.Flow W.Awaits) K.Gpi self.old self.new kernel.new }
         ensures runs { runs_test self.new ≡ has_gone result }
     {
         self.runs_test = false;

@@ -1,6 +1,5 @@
 //! Random numbers.
 ghost use Rattle.std.specs.Prelude.{◌≡◌, ◌≤◌, ◌*◌, ◌/◌, ◌^◌, ◌<◌, ◌+ℤ◌, ◌-ℤ◌, pos, IsTrue, Ok, None};
-ghost use Rattle.gpi.specs.Content.{Content};
 ghost use Rattle.py_value.specs.Integer.Integer.{is_whole};
 ghost use Rattle.py_value.specs.declared.trigger.TaskNo.{TaskNo};
 ghost use Rattle.run_view.specs.RandomStream.Generator.{next, word};
@@ -34,16 +33,15 @@ fn share(word: u32, span: u64) -> u64
 }
 
 impl<M: FlowMaker + Drop, W: Awaits> RunningTest<M, W> {
-    ghost use Rattle.scheduler.specs.Parts.{means, rig_of};
+    ghost use Rattle.scheduler.specs.Parts.{RelatesAside, means};
 
     /// A task draws one of `span` numbers from `low` on (the library reference, `random.randint`), by the next word. It takes no memory.
     pub(crate) fn draw(&mut self, low: i128, span: u64) -> Next
         requires some { 1 ≤ span }
         requires low { IsTrue (is_whole low) }
         requires high { IsTrue (is_whole (low +ℤ pos span -ℤ pos 1)) }
-        ensures leads { (setup : Setup) → (task : TaskNo) → (content : Content)
-            → LeadsTo setup task (Draw low span) (rig_of (means M.functions M.Flow.functions M.Flow.meaning W.waiting W.held) self.old content)
-            result (rig_of (means M.functions M.Flow.functions M.Flow.meaning W.waiting W.held) self.new content) }
+        ensures leads { (setup : Setup) → (task : TaskNo)
+            → RelatesAside (means M.FlowMaker M.Flow.Flow W.Awaits) (λ c d. LeadsTo setup task (Draw low span) c result d) self.old self.new }
         ensures fine { next_fault (Ok result) ≡ None }
         ensures queue { self.new.queue ≡ self.old.queue }
         ensures tasks { self.new.tasks ≡ self.old.tasks }

@@ -1,10 +1,6 @@
 //! Tasks that end, and tasks that are killed.
-ghost use Rattle.std.specs.Prelude.{◌≡◌, ◌<◌, length, IfOk, OnOk, Ok, Some, None};
-ghost use Rattle.scheduler.specs.EffectLaws.Stands.{StandsIn};
-ghost use Rattle.rig_model.specs.Run.Rig.{Setup};
-ghost use Rattle.run_state.specs.Queue.Fits.{Keeps};
+ghost use Rattle.std.specs.Prelude.{◌≡◌, ◌<◌, length, IfOk, Ok};
 ghost use Rattle.run_state.specs.Queue.Still.{AreStill};
-ghost use Rattle.scheduler.specs.Turns.{LeadsTo, next_fault};
 ghost use Rattle.rig_model.specs.declared.task.task.Turned.TheVariants.{Done, Kill, Raised};
 
 use crate::test::RunningTest;
@@ -32,8 +28,8 @@ fn copy_fault(alloc: Global, fault: &Fault) -> Result<Fault, NoMemory>
 }
 
 impl<M: FlowMaker + Drop, W: Awaits> RunningTest<M, W> {
-    ghost use Rattle.scheduler.specs.TestFits.{HasRoom, Kept, StaysFit};
-    ghost use Rattle.scheduler.specs.Parts.{means, rig_of};
+    ghost use Rattle.scheduler.specs.TestFits.{HasTurn, KeptFit, LeadsOn};
+    ghost use Rattle.scheduler.specs.Parts.{means};
 
     /// A task kills another (cocotb 1.8, `Task.kill`), which leaves the ready tasks and those that wait; those who join it are served. One that has
     /// ended stays as it is, and a task that would kill itself is given a RuntimeError. It takes no memory.
@@ -44,20 +40,10 @@ impl<M: FlowMaker + Drop, W: Awaits> RunningTest<M, W> {
         other: TaskNo,
         steps: &mut Steps<L>,
     ) -> Next
-        requires loaded { K.is_loaded kernel.old }
-        requires keeps { Keeps W.waiting W.held self.old.queue (K.content kernel.old) }
-        requires room { HasRoom (means M.functions M.Flow.functions M.Flow.meaning W.waiting W.held) self.old }
-        requires stands { StandsIn (Some task)
-            (rig_of (means M.functions M.Flow.functions M.Flow.meaning W.waiting W.held) self.old (K.content kernel.old)) }
+        requires turn { HasTurn (means M.FlowMaker M.Flow.Flow W.Awaits) K.Gpi task self.old kernel.old }
         requires other { other.0 < length self.old.tasks.ended }
-        ensures leads { (setup : Setup) → LeadsTo setup task (Kill other)
-            (rig_of (means M.functions M.Flow.functions M.Flow.meaning W.waiting W.held) self.old (K.content kernel.old)) result
-            (rig_of (means M.functions M.Flow.functions M.Flow.meaning W.waiting W.held) self.new (K.content kernel.new)) }
-        ensures fine { next_fault (Ok result) ≡ None }
-        ensures room { HasRoom (means M.functions M.Flow.functions M.Flow.meaning W.waiting W.held) self.new }
-        ensures fits { StaysFit (means M.functions M.Flow.functions M.Flow.meaning W.waiting W.held) self.old
-            (K.content kernel.old) self.new (K.content kernel.new) }
-        ensures kept { Kept (means M.functions M.Flow.functions M.Flow.meaning W.waiting W.held) K.is_loaded K.content self.old self.new kernel.new }
+        ensures leads { LeadsOn (means M.FlowMaker M.Flow.Flow W.Awaits) K.Gpi task (Kill other) self.old kernel.old result self.new kernel.new }
+        ensures stays { KeptFit (means M.FlowMaker M.Flow.Flow W.Awaits) K.Gpi self.old kernel.old self.new kernel.new }
     {
         if other.0 == task.0 {
             return Next::GoesOn(Given::Fault(Fault::plain(FaultKind::RuntimeError)));
@@ -78,19 +64,9 @@ impl<M: FlowMaker + Drop, W: Awaits> RunningTest<M, W> {
         value: Value,
         steps: &mut Steps<L>,
     ) -> Next
-        requires loaded { K.is_loaded kernel.old }
-        requires keeps { Keeps W.waiting W.held self.old.queue (K.content kernel.old) }
-        requires room { HasRoom (means M.functions M.Flow.functions M.Flow.meaning W.waiting W.held) self.old }
-        requires stands { StandsIn (Some task)
-            (rig_of (means M.functions M.Flow.functions M.Flow.meaning W.waiting W.held) self.old (K.content kernel.old)) }
-        ensures leads { (setup : Setup) → LeadsTo setup task (Done value)
-            (rig_of (means M.functions M.Flow.functions M.Flow.meaning W.waiting W.held) self.old (K.content kernel.old)) result
-            (rig_of (means M.functions M.Flow.functions M.Flow.meaning W.waiting W.held) self.new (K.content kernel.new)) }
-        ensures fine { next_fault (Ok result) ≡ None }
-        ensures room { HasRoom (means M.functions M.Flow.functions M.Flow.meaning W.waiting W.held) self.new }
-        ensures fits { StaysFit (means M.functions M.Flow.functions M.Flow.meaning W.waiting W.held) self.old
-            (K.content kernel.old) self.new (K.content kernel.new) }
-        ensures kept { Kept (means M.functions M.Flow.functions M.Flow.meaning W.waiting W.held) K.is_loaded K.content self.old self.new kernel.new }
+        requires turn { HasTurn (means M.FlowMaker M.Flow.Flow W.Awaits) K.Gpi task self.old kernel.old }
+        ensures leads { LeadsOn (means M.FlowMaker M.Flow.Flow W.Awaits) K.Gpi task (Done value) self.old kernel.old result self.new kernel.new }
+        ensures stays { KeptFit (means M.FlowMaker M.Flow.Flow W.Awaits) K.Gpi self.old kernel.old self.new kernel.new }
     {
         self.tasks.end(task, Ending::Returned(value));
         let ended = Cause::Ended {
@@ -114,20 +90,11 @@ impl<M: FlowMaker + Drop, W: Awaits> RunningTest<M, W> {
         fault: Fault,
         steps: &mut Steps<L>,
     ) -> Result<Next, NoMemory>
-        requires loaded { K.is_loaded kernel.old }
-        requires keeps { Keeps W.waiting W.held self.old.queue (K.content kernel.old) }
+        requires turn { HasTurn (means M.FlowMaker M.Flow.Flow W.Awaits) K.Gpi task self.old kernel.old }
         requires still { AreStill (W.waiting self.old.queue.awaits) }
-        requires room { HasRoom (means M.functions M.Flow.functions M.Flow.meaning W.waiting W.held) self.old }
-        requires stands { StandsIn (Some task)
-            (rig_of (means M.functions M.Flow.functions M.Flow.meaning W.waiting W.held) self.old (K.content kernel.old)) }
-        ensures leads { IfOk result (λ next. (setup : Setup) → LeadsTo setup task (Raised fault)
-            (rig_of (means M.functions M.Flow.functions M.Flow.meaning W.waiting W.held) self.old (K.content kernel.old)) next
-            (rig_of (means M.functions M.Flow.functions M.Flow.meaning W.waiting W.held) self.new (K.content kernel.new))) }
-        ensures fine { IfOk result (λ next. next_fault (Ok next) ≡ None) }
-        ensures room { OnOk result (HasRoom (means M.functions M.Flow.functions M.Flow.meaning W.waiting W.held) self.new) }
-        ensures fits { StaysFit (means M.functions M.Flow.functions M.Flow.meaning W.waiting W.held) self.old
-            (K.content kernel.old) self.new (K.content kernel.new) }
-        ensures kept { Kept (means M.functions M.Flow.functions M.Flow.meaning W.waiting W.held) K.is_loaded K.content self.old self.new kernel.new }
+        ensures leads { IfOk result
+            (λ next. LeadsOn (means M.FlowMaker M.Flow.Flow W.Awaits) K.Gpi task (Raised fault) self.old kernel.old next self.new kernel.new) }
+        ensures stays { KeptFit (means M.FlowMaker M.Flow.Flow W.Awaits) K.Gpi self.old kernel.old self.new kernel.new }
     {
         let own = copy_fault(alloc, &fault)?;
         self.tasks.end(task, Ending::Failed(own));

@@ -1,5 +1,5 @@
 //! The engine, what its tests share, and the end of a test.
-ghost use Rattle.std.specs.Prelude.{◌≡◌, ◌<◌, ◌+◌, [], length, IfOk, OnOk, OnErr, true, false};
+ghost use Rattle.std.specs.Prelude.{◌≡◌, ◌<◌, ◌+◌, [], length, IfOk, OnOk, OnErr, false};
 ghost use Rattle.gpi.specs.Content.{Content, opening};
 ghost use Rattle.gpi.specs.Limits.{latest_time};
 ghost use Rattle.gpi.specs.Soundness.{IsSoundFlat};
@@ -37,7 +37,7 @@ pub struct Engine<'a, M: FlowMaker + Drop, W: Awaits> {
 }
 
 impl<'a, M: FlowMaker + Drop, W: Awaits> Engine<'a, M, W> {
-    ghost use Rattle.scheduler.specs.Engine.{counting, rig_of, runs_test, setup_of};
+    ghost use Rattle.scheduler.specs.Engine.{Relates, counting, rig_of, runs_test, setup_of};
     ghost use Rattle.scheduler.specs.Fits.{FitsKernel, KeepsAll};
 
     /// An engine for the design, in which no test runs and no start is planned. Its random numbers are those of the seed. With `trace` it writes a
@@ -52,13 +52,13 @@ impl<'a, M: FlowMaker + Drop, W: Awaits> Engine<'a, M, W> {
     ) -> Result<Self, NoMemory>
         requires waiting { W.waiting awaits ≡ [] }
         requires held { AreAlike (W.held awaits) [] }
-        ensures setup { IfOk result (λ engine. setup_of (means M.functions M.Flow.functions M.Flow.meaning W.waiting W.held) engine
+        ensures setup { IfOk result (λ engine. setup_of (means M.FlowMaker M.Flow.Flow W.Awaits) engine
             ≡ record { functions = M.functions maker; flat = flat.now; trace = trace }) }
         ensures empty { IfOk result
-            (λ engine. (content : Content) → rig_of (means M.functions M.Flow.functions M.Flow.meaning W.waiting W.held) engine content
+            (λ engine. (content : Content) → rig_of (means M.FlowMaker M.Flow.Flow W.Awaits) engine content
             ≡ emptied content.state (seeded seed) content.counts) }
         ensures fits { IfOk result (λ engine. IsSoundFlat flat.now → AreSoundFunctions (M.functions maker)
-            → FitsKernel (means M.functions M.Flow.functions M.Flow.meaning W.waiting W.held) engine (opening flat.now)) }
+            → FitsKernel (means M.FlowMaker M.Flow.Flow W.Awaits) engine (opening flat.now)) }
         ensures runs { IfOk result (λ engine. runs_test engine ≡ false) }
     {
         Ok(Engine {
@@ -79,7 +79,7 @@ impl<'a, M: FlowMaker + Drop, W: Awaits> Engine<'a, M, W> {
 
     /// The design that its tests run on.
     pub fn design(&self) -> &Flat
-        ensures { result.now ≡ (setup_of (means M.functions M.Flow.functions M.Flow.meaning W.waiting W.held) self.now).flat }
+        ensures { result.now ≡ (setup_of (means M.FlowMaker M.Flow.Flow W.Awaits) self.now).flat }
     {
         self.teller.flat
     }
@@ -89,12 +89,10 @@ impl<'a, M: FlowMaker + Drop, W: Awaits> Engine<'a, M, W> {
     pub fn end_test<K: Gpi, L: Ledger>(&mut self, kernel: &mut K, steps: &mut Steps<L>)
         requires loaded { K.is_loaded kernel.old }
         requires keys { Keeps W.waiting W.held self.old.test.queue (K.content kernel.old) }
-        ensures ended { rig_of (means M.functions M.Flow.functions M.Flow.meaning W.waiting W.held) self.new (K.content kernel.new)
-            ≡ ended (rig_of (means M.functions M.Flow.functions M.Flow.meaning W.waiting W.held) self.old (K.content kernel.old)) }
-        ensures fits { FitsKernel (means M.functions M.Flow.functions M.Flow.meaning W.waiting W.held) self.old (K.content kernel.old)
-            → FitsKernel (means M.functions M.Flow.functions M.Flow.meaning W.waiting W.held) self.new (K.content kernel.new) }
-        ensures keeps { KeepsAll (means M.functions M.Flow.functions M.Flow.meaning W.waiting W.held)
-            K.is_loaded K.content self.old self.new kernel.new }
+        ensures ended { Relates (means M.FlowMaker M.Flow.Flow W.Awaits) K.Gpi (λ setup c d. d ≡ ended c) self.old kernel.old self.new kernel.new }
+        ensures fits { FitsKernel (means M.FlowMaker M.Flow.Flow W.Awaits) self.old (K.content kernel.old)
+            → FitsKernel (means M.FlowMaker M.Flow.Flow W.Awaits) self.new (K.content kernel.new) }
+        ensures keeps { KeepsAll (means M.FlowMaker M.Flow.Flow W.Awaits) K.Gpi self.old self.new kernel.new }
         ensures none { AreKeys (K.content kernel.new).keys [] }
         ensures runs { runs_test self.new ≡ false }
     {
@@ -110,17 +108,15 @@ impl<'a, M: FlowMaker + Drop, W: Awaits> Engine<'a, M, W> {
         steps: &mut Steps<L>,
     ) -> Result<(), NoMemory>
         requires loaded { K.is_loaded kernel.old }
-        requires fits { FitsKernel (means M.functions M.Flow.functions M.Flow.meaning W.waiting W.held) self.old (K.content kernel.old) }
+        requires fits { FitsKernel (means M.FlowMaker M.Flow.Flow W.Awaits) self.old (K.content kernel.old) }
         requires new { self.old.test.queue.planned ≡ None }
         requires early { (K.content kernel.old).state.time < latest_time }
-        ensures planned { OnOk result (rig_of (means M.functions M.Flow.functions M.Flow.meaning W.waiting W.held) self.new (K.content kernel.new)
-            ≡ start_planned (rig_of (means M.functions M.Flow.functions M.Flow.meaning W.waiting W.held) self.old (K.content kernel.old))) }
-        ensures kept { OnErr result (rig_of (means M.functions M.Flow.functions M.Flow.meaning W.waiting W.held) self.new (K.content kernel.new)
-            ≡ counting (K.content kernel.new).counts
-            (rig_of (means M.functions M.Flow.functions M.Flow.meaning W.waiting W.held) self.old (K.content kernel.old))) }
-        ensures fits { FitsKernel (means M.functions M.Flow.functions M.Flow.meaning W.waiting W.held) self.new (K.content kernel.new) }
-        ensures keeps { KeepsAll (means M.functions M.Flow.functions M.Flow.meaning W.waiting W.held)
-            K.is_loaded K.content self.old self.new kernel.new }
+        ensures planned { OnOk result (Relates (means M.FlowMaker M.Flow.Flow W.Awaits) K.Gpi
+            (λ setup c d. d ≡ start_planned c) self.old kernel.old self.new kernel.new) }
+        ensures kept { OnErr result (Relates (means M.FlowMaker M.Flow.Flow W.Awaits) K.Gpi
+            (λ setup c d. d ≡ counting (K.content kernel.new).counts c) self.old kernel.old self.new kernel.new) }
+        ensures fits { FitsKernel (means M.FlowMaker M.Flow.Flow W.Awaits) self.new (K.content kernel.new) }
+        ensures keeps { KeepsAll (means M.FlowMaker M.Flow.Flow W.Awaits) K.Gpi self.old self.new kernel.new }
         ensures runs { runs_test self.new ≡ runs_test self.old }
     {
         let due = kernel.now() + 1;

@@ -2,7 +2,6 @@
 ghost use Rattle.std.specs.Prelude.{◌≡◌, ◌&&◌, not, [], None, Ok};
 ghost use Rattle.port_io.specs.Means.{sink_means};
 ghost use Rattle.rig_model.specs.Parts.Steps.{TurnSteps};
-ghost use Rattle.scheduler.specs.Turns.{Turning, turn_fault};
 ghost use Rattle.scheduler.specs.Events.{IsEventTurn, event_turn};
 ghost use Rattle.scheduler.specs.Parts.{means};
 
@@ -44,8 +43,8 @@ fn turn_of(evented: Evented, was_planned: bool, is_planned: bool) -> Result<Turn
 }
 
 impl<'a, M: FlowMaker + Drop, W: Awaits> Engine<'a, M, W> {
-    ghost use Rattle.scheduler.specs.Engine.{rig_of, setup_of};
-    ghost use Rattle.scheduler.specs.Fits.{FitsKernel, KeepsAll};
+    ghost use Rattle.scheduler.specs.Engine.{Relates};
+    ghost use Rattle.scheduler.specs.Fits.{FitsKernel, Turns};
 
     /// The simulator does an event, where no task is ready. Where nothing is left that could happen the test has stalled.
     pub(crate) fn advance<O: Sink, K: Gpi, L: Ledger>(
@@ -57,20 +56,12 @@ impl<'a, M: FlowMaker + Drop, W: Awaits> Engine<'a, M, W> {
         steps: &mut Steps<L>,
     ) -> Result<Turn, NoMemory>
         requires loaded { K.is_loaded kernel.old }
-        requires fits { FitsKernel (means M.functions M.Flow.functions M.Flow.meaning W.waiting W.held) self.old (K.content kernel.old) }
+        requires fits { FitsKernel (means M.FlowMaker M.Flow.Flow W.Awaits) self.old (K.content kernel.old) }
         requires none { self.old.test.queue.ready.entries ≡ [] }
-        ensures turning { Turning (sink_means O.Sink)
-            (TurnSteps (setup_of (means M.functions M.Flow.functions M.Flow.meaning W.waiting W.held) self.old))
-            (setup_of (means M.functions M.Flow.functions M.Flow.meaning W.waiting W.held) self.old) fuel.old
-            (rig_of (means M.functions M.Flow.functions M.Flow.meaning W.waiting W.held) self.old (K.content kernel.old)) out.old result fuel.new
-            (rig_of (means M.functions M.Flow.functions M.Flow.meaning W.waiting W.held) self.new (K.content kernel.new)) out.new }
-        ensures fits { turn_fault result ≡ None
-            → FitsKernel (means M.functions M.Flow.functions M.Flow.meaning W.waiting W.held) self.new (K.content kernel.new) }
-        ensures keeps { KeepsAll (means M.functions M.Flow.functions M.Flow.meaning W.waiting W.held)
-            K.is_loaded K.content self.old self.new kernel.new }
-        ensures still { result ≡ Ok Turn.Spent
-            → rig_of (means M.functions M.Flow.functions M.Flow.meaning W.waiting W.held) self.new (K.content kernel.new)
-            ≡ rig_of (means M.functions M.Flow.functions M.Flow.meaning W.waiting W.held) self.old (K.content kernel.old) }
+        ensures turns { Turns (sink_means O.Sink) (means M.FlowMaker M.Flow.Flow W.Awaits) K.Gpi TurnSteps
+            self.old kernel.old fuel.old out.old result self.new kernel.new fuel.new out.new }
+        ensures still { result ≡ Ok Turn.Spent → Relates (means M.FlowMaker M.Flow.Flow W.Awaits) K.Gpi
+            (λ setup c d. d ≡ c) self.old kernel.old self.new kernel.new }
         ensures runs { self.new.runs_test ≡ self.old.runs_test }
     {
         if kernel.idle() {

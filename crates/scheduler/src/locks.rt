@@ -1,11 +1,8 @@
 //! Events and locks (cocotb 1.8, "Triggers", `Event` and `Lock`).
-ghost use Rattle.std.specs.Prelude.{◌≡◌, ◌<◌, length, IfOk, Ok, Some, None};
-ghost use Rattle.gpi.specs.Content.{Content};
-ghost use Rattle.scheduler.specs.EffectLaws.Stands.{StandsIn};
+ghost use Rattle.std.specs.Prelude.{◌≡◌, ◌<◌, length, IfOk, Ok, None};
 ghost use Rattle.py_value.specs.declared.trigger.TaskNo.{TaskNo};
 ghost use Rattle.py_value.specs.Answer.{plain_fault};
 ghost use Rattle.rig_model.specs.Run.Rig.{Setup};
-ghost use Rattle.run_state.specs.Queue.Fits.{Keeps};
 ghost use Rattle.scheduler.specs.Turns.{LeadsTo, next_fault};
 ghost use Rattle.rig_model.specs.declared.task.task.Turned.TheVariants.{ClearEvent, NewEvent, NewLock, Release, SetEvent};
 
@@ -34,14 +31,13 @@ fn refused(kind: FaultKind) -> Next
 }
 
 impl<M: FlowMaker + Drop, W: Awaits> RunningTest<M, W> {
-    ghost use Rattle.scheduler.specs.TestFits.{HasRoom, Kept, StaysFit};
-    ghost use Rattle.scheduler.specs.Parts.{means, rig_of};
+    ghost use Rattle.scheduler.specs.TestFits.{HasTurn, KeptFit, LeadsOn};
+    ghost use Rattle.scheduler.specs.Parts.{RelatesAside, means};
 
     /// A task makes an event, or is given a RuntimeError where there are 65,536.
     pub(crate) fn new_event(&mut self) -> Result<Next, NoMemory>
-        ensures leads { IfOk result (λ next. (setup : Setup) → (task : TaskNo) → (content : Content)
-            → LeadsTo setup task NewEvent (rig_of (means M.functions M.Flow.functions M.Flow.meaning W.waiting W.held) self.old content) next
-            (rig_of (means M.functions M.Flow.functions M.Flow.meaning W.waiting W.held) self.new content)) }
+        ensures leads { IfOk result (λ next. (setup : Setup) → (task : TaskNo)
+            → RelatesAside (means M.FlowMaker M.Flow.Flow W.Awaits) (λ c d. LeadsTo setup task NewEvent c next d) self.old self.new) }
         ensures fine { IfOk result (λ next. next_fault (Ok next) ≡ None) }
         ensures queue { self.new.queue ≡ self.old.queue }
         ensures tasks { self.new.tasks ≡ self.old.tasks }
@@ -55,9 +51,8 @@ impl<M: FlowMaker + Drop, W: Awaits> RunningTest<M, W> {
 
     /// A task makes a lock, or is given a RuntimeError where there are 65,536.
     pub(crate) fn new_lock(&mut self) -> Result<Next, NoMemory>
-        ensures leads { IfOk result (λ next. (setup : Setup) → (task : TaskNo) → (content : Content)
-            → LeadsTo setup task NewLock (rig_of (means M.functions M.Flow.functions M.Flow.meaning W.waiting W.held) self.old content) next
-            (rig_of (means M.functions M.Flow.functions M.Flow.meaning W.waiting W.held) self.new content)) }
+        ensures leads { IfOk result (λ next. (setup : Setup) → (task : TaskNo)
+            → RelatesAside (means M.FlowMaker M.Flow.Flow W.Awaits) (λ c d. LeadsTo setup task NewLock c next d) self.old self.new) }
         ensures fine { IfOk result (λ next. next_fault (Ok next) ≡ None) }
         ensures queue { self.new.queue ≡ self.old.queue }
         ensures tasks { self.new.tasks ≡ self.old.tasks }
@@ -77,20 +72,10 @@ impl<M: FlowMaker + Drop, W: Awaits> RunningTest<M, W> {
         event: EventNo,
         steps: &mut Steps<L>,
     ) -> Next
-        requires loaded { K.is_loaded kernel.old }
-        requires keeps { Keeps W.waiting W.held self.old.queue (K.content kernel.old) }
-        requires room { HasRoom (means M.functions M.Flow.functions M.Flow.meaning W.waiting W.held) self.old }
-        requires stands { StandsIn (Some task)
-            (rig_of (means M.functions M.Flow.functions M.Flow.meaning W.waiting W.held) self.old (K.content kernel.old)) }
+        requires turn { HasTurn (means M.FlowMaker M.Flow.Flow W.Awaits) K.Gpi task self.old kernel.old }
         requires event { event.0 < length self.old.objects.events }
-        ensures leads { (setup : Setup) → LeadsTo setup task (SetEvent event)
-            (rig_of (means M.functions M.Flow.functions M.Flow.meaning W.waiting W.held) self.old (K.content kernel.old)) result
-            (rig_of (means M.functions M.Flow.functions M.Flow.meaning W.waiting W.held) self.new (K.content kernel.new)) }
-        ensures fine { next_fault (Ok result) ≡ None }
-        ensures room { HasRoom (means M.functions M.Flow.functions M.Flow.meaning W.waiting W.held) self.new }
-        ensures fits { StaysFit (means M.functions M.Flow.functions M.Flow.meaning W.waiting W.held) self.old
-            (K.content kernel.old) self.new (K.content kernel.new) }
-        ensures kept { Kept (means M.functions M.Flow.functions M.Flow.meaning W.waiting W.held) K.is_loaded K.content self.old self.new kernel.new }
+        ensures leads { LeadsOn (means M.FlowMaker M.Flow.Flow W.Awaits) K.Gpi task (SetEvent event) self.old kernel.old result self.new kernel.new }
+        ensures stays { KeptFit (means M.FlowMaker M.Flow.Flow W.Awaits) K.Gpi self.old kernel.old self.new kernel.new }
     {
         self.objects.set_event(event);
         self.queue.wake(kernel, Cause::Event(event), steps);
@@ -100,9 +85,8 @@ impl<M: FlowMaker + Drop, W: Awaits> RunningTest<M, W> {
     /// A task clears an event. It takes no memory.
     pub(crate) fn clear_event(&mut self, event: EventNo) -> Next
         requires { event.0 < length self.old.objects.events }
-        ensures leads { (setup : Setup) → (task : TaskNo) → (content : Content)
-            → LeadsTo setup task (ClearEvent event) (rig_of (means M.functions M.Flow.functions M.Flow.meaning W.waiting W.held) self.old content)
-            result (rig_of (means M.functions M.Flow.functions M.Flow.meaning W.waiting W.held) self.new content) }
+        ensures leads { (setup : Setup) → (task : TaskNo)
+            → RelatesAside (means M.FlowMaker M.Flow.Flow W.Awaits) (λ c d. LeadsTo setup task (ClearEvent event) c result d) self.old self.new }
         ensures fine { next_fault (Ok result) ≡ None }
         ensures queue { self.new.queue ≡ self.old.queue }
         ensures tasks { self.new.tasks ≡ self.old.tasks }
@@ -120,20 +104,10 @@ impl<M: FlowMaker + Drop, W: Awaits> RunningTest<M, W> {
         lock: LockNo,
         steps: &mut Steps<L>,
     ) -> Next
-        requires loaded { K.is_loaded kernel.old }
-        requires keeps { Keeps W.waiting W.held self.old.queue (K.content kernel.old) }
-        requires room { HasRoom (means M.functions M.Flow.functions M.Flow.meaning W.waiting W.held) self.old }
-        requires stands { StandsIn (Some task)
-            (rig_of (means M.functions M.Flow.functions M.Flow.meaning W.waiting W.held) self.old (K.content kernel.old)) }
+        requires turn { HasTurn (means M.FlowMaker M.Flow.Flow W.Awaits) K.Gpi task self.old kernel.old }
         requires lock { lock.0 < length self.old.objects.locks }
-        ensures leads { (setup : Setup) → LeadsTo setup task (Release lock)
-            (rig_of (means M.functions M.Flow.functions M.Flow.meaning W.waiting W.held) self.old (K.content kernel.old)) result
-            (rig_of (means M.functions M.Flow.functions M.Flow.meaning W.waiting W.held) self.new (K.content kernel.new)) }
-        ensures fine { next_fault (Ok result) ≡ None }
-        ensures room { HasRoom (means M.functions M.Flow.functions M.Flow.meaning W.waiting W.held) self.new }
-        ensures fits { StaysFit (means M.functions M.Flow.functions M.Flow.meaning W.waiting W.held) self.old
-            (K.content kernel.old) self.new (K.content kernel.new) }
-        ensures kept { Kept (means M.functions M.Flow.functions M.Flow.meaning W.waiting W.held) K.is_loaded K.content self.old self.new kernel.new }
+        ensures leads { LeadsOn (means M.FlowMaker M.Flow.Flow W.Awaits) K.Gpi task (Release lock) self.old kernel.old result self.new kernel.new }
+        ensures stays { KeptFit (means M.FlowMaker M.Flow.Flow W.Awaits) K.Gpi self.old kernel.old self.new kernel.new }
     {
         if !self.objects.is_locked(lock) {
             return refused(FaultKind::TriggerException);

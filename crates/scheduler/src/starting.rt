@@ -6,7 +6,6 @@ ghost use Rattle.await_tree.specs.EndedTasks.Endings.{start_limit};
 ghost use Rattle.rig_model.specs.Run.Effect.{with_new_task};
 ghost use Rattle.rig_model.specs.Run.Limits.{live_limit};
 ghost use Rattle.rig_model.specs.Run.Rig.{Setup};
-ghost use Rattle.run_state.specs.Queue.Fits.{Keeps};
 ghost use Rattle.scheduler.specs.Turns.{LeadsTo, next_fault};
 ghost use Rattle.rig_model.specs.Task.Frame.{function_at};
 ghost use Rattle.rig_model.specs.declared.task.task.Turned.TheVariants.{Start};
@@ -23,8 +22,8 @@ use rig_model::task::FlowMaker;
 use std::alloc::Global;
 
 impl<M: FlowMaker + Drop, W: Awaits> RunningTest<M, W> {
-    ghost use Rattle.scheduler.specs.TestFits.{HasRoom, StaysFit};
-    ghost use Rattle.scheduler.specs.Parts.{means, rig_of};
+    ghost use Rattle.scheduler.specs.TestFits.{HasRoom, KeptAside};
+    ghost use Rattle.scheduler.specs.Parts.{RelatesAside, means, rig_of};
 
     /// A task of that function, with these values for its parameters, is live and ready, behind all others: its number. No limit on tasks is reached.
     pub(crate) fn add_task(
@@ -33,24 +32,19 @@ impl<M: FlowMaker + Drop, W: Awaits> RunningTest<M, W> {
         func: u32,
         args: Sequence<Value>,
     ) -> Result<TaskNo, NoMemory>
-        requires room { HasRoom (means M.functions M.Flow.functions M.Flow.meaning W.waiting W.held) self.old }
+        requires room { HasRoom (means M.FlowMaker M.Flow.Flow W.Awaits) self.old }
         requires few { length self.old.queue.ready.entries + length (W.waiting self.old.queue.awaits)
             ≤ length (live_in M.Flow.meaning self.old.tasks) }
         requires func { func < length (M.functions self.old.tasks.maker) }
         requires live { length (live_in M.Flow.meaning self.old.tasks) < live_limit }
         requires started { length self.old.tasks.ended < start_limit }
         ensures number { IfOk result (λ number. number ≡ record { 0 = length self.old.tasks.ended }) }
-        ensures added { OnOk result
-            ((content : Content) → rig_of (means M.functions M.Flow.functions M.Flow.meaning W.waiting W.held) self.new content
-            ≡ with_new_task (function_at (M.functions self.old.tasks.maker) func) args
-            (rig_of (means M.functions M.Flow.functions M.Flow.meaning W.waiting W.held) self.old content)) }
+        ensures added { OnOk result (RelatesAside (means M.FlowMaker M.Flow.Flow W.Awaits)
+            (λ c d. d ≡ with_new_task (function_at (M.functions self.old.tasks.maker) func) args c) self.old self.new) }
         ensures few { OnOk result
             (length self.new.queue.ready.entries + length (W.waiting self.new.queue.awaits) ≤ length (live_in M.Flow.meaning self.new.tasks)) }
-        ensures room { OnOk result (HasRoom (means M.functions M.Flow.functions M.Flow.meaning W.waiting W.held) self.new) }
-        ensures fits { (content : Content)
-            → StaysFit (means M.functions M.Flow.functions M.Flow.meaning W.waiting W.held) self.old content self.new content }
-        ensures keeps { (content : Content) → Keeps W.waiting W.held self.old.queue content → Keeps W.waiting W.held self.new.queue content }
-        ensures maker { self.new.tasks.maker ≡ self.old.tasks.maker }
+        ensures room { OnOk result (HasRoom (means M.FlowMaker M.Flow.Flow W.Awaits) self.new) }
+        ensures stays { KeptAside (means M.FlowMaker M.Flow.Flow W.Awaits) self.old self.new }
     {
         let tasks = self.tasks.count() + 1;
         self.queue.make_room(tasks)?;
@@ -62,20 +56,15 @@ impl<M: FlowMaker + Drop, W: Awaits> RunningTest<M, W> {
     /// A test begins, in which no task was started: its own task, of that function with these values for its parameters, is live and ready. Only
     /// want of memory is an error.
     pub fn begin(&mut self, alloc: Global, func: u32, args: Sequence<Value>) -> Result<(), NoMemory>
-        requires room { HasRoom (means M.functions M.Flow.functions M.Flow.meaning W.waiting W.held) self.old }
+        requires room { HasRoom (means M.FlowMaker M.Flow.Flow W.Awaits) self.old }
         requires none { self.old.tasks.ended ≡ [] }
         requires ready { self.old.queue.ready.entries ≡ [] }
         requires waiting { W.waiting self.old.queue.awaits ≡ [] }
         requires func { func < length (M.functions self.old.tasks.maker) }
-        ensures added { OnOk result
-            ((content : Content) → rig_of (means M.functions M.Flow.functions M.Flow.meaning W.waiting W.held) self.new content
-            ≡ with_new_task (function_at (M.functions self.old.tasks.maker) func) args
-            (rig_of (means M.functions M.Flow.functions M.Flow.meaning W.waiting W.held) self.old content)) }
-        ensures room { OnOk result (HasRoom (means M.functions M.Flow.functions M.Flow.meaning W.waiting W.held) self.new) }
-        ensures fits { (content : Content)
-            → StaysFit (means M.functions M.Flow.functions M.Flow.meaning W.waiting W.held) self.old content self.new content }
-        ensures keeps { (content : Content) → Keeps W.waiting W.held self.old.queue content → Keeps W.waiting W.held self.new.queue content }
-        ensures maker { self.new.tasks.maker ≡ self.old.tasks.maker }
+        ensures added { OnOk result (RelatesAside (means M.FlowMaker M.Flow.Flow W.Awaits)
+            (λ c d. d ≡ with_new_task (function_at (M.functions self.old.tasks.maker) func) args c) self.old self.new) }
+        ensures room { OnOk result (HasRoom (means M.FlowMaker M.Flow.Flow W.Awaits) self.new) }
+        ensures stays { KeptAside (means M.FlowMaker M.Flow.Flow W.Awaits) self.old self.new }
     {
         self.add_task(alloc, func, args)?;
         Ok(())
@@ -91,20 +80,16 @@ impl<M: FlowMaker + Drop, W: Awaits> RunningTest<M, W> {
         args: Sequence<Value>,
         give_way: bool,
     ) -> Result<Next, NoMemory>
-        requires room { HasRoom (means M.functions M.Flow.functions M.Flow.meaning W.waiting W.held) self.old }
+        requires room { HasRoom (means M.FlowMaker M.Flow.Flow W.Awaits) self.old }
         requires stands { (content : Content)
-            → StandsIn (Some task) (rig_of (means M.functions M.Flow.functions M.Flow.meaning W.waiting W.held) self.old content) }
+            → StandsIn (Some task) (rig_of (means M.FlowMaker M.Flow.Flow W.Awaits) self.old content) }
         requires func { func < length (M.functions self.old.tasks.maker) }
-        ensures leads { IfOk result (λ next. (setup : Setup) → (content : Content) → setup.functions ≡ M.functions self.old.tasks.maker
-            → LeadsTo setup task (Start func args give_way)
-            (rig_of (means M.functions M.Flow.functions M.Flow.meaning W.waiting W.held) self.old content) next
-            (rig_of (means M.functions M.Flow.functions M.Flow.meaning W.waiting W.held) self.new content)) }
+        ensures leads { IfOk result (λ next. (setup : Setup) → RelatesAside (means M.FlowMaker M.Flow.Flow W.Awaits)
+            (λ c d. setup.functions ≡ M.functions self.old.tasks.maker → LeadsTo setup task (Start func args give_way) c next d)
+            self.old self.new) }
         ensures fine { IfOk result (λ next. next_fault (Ok next) ≡ None) }
-        ensures room { OnOk result (HasRoom (means M.functions M.Flow.functions M.Flow.meaning W.waiting W.held) self.new) }
-        ensures fits { (content : Content)
-            → StaysFit (means M.functions M.Flow.functions M.Flow.meaning W.waiting W.held) self.old content self.new content }
-        ensures keeps { (content : Content) → Keeps W.waiting W.held self.old.queue content → Keeps W.waiting W.held self.new.queue content }
-        ensures maker { self.new.tasks.maker ≡ self.old.tasks.maker }
+        ensures room { OnOk result (HasRoom (means M.FlowMaker M.Flow.Flow W.Awaits) self.new) }
+        ensures stays { KeptAside (means M.FlowMaker M.Flow.Flow W.Awaits) self.old self.new }
     {
         if self.tasks.is_full() {
             return Ok(Next::GoesOn(Given::Fault(Fault::plain(FaultKind::RuntimeError))));

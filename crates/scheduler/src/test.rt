@@ -50,10 +50,10 @@ impl<M: FlowMaker + Drop, W: Awaits> RunningTest<M, W> {
         requires waiting { W.waiting awaits ≡ [] }
         requires held { AreAlike (W.held awaits) [] }
         ensures maker { IfOk result (λ test. test.tasks.maker ≡ maker) }
-        ensures parts { IfOk result (λ test. parts_of (means M.functions M.Flow.functions M.Flow.meaning W.waiting W.held) test
+        ensures parts { IfOk result (λ test. parts_of (means M.FlowMaker M.Flow.Flow W.Awaits) test
             ≡ record { tasks = []; endings = []; objects = none; random = seeded seed }) }
         ensures queue { IfOk result (λ test. queue_of W.waiting test.queue ≡ nothing_queued) }
-        ensures room { IfOk result (λ test. HasRoom (means M.functions M.Flow.functions M.Flow.meaning W.waiting W.held) test) }
+        ensures room { IfOk result (λ test. HasRoom (means M.FlowMaker M.Flow.Flow W.Awaits) test) }
         ensures fits { IfOk result
             (λ test. (flat : Flat) → (content : Content) → IsBare flat content → Fits flat W.waiting W.held test.queue content) }
     {
@@ -85,7 +85,7 @@ impl<M: FlowMaker + Drop, W: Awaits> RunningTest<M, W> {
         given: Given,
         fuel: &mut u64,
     ) -> Result<Turned, NoMemory>
-        requires room { HasRoom (means M.functions M.Flow.functions M.Flow.meaning W.waiting W.held) self.old }
+        requires room { HasRoom (means M.FlowMaker M.Flow.Flow W.Awaits) self.old }
         requires loaded { K.is_loaded kernel.now }
         requires design { IsOf flat.now names.now (K.content kernel.now).state }
         requires lives { IsSome (task_at task (live_in M.Flow.meaning self.old.tasks)) }
@@ -97,10 +97,10 @@ impl<M: FlowMaker + Drop, W: Awaits> RunningTest<M, W> {
         ensures polls { IfOk result (λ turned. PollsOne (M.functions self.old.tasks.maker)
             (view_of flat.now (K.content kernel.now).state self.old.objects self.old.tasks.ended) fuel.old
             (live_in M.Flow.meaning self.old.tasks) task given turned fuel.new (live_in M.Flow.meaning self.new.tasks)) }
-        ensures rest { parts_of (means M.functions M.Flow.functions M.Flow.meaning W.waiting W.held) self.new
-            ≡ record (parts_of (means M.functions M.Flow.functions M.Flow.meaning W.waiting W.held) self.old)
+        ensures rest { parts_of (means M.FlowMaker M.Flow.Flow W.Awaits) self.new
+            ≡ record (parts_of (means M.FlowMaker M.Flow.Flow W.Awaits) self.old)
             { tasks = live_in M.Flow.meaning self.new.tasks } }
-        ensures room { HasRoom (means M.functions M.Flow.functions M.Flow.meaning W.waiting W.held) self.new }
+        ensures room { HasRoom (means M.FlowMaker M.Flow.Flow W.Awaits) self.new }
         ensures maker { self.new.tasks.maker ≡ self.old.tasks.maker }
         ensures queue { self.new.queue ≡ self.old.queue }
     {
@@ -112,7 +112,7 @@ impl<M: FlowMaker + Drop, W: Awaits> RunningTest<M, W> {
     pub fn clear<K: Gpi, L: Ledger>(&mut self, kernel: &mut K, steps: &mut Steps<L>)
         requires loaded { K.is_loaded kernel.old }
         requires keeps { Keeps W.waiting W.held self.old.queue (K.content kernel.old) }
-        ensures parts { parts_of (means M.functions M.Flow.functions M.Flow.meaning W.waiting W.held) self.new
+        ensures parts { parts_of (means M.FlowMaker M.Flow.Flow W.Awaits) self.new
             ≡ record { tasks = []; endings = []; objects = none; random = self.old.random } }
         ensures queue { queue_of W.waiting self.new.queue ≡ nothing_queued }
         ensures leads { Leads dropping (queue_of W.waiting self.old.queue) (K.content kernel.old) nothing_queued (K.content kernel.new) }
@@ -122,7 +122,7 @@ impl<M: FlowMaker + Drop, W: Awaits> RunningTest<M, W> {
         ensures keeps { Keeps W.waiting W.held self.new.queue (K.content kernel.new) }
         ensures fits { (flat : Flat) → Fits flat W.waiting W.held self.old.queue (K.content kernel.old)
             → Fits flat W.waiting W.held self.new.queue (K.content kernel.new) }
-        ensures room { HasRoom (means M.functions M.Flow.functions M.Flow.meaning W.waiting W.held) self.new }
+        ensures room { HasRoom (means M.FlowMaker M.Flow.Flow W.Awaits) self.new }
         ensures maker { self.new.tasks.maker ≡ self.old.tasks.maker }
     {
         self.queue.clear(kernel, steps);

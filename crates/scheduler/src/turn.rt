@@ -20,8 +20,8 @@ use std::alloc::Global;
 use std::sync::ledger::Ledger;
 
 impl<'a, M: FlowMaker + Drop, W: Awaits> Engine<'a, M, W> {
-    ghost use Rattle.scheduler.specs.Engine.{rig_of, runs_test, setup_of};
-    ghost use Rattle.scheduler.specs.Fits.{FitsAt, FitsKernel, KeepsAll};
+    ghost use Rattle.scheduler.specs.Engine.{Holds, Relates, runs_test};
+    ghost use Rattle.scheduler.specs.Fits.{FitsAt, FitsKernel, KeepsAll, Turns};
 
     /// The task runs until its turn ends.
     fn run_task<O: Sink, K: Gpi, L: Ledger>(
@@ -35,19 +35,15 @@ impl<'a, M: FlowMaker + Drop, W: Awaits> Engine<'a, M, W> {
         steps: &mut Steps<L>,
     ) -> Result<Turn, NoMemory>
         requires loaded { K.is_loaded kernel.old }
-        requires fits { FitsAt (Some task) (means M.functions M.Flow.functions M.Flow.meaning W.waiting W.held) self.old (K.content kernel.old) }
+        requires fits { FitsAt (Some task) (means M.FlowMaker M.Flow.Flow W.Awaits) self.old (K.content kernel.old) }
         requires none { self.old.test.queue.planned ≡ None }
-        requires known { KnowsGiven (view_of (setup_of (means M.functions M.Flow.functions M.Flow.meaning W.waiting W.held) self.old)
-            (rig_of (means M.functions M.Flow.functions M.Flow.meaning W.waiting W.held) self.old (K.content kernel.old))) given }
-        ensures turning { Turning (sink_means O.Sink)
-            (FitSteps in_turn (setup_of (means M.functions M.Flow.functions M.Flow.meaning W.waiting W.held) self.old))
-            (setup_of (means M.functions M.Flow.functions M.Flow.meaning W.waiting W.held) self.old) fuel.old (goes_on task (Some given)
-            (rig_of (means M.functions M.Flow.functions M.Flow.meaning W.waiting W.held) self.old (K.content kernel.old))) out.old result fuel.new
-            (rig_of (means M.functions M.Flow.functions M.Flow.meaning W.waiting W.held) self.new (K.content kernel.new)) out.new }
+        requires known { Holds (means M.FlowMaker M.Flow.Flow W.Awaits) K.Gpi (λ setup c. KnowsGiven (view_of setup c) given) self.old kernel.old }
+        ensures turning { Relates (means M.FlowMaker M.Flow.Flow W.Awaits) K.Gpi
+            (λ setup c d. Turning (sink_means O.Sink) (FitSteps in_turn setup) setup fuel.old (goes_on task (Some given) c) out.old result
+            fuel.new d out.new) self.old kernel.old self.new kernel.new }
         ensures fits { turn_fault result ≡ None
-            → FitsKernel (means M.functions M.Flow.functions M.Flow.meaning W.waiting W.held) self.new (K.content kernel.new) }
-        ensures keeps { KeepsAll (means M.functions M.Flow.functions M.Flow.meaning W.waiting W.held)
-            K.is_loaded K.content self.old self.new kernel.new }
+            → FitsKernel (means M.FlowMaker M.Flow.Flow W.Awaits) self.new (K.content kernel.new) }
+        ensures keeps { KeepsAll (means M.FlowMaker M.Flow.Flow W.Awaits) K.Gpi self.old self.new kernel.new }
         ensures runs { self.new.runs_test ≡ self.old.runs_test }
     {
         let mut given = given;
@@ -84,20 +80,12 @@ impl<'a, M: FlowMaker + Drop, W: Awaits> Engine<'a, M, W> {
         steps: &mut Steps<L>,
     ) -> Result<Turn, NoMemory>
         requires loaded { K.is_loaded kernel.old }
-        requires fits { FitsKernel (means M.functions M.Flow.functions M.Flow.meaning W.waiting W.held) self.old (K.content kernel.old) }
+        requires fits { FitsKernel (means M.FlowMaker M.Flow.Flow W.Awaits) self.old (K.content kernel.old) }
         requires alone { (self.old.test.queue.planned ≡ None) ⊎ (self.old.test.queue.ready.entries ≡ []) }
-        ensures turning { Turning (sink_means O.Sink)
-            (TurnSteps (setup_of (means M.functions M.Flow.functions M.Flow.meaning W.waiting W.held) self.old))
-            (setup_of (means M.functions M.Flow.functions M.Flow.meaning W.waiting W.held) self.old) fuel.old
-            (rig_of (means M.functions M.Flow.functions M.Flow.meaning W.waiting W.held) self.old (K.content kernel.old)) out.old result fuel.new
-            (rig_of (means M.functions M.Flow.functions M.Flow.meaning W.waiting W.held) self.new (K.content kernel.new)) out.new }
-        ensures fits { turn_fault result ≡ None
-            → FitsKernel (means M.functions M.Flow.functions M.Flow.meaning W.waiting W.held) self.new (K.content kernel.new) }
-        ensures keeps { KeepsAll (means M.functions M.Flow.functions M.Flow.meaning W.waiting W.held)
-            K.is_loaded K.content self.old self.new kernel.new }
+        ensures turns { Turns (sink_means O.Sink) (means M.FlowMaker M.Flow.Flow W.Awaits) K.Gpi TurnSteps
+            self.old kernel.old fuel.old out.old result self.new kernel.new fuel.new out.new }
         ensures still { self.old.test.queue.ready.entries ≡ [] → result ≡ Ok Turn.Spent
-            → rig_of (means M.functions M.Flow.functions M.Flow.meaning W.waiting W.held) self.new (K.content kernel.new)
-            ≡ rig_of (means M.functions M.Flow.functions M.Flow.meaning W.waiting W.held) self.old (K.content kernel.old) }
+            → Relates (means M.FlowMaker M.Flow.Flow W.Awaits) K.Gpi (λ setup c d. d ≡ c) self.old kernel.old self.new kernel.new }
         ensures runs { self.new.runs_test ≡ self.old.runs_test }
     {
         match self.test.queue.first() {
@@ -128,20 +116,12 @@ impl<'a, M: FlowMaker + Drop, W: Awaits> Engine<'a, M, W> {
         steps: &mut Steps<L>,
     ) -> Result<Turn, NoMemory>
         requires loaded { K.is_loaded kernel.old }
-        requires fits { FitsKernel (means M.functions M.Flow.functions M.Flow.meaning W.waiting W.held) self.old (K.content kernel.old) }
+        requires fits { FitsKernel (means M.FlowMaker M.Flow.Flow W.Awaits) self.old (K.content kernel.old) }
         requires alone { (self.old.test.queue.planned ≡ None) ⊎ (self.old.test.queue.ready.entries ≡ []) }
-        ensures turning { Turning (sink_means O.Sink)
-            (TurnSteps (setup_of (means M.functions M.Flow.functions M.Flow.meaning W.waiting W.held) self.old))
-            (setup_of (means M.functions M.Flow.functions M.Flow.meaning W.waiting W.held) self.old) fuel.old
-            (rig_of (means M.functions M.Flow.functions M.Flow.meaning W.waiting W.held) self.old (K.content kernel.old)) out.old result fuel.new
-            (rig_of (means M.functions M.Flow.functions M.Flow.meaning W.waiting W.held) self.new (K.content kernel.new)) out.new }
-        ensures fits { turn_fault result ≡ None
-            → FitsKernel (means M.functions M.Flow.functions M.Flow.meaning W.waiting W.held) self.new (K.content kernel.new) }
-        ensures keeps { KeepsAll (means M.functions M.Flow.functions M.Flow.meaning W.waiting W.held)
-            K.is_loaded K.content self.old self.new kernel.new }
+        ensures turns { Turns (sink_means O.Sink) (means M.FlowMaker M.Flow.Flow W.Awaits) K.Gpi TurnSteps
+            self.old kernel.old fuel.old out.old result self.new kernel.new fuel.new out.new }
         ensures still { self.old.test.queue.ready.entries ≡ [] → result ≡ Ok Turn.Spent
-            → rig_of (means M.functions M.Flow.functions M.Flow.meaning W.waiting W.held) self.new (K.content kernel.new)
-            ≡ rig_of (means M.functions M.Flow.functions M.Flow.meaning W.waiting W.held) self.old (K.content kernel.old) }
+            → Relates (means M.FlowMaker M.Flow.Flow W.Awaits) K.Gpi (λ setup c d. d ≡ c) self.old kernel.old self.new kernel.new }
         ensures runs { runs_test self.new ≡ (runs_test self.old && has_gone result) }
     {
         let turn = self.take_turn(alloc, kernel, out, fuel, steps);

@@ -1,10 +1,6 @@
 //! Tasks that wait.
-ghost use Rattle.std.specs.Prelude.{◌≡◌, ◌≤◌, IfOk, OnOk, Ok, Some, None};
+ghost use Rattle.std.specs.Prelude.{◌≡◌, ◌≤◌, IfOk, Ok};
 ghost use Rattle.gpi.specs.Limits.{latest_time};
-ghost use Rattle.scheduler.specs.EffectLaws.Stands.{StandsIn};
-ghost use Rattle.rig_model.specs.Run.Rig.{Setup};
-ghost use Rattle.run_state.specs.Queue.Fits.{Keeps};
-ghost use Rattle.scheduler.specs.Turns.{LeadsTo, next_fault};
 ghost use Rattle.rig_model.specs.declared.task.task.Turned.TheVariants.{Await};
 
 use crate::test::RunningTest;
@@ -20,7 +16,7 @@ use std::alloc::Global;
 use std::sync::ledger::Ledger;
 
 impl<M: FlowMaker + Drop, W: Awaits> RunningTest<M, W> {
-    ghost use Rattle.scheduler.specs.TestFits.{HasRoom, Kept, StaysFit};
+    ghost use Rattle.scheduler.specs.TestFits.{HasTurn, KeptFit, LeadsOn};
     ghost use Rattle.scheduler.specs.Parts.{means, rig_of};
     ghost use Rattle.scheduler.specs.Waits.{KnowsWait};
 
@@ -34,22 +30,12 @@ impl<M: FlowMaker + Drop, W: Awaits> RunningTest<M, W> {
         trig: Trig,
         steps: &mut Steps<L>,
     ) -> Result<Next, NoMemory>
-        requires loaded { K.is_loaded kernel.old }
-        requires keeps { Keeps W.waiting W.held self.old.queue (K.content kernel.old) }
-        requires room { HasRoom (means M.functions M.Flow.functions M.Flow.meaning W.waiting W.held) self.old }
-        requires stands { StandsIn (Some task)
-            (rig_of (means M.functions M.Flow.functions M.Flow.meaning W.waiting W.held) self.old (K.content kernel.old)) }
+        requires turn { HasTurn (means M.FlowMaker M.Flow.Flow W.Awaits) K.Gpi task self.old kernel.old }
         requires time { (K.content kernel.old).state.time ≤ latest_time }
-        requires known { KnowsWait (rig_of (means M.functions M.Flow.functions M.Flow.meaning W.waiting W.held) self.old (K.content kernel.old))
-            trig }
-        ensures leads { IfOk result (λ next. (setup : Setup) → LeadsTo setup task (Await trig)
-            (rig_of (means M.functions M.Flow.functions M.Flow.meaning W.waiting W.held) self.old (K.content kernel.old)) next
-            (rig_of (means M.functions M.Flow.functions M.Flow.meaning W.waiting W.held) self.new (K.content kernel.new))) }
-        ensures fine { IfOk result (λ next. next_fault (Ok next) ≡ None) }
-        ensures room { OnOk result (HasRoom (means M.functions M.Flow.functions M.Flow.meaning W.waiting W.held) self.new) }
-        ensures fits { StaysFit (means M.functions M.Flow.functions M.Flow.meaning W.waiting W.held) self.old
-            (K.content kernel.old) self.new (K.content kernel.new) }
-        ensures kept { Kept (means M.functions M.Flow.functions M.Flow.meaning W.waiting W.held) K.is_loaded K.content self.old self.new kernel.new }
+        requires known { KnowsWait (rig_of (means M.FlowMaker M.Flow.Flow W.Awaits) self.old (K.content kernel.old)) trig }
+        ensures leads { IfOk result
+            (λ next. LeadsOn (means M.FlowMaker M.Flow.Flow W.Awaits) K.Gpi task (Await trig) self.old kernel.old next self.new kernel.new) }
+        ensures stays { KeptFit (means M.FlowMaker M.Flow.Flow W.Awaits) K.Gpi self.old kernel.old self.new kernel.new }
     {
         let mut tree = match Tree::of(alloc, &trig, kernel.now(), kernel.region()) {
             Ok(tree) => tree,

@@ -6,7 +6,6 @@ ghost use Rattle.py_value.specs.declared.trigger.TaskNo.{TaskNo};
 ghost use Rattle.scheduler.specs.Setups.{setup_of};
 ghost use Rattle.rig_model.specs.Run.Effect.{effect};
 ghost use Rattle.rig_model.specs.Run.Line.{log_line};
-ghost use Rattle.rig_model.specs.Run.Rig.{Setup};
 ghost use Rattle.rig_model.specs.Parts.Fits.{IsSoundWrite};
 ghost use Rattle.run_state.specs.Queue.Fits.{Fits, Keeps};
 ghost use Rattle.scheduler.specs.Turns.{IsLogged, LeadsTo, next_fault};
@@ -68,8 +67,8 @@ pub(crate) fn write_log<O: Sink>(
 }
 
 impl<M: FlowMaker + Drop, W: Awaits> RunningTest<M, W> {
-    ghost use Rattle.scheduler.specs.TestFits.{HasRoom, Kept};
-    ghost use Rattle.scheduler.specs.Parts.{means, rig_of};
+    ghost use Rattle.scheduler.specs.TestFits.{HasRoom, Kept, LeadsOn};
+    ghost use Rattle.scheduler.specs.Parts.{Relates, means, rig_of};
 
     /// A task stages a write (cocotb 1.8, "Writing values to signals"). In the read-only phase no signal may be written: such a write ends the test,
     /// and nothing is staged.
@@ -82,15 +81,12 @@ impl<M: FlowMaker + Drop, W: Awaits> RunningTest<M, W> {
     ) -> Result<Next, NoMemory>
         requires loaded { K.is_loaded kernel.old }
         requires keeps { Keeps W.waiting W.held self.old.queue (K.content kernel.old) }
-        requires room { HasRoom (means M.functions M.Flow.functions M.Flow.meaning W.waiting W.held) self.old }
-        ensures leads { IfOk result (λ next. (setup : Setup) → (task : TaskNo) → LeadsTo setup task (turned.Stage sig bits)
-            (rig_of (means M.functions M.Flow.functions M.Flow.meaning W.waiting W.held) self.old (K.content kernel.old)) next
-            (rig_of (means M.functions M.Flow.functions M.Flow.meaning W.waiting W.held) self.new (K.content kernel.new))) }
-        ensures fine { IfOk result (λ next. next_fault (Ok next) ≡ None) }
-        ensures room { OnOk result (HasRoom (means M.functions M.Flow.functions M.Flow.meaning W.waiting W.held) self.new) }
+        requires room { HasRoom (means M.FlowMaker M.Flow.Flow W.Awaits) self.old }
+        ensures leads { IfOk result (λ next. (task : TaskNo)
+            → LeadsOn (means M.FlowMaker M.Flow.Flow W.Awaits) K.Gpi task (turned.Stage sig bits) self.old kernel.old next self.new kernel.new) }
         ensures fits { (flat : Flat) → IsSoundWrite flat.signals (record { sig = sig; bits = bits })
             → Fits flat W.waiting W.held self.old.queue (K.content kernel.old) → Fits flat W.waiting W.held self.new.queue (K.content kernel.new) }
-        ensures kept { Kept (means M.functions M.Flow.functions M.Flow.meaning W.waiting W.held) K.is_loaded K.content self.old self.new kernel.new }
+        ensures kept { Kept (means M.FlowMaker M.Flow.Flow W.Awaits) K.Gpi self.old self.new kernel.new }
     {
         if kernel.region() == Region::End {
             return Ok(Next::Ends(Turn::Over(Outcome::ReadOnlyWrite(sig))));
@@ -112,18 +108,17 @@ impl<M: FlowMaker + Drop, W: Awaits> RunningTest<M, W> {
         requires loaded { K.is_loaded kernel.old }
         requires fits { Fits teller.now.flat.now W.waiting W.held self.old.queue (K.content kernel.old) }
         requires sound { IsSoundWrite teller.now.flat.now.signals write }
-        requires room { HasRoom (means M.functions M.Flow.functions M.Flow.meaning W.waiting W.held) self.old }
-        ensures leads { IfOk result
-            (λ next. (functions : List Function) → (task : TaskNo) → LeadsTo (setup_of functions teller.now) task (turned.Put write.sig write.bits)
-            (rig_of (means M.functions M.Flow.functions M.Flow.meaning W.waiting W.held) self.old (K.content kernel.old)) next
-            (rig_of (means M.functions M.Flow.functions M.Flow.meaning W.waiting W.held) self.new (K.content kernel.new))) }
+        requires room { HasRoom (means M.FlowMaker M.Flow.Flow W.Awaits) self.old }
+        ensures leads { IfOk result (λ next. (functions : List Function) → (task : TaskNo) → Relates (means M.FlowMaker M.Flow.Flow W.Awaits) K.Gpi
+            (λ c d. LeadsTo (setup_of functions teller.now) task (turned.Put write.sig write.bits) c next d)
+            self.old kernel.old self.new kernel.new) }
         ensures puts { (functions : List Function) → (task : TaskNo)
             → PutsTo (sink_means O.Sink) out.old (effect (setup_of functions teller.now) task (turned.Put write.sig write.bits)
-            (rig_of (means M.functions M.Flow.functions M.Flow.meaning W.waiting W.held) self.old (K.content kernel.old))).lines
+            (rig_of (means M.FlowMaker M.Flow.Flow W.Awaits) self.old (K.content kernel.old))).lines
             (next_fault result) out.new }
-        ensures room { OnOk result (HasRoom (means M.functions M.Flow.functions M.Flow.meaning W.waiting W.held) self.new) }
+        ensures room { OnOk result (HasRoom (means M.FlowMaker M.Flow.Flow W.Awaits) self.new) }
         ensures fits { Fits teller.now.flat.now W.waiting W.held self.new.queue (K.content kernel.new) }
-        ensures kept { Kept (means M.functions M.Flow.functions M.Flow.meaning W.waiting W.held) K.is_loaded K.content self.old self.new kernel.new }
+        ensures kept { Kept (means M.FlowMaker M.Flow.Flow W.Awaits) K.Gpi self.old self.new kernel.new }
     {
         if kernel.region() == Region::End {
             return Ok(Next::Ends(Turn::Over(Outcome::ReadOnlyWrite(write.sig))));

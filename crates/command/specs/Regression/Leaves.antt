@@ -1,6 +1,7 @@
 -- A means of proof: what a run over the tests of a file leaves of an engine and its simulator, for its proofs.
 use Rattle.std.specs.Prelude.{◌≡◌, ◌≢◌, Bool, true, false, []}
 use Rattle.gpi.specs.Content.{Content}
+use Rattle.gpi.specs.declared.interface.Gpi.{Ghosts as GpiGhosts}
 use Rattle.await_tree.specs.WaitList.Keys.{AreKeys}
 use Rattle.rig_model.specs.Run.Case.{emptied}
 use Rattle.scheduler.specs.Parts.{Means}
@@ -30,8 +31,8 @@ pub record IsCleared {M W F : Type 0} (m : Means M W F) (e : Engine M W F) (cont
 -- A run ends with this status and leaves the engine and its simulator so. Whatever the status is, what the tests share is as it was, the simulator holds a
 -- design, and the registered keys are exactly the awaited ones: all that the end of a test asks for. No turn may follow. The two fit, unless a put failed
 -- or memory was short; and where all tests have their verdicts, nothing of a test is left.
-pub record Leaves {M W F K : Type 0} (m : Means M W F) (is_loaded : K → Type 0) (content : K → Content) (s : Status) (before after : Engine M W F) (kernel : K) : Type 0 where
-  pub keeps : KeepsAll m is_loaded content before after kernel
+pub record Leaves {M W F K : Type 0} (m : Means M W F) (gpi : GpiGhosts K) (s : Status) (before after : Engine M W F) (kernel : K) : Type 0 where
+  pub keeps : KeepsAll m gpi before after kernel
   pub idle : runs_test after ≡ false
-  pub fits : s ≢ NoMemory → s ≢ WriteFault → FitsKernel m after (content kernel)
-  pub cleared : has_verdict s ≡ true → IsCleared m after (content kernel)
+  pub fits : s ≢ NoMemory → s ≢ WriteFault → FitsKernel m after (gpi.content kernel)
+  pub cleared : has_verdict s ≡ true → IsCleared m after (gpi.content kernel)

@@ -13,7 +13,7 @@ ghost use Rattle.rig_model.specs.Run.Run.{opening_sim};
 ghost use Rattle.rig_model.specs.Run.Verdict as meaning;
 ghost use Rattle.scheduler.specs.BetweenTests.{IsBetween};
 ghost use Rattle.scheduler.specs.Parts.{means};
-ghost use Rattle.scheduler.specs.Engine.{rig_of, runs_test, setup_of};
+ghost use Rattle.scheduler.specs.Engine.{Holds, Relates, rig_of, runs_test, setup_of};
 ghost use Rattle.scheduler.specs.Fits.{FitsKernel, KeepsAll};
 ghost use Rattle.command.specs.Regression.Leaves.{Leaves};
 ghost use Rattle.command.specs.Regression.Runs.{RunsTo, status_in};
@@ -58,19 +58,17 @@ fn end_case<O: Sink, K: Gpi, L: Ledger, M: FlowMaker + Drop, W: Awaits>(
     steps: &mut Steps<L>,
 ) -> Result<Progress, SinkFault>
     requires loaded { K.is_loaded kernel.old }
-    requires fits { FitsKernel (means M.functions M.Flow.functions M.Flow.meaning W.waiting W.held) engine.old (K.content kernel.old) }
+    requires fits { FitsKernel (means M.FlowMaker M.Flow.Flow W.Awaits) engine.old (K.content kernel.old) }
     requires within { progress.at < length cases.now }
     requires few { length cases.now ≤ most_cases }
     requires place { HasPlace progress }
-    ensures judges { (case : declared_case) → slice_get cases.now progress.at ≡ Some case → Judges (sink_means O.Sink)
-        (rig_of (means M.functions M.Flow.functions M.Flow.meaning W.waiting W.held) engine.old (K.content kernel.old)).sim.time cases.now progress
-        (view_case case) (meaning.reason_of (setup_of (means M.functions M.Flow.functions M.Flow.meaning W.waiting W.held) engine.old).flat
-        (view_case case) outcome.now) result out.old out.new }
-    ensures ended { (rig_of (means M.functions M.Flow.functions M.Flow.meaning W.waiting W.held) engine.new (K.content kernel.new))
-        ≡ ended (rig_of (means M.functions M.Flow.functions M.Flow.meaning W.waiting W.held) engine.old (K.content kernel.old)) }
-    ensures fits { FitsKernel (means M.functions M.Flow.functions M.Flow.meaning W.waiting W.held) engine.new (K.content kernel.new) }
-    ensures keeps { KeepsAll (means M.functions M.Flow.functions M.Flow.meaning W.waiting W.held)
-        K.is_loaded K.content engine.old engine.new kernel.new }
+    ensures judges { Relates (means M.FlowMaker M.Flow.Flow W.Awaits) K.Gpi (λ setup c d. (case : declared_case)
+        → slice_get cases.now progress.at ≡ Some case
+        → Judges (sink_means O.Sink) c.sim.time cases.now progress (view_case case) (meaning.reason_of setup.flat (view_case case) outcome.now)
+        result out.old out.new) engine.old kernel.old engine.new kernel.new }
+    ensures ended { Relates (means M.FlowMaker M.Flow.Flow W.Awaits) K.Gpi (λ setup c d. d ≡ ended c) engine.old kernel.old engine.new kernel.new }
+    ensures fits { FitsKernel (means M.FlowMaker M.Flow.Flow W.Awaits) engine.new (K.content kernel.new) }
+    ensures keeps { KeepsAll (means M.FlowMaker M.Flow.Flow W.Awaits) K.Gpi engine.old engine.new kernel.new }
     ensures idle { runs_test engine.new ≡ false }
 {
     let case = cases.get(progress.at);
@@ -95,18 +93,14 @@ fn wait_start<O: Sink, K: Gpi, L: Ledger, M: FlowMaker + Drop, W: Awaits>(
     steps: &mut Steps<L>,
 ) -> Result<Stage, NoMemory>
     requires loaded { K.is_loaded kernel.old }
-    requires fits { FitsKernel (means M.functions M.Flow.functions M.Flow.meaning W.waiting W.held) engine.old (K.content kernel.old) }
-    requires between { IsBetween (rig_of (means M.functions M.Flow.functions M.Flow.meaning W.waiting W.held) engine.old (K.content kernel.old)) }
+    requires fits { FitsKernel (means M.FlowMaker M.Flow.Flow W.Awaits) engine.old (K.content kernel.old) }
+    requires between { IsBetween (rig_of (means M.FlowMaker M.Flow.Flow W.Awaits) engine.old (K.content kernel.old)) }
     requires within { progress.at < length cases.now }
-    ensures stages { (seed : ℕ) (first : O) → IsWaiting (sink_means O.Sink)
-        (setup_of (means M.functions M.Flow.functions M.Flow.meaning W.waiting W.held) engine.old) seed cases.now budget progress fuel.old
-        (rig_of (means M.functions M.Flow.functions M.Flow.meaning W.waiting W.held) engine.old (K.content kernel.old)) first out.old
-        → StagesTo (sink_means O.Sink) (setup_of (means M.functions M.Flow.functions M.Flow.meaning W.waiting W.held) engine.old)
-        seed cases.now budget progress.at result fuel.new
-        (rig_of (means M.functions M.Flow.functions M.Flow.meaning W.waiting W.held) engine.new (K.content kernel.new))
-        (K.content kernel.new) first out.new }
-    ensures leaves { Leaves (means M.functions M.Flow.functions M.Flow.meaning W.waiting W.held) K.is_loaded K.content
-        (stage_status result) engine.old engine.new kernel.new }
+    ensures stages { Relates (means M.FlowMaker M.Flow.Flow W.Awaits) K.Gpi (λ setup c d. (seed : ℕ) (first : O)
+        → IsWaiting (sink_means O.Sink) setup seed cases.now budget progress fuel.old c first out.old
+        → StagesTo (sink_means O.Sink) setup seed cases.now budget progress.at result fuel.new d (K.content kernel.new) first out.new)
+        engine.old kernel.old engine.new kernel.new }
+    ensures leaves { Leaves (means M.FlowMaker M.Flow.Flow W.Awaits) K.Gpi (stage_status result) engine.old engine.new kernel.new }
 {
     match take_turns(alloc, engine, kernel, out, fuel, steps)? {
         Turn::Due => Ok(Stage::Goes(progress)),
@@ -129,20 +123,16 @@ fn wait_next<O: Sink, K: Gpi, L: Ledger, M: FlowMaker + Drop, W: Awaits>(
     steps: &mut Steps<L>,
 ) -> Result<Stage, NoMemory>
     requires loaded { K.is_loaded kernel.old }
-    requires fits { FitsKernel (means M.functions M.Flow.functions M.Flow.meaning W.waiting W.held) engine.old (K.content kernel.old) }
-    requires empty { IsEmpty (rig_of (means M.functions M.Flow.functions M.Flow.meaning W.waiting W.held) engine.old (K.content kernel.old)) }
+    requires fits { FitsKernel (means M.FlowMaker M.Flow.Flow W.Awaits) engine.old (K.content kernel.old) }
+    requires empty { IsEmpty (rig_of (means M.FlowMaker M.Flow.Flow W.Awaits) engine.old (K.content kernel.old)) }
     requires idle { runs_test engine.old ≡ false }
-    requires early { (rig_of (means M.functions M.Flow.functions M.Flow.meaning W.waiting W.held) engine.old (K.content kernel.old)).sim.time
+    requires early { (rig_of (means M.FlowMaker M.Flow.Flow W.Awaits) engine.old (K.content kernel.old)).sim.time
         < latest_time }
-    ensures stages { (seed : ℕ) (first : O) → IsEnded (sink_means O.Sink)
-        (setup_of (means M.functions M.Flow.functions M.Flow.meaning W.waiting W.held) engine.old) seed cases.now budget progress fuel.old
-        (rig_of (means M.functions M.Flow.functions M.Flow.meaning W.waiting W.held) engine.old (K.content kernel.old)) first out.old
-        → StagesTo (sink_means O.Sink) (setup_of (means M.functions M.Flow.functions M.Flow.meaning W.waiting W.held) engine.old)
-        seed cases.now budget progress.at result fuel.new
-        (rig_of (means M.functions M.Flow.functions M.Flow.meaning W.waiting W.held) engine.new (K.content kernel.new))
-        (K.content kernel.new) first out.new }
-    ensures leaves { Leaves (means M.functions M.Flow.functions M.Flow.meaning W.waiting W.held) K.is_loaded K.content
-        (stage_status result) engine.old engine.new kernel.new }
+    ensures stages { Relates (means M.FlowMaker M.Flow.Flow W.Awaits) K.Gpi (λ setup c d. (seed : ℕ) (first : O)
+        → IsEnded (sink_means O.Sink) setup seed cases.now budget progress fuel.old c first out.old
+        → StagesTo (sink_means O.Sink) setup seed cases.now budget progress.at result fuel.new d (K.content kernel.new) first out.new)
+        engine.old kernel.old engine.new kernel.new }
+    ensures leaves { Leaves (means M.FlowMaker M.Flow.Flow W.Awaits) K.Gpi (stage_status result) engine.old engine.new kernel.new }
 {
     if progress.at >= cases.len() {
         return Ok(Stage::Goes(progress));
@@ -166,20 +156,16 @@ fn go_on<O: Sink, K: Gpi, L: Ledger, M: FlowMaker + Drop, W: Awaits>(
     steps: &mut Steps<L>,
 ) -> Result<Stage, NoMemory>
     requires loaded { K.is_loaded kernel.old }
-    requires fits { FitsKernel (means M.functions M.Flow.functions M.Flow.meaning W.waiting W.held) engine.old (K.content kernel.old) }
-    requires empty { IsEmpty (rig_of (means M.functions M.Flow.functions M.Flow.meaning W.waiting W.held) engine.old (K.content kernel.old)) }
+    requires fits { FitsKernel (means M.FlowMaker M.Flow.Flow W.Awaits) engine.old (K.content kernel.old) }
+    requires empty { IsEmpty (rig_of (means M.FlowMaker M.Flow.Flow W.Awaits) engine.old (K.content kernel.old)) }
     requires idle { runs_test engine.old ≡ false }
-    requires early { (rig_of (means M.functions M.Flow.functions M.Flow.meaning W.waiting W.held) engine.old (K.content kernel.old)).sim.time
+    requires early { (rig_of (means M.FlowMaker M.Flow.Flow W.Awaits) engine.old (K.content kernel.old)).sim.time
         < latest_time }
-    ensures stages { (seed : ℕ) (first : O) (least : ℕ) → IfOk ended (λ progress. least ≤ progress.at) → AfterEnd (sink_means O.Sink)
-        (setup_of (means M.functions M.Flow.functions M.Flow.meaning W.waiting W.held) engine.old) seed cases.now budget ended fuel.old
-        (rig_of (means M.functions M.Flow.functions M.Flow.meaning W.waiting W.held) engine.old (K.content kernel.old)) first out.old
-        → StagesTo (sink_means O.Sink) (setup_of (means M.functions M.Flow.functions M.Flow.meaning W.waiting W.held) engine.old)
-        seed cases.now budget least result fuel.new
-        (rig_of (means M.functions M.Flow.functions M.Flow.meaning W.waiting W.held) engine.new (K.content kernel.new))
-        (K.content kernel.new) first out.new }
-    ensures leaves { Leaves (means M.functions M.Flow.functions M.Flow.meaning W.waiting W.held) K.is_loaded K.content
-        (stage_status result) engine.old engine.new kernel.new }
+    ensures stages { Relates (means M.FlowMaker M.Flow.Flow W.Awaits) K.Gpi (λ setup c d. (seed : ℕ) (first : O) (least : ℕ)
+        → IfOk ended (λ progress. least ≤ progress.at) → AfterEnd (sink_means O.Sink) setup seed cases.now budget ended fuel.old c first out.old
+        → StagesTo (sink_means O.Sink) setup seed cases.now budget least result fuel.new d (K.content kernel.new) first out.new)
+        engine.old kernel.old engine.new kernel.new }
+    ensures leaves { Leaves (means M.FlowMaker M.Flow.Flow W.Awaits) K.Gpi (stage_status result) engine.old engine.new kernel.new }
 {
     match ended {
         Ok(progress) => wait_next(
@@ -203,24 +189,19 @@ fn run_case<O: Sink, K: Gpi, L: Ledger, M: FlowMaker + Drop, W: Awaits>(
     steps: &mut Steps<L>,
 ) -> Result<Stage, NoMemory>
     requires loaded { K.is_loaded kernel.old }
-    requires fits { FitsKernel (means M.functions M.Flow.functions M.Flow.meaning W.waiting W.held) engine.old (K.content kernel.old) }
-    requires empty { IsEmpty (rig_of (means M.functions M.Flow.functions M.Flow.meaning W.waiting W.held) engine.old (K.content kernel.old)) }
+    requires fits { FitsKernel (means M.FlowMaker M.Flow.Flow W.Awaits) engine.old (K.content kernel.old) }
+    requires empty { IsEmpty (rig_of (means M.FlowMaker M.Flow.Flow W.Awaits) engine.old (K.content kernel.old)) }
     requires within { progress.at < length cases.now }
     requires few { length cases.now ≤ most_cases }
-    requires sound { list_all (is_sound_case (setup_of (means M.functions M.Flow.functions M.Flow.meaning W.waiting W.held) engine.old).functions)
+    requires sound { list_all (is_sound_case (setup_of (means M.FlowMaker M.Flow.Flow W.Awaits) engine.old).functions)
         (cases_of cases.now) ≡ true }
-    requires come { HasCome (sink_means O.Sink)
-        (setup_of (means M.functions M.Flow.functions M.Flow.meaning W.waiting W.held) engine.old) cases.now budget progress fuel.old
-        (rig_of (means M.functions M.Flow.functions M.Flow.meaning W.waiting W.held) engine.old (K.content kernel.old)) out.old }
-    ensures stages { (seed : ℕ) (first : O) → IsPending (sink_means O.Sink)
-        (setup_of (means M.functions M.Flow.functions M.Flow.meaning W.waiting W.held) engine.old) seed cases.now budget progress fuel.old
-        (rig_of (means M.functions M.Flow.functions M.Flow.meaning W.waiting W.held) engine.old (K.content kernel.old)) first out.old
-        → StagesTo (sink_means O.Sink) (setup_of (means M.functions M.Flow.functions M.Flow.meaning W.waiting W.held) engine.old)
-        seed cases.now budget (progress.at + 1) result fuel.new
-        (rig_of (means M.functions M.Flow.functions M.Flow.meaning W.waiting W.held) engine.new (K.content kernel.new))
-        (K.content kernel.new) first out.new }
-    ensures leaves { Leaves (means M.functions M.Flow.functions M.Flow.meaning W.waiting W.held) K.is_loaded K.content
-        (stage_status result) engine.old engine.new kernel.new }
+    requires come { Holds (means M.FlowMaker M.Flow.Flow W.Awaits) K.Gpi
+        (λ setup c. HasCome (sink_means O.Sink) setup cases.now budget progress fuel.old c out.old) engine.old kernel.old }
+    ensures stages { Relates (means M.FlowMaker M.Flow.Flow W.Awaits) K.Gpi (λ setup c d. (seed : ℕ) (first : O)
+        → IsPending (sink_means O.Sink) setup seed cases.now budget progress fuel.old c first out.old
+        → StagesTo (sink_means O.Sink) setup seed cases.now budget (progress.at + 1) result fuel.new d (K.content kernel.new) first out.new)
+        engine.old kernel.old engine.new kernel.new }
+    ensures leaves { Leaves (means M.FlowMaker M.Flow.Flow W.Awaits) K.Gpi (stage_status result) engine.old engine.new kernel.new }
 {
     match run_test(
         alloc,
@@ -255,24 +236,19 @@ fn run_from<O: Sink, K: Gpi, L: Ledger, M: FlowMaker + Drop, W: Awaits>(
     steps: &mut Steps<L>,
 ) -> Result<Status, NoMemory>
     requires loaded { K.is_loaded kernel.old }
-    requires fits { FitsKernel (means M.functions M.Flow.functions M.Flow.meaning W.waiting W.held) engine.old (K.content kernel.old) }
-    requires empty { IsEmpty (rig_of (means M.functions M.Flow.functions M.Flow.meaning W.waiting W.held) engine.old (K.content kernel.old)) }
+    requires fits { FitsKernel (means M.FlowMaker M.Flow.Flow W.Awaits) engine.old (K.content kernel.old) }
+    requires empty { IsEmpty (rig_of (means M.FlowMaker M.Flow.Flow W.Awaits) engine.old (K.content kernel.old)) }
     requires idle { runs_test engine.old ≡ false }
     requires few { length cases.now ≤ most_cases }
-    requires sound { list_all (is_sound_case (setup_of (means M.functions M.Flow.functions M.Flow.meaning W.waiting W.held) engine.old).functions)
+    requires sound { list_all (is_sound_case (setup_of (means M.FlowMaker M.Flow.Flow W.Awaits) engine.old).functions)
         (cases_of cases.now) ≡ true }
-    requires come { HasCome (sink_means O.Sink)
-        (setup_of (means M.functions M.Flow.functions M.Flow.meaning W.waiting W.held) engine.old) cases.now budget progress budget
-        (rig_of (means M.functions M.Flow.functions M.Flow.meaning W.waiting W.held) engine.old (K.content kernel.old)) out.old }
-    ensures runs { (seed : ℕ) (first : O) → IsPending (sink_means O.Sink)
-        (setup_of (means M.functions M.Flow.functions M.Flow.meaning W.waiting W.held) engine.old) seed cases.now budget progress budget
-        (rig_of (means M.functions M.Flow.functions M.Flow.meaning W.waiting W.held) engine.old (K.content kernel.old)) first out.old
-        → RunsTo (sink_means O.Sink) (setup_of (means M.functions M.Flow.functions M.Flow.meaning W.waiting W.held) engine.old) seed
-        (cases_of cases.now) budget (status_in result)
-        (rig_of (means M.functions M.Flow.functions M.Flow.meaning W.waiting W.held) engine.new (K.content kernel.new))
-        (K.content kernel.new) first out.new }
-    ensures leaves { Leaves (means M.functions M.Flow.functions M.Flow.meaning W.waiting W.held) K.is_loaded K.content
-        (status_in result) engine.old engine.new kernel.new }
+    requires come { Holds (means M.FlowMaker M.Flow.Flow W.Awaits) K.Gpi
+        (λ setup c. HasCome (sink_means O.Sink) setup cases.now budget progress budget c out.old) engine.old kernel.old }
+    ensures runs { Relates (means M.FlowMaker M.Flow.Flow W.Awaits) K.Gpi (λ setup c d. (seed : ℕ) (first : O)
+        → IsPending (sink_means O.Sink) setup seed cases.now budget progress budget c first out.old
+        → RunsTo (sink_means O.Sink) setup seed (cases_of cases.now) budget (status_in result) d (K.content kernel.new) first out.new)
+        engine.old kernel.old engine.new kernel.new }
+    ensures leaves { Leaves (means M.FlowMaker M.Flow.Flow W.Awaits) K.Gpi (status_in result) engine.old engine.new kernel.new }
 {
     let mut so_far = progress;
     let mut fuel = budget;
@@ -298,21 +274,18 @@ fn run_tests<O: Sink, K: Gpi, L: Ledger, M: FlowMaker + Drop, W: Awaits>(
     steps: &mut Steps<L>,
 ) -> Result<Status, NoMemory>
     requires loaded { K.is_loaded kernel.old }
-    requires fits { FitsKernel (means M.functions M.Flow.functions M.Flow.meaning W.waiting W.held) engine.old (K.content kernel.old) }
-    requires opening { (seed : ℕ) × ((rig_of (means M.functions M.Flow.functions M.Flow.meaning W.waiting W.held) engine.old (K.content kernel.old))
-        ≡ emptied (opening_sim (setup_of (means M.functions M.Flow.functions M.Flow.meaning W.waiting W.held) engine.old)) (seeded seed) no_counts) }
+    requires fits { FitsKernel (means M.FlowMaker M.Flow.Flow W.Awaits) engine.old (K.content kernel.old) }
+    requires opening { Holds (means M.FlowMaker M.Flow.Flow W.Awaits) K.Gpi
+        (λ setup c. (seed : ℕ) × (c ≡ emptied (opening_sim setup) (seeded seed) no_counts)) engine.old kernel.old }
     requires idle { runs_test engine.old ≡ false }
     requires few { length cases.now ≤ most_cases }
-    requires sound { list_all (is_sound_case (setup_of (means M.functions M.Flow.functions M.Flow.meaning W.waiting W.held) engine.old).functions)
+    requires sound { list_all (is_sound_case (setup_of (means M.FlowMaker M.Flow.Flow W.Awaits) engine.old).functions)
         (cases_of cases.now) ≡ true }
-    ensures runs { (seed : ℕ) → (rig_of (means M.functions M.Flow.functions M.Flow.meaning W.waiting W.held) engine.old (K.content kernel.old))
-        ≡ emptied (opening_sim (setup_of (means M.functions M.Flow.functions M.Flow.meaning W.waiting W.held) engine.old)) (seeded seed) no_counts
-        → RunsTo (sink_means O.Sink) (setup_of (means M.functions M.Flow.functions M.Flow.meaning W.waiting W.held) engine.old) seed
-        (cases_of cases.now) budget (status_in result)
-        (rig_of (means M.functions M.Flow.functions M.Flow.meaning W.waiting W.held) engine.new (K.content kernel.new))
-        (K.content kernel.new) out.old out.new }
-    ensures leaves { Leaves (means M.functions M.Flow.functions M.Flow.meaning W.waiting W.held) K.is_loaded K.content
-        (status_in result) engine.old engine.new kernel.new }
+    ensures runs { Relates (means M.FlowMaker M.Flow.Flow W.Awaits) K.Gpi (λ setup c d. (seed : ℕ)
+        → c ≡ emptied (opening_sim setup) (seeded seed) no_counts
+        → RunsTo (sink_means O.Sink) setup seed (cases_of cases.now) budget (status_in result) d (K.content kernel.new) out.old out.new)
+        engine.old kernel.old engine.new kernel.new }
+    ensures leaves { Leaves (means M.FlowMaker M.Flow.Flow W.Awaits) K.Gpi (status_in result) engine.old engine.new kernel.new }
 {
     match skip_tests(alloc, kernel.now(), cases, Progress::new(), out) {
         Ok(progress) => run_from(alloc, cases, progress, engine, kernel, out, budget, steps),
@@ -342,21 +315,18 @@ pub fn run_all<O: Sink, K: Gpi, L: Ledger, M: FlowMaker + Drop, W: Awaits>(
     steps: &mut Steps<L>,
 ) -> Status
     requires loaded { K.is_loaded kernel.old }
-    requires fits { FitsKernel (means M.functions M.Flow.functions M.Flow.meaning W.waiting W.held) engine.old (K.content kernel.old) }
-    requires opening { (seed : ℕ) × ((rig_of (means M.functions M.Flow.functions M.Flow.meaning W.waiting W.held) engine.old (K.content kernel.old))
-        ≡ emptied (opening_sim (setup_of (means M.functions M.Flow.functions M.Flow.meaning W.waiting W.held) engine.old)) (seeded seed) no_counts) }
+    requires fits { FitsKernel (means M.FlowMaker M.Flow.Flow W.Awaits) engine.old (K.content kernel.old) }
+    requires opening { Holds (means M.FlowMaker M.Flow.Flow W.Awaits) K.Gpi
+        (λ setup c. (seed : ℕ) × (c ≡ emptied (opening_sim setup) (seeded seed) no_counts)) engine.old kernel.old }
     requires idle { runs_test engine.old ≡ false }
     requires few { length file.now.cases ≤ most_cases }
-    requires sound { list_all (is_sound_case (setup_of (means M.functions M.Flow.functions M.Flow.meaning W.waiting W.held) engine.old).functions)
+    requires sound { list_all (is_sound_case (setup_of (means M.FlowMaker M.Flow.Flow W.Awaits) engine.old).functions)
         (cases_of file.now.cases) ≡ true }
-    ensures runs { (seed : ℕ) → (rig_of (means M.functions M.Flow.functions M.Flow.meaning W.waiting W.held) engine.old (K.content kernel.old))
-        ≡ emptied (opening_sim (setup_of (means M.functions M.Flow.functions M.Flow.meaning W.waiting W.held) engine.old)) (seeded seed) no_counts
-        → RunsTo (sink_means O.Sink) (setup_of (means M.functions M.Flow.functions M.Flow.meaning W.waiting W.held) engine.old) seed
-        (cases_of file.now.cases) budget result
-        (rig_of (means M.functions M.Flow.functions M.Flow.meaning W.waiting W.held) engine.new (K.content kernel.new))
-        (K.content kernel.new) out.old out.new }
-    ensures leaves { Leaves (means M.functions M.Flow.functions M.Flow.meaning W.waiting W.held)
-        K.is_loaded K.content result engine.old engine.new kernel.new }
+    ensures runs { Relates (means M.FlowMaker M.Flow.Flow W.Awaits) K.Gpi (λ setup c d. (seed : ℕ)
+        → c ≡ emptied (opening_sim setup) (seeded seed) no_counts
+        → RunsTo (sink_means O.Sink) setup seed (cases_of file.now.cases) budget result d (K.content kernel.new) out.old out.new)
+        engine.old kernel.old engine.new kernel.new }
+    ensures leaves { Leaves (means M.FlowMaker M.Flow.Flow W.Awaits) K.Gpi result engine.old engine.new kernel.new }
 {
     match run_tests(alloc, &file.cases, engine, kernel, out, budget, steps) {
         Ok(status) => status,

@@ -4,11 +4,11 @@ ghost use Rattle.port_io.specs.Means.{sink_means};
 ghost use Rattle.test_meaning.specs.Body.Sound.{is_sound_case};
 ghost use Rattle.test_meaning.specs.Body.Views.{view_case};
 ghost use Rattle.rig_model.specs.Parts.Steps.{FitSteps, anywhere};
-ghost use Rattle.scheduler.specs.Turns.{Turning, turn_fault};
+ghost use Rattle.scheduler.specs.Turns.{turn_fault};
 ghost use Rattle.scheduler.specs.BetweenTests.{IsBetween};
 ghost use Rattle.scheduler.specs.Parts.{means};
-ghost use Rattle.scheduler.specs.Engine.{rig_of, runs_test, setup_of};
-ghost use Rattle.scheduler.specs.Fits.{FitsKernel, KeepsAll};
+ghost use Rattle.scheduler.specs.Engine.{Holds, Relates, rig_of, runs_test, setup_of};
+ghost use Rattle.scheduler.specs.Fits.{FitsKernel, KeepsAll, Turns};
 ghost use Rattle.command.specs.Regression.Stages.{IsEmpty, TestsTo, WaitTurns};
 
 use await_tree::wait_list::{Awaits, Steps};
@@ -30,23 +30,13 @@ pub(crate) fn take_turns<O: Sink, K: Gpi, L: Ledger, M: FlowMaker + Drop, W: Awa
     steps: &mut Steps<L>,
 ) -> Result<Turn, NoMemory>
     requires loaded { K.is_loaded kernel.old }
-    requires fits { FitsKernel (means M.functions M.Flow.functions M.Flow.meaning W.waiting W.held) engine.old (K.content kernel.old) }
-    requires place { ((rig_of (means M.functions M.Flow.functions M.Flow.meaning W.waiting W.held) engine.old (K.content kernel.old)).planned ≡ None)
-        ⊎ IsBetween (rig_of (means M.functions M.Flow.functions M.Flow.meaning W.waiting W.held) engine.old (K.content kernel.old)) }
-    ensures turning { Turning (sink_means O.Sink)
-        (FitSteps anywhere (setup_of (means M.functions M.Flow.functions M.Flow.meaning W.waiting W.held) engine.old))
-        (setup_of (means M.functions M.Flow.functions M.Flow.meaning W.waiting W.held) engine.old) fuel.old
-        (rig_of (means M.functions M.Flow.functions M.Flow.meaning W.waiting W.held) engine.old (K.content kernel.old)) out.old result fuel.new
-        (rig_of (means M.functions M.Flow.functions M.Flow.meaning W.waiting W.held) engine.new (K.content kernel.new)) out.new }
-    ensures waits { IsBetween (rig_of (means M.functions M.Flow.functions M.Flow.meaning W.waiting W.held) engine.old (K.content kernel.old))
-        → WaitTurns (sink_means O.Sink) (setup_of (means M.functions M.Flow.functions M.Flow.meaning W.waiting W.held) engine.old) fuel.old
-        (rig_of (means M.functions M.Flow.functions M.Flow.meaning W.waiting W.held) engine.old (K.content kernel.old)) out.old result fuel.new
-        (rig_of (means M.functions M.Flow.functions M.Flow.meaning W.waiting W.held) engine.new (K.content kernel.new)) out.new }
+    requires fits { FitsKernel (means M.FlowMaker M.Flow.Flow W.Awaits) engine.old (K.content kernel.old) }
+    requires place { Holds (means M.FlowMaker M.Flow.Flow W.Awaits) K.Gpi (λ setup c. (c.planned ≡ None) ⊎ IsBetween c) engine.old kernel.old }
+    ensures turns { Turns (sink_means O.Sink) (means M.FlowMaker M.Flow.Flow W.Awaits) K.Gpi (FitSteps anywhere)
+        engine.old kernel.old fuel.old out.old result engine.new kernel.new fuel.new out.new }
+    ensures waits { Relates (means M.FlowMaker M.Flow.Flow W.Awaits) K.Gpi (λ setup c d. IsBetween c
+        → WaitTurns (sink_means O.Sink) setup fuel.old c out.old result fuel.new d out.new) engine.old kernel.old engine.new kernel.new }
     ensures stops { result ≢ Ok Turn.Went }
-    ensures fits { turn_fault result ≡ None
-        → FitsKernel (means M.functions M.Flow.functions M.Flow.meaning W.waiting W.held) engine.new (K.content kernel.new) }
-    ensures keeps { KeepsAll (means M.functions M.Flow.functions M.Flow.meaning W.waiting W.held)
-        K.is_loaded K.content engine.old engine.new kernel.new }
     ensures idle { runs_test engine.new ≡ false }
 {
     'turns: loop {
@@ -69,18 +59,16 @@ pub(crate) fn run_test<O: Sink, K: Gpi, L: Ledger, M: FlowMaker + Drop, W: Await
     steps: &mut Steps<L>,
 ) -> Result<Turn, NoMemory>
     requires loaded { K.is_loaded kernel.old }
-    requires fits { FitsKernel (means M.functions M.Flow.functions M.Flow.meaning W.waiting W.held) engine.old (K.content kernel.old) }
-    requires empty { IsEmpty (rig_of (means M.functions M.Flow.functions M.Flow.meaning W.waiting W.held) engine.old (K.content kernel.old)) }
-    requires sound { is_sound_case (setup_of (means M.functions M.Flow.functions M.Flow.meaning W.waiting W.held)
+    requires fits { FitsKernel (means M.FlowMaker M.Flow.Flow W.Awaits) engine.old (K.content kernel.old) }
+    requires empty { IsEmpty (rig_of (means M.FlowMaker M.Flow.Flow W.Awaits) engine.old (K.content kernel.old)) }
+    requires sound { is_sound_case (setup_of (means M.FlowMaker M.Flow.Flow W.Awaits)
         engine.old).functions (view_case case.now) ≡ true }
-    ensures tests { TestsTo (sink_means O.Sink)
-        (setup_of (means M.functions M.Flow.functions M.Flow.meaning W.waiting W.held) engine.old) (view_case case.now) fuel.old
-        (rig_of (means M.functions M.Flow.functions M.Flow.meaning W.waiting W.held) engine.old (K.content kernel.old)) out.old result fuel.new
-        (rig_of (means M.functions M.Flow.functions M.Flow.meaning W.waiting W.held) engine.new (K.content kernel.new)) out.new }
+    ensures tests { Relates (means M.FlowMaker M.Flow.Flow W.Awaits) K.Gpi
+        (λ setup c d. TestsTo (sink_means O.Sink) setup (view_case case.now) fuel.old c out.old result fuel.new d out.new)
+        engine.old kernel.old engine.new kernel.new }
     ensures fits { turn_fault result ≡ None
-        → FitsKernel (means M.functions M.Flow.functions M.Flow.meaning W.waiting W.held) engine.new (K.content kernel.new) }
-    ensures keeps { KeepsAll (means M.functions M.Flow.functions M.Flow.meaning W.waiting W.held)
-        K.is_loaded K.content engine.old engine.new kernel.new }
+        → FitsKernel (means M.FlowMaker M.Flow.Flow W.Awaits) engine.new (K.content kernel.new) }
+    ensures keeps { KeepsAll (means M.FlowMaker M.Flow.Flow W.Awaits) K.Gpi engine.old engine.new kernel.new }
     ensures idle { runs_test engine.new ≡ false }
 {
     match engine.begin_test(alloc, kernel, case, out, steps)? {

@@ -7,7 +7,7 @@ ghost use Rattle.test_meaning.specs.Body.Sound.{is_sound, is_sound_case};
 ghost use Rattle.test_meaning.specs.Body.Views.{view_case, view_file, view_function};
 ghost use Rattle.table_rows.specs.Rows.{part_at, written};
 ghost use Rattle.command.specs.Answer.{setup_with};
-ghost use Rattle.scheduler.specs.Engine.{rig_of, setup_of};
+ghost use Rattle.scheduler.specs.Engine.{Holds, rig_of, setup_of};
 ghost use Rattle.scheduler.specs.Fits.{FitsKernel};
 ghost use Rattle.scheduler.specs.Parts.{means};
 ghost use Rattle.command.specs.Regression.Stages.{IsEmpty};
@@ -51,12 +51,10 @@ fn turns_told<O: Sink, K: Gpi, L: Ledger, M: FlowMaker + Drop, W: Awaits>(
     steps: &mut Steps<L>,
 ) -> Result<String, NoMemory>
     requires loaded { K.is_loaded kernel.old }
-    requires fits { FitsKernel (means M.functions M.Flow.functions M.Flow.meaning W.waiting W.held) engine.old (K.content kernel.old) }
-    requires none { (rig_of (means M.functions M.Flow.functions M.Flow.meaning W.waiting W.held) engine.old (K.content kernel.old)).planned ≡ None }
-    ensures { IfOk result (λ text. (count : ℕ) × TellsTurns (sink_means O.Sink)
-        (setup_of (means M.functions M.Flow.functions M.Flow.meaning W.waiting W.held) engine.old) count turns_budget
-        (rig_of (means M.functions M.Flow.functions M.Flow.meaning W.waiting W.held) engine.old (K.content kernel.old))
-        out.old (string_bytes text)) }
+    requires fits { FitsKernel (means M.FlowMaker M.Flow.Flow W.Awaits) engine.old (K.content kernel.old) }
+    requires none { (rig_of (means M.FlowMaker M.Flow.Flow W.Awaits) engine.old (K.content kernel.old)).planned ≡ None }
+    ensures { IfOk result (λ text. Holds (means M.FlowMaker M.Flow.Flow W.Awaits) K.Gpi
+        (λ setup c. (count : ℕ) × TellsTurns (sink_means O.Sink) setup count turns_budget c out.old (string_bytes text)) engine.old kernel.old) }
 {
     let mut text = String::new(alloc);
     let mut fuel = TURNS_BUDGET;
@@ -81,14 +79,12 @@ fn begun_told<O: Sink, K: Gpi, L: Ledger, M: FlowMaker + Drop, W: Awaits>(
     steps: &mut Steps<L>,
 ) -> Result<String, NoMemory>
     requires loaded { K.is_loaded kernel.old }
-    requires fits { FitsKernel (means M.functions M.Flow.functions M.Flow.meaning W.waiting W.held) engine.old (K.content kernel.old) }
-    requires empty { IsEmpty (rig_of (means M.functions M.Flow.functions M.Flow.meaning W.waiting W.held) engine.old (K.content kernel.old)) }
+    requires fits { FitsKernel (means M.FlowMaker M.Flow.Flow W.Awaits) engine.old (K.content kernel.old) }
+    requires empty { IsEmpty (rig_of (means M.FlowMaker M.Flow.Flow W.Awaits) engine.old (K.content kernel.old)) }
     requires sound { is_sound_case
-        (setup_of (means M.functions M.Flow.functions M.Flow.meaning W.waiting W.held) engine.old).functions (view_case case.now) ≡ true }
-    ensures { IfOk result (λ text. TellsTest (sink_means O.Sink)
-        (setup_of (means M.functions M.Flow.functions M.Flow.meaning W.waiting W.held) engine.old) (view_case case.now)
-        (rig_of (means M.functions M.Flow.functions M.Flow.meaning W.waiting W.held) engine.old (K.content kernel.old))
-        out.old (string_bytes text)) }
+        (setup_of (means M.FlowMaker M.Flow.Flow W.Awaits) engine.old).functions (view_case case.now) ≡ true }
+    ensures { IfOk result (λ text. Holds (means M.FlowMaker M.Flow.Flow W.Awaits) K.Gpi
+        (λ setup c. TellsTest (sink_means O.Sink) setup (view_case case.now) c out.old (string_bytes text)) engine.old kernel.old) }
 {
     match engine.begin_test(alloc, kernel, case, out, steps)? {
         Turn::Went => turns_told(alloc, engine, kernel, out, steps),

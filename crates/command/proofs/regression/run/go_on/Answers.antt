@@ -12,7 +12,7 @@ use Rattle.command.proofs.regression.run.go_on.Goals as goal
 
 pub returns-in-Ok-clause-stages : goal.returns-in-Ok-clause-stages
 returns-in-Ok-clause-stages g c = λ seed first least h ended.
-    let m = means g.M.FlowMaker.functions g.M.Flow.Flow.functions g.M.Flow.Flow.meaning g.W.Awaits.waiting g.W.Awaits.held in
+    let m = means g.M.FlowMaker g.M.Flow.Flow g.W.Awaits in
     let setup : Setup = setup_of m c.args.engine.now in
     let before : Rig = rig_of m c.args.engine.now (g.K.Gpi.content c.args.kernel.now) in
     stages_from (sink_means g.O.Sink) setup seed c.args.cases.now c.args.budget least c.in-Ok.progress.at c.wait_next.result c.wait_next.new.fuel (rig_of m c.wait_next.new.engine (g.K.Gpi.content c.wait_next.new.kernel)) (g.K.Gpi.content c.wait_next.new.kernel) first c.wait_next.new.out

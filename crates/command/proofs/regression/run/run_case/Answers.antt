@@ -20,12 +20,12 @@ use Rattle.command.proofs.regression.run.run_case.Goals as goal
 
 pub run_test-requires-clause-sound : goal.run_test-requires-clause-sound
 run_test-requires-clause-sound g c =
-    let m = means g.M.FlowMaker.functions g.M.Flow.Flow.functions g.M.Flow.Flow.meaning g.W.Awaits.waiting g.W.Awaits.held in
+    let m = means g.M.FlowMaker g.M.Flow.Flow g.W.Awaits in
     sound_at (is_sound_case (setup_of m c.args.engine.now).functions) c.args.cases.now c.args.progress.at c.get.result.now c.requires.sound c.get.ensures
 
 pub returns-in_err-outcome-clause-stages : goal.returns-in_err-outcome-clause-stages
 returns-in_err-outcome-clause-stages g c = λ seed first pend.
-    let m = means g.M.FlowMaker.functions g.M.Flow.Flow.functions g.M.Flow.Flow.meaning g.W.Awaits.waiting g.W.Awaits.held in
+    let m = means g.M.FlowMaker g.M.Flow.Flow g.W.Awaits in
     let setup : Setup = setup_of m c.args.engine.now in
     let before : Rig = rig_of m c.args.engine.now (g.K.Gpi.content c.args.kernel.now) in
     let tested : Rig = rig_of m c.run_test.new.engine (g.K.Gpi.content c.run_test.new.kernel) in
@@ -34,12 +34,12 @@ returns-in_err-outcome-clause-stages g c = λ seed first pend.
 
 pub returns-in_err-outcome-clause-leaves : goal.returns-in_err-outcome-clause-leaves
 returns-in_err-outcome-clause-leaves g c =
-    let m = means g.M.FlowMaker.functions g.M.Flow.Flow.functions g.M.Flow.Flow.meaning g.W.Awaits.waiting g.W.Awaits.held in
-    stage_short m g.K.Gpi.is_loaded g.K.Gpi.content c.from_residual.result c.args.engine.now c.run_test.new.engine c.run_test.new.kernel c.from_residual.ensures.0 c.run_test.ensures.keeps c.run_test.ensures.idle
+    let m = means g.M.FlowMaker g.M.Flow.Flow g.W.Awaits in
+    stage_short m g.K.Gpi c.from_residual.result c.args.engine.now c.run_test.new.engine c.run_test.new.kernel c.from_residual.ensures.0 c.run_test.ensures.keeps c.run_test.ensures.idle
 
 pub go_on-requires-clause-early : goal.go_on-requires-clause-early
 go_on-requires-clause-early g c =
-    let m = means g.M.FlowMaker.functions g.M.Flow.Flow.functions g.M.Flow.Flow.meaning g.W.Awaits.waiting g.W.Awaits.held in
+    let m = means g.M.FlowMaker g.M.Flow.Flow g.W.Awaits in
     let setup : Setup = setup_of m c.args.engine.now in
     let before : Rig = rig_of m c.args.engine.now (g.K.Gpi.content c.args.kernel.now) in
     let tested : Rig = rig_of m c.run_test.new.engine (g.K.Gpi.content c.run_test.new.kernel) in
@@ -50,7 +50,7 @@ go_on-requires-clause-early g c =
 
 pub returns-in-Over-clause-stages : goal.returns-in-Over-clause-stages
 returns-in-Over-clause-stages g c = λ seed first pend.
-    let m = means g.M.FlowMaker.functions g.M.Flow.Flow.functions g.M.Flow.Flow.meaning g.W.Awaits.waiting g.W.Awaits.held in
+    let m = means g.M.FlowMaker g.M.Flow.Flow g.W.Awaits in
     let setup : Setup = setup_of m c.args.engine.now in
     let before : Rig = rig_of m c.args.engine.now (g.K.Gpi.content c.args.kernel.now) in
     let tested : Rig = rig_of m c.run_test.new.engine (g.K.Gpi.content c.run_test.new.kernel) in
@@ -71,13 +71,13 @@ returns-in-Over-clause-stages g c = λ seed first pend.
 
 pub returns-in-Over-clause-leaves : goal.returns-in-Over-clause-leaves
 returns-in-Over-clause-leaves g c =
-    let m = means g.M.FlowMaker.functions g.M.Flow.Flow.functions g.M.Flow.Flow.meaning g.W.Awaits.waiting g.W.Awaits.held in
-    leaves_on m g.K.Gpi.is_loaded g.K.Gpi.content _ c.args.engine.now c.end_case-ended.new.engine c.go_on.new.engine c.go_on.new.kernel
+    let m = means g.M.FlowMaker g.M.Flow.Flow g.W.Awaits in
+    leaves_on m g.K.Gpi _ c.args.engine.now c.end_case-ended.new.engine c.go_on.new.engine c.go_on.new.kernel
     (c.end_case-ended.ensures.keeps.setup ∙ c.run_test.ensures.keeps.setup) c.go_on.ensures.leaves
 
 pub returns-in-Spent-clause-stages : goal.returns-in-Spent-clause-stages
 returns-in-Spent-clause-stages g c = λ seed first pend.
-    let m = means g.M.FlowMaker.functions g.M.Flow.Flow.functions g.M.Flow.Flow.meaning g.W.Awaits.waiting g.W.Awaits.held in
+    let m = means g.M.FlowMaker g.M.Flow.Flow g.W.Awaits in
     let setup : Setup = setup_of m c.args.engine.now in
     let before : Rig = rig_of m c.args.engine.now (g.K.Gpi.content c.args.kernel.now) in
     let tested : Rig = rig_of m c.run_test.new.engine (g.K.Gpi.content c.run_test.new.kernel) in
@@ -88,13 +88,13 @@ returns-in-Spent-clause-stages g c = λ seed first pend.
 
 pub returns-in-Spent-clause-leaves : goal.returns-in-Spent-clause-leaves
 returns-in-Spent-clause-leaves g c =
-    let m = means g.M.FlowMaker.functions g.M.Flow.Flow.functions g.M.Flow.Flow.meaning g.W.Awaits.waiting g.W.Awaits.held in
-    leaves_amid m g.K.Gpi.is_loaded g.K.Gpi.content c.end_short.result c.args.engine.now c.run_test.new.engine c.run_test.new.kernel (short_verdict c.end_short.result c.end_short.ensures.fault c.end_short.ensures.status_is)
+    let m = means g.M.FlowMaker g.M.Flow.Flow g.W.Awaits in
+    leaves_amid m g.K.Gpi c.end_short.result c.args.engine.now c.run_test.new.engine c.run_test.new.kernel (short_verdict c.end_short.result c.end_short.ensures.fault c.end_short.ensures.status_is)
     c.run_test.ensures.keeps c.run_test.ensures.idle (c.in_ok-outcome.ensures.fits (ap (λ (t : Turn). turn_fault (Ok t)) c.in-Spent.is))
 
 pub returns-in-WriteFault-clause-stages : goal.returns-in-WriteFault-clause-stages
 returns-in-WriteFault-clause-stages g c = λ seed first pend.
-    let m = means g.M.FlowMaker.functions g.M.Flow.Flow.functions g.M.Flow.Flow.meaning g.W.Awaits.waiting g.W.Awaits.held in
+    let m = means g.M.FlowMaker g.M.Flow.Flow g.W.Awaits in
     let setup : Setup = setup_of m c.args.engine.now in
     let before : Rig = rig_of m c.args.engine.now (g.K.Gpi.content c.args.kernel.now) in
     let tested : Rig = rig_of m c.run_test.new.engine (g.K.Gpi.content c.run_test.new.kernel) in
@@ -102,5 +102,5 @@ returns-in-WriteFault-clause-stages g c = λ seed first pend.
 
 pub returns-in-WriteFault-clause-leaves : goal.returns-in-WriteFault-clause-leaves
 returns-in-WriteFault-clause-leaves g c =
-    let m = means g.M.FlowMaker.functions g.M.Flow.Flow.functions g.M.Flow.Flow.meaning g.W.Awaits.waiting g.W.Awaits.held in
-    leaves_broken m g.K.Gpi.is_loaded g.K.Gpi.content c.args.engine.now c.run_test.new.engine c.run_test.new.kernel c.run_test.ensures.keeps c.run_test.ensures.idle
+    let m = means g.M.FlowMaker g.M.Flow.Flow g.W.Awaits in
+    leaves_broken m g.K.Gpi c.args.engine.now c.run_test.new.engine c.run_test.new.kernel c.run_test.ensures.keeps c.run_test.ensures.idle

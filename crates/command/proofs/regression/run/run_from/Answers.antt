@@ -14,7 +14,7 @@ use Rattle.command.proofs.regression.run.run_from.Goals as goal
 
 pub returns-in_err-next-clause-runs : goal.returns-in_err-next-clause-runs
 returns-in_err-next-clause-runs g c = λ seed first pend.
-    let m = means g.M.FlowMaker.functions g.M.Flow.Flow.functions g.M.Flow.Flow.meaning g.W.Awaits.waiting g.W.Awaits.held in
+    let m = means g.M.FlowMaker g.M.Flow.Flow g.W.Awaits in
     let setup : Setup = setup_of m c.args.engine.now in
     let now : Rig = rig_of m c.tests.engine (g.K.Gpi.content c.tests.kernel) in
     let after : Rig = rig_of m c.run_case.new.engine (g.K.Gpi.content c.run_case.new.kernel) in
@@ -23,13 +23,13 @@ returns-in_err-next-clause-runs g c = λ seed first pend.
 
 pub returns-in_err-next-clause-leaves : goal.returns-in_err-next-clause-leaves
 returns-in_err-next-clause-leaves g c =
-    let m = means g.M.FlowMaker.functions g.M.Flow.Flow.functions g.M.Flow.Flow.meaning g.W.Awaits.waiting g.W.Awaits.held in
-    run_none m g.K.Gpi.is_loaded g.K.Gpi.content c.from_residual.result c.args.engine.now c.run_case.new.engine c.run_case.new.kernel c.from_residual.ensures.0
-    (leaves_on m g.K.Gpi.is_loaded g.K.Gpi.content NoMemory c.args.engine.now c.tests.engine c.run_case.new.engine c.run_case.new.kernel c.tests.invariant.setup c.in_err-next.ensures.leaves)
+    let m = means g.M.FlowMaker g.M.Flow.Flow g.W.Awaits in
+    run_none m g.K.Gpi c.from_residual.result c.args.engine.now c.run_case.new.engine c.run_case.new.kernel c.from_residual.ensures.0
+    (leaves_on m g.K.Gpi NoMemory c.args.engine.now c.tests.engine c.run_case.new.engine c.run_case.new.kernel c.tests.invariant.setup c.in_err-next.ensures.leaves)
 
 pub tests-smaller : goal.tests-smaller
 tests-smaller g c =
-    let m = means g.M.FlowMaker.functions g.M.Flow.Flow.functions g.M.Flow.Flow.meaning g.W.Awaits.waiting g.W.Awaits.held in
+    let m = means g.M.FlowMaker g.M.Flow.Flow g.W.Awaits in
     let setup : Setup = setup_of m c.args.engine.now in
     let now : Rig = rig_of m c.tests.engine (g.K.Gpi.content c.tests.kernel) in
     let after : Rig = rig_of m c.run_case.new.engine (g.K.Gpi.content c.run_case.new.kernel) in
@@ -41,28 +41,28 @@ tests-smaller g c =
 
 pub tests-preserved : goal.tests-preserved
 tests-preserved g c =
-    let m = means g.M.FlowMaker.functions g.M.Flow.Flow.functions g.M.Flow.Flow.meaning g.W.Awaits.waiting g.W.Awaits.held in
+    let m = means g.M.FlowMaker g.M.Flow.Flow g.W.Awaits in
     let setup : Setup = setup_of m c.args.engine.now in
     let now : Rig = rig_of m c.tests.engine (g.K.Gpi.content c.tests.kernel) in
     let after : Rig = rig_of m c.run_case.new.engine (g.K.Gpi.content c.run_case.new.kernel) in
     let goes = (stage_goes (sink_means g.O.Sink) setup (setup_of m c.tests.engine) c.tests.invariant.setup c.tests.invariant.come.seed c.args.cases.now c.args.budget c.tests.so_far c.tests.fuel now c.tests.invariant.come.first c.tests.out (c.tests.so_far.at + 1) c.run_case.new.fuel after (g.K.Gpi.content c.run_case.new.kernel) c.run_case.new.out c.in_ok-next.field-0 c.in-Goes.next c.in-Goes.is
     (c.in_ok-next.ensures.stages c.tests.invariant.come.seed c.tests.invariant.come.first) c.tests.invariant.come.pending) in
-    let leaves : Leaves m g.K.Gpi.is_loaded g.K.Gpi.content Passed c.tests.engine c.run_case.new.engine c.run_case.new.kernel
-    = stage_leaves m g.K.Gpi.is_loaded g.K.Gpi.content c.in_ok-next.field-0 (Goes c.in-Goes.next) c.tests.engine c.run_case.new.engine c.run_case.new.kernel c.in-Goes.is c.in_ok-next.ensures.leaves in
+    let leaves : Leaves m g.K.Gpi Passed c.tests.engine c.run_case.new.engine c.run_case.new.kernel
+    = stage_leaves m g.K.Gpi c.in_ok-next.field-0 (Goes c.in-Goes.next) c.tests.engine c.run_case.new.engine c.run_case.new.kernel c.in-Goes.is c.in_ok-next.ensures.leaves in
     record {
       pending = λ seed first pend. (stage_goes (sink_means g.O.Sink) setup (setup_of m c.tests.engine) c.tests.invariant.setup seed c.args.cases.now c.args.budget c.tests.so_far c.tests.fuel now first c.tests.out (c.tests.so_far.at + 1) c.run_case.new.fuel after (g.K.Gpi.content c.run_case.new.kernel) c.run_case.new.out c.in_ok-next.field-0 c.in-Goes.next c.in-Goes.is
           (c.in_ok-next.ensures.stages seed first) (c.tests.invariant.pending seed first pend)).1;
       come = record { seed = c.tests.invariant.come.seed; first = c.tests.invariant.come.first; pending = goes.1 };
       setup = leaves.keeps.setup ∙ c.tests.invariant.setup;
       loaded = leaves.keeps.loaded;
-      fits = passed_fits m g.K.Gpi.is_loaded g.K.Gpi.content c.tests.engine c.run_case.new.engine c.run_case.new.kernel leaves;
+      fits = passed_fits m g.K.Gpi c.tests.engine c.run_case.new.engine c.run_case.new.kernel leaves;
       empty = (leaves.cleared refl).empty;
       idle = leaves.idle;
     }
 
 pub returns-in-Stops-clause-runs : goal.returns-in-Stops-clause-runs
 returns-in-Stops-clause-runs g c = λ seed first pend.
-    let m = means g.M.FlowMaker.functions g.M.Flow.Flow.functions g.M.Flow.Flow.meaning g.W.Awaits.waiting g.W.Awaits.held in
+    let m = means g.M.FlowMaker g.M.Flow.Flow g.W.Awaits in
     let setup : Setup = setup_of m c.args.engine.now in
     let now : Rig = rig_of m c.tests.engine (g.K.Gpi.content c.tests.kernel) in
     let after : Rig = rig_of m c.run_case.new.engine (g.K.Gpi.content c.run_case.new.kernel) in
@@ -71,13 +71,13 @@ returns-in-Stops-clause-runs g c = λ seed first pend.
 
 pub returns-in-Stops-clause-leaves : goal.returns-in-Stops-clause-leaves
 returns-in-Stops-clause-leaves g c =
-    let m = means g.M.FlowMaker.functions g.M.Flow.Flow.functions g.M.Flow.Flow.meaning g.W.Awaits.waiting g.W.Awaits.held in
-    leaves_on m g.K.Gpi.is_loaded g.K.Gpi.content c.in-Stops.status c.args.engine.now c.tests.engine c.run_case.new.engine c.run_case.new.kernel c.tests.invariant.setup
-    (stage_leaves m g.K.Gpi.is_loaded g.K.Gpi.content c.in_ok-next.field-0 (Stops c.in-Stops.status) c.tests.engine c.run_case.new.engine c.run_case.new.kernel c.in-Stops.is c.in_ok-next.ensures.leaves)
+    let m = means g.M.FlowMaker g.M.Flow.Flow g.W.Awaits in
+    leaves_on m g.K.Gpi c.in-Stops.status c.args.engine.now c.tests.engine c.run_case.new.engine c.run_case.new.kernel c.tests.invariant.setup
+    (stage_leaves m g.K.Gpi c.in_ok-next.field-0 (Stops c.in-Stops.status) c.tests.engine c.run_case.new.engine c.run_case.new.kernel c.in-Stops.is c.in_ok-next.ensures.leaves)
 
 pub returns-clause-runs : goal.returns-clause-runs
 returns-clause-runs g c = λ seed first pend.
-    let m = means g.M.FlowMaker.functions g.M.Flow.Flow.functions g.M.Flow.Flow.meaning g.W.Awaits.waiting g.W.Awaits.held in
+    let m = means g.M.FlowMaker g.M.Flow.Flow g.W.Awaits in
     let setup : Setup = setup_of m c.args.engine.now in
     let now : Rig = rig_of m c.tests.engine (g.K.Gpi.content c.tests.kernel) in
     let behind : length c.args.cases.now ≤ c.tests.so_far.at = search rules in
@@ -88,5 +88,5 @@ returns-clause-runs g c = λ seed first pend.
 
 pub returns-clause-leaves : goal.returns-clause-leaves
 returns-clause-leaves g c =
-    let m = means g.M.FlowMaker.functions g.M.Flow.Flow.functions g.M.Flow.Flow.meaning g.W.Awaits.waiting g.W.Awaits.held in
-    leaves_cleared m g.K.Gpi.is_loaded g.K.Gpi.content c.close.result c.args.engine.now c.tests.engine c.tests.kernel c.tests.invariant.setup c.tests.invariant.loaded c.tests.invariant.idle c.tests.invariant.fits c.tests.invariant.empty
+    let m = means g.M.FlowMaker g.M.Flow.Flow g.W.Awaits in
+    leaves_cleared m g.K.Gpi c.close.result c.args.engine.now c.tests.engine c.tests.kernel c.tests.invariant.setup c.tests.invariant.loaded c.tests.invariant.idle c.tests.invariant.fits c.tests.invariant.empty

@@ -9,7 +9,7 @@ use Rattle.command.proofs.regression.run.run_from.Given as goal
 -- where the run has come from the start
 abbrev pub invariant-tests : goal.invariant-tests
 invariant-tests g l =
-    let m = means g.M.FlowMaker.functions g.M.Flow.Flow.functions g.M.Flow.Flow.meaning g.W.Awaits.waiting g.W.Awaits.held in
+    let m = means g.M.FlowMaker g.M.Flow.Flow g.W.Awaits in
     let setup = setup_of m l.fn.engine in
     let start = rig_of m l.fn.engine (g.K.Gpi.content l.fn.kernel) in
     let now = rig_of m l.engine (g.K.Gpi.content l.kernel) in

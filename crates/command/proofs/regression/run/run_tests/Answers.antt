@@ -12,7 +12,7 @@ use Rattle.command.proofs.regression.run.run_tests.Goals as goal
 
 pub run_from-requires-clause-come : goal.run_from-requires-clause-come
 run_from-requires-clause-come g c =
-    let m = means g.M.FlowMaker.functions g.M.Flow.Flow.functions g.M.Flow.Flow.meaning g.W.Awaits.waiting g.W.Awaits.held in
+    let m = means g.M.FlowMaker g.M.Flow.Flow g.W.Awaits in
     let setup : Setup = setup_of m c.args.engine.now in
     let before : Rig = rig_of m c.args.engine.now (g.K.Gpi.content c.args.kernel.now) in
     record {
@@ -23,14 +23,14 @@ run_from-requires-clause-come g c =
 
 pub returns-in-Ok-clause-runs : goal.returns-in-Ok-clause-runs
 returns-in-Ok-clause-runs g c = λ seed opens.
-    let m = means g.M.FlowMaker.functions g.M.Flow.Flow.functions g.M.Flow.Flow.meaning g.W.Awaits.waiting g.W.Awaits.held in
+    let m = means g.M.FlowMaker g.M.Flow.Flow g.W.Awaits in
     let setup : Setup = setup_of m c.args.engine.now in
     let before : Rig = rig_of m c.args.engine.now (g.K.Gpi.content c.args.kernel.now) in
     c.run_from.ensures.runs seed c.args.out.now (opens_pending (sink_means g.O.Sink) setup seed c.args.cases.now c.args.budget c.new.result c.new.ensures.at c.new.ensures.tally before opens c.args.out.now c.now.result c.in-Ok.progress c.skip_tests.new.out c.now.ensures c.in-Ok.ensures)
 
 pub returns-in-Err-Failed-clause-runs : goal.returns-in-Err-Failed-clause-runs
 returns-in-Err-Failed-clause-runs g c = λ seed opens.
-    let m = means g.M.FlowMaker.functions g.M.Flow.Flow.functions g.M.Flow.Flow.meaning g.W.Awaits.waiting g.W.Awaits.held in
+    let m = means g.M.FlowMaker g.M.Flow.Flow g.W.Awaits in
     let setup : Setup = setup_of m c.args.engine.now in
     let before : Rig = rig_of m c.args.engine.now (g.K.Gpi.content c.args.kernel.now) in
     opens_broken (sink_means g.O.Sink) setup seed c.args.cases.now c.args.budget c.new.result c.new.ensures.at c.new.ensures.tally before opens c.args.out.now c.now.result Failed c.skip_tests.new.out c.now.ensures
@@ -38,12 +38,12 @@ returns-in-Err-Failed-clause-runs g c = λ seed opens.
 
 pub returns-in-Err-Failed-clause-leaves : goal.returns-in-Err-Failed-clause-leaves
 returns-in-Err-Failed-clause-leaves g c =
-    let m = means g.M.FlowMaker.functions g.M.Flow.Flow.functions g.M.Flow.Flow.meaning g.W.Awaits.waiting g.W.Awaits.held in
-    leaves_broken m g.K.Gpi.is_loaded g.K.Gpi.content c.args.engine.now c.args.engine.now c.args.kernel.now (keeps_fits m g.K.Gpi.is_loaded g.K.Gpi.content c.args.engine.now c.args.engine.now c.args.kernel.now refl c.requires.loaded c.requires.fits) c.requires.idle
+    let m = means g.M.FlowMaker g.M.Flow.Flow g.W.Awaits in
+    leaves_broken m g.K.Gpi c.args.engine.now c.args.engine.now c.args.kernel.now (keeps_fits m g.K.Gpi c.args.engine.now c.args.engine.now c.args.kernel.now refl c.requires.loaded c.requires.fits) c.requires.idle
 
 pub returns-in-Err-OutOfMemory-clause-runs : goal.returns-in-Err-OutOfMemory-clause-runs
 returns-in-Err-OutOfMemory-clause-runs g c = λ seed opens.
-    let m = means g.M.FlowMaker.functions g.M.Flow.Flow.functions g.M.Flow.Flow.meaning g.W.Awaits.waiting g.W.Awaits.held in
+    let m = means g.M.FlowMaker g.M.Flow.Flow g.W.Awaits in
     let setup : Setup = setup_of m c.args.engine.now in
     let before : Rig = rig_of m c.args.engine.now (g.K.Gpi.content c.args.kernel.now) in
     opens_broken (sink_means g.O.Sink) setup seed c.args.cases.now c.args.budget c.new.result c.new.ensures.at c.new.ensures.tally before opens c.args.out.now c.now.result OutOfMemory c.skip_tests.new.out c.now.ensures
@@ -51,5 +51,5 @@ returns-in-Err-OutOfMemory-clause-runs g c = λ seed opens.
 
 pub returns-in-Err-OutOfMemory-clause-leaves : goal.returns-in-Err-OutOfMemory-clause-leaves
 returns-in-Err-OutOfMemory-clause-leaves g c =
-    let m = means g.M.FlowMaker.functions g.M.Flow.Flow.functions g.M.Flow.Flow.meaning g.W.Awaits.waiting g.W.Awaits.held in
-    leaves_none m g.K.Gpi.is_loaded g.K.Gpi.content c.args.engine.now c.args.engine.now c.args.kernel.now (keeps_fits m g.K.Gpi.is_loaded g.K.Gpi.content c.args.engine.now c.args.engine.now c.args.kernel.now refl c.requires.loaded c.requires.fits) c.requires.idle
+    let m = means g.M.FlowMaker g.M.Flow.Flow g.W.Awaits in
+    leaves_none m g.K.Gpi c.args.engine.now c.args.engine.now c.args.kernel.now (keeps_fits m g.K.Gpi c.args.engine.now c.args.engine.now c.args.kernel.now refl c.requires.loaded c.requires.fits) c.requires.idle

@@ -10,7 +10,7 @@ use Rattle.command.proofs.regression.run.wait_next.Goals as goal
 
 pub returns-then-progress-len-clause-stages : goal.returns-then-progress-len-clause-stages
 returns-then-progress-len-clause-stages g c = λ seed first ended.
-    let m = means g.M.FlowMaker.functions g.M.Flow.Flow.functions g.M.Flow.Flow.meaning g.W.Awaits.waiting g.W.Awaits.held in
+    let m = means g.M.FlowMaker g.M.Flow.Flow g.W.Awaits in
     let setup : Setup = setup_of m c.args.engine.now in
     let before : Rig = rig_of m c.args.engine.now (g.K.Gpi.content c.args.kernel.now) in
     let behind : length c.args.cases.now ≤ c.args.progress.at = search rules in
@@ -18,7 +18,7 @@ returns-then-progress-len-clause-stages g c = λ seed first ended.
 
 pub returns-in_err-plan_start-clause-stages : goal.returns-in_err-plan_start-clause-stages
 returns-in_err-plan_start-clause-stages g c = λ seed first ended.
-    let m = means g.M.FlowMaker.functions g.M.Flow.Flow.functions g.M.Flow.Flow.meaning g.W.Awaits.waiting g.W.Awaits.held in
+    let m = means g.M.FlowMaker g.M.Flow.Flow g.W.Awaits in
     let setup : Setup = setup_of m c.args.engine.now in
     let before : Rig = rig_of m c.args.engine.now (g.K.Gpi.content c.args.kernel.now) in
     let within : c.args.progress.at < length c.args.cases.now = search rules in
@@ -27,7 +27,7 @@ returns-in_err-plan_start-clause-stages g c = λ seed first ended.
 
 pub returns-clause-stages : goal.returns-clause-stages
 returns-clause-stages g c = λ seed first ended.
-    let m = means g.M.FlowMaker.functions g.M.Flow.Flow.functions g.M.Flow.Flow.meaning g.W.Awaits.waiting g.W.Awaits.held in
+    let m = means g.M.FlowMaker g.M.Flow.Flow g.W.Awaits in
     let setup : Setup = setup_of m c.args.engine.now in
     let before : Rig = rig_of m c.args.engine.now (g.K.Gpi.content c.args.kernel.now) in
     let within : c.args.progress.at < length c.args.cases.now = search rules in

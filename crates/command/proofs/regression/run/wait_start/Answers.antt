@@ -15,7 +15,7 @@ use Rattle.command.proofs.regression.run.wait_start.Goals as goal
 
 pub returns-in_err-take_turns-clause-stages : goal.returns-in_err-take_turns-clause-stages
 returns-in_err-take_turns-clause-stages g c = λ seed first waits.
-    let m = means g.M.FlowMaker.functions g.M.Flow.Flow.functions g.M.Flow.Flow.meaning g.W.Awaits.waiting g.W.Awaits.held in
+    let m = means g.M.FlowMaker g.M.Flow.Flow g.W.Awaits in
     let setup : Setup = setup_of m c.args.engine.now in
     let before : Rig = rig_of m c.args.engine.now (g.K.Gpi.content c.args.kernel.now) in
     let after : Rig = rig_of m c.take_turns.new.engine (g.K.Gpi.content c.take_turns.new.kernel) in
@@ -25,7 +25,7 @@ returns-in_err-take_turns-clause-stages g c = λ seed first waits.
 
 pub returns-in-Due-clause-stages : goal.returns-in-Due-clause-stages
 returns-in-Due-clause-stages g c = λ seed first waits.
-    let m = means g.M.FlowMaker.functions g.M.Flow.Flow.functions g.M.Flow.Flow.meaning g.W.Awaits.waiting g.W.Awaits.held in
+    let m = means g.M.FlowMaker g.M.Flow.Flow g.W.Awaits in
     let setup : Setup = setup_of m c.args.engine.now in
     let before : Rig = rig_of m c.args.engine.now (g.K.Gpi.content c.args.kernel.now) in
     let after : Rig = rig_of m c.take_turns.new.engine (g.K.Gpi.content c.take_turns.new.kernel) in
@@ -37,7 +37,7 @@ returns-in-Due-clause-stages g c = λ seed first waits.
 
 pub returns-in-Spent-clause-stages : goal.returns-in-Spent-clause-stages
 returns-in-Spent-clause-stages g c = λ seed first waits.
-    let m = means g.M.FlowMaker.functions g.M.Flow.Flow.functions g.M.Flow.Flow.meaning g.W.Awaits.waiting g.W.Awaits.held in
+    let m = means g.M.FlowMaker g.M.Flow.Flow g.W.Awaits in
     let setup : Setup = setup_of m c.args.engine.now in
     let before : Rig = rig_of m c.args.engine.now (g.K.Gpi.content c.args.kernel.now) in
     let after : Rig = rig_of m c.take_turns.new.engine (g.K.Gpi.content c.take_turns.new.kernel) in
@@ -45,12 +45,12 @@ returns-in-Spent-clause-stages g c = λ seed first waits.
     wait_spent (sink_means g.O.Sink) setup seed c.args.cases.now c.args.budget c.args.progress c.args.fuel.now before first c.args.out.now waits starts c.take_turns.new.fuel after c.take_turns.new.out (waits_as (sink_means g.O.Sink) setup c.args.fuel.now before c.args.out.now c.in_ok-take_turns.field-0 turn.Spent c.take_turns.new.fuel after c.take_turns.new.out c.in-Spent.is
     (c.in_ok-take_turns.ensures.waits c.requires.between))
     (g.K.Gpi.content c.take_turns.new.kernel) c.end_short.result c.end_short.new.out
-    (stands_as (setup_of m c.take_turns.new.engine) setup (g.K.Gpi.content c.take_turns.new.kernel) after c.take_turns.ensures.keeps.setup
-    (fits_stands m c.take_turns.new.engine (g.K.Gpi.content c.take_turns.new.kernel) (c.in_ok-take_turns.ensures.fits (ap (λ (t : Turn). turn_fault (Ok t)) c.in-Spent.is)))) c.end_short.ensures
+    (stands_as (setup_of m c.take_turns.new.engine) setup (g.K.Gpi.content c.take_turns.new.kernel) after c.take_turns.ensures.turns.keeps.setup
+    (fits_stands m c.take_turns.new.engine (g.K.Gpi.content c.take_turns.new.kernel) (c.in_ok-take_turns.ensures.turns.fits (ap (λ (t : Turn). turn_fault (Ok t)) c.in-Spent.is)))) c.end_short.ensures
 
 pub returns-in-WriteFault-clause-stages : goal.returns-in-WriteFault-clause-stages
 returns-in-WriteFault-clause-stages g c = λ seed first waits.
-    let m = means g.M.FlowMaker.functions g.M.Flow.Flow.functions g.M.Flow.Flow.meaning g.W.Awaits.waiting g.W.Awaits.held in
+    let m = means g.M.FlowMaker g.M.Flow.Flow g.W.Awaits in
     let setup : Setup = setup_of m c.args.engine.now in
     let before : Rig = rig_of m c.args.engine.now (g.K.Gpi.content c.args.kernel.now) in
     let after : Rig = rig_of m c.take_turns.new.engine (g.K.Gpi.content c.take_turns.new.kernel) in

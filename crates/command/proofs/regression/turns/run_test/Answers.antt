@@ -11,13 +11,13 @@ use Rattle.command.proofs.regression.turns.run_test.Goals as goal
 
 pub returns-in_err-turn-clause-tests : goal.returns-in_err-turn-clause-tests
 returns-in_err-turn-clause-tests g c =
-    let m = means g.M.FlowMaker.functions g.M.Flow.Flow.functions g.M.Flow.Flow.meaning g.W.Awaits.waiting g.W.Awaits.held in
+    let m = means g.M.FlowMaker g.M.Flow.Flow g.W.Awaits in
     begins_short (sink_means g.O.Sink) (setup_of m c.args.engine.now) (view_case c.args.case.now) c.args.fuel.now (rig_of m c.args.engine.now (g.K.Gpi.content c.args.kernel.now)) c.args.out.now
     c.from_residual.result (rig_of m c.begin_test.new.self (g.K.Gpi.content c.begin_test.new.kernel)) c.begin_test.new.out c.from_residual.ensures.0 c.in_err-turn.ensures.begins
 
 pub returns-in-Went-clause-tests : goal.returns-in-Went-clause-tests
 returns-in-Went-clause-tests g c =
-    let m = means g.M.FlowMaker.functions g.M.Flow.Flow.functions g.M.Flow.Flow.meaning g.W.Awaits.waiting g.W.Awaits.held in
+    let m = means g.M.FlowMaker g.M.Flow.Flow g.W.Awaits in
     let setup : Setup = setup_of m c.args.engine.now in
     let before : Rig = rig_of m c.args.engine.now (g.K.Gpi.content c.args.kernel.now) in
     let begun : Rig = rig_of m c.begin_test.new.self (g.K.Gpi.content c.begin_test.new.kernel) in
@@ -25,11 +25,11 @@ returns-in-Went-clause-tests g c =
     let went = begins_went (sink_means g.O.Sink) setup (view_case c.args.case.now) c.args.fuel.now before c.args.out.now (Ok c.in_ok-turn.turn) begun c.begin_test.new.out (ap Ok c.in-Went.is) c.in_ok-turn.ensures.begins in
     tests_turns (sink_means g.O.Sink) setup (view_case c.args.case.now) c.args.fuel.now before c.args.out.now begun c.begin_test.new.out c.take_turns.result c.take_turns.new.fuel after c.take_turns.new.out
     went.0 went.1 (begun_planned setup (view_case c.args.case.now) before begun c.requires.empty went.0) (λ h. c.take_turns.ensures.stops h)
-    (turning_under (sink_means g.O.Sink) (setup_of m c.begin_test.new.self) setup c.args.fuel.now begun c.begin_test.new.out c.take_turns.result c.take_turns.new.fuel after c.take_turns.new.out c.begin_test.ensures.keeps.setup c.take_turns.ensures.turning)
+    (turning_under (sink_means g.O.Sink) (setup_of m c.begin_test.new.self) setup c.args.fuel.now begun c.begin_test.new.out c.take_turns.result c.take_turns.new.fuel after c.take_turns.new.out c.begin_test.ensures.keeps.setup c.take_turns.ensures.turns.turning)
 
 pub returns-in_default : goal.returns-in_default
 returns-in_default g c =
-    let m = means g.M.FlowMaker.functions g.M.Flow.Flow.functions g.M.Flow.Flow.meaning g.W.Awaits.waiting g.W.Awaits.held in
+    let m = means g.M.FlowMaker g.M.Flow.Flow g.W.Awaits in
     record {
       tests = begins_only (sink_means g.O.Sink) (setup_of m c.args.engine.now) (view_case c.args.case.now) c.args.fuel.now (rig_of m c.args.engine.now (g.K.Gpi.content c.args.kernel.now)) c.args.out.now
           c.in_ok-turn.turn (rig_of m c.begin_test.new.self (g.K.Gpi.content c.begin_test.new.kernel)) c.begin_test.new.out (λ h. c.in_default.not-Went h) c.in_ok-turn.ensures.begins;
@@ -40,7 +40,7 @@ returns-in_default g c =
 
 pub take_turns-requires-clause-place : goal.take_turns-requires-clause-place
 take_turns-requires-clause-place g c =
-    let m = means g.M.FlowMaker.functions g.M.Flow.Flow.functions g.M.Flow.Flow.meaning g.W.Awaits.waiting g.W.Awaits.held in
+    let m = means g.M.FlowMaker g.M.Flow.Flow g.W.Awaits in
     let setup : Setup = setup_of m c.args.engine.now in
     let before : Rig = rig_of m c.args.engine.now (g.K.Gpi.content c.args.kernel.now) in
     let begun : Rig = rig_of m c.begin_test.new.self (g.K.Gpi.content c.begin_test.new.kernel) in

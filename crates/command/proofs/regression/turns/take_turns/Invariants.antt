@@ -16,7 +16,7 @@ use Rattle.command.proofs.regression.turns.take_turns.Given as goal
 -- what the turns come to from here is what they come to from the start
 abbrev pub invariant-turns : goal.invariant-turns
 invariant-turns g l =
-    let m = means g.M.FlowMaker.functions g.M.Flow.Flow.functions g.M.Flow.Flow.meaning g.W.Awaits.waiting g.W.Awaits.held in
+    let m = means g.M.FlowMaker g.M.Flow.Flow g.W.Awaits in
     let start = rig_of m l.fn.engine (g.K.Gpi.content l.fn.kernel) in
     let now = rig_of m l.engine (g.K.Gpi.content l.kernel) in
     record {
@@ -36,5 +36,5 @@ invariant-turns g l =
 -- how many steps are left
 abbrev pub decreases-turns : goal.decreases-turns
 decreases-turns g l =
-    let m = means g.M.FlowMaker.functions g.M.Flow.Flow.functions g.M.Flow.Flow.meaning g.W.Awaits.waiting g.W.Awaits.held in
+    let m = means g.M.FlowMaker g.M.Flow.Flow g.W.Awaits in
     steps_left anywhere (setup_of m l.fn.engine) l.fuel (rig_of m l.engine (g.K.Gpi.content l.kernel))

@@ -14,7 +14,7 @@ use Rattle.runner_tests.proofs.runner.turns.begun_told.Goals.{in-Went, in_defaul
 
 pub turns_told-requires-clause-none : goal.turns_told-requires-clause-none
 turns_told-requires-clause-none g c =
-    let m = means g.M.FlowMaker.functions g.M.Flow.Flow.functions g.M.Flow.Flow.meaning g.W.Awaits.waiting g.W.Awaits.held in
+    let m = means g.M.FlowMaker g.M.Flow.Flow g.W.Awaits in
     let setup : Setup = setup_of m c.args.engine.now in
     let before : Rig = rig_of m c.args.engine.now (g.K.Gpi.content c.args.kernel.now) in
     let begun : Rig = rig_of m c.begin_test.new.self (g.K.Gpi.content c.begin_test.new.kernel) in
@@ -23,7 +23,7 @@ turns_told-requires-clause-none g c =
 
 pub returns : goal.returns
 returns g c =
-    let m = means g.M.FlowMaker.functions g.M.Flow.Flow.functions g.M.Flow.Flow.meaning g.W.Awaits.waiting g.W.Awaits.held in
+    let m = means g.M.FlowMaker g.M.Flow.Flow g.W.Awaits in
     let setup : Setup = setup_of m c.args.engine.now in
     let before : Rig = rig_of m c.args.engine.now (g.K.Gpi.content c.args.kernel.now) in
     let begun : Rig = rig_of m c.begin_test.new.self (g.K.Gpi.content c.begin_test.new.kernel) in

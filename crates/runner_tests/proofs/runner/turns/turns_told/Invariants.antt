@@ -13,7 +13,7 @@ use Rattle.runner_tests.proofs.runner.turns.turns_told.Given as goal
 -- what is told from here on stands behind what was told
 abbrev pub invariant-turns : goal.invariant-turns
 invariant-turns g l =
-    let m = means g.M.FlowMaker.functions g.M.Flow.Flow.functions g.M.Flow.Flow.meaning g.W.Awaits.waiting g.W.Awaits.held in
+    let m = means g.M.FlowMaker g.M.Flow.Flow g.W.Awaits in
     let setup = setup_of m l.fn.engine in
     let start = rig_of m l.fn.engine (g.K.Gpi.content l.fn.kernel) in
     let now = rig_of m l.engine (g.K.Gpi.content l.kernel) in
@@ -29,5 +29,5 @@ invariant-turns g l =
 -- how many steps are left
 abbrev pub decreases-turns : goal.decreases-turns
 decreases-turns g l =
-    let m = means g.M.FlowMaker.functions g.M.Flow.Flow.functions g.M.Flow.Flow.meaning g.W.Awaits.waiting g.W.Awaits.held in
+    let m = means g.M.FlowMaker g.M.Flow.Flow g.W.Awaits in
     steps_left anywhere (setup_of m l.fn.engine) l.fuel (rig_of m l.engine (g.K.Gpi.content l.kernel))

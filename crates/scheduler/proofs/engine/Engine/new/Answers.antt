@@ -17,7 +17,7 @@ returns-clause-empty g c = λ content.
 
 pub returns-clause-fits : goal.returns-clause-fits
 returns-clause-fits g c = λ sound functions.
-    let m = means g.M.FlowMaker.functions g.M.Flow.Flow.functions g.M.Flow.Flow.meaning g.W.Awaits.waiting g.W.Awaits.held in
+    let m = means g.M.FlowMaker g.M.Flow.Flow g.W.Awaits in
     let test = c.in_ok-new-2.ensures in
     let k = opening c.args.flat.now in
     bare_fits m _ k (seeded c.args.seed) sound c.in_ok-new.ensures (subst (λ x. AreSoundFunctions (g.M.FlowMaker.functions x)) (sym test.maker) functions)

@@ -7,21 +7,21 @@ use Rattle.scheduler.proofs.engine.Engine.plan_start.Goals as goal
 
 pub returns-clause-planned : goal.returns-clause-planned
 returns-clause-planned g c =
-    let m = means g.M.FlowMaker.functions g.M.Flow.Flow.functions g.M.Flow.Flow.meaning g.W.Awaits.waiting g.W.Awaits.held in
+    let m = means g.M.FlowMaker g.M.Flow.Flow g.W.Awaits in
     let k = g.K.Gpi.content c.args.kernel.now in
     on_ok c.plan_start.result _ _ (planned_is m c.args.self.now k (g.K.Gpi.content c.plan_start.new.kernel) c.requires.fits c.plan_start.new.self (c.now-due.result + 1) (ap (λ (n : ℕ). n + 1) c.now-due.ensures))
     c.plan_start.ensures.leads
 
 pub returns-clause-kept : goal.returns-clause-kept
 returns-clause-kept g c =
-    let m = means g.M.FlowMaker.functions g.M.Flow.Flow.functions g.M.Flow.Flow.meaning g.W.Awaits.waiting g.W.Awaits.held in
+    let m = means g.M.FlowMaker g.M.Flow.Flow g.W.Awaits in
     on_err c.plan_start.result _ _
     (unplanned_is m c.args.self.now (g.K.Gpi.content c.args.kernel.now) (g.K.Gpi.content c.plan_start.new.kernel) c.requires.fits c.plan_start.new.self c.plan_start.ensures.stays.state)
     c.plan_start.ensures.kept
 
 pub returns-clause-fits : goal.returns-clause-fits
 returns-clause-fits g c =
-    let m = means g.M.FlowMaker.functions g.M.Flow.Flow.functions g.M.Flow.Flow.meaning g.W.Awaits.waiting g.W.Awaits.held in
+    let m = means g.M.FlowMaker g.M.Flow.Flow g.W.Awaits in
     let k = g.K.Gpi.content c.args.kernel.now in
     let k' = g.K.Gpi.content c.plan_start.new.kernel in
     let late : c.now-due.result + 1 ≤ latest_time = omega (arith, c.now-due.ensures, c.requires.early) in

@@ -11,18 +11,18 @@ returns-in_err-turned-clause-turning g c = c.effects.invariant.turning _ _ _ _ (
 
 pub returns-in-Spent-clause-turning : goal.returns-in-Spent-clause-turning
 returns-in-Spent-clause-turning g c =
-    let m = means g.M.FlowMaker.functions g.M.Flow.Flow.functions g.M.Flow.Flow.meaning g.W.Awaits.waiting g.W.Awaits.held in
+    let m = means g.M.FlowMaker g.M.Flow.Flow g.W.Awaits in
     c.effects.invariant.turning _ _ _ _
     (spent_comes m c.effects.self (g.K.Gpi.content c.effects.kernel) c.args.task c.effects.invariant.fits c.effects.invariant.none c.effects.given c.effects.invariant.known c.effects.fuel c.poll.new.self c.in_ok-turned.turned c.poll.new.fuel c.in_ok-turned.ensures.polls c.poll.ensures.queue c.poll.ensures.rest c.poll.ensures.maker c.poll.ensures.room (setup_of m c.args.self.now) c.effects.invariant.setup (sink_means g.O.Sink) c.effects.out c.in-Spent.is)
 
 pub returns-in-Spent-clause-fits : goal.returns-in-Spent-clause-fits
 returns-in-Spent-clause-fits g c = λ o.
-    let m = means g.M.FlowMaker.functions g.M.Flow.Flow.functions g.M.Flow.Flow.meaning g.W.Awaits.waiting g.W.Awaits.held in
+    let m = means g.M.FlowMaker g.M.Flow.Flow g.W.Awaits in
     spent_fits m c.effects.self (g.K.Gpi.content c.effects.kernel) c.args.task c.effects.invariant.fits c.effects.invariant.none c.effects.given c.effects.invariant.known c.effects.fuel c.poll.new.self c.in_ok-turned.turned c.poll.new.fuel c.in_ok-turned.ensures.polls c.poll.ensures.queue c.poll.ensures.rest c.poll.ensures.maker c.poll.ensures.room
 
 pub apply-requires : goal.apply-requires
 apply-requires g c =
-    let m = means g.M.FlowMaker.functions g.M.Flow.Flow.functions g.M.Flow.Flow.meaning g.W.Awaits.waiting g.W.Awaits.held in
+    let m = means g.M.FlowMaker g.M.Flow.Flow g.W.Awaits in
     let fits = turn_fits m c.effects.self (g.K.Gpi.content c.effects.kernel) c.args.task c.effects.invariant.fits c.effects.invariant.none c.effects.given c.effects.invariant.known c.effects.fuel c.poll.new.self c.in_ok-turned.turned c.poll.new.fuel c.in_ok-turned.ensures.polls c.poll.ensures.queue c.poll.ensures.rest c.poll.ensures.maker c.poll.ensures.room in
     record {
       loaded = c.effects.invariant.loaded;
@@ -34,7 +34,7 @@ apply-requires g c =
 
 pub returns-in_err-next : goal.returns-in_err-next
 returns-in_err-next g c =
-    let m = means g.M.FlowMaker.functions g.M.Flow.Flow.functions g.M.Flow.Flow.meaning g.W.Awaits.waiting g.W.Awaits.held in
+    let m = means g.M.FlowMaker g.M.Flow.Flow g.W.Awaits in
     record {
       turning = c.effects.invariant.turning _ _ _ _
           (cut_comes m c.effects.self (g.K.Gpi.content c.effects.kernel) c.args.task c.effects.invariant.fits c.effects.invariant.none c.effects.given c.effects.invariant.known c.effects.fuel c.poll.new.self c.in_ok-turned.turned c.poll.new.fuel c.in_ok-turned.ensures.polls c.poll.ensures.queue c.poll.ensures.rest c.poll.ensures.maker c.poll.ensures.room (setup_of m c.args.self.now) c.effects.invariant.setup (sink_means g.O.Sink) c.effects.out c.in_default.not-Spent _ _ _ c.from_residual-in_err-next.ensures.0 c.in_err-next.ensures.puts);
@@ -49,13 +49,13 @@ returns-in_err-next g c =
 
 pub effects-smaller : goal.effects-smaller
 effects-smaller g c =
-    let m = means g.M.FlowMaker.functions g.M.Flow.Flow.functions g.M.Flow.Flow.meaning g.W.Awaits.waiting g.W.Awaits.held in
+    let m = means g.M.FlowMaker g.M.Flow.Flow g.W.Awaits in
     goes_less m c.effects.self (g.K.Gpi.content c.effects.kernel) c.args.task c.effects.invariant.fits c.effects.invariant.none c.effects.given c.effects.invariant.known c.effects.fuel c.poll.new.self c.in_ok-turned.turned c.poll.new.fuel c.in_ok-turned.ensures.polls c.poll.ensures.queue c.poll.ensures.rest c.poll.ensures.maker c.poll.ensures.room (setup_of m c.args.self.now) c.effects.invariant.setup c.in_default.not-Spent c.in_ok-next.field-0 c.in-GoesOn.next
     (rig_of m (record c.effects.self { test = c.apply.new.self }) (g.K.Gpi.content c.apply.new.kernel)) refl c.in-GoesOn.is c.in_ok-next.ensures.leads
 
 pub effects-preserved : goal.effects-preserved
 effects-preserved g c =
-    let m = means g.M.FlowMaker.functions g.M.Flow.Flow.functions g.M.Flow.Flow.meaning g.W.Awaits.waiting g.W.Awaits.held in
+    let m = means g.M.FlowMaker g.M.Flow.Flow g.W.Awaits in
     record {
       turning = λ r fuel e out h. c.effects.invariant.turning r fuel e out
           (goes_comes m c.effects.self (g.K.Gpi.content c.effects.kernel) c.args.task c.effects.invariant.fits c.effects.invariant.none c.effects.given c.effects.invariant.known c.effects.fuel c.poll.new.self c.in_ok-turned.turned c.poll.new.fuel c.in_ok-turned.ensures.polls c.poll.ensures.queue c.poll.ensures.rest c.poll.ensures.maker c.poll.ensures.room (setup_of m c.args.self.now) c.effects.invariant.setup (sink_means g.O.Sink) c.effects.out c.in_default.not-Spent c.in_ok-next.field-0 c.in-GoesOn.next _ c.apply.new.out r fuel e out
@@ -70,7 +70,7 @@ effects-preserved g c =
 
 pub returns-in-Ends : goal.returns-in-Ends
 returns-in-Ends g c =
-    let m = means g.M.FlowMaker.functions g.M.Flow.Flow.functions g.M.Flow.Flow.meaning g.W.Awaits.waiting g.W.Awaits.held in
+    let m = means g.M.FlowMaker g.M.Flow.Flow g.W.Awaits in
     record {
       turning = c.effects.invariant.turning _ _ _ _
           (ends_comes m c.effects.self (g.K.Gpi.content c.effects.kernel) c.args.task c.effects.invariant.fits c.effects.invariant.none c.effects.given c.effects.invariant.known c.effects.fuel c.poll.new.self c.in_ok-turned.turned c.poll.new.fuel c.in_ok-turned.ensures.polls c.poll.ensures.queue c.poll.ensures.rest c.poll.ensures.maker c.poll.ensures.room (setup_of m c.args.self.now) c.effects.invariant.setup (sink_means g.O.Sink) c.effects.out c.in_default.not-Spent c.in_ok-next.field-0 c.in-Ends.turn _ _ c.in-Ends.is c.in_ok-next.ensures.leads c.in_ok-next.ensures.puts);

@@ -16,7 +16,7 @@ use Rattle.scheduler.proofs.engine.Engine.run_task.Given as goal
 -- what the turn comes to from here is what it comes to from its start
 abbrev pub invariant-effects : goal.invariant-effects
 invariant-effects g l =
-    let m = means g.M.FlowMaker.functions g.M.Flow.Flow.functions g.M.Flow.Flow.meaning g.W.Awaits.waiting g.W.Awaits.held in
+    let m = means g.M.FlowMaker g.M.Flow.Flow g.W.Awaits in
     record {
       turning : (r : Result Turn NoMemory) (fuel : ℕ) (e : Rig) (out : _)
           → Turning (sink_means g.O.Sink) (FitSteps in_turn (setup_of m l.fn.self)) (setup_of m l.fn.self) l.fuel (goes_on l.task (Some l.given) (rig_of m l.self (g.K.Gpi.content l.kernel))) l.out r fuel e out
@@ -31,5 +31,5 @@ invariant-effects g l =
 
 abbrev pub decreases-effects : goal.decreases-effects
 decreases-effects g l =
-    let m = means g.M.FlowMaker.functions g.M.Flow.Flow.functions g.M.Flow.Flow.meaning g.W.Awaits.waiting g.W.Awaits.held in
+    let m = means g.M.FlowMaker g.M.Flow.Flow g.W.Awaits in
     steps_left in_turn (setup_of m l.fn.self) l.fuel (goes_on l.task (Some l.given) (rig_of m l.self (g.K.Gpi.content l.kernel)))

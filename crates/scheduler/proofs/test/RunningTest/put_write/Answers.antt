@@ -16,7 +16,7 @@ use Rattle.scheduler.proofs.test.RunningTest.put_write.Goals as goal
 
 pub returns-clause-leads : goal.returns-clause-leads
 returns-clause-leads g c =
-    let m = means g.M.FlowMaker.functions g.M.Flow.Flow.functions g.M.Flow.Flow.meaning g.W.Awaits.waiting g.W.Awaits.held in
+    let m = means g.M.FlowMaker g.M.Flow.Flow g.W.Awaits in
     let p : Parts = parts_of m c.args.self.now in
     let q : Queue = queue_of g.W.Awaits.waiting c.args.self.now.queue in
     let k : Content = g.K.Gpi.content c.args.kernel.now in
@@ -30,7 +30,7 @@ returns-clause-leads g c =
 
 pub returns-clause-puts : goal.returns-clause-puts
 returns-clause-puts g c =
-    let m = means g.M.FlowMaker.functions g.M.Flow.Flow.functions g.M.Flow.Flow.meaning g.W.Awaits.waiting g.W.Awaits.held in
+    let m = means g.M.FlowMaker g.M.Flow.Flow g.W.Awaits in
     let p : Parts = parts_of m c.args.self.now in
     let q : Queue = queue_of g.W.Awaits.waiting c.args.self.now.queue in
     let k : Content = g.K.Gpi.content c.args.kernel.now in
