@@ -67,7 +67,6 @@ COMPARISONS = [
     Step("compare/python_accepts.py"),
     Step("compare/py_lex_lines.py"),
     Step("compare/control_texts.py"),
-    Step("script_cases.py"),
     Step("compare/limits.py"),
     Step("compare/pages.py"),
     Step("wrong_bodies", ["--applies"]),

@@ -18,7 +18,7 @@ TOPS = ("crates", "docs", "tools", "examples", "release")
 # of Rust, and the front of names of scripts
 OTHERS = {"assert_eq", "rows_"}
 # paths that are made, or that come with the release
-FREE = ("out/", "crates/NAME/wrong-bodies", "./test", "tools/release", "release/")
+FREE = ("out/", "release/out/", "release/cocorun", "release/SOURCES", "crates/NAME/wrong-bodies")
 PARTS = ("src", "specs", "proofs", "must-fail", "wrong-bodies")
 PROPOSED = "## Words that name several things today"
 

@@ -71,7 +71,8 @@ fn run_words<S: Store, O: Sink, K: Gpi, L: Ledger>(
     requires name { blank.name ≡ L.name }
     requires parts { blank.parts ≡ L.parts }
     requires some { 0 < blank.parts }
-    ensures answer { AnswersGiven (GivesWords into_iter_items into_iter_len) (λ fault. error_kind fault ≡ ErrorKind.InvalidData) (store_means S.Store) (sink_means O.Sink) given result store.old store.new (K.content kernel.new) out.old out.new }
+    ensures answer { AnswersGiven (GivesWords into_iter_items into_iter_len) (λ fault. error_kind fault ≡ ErrorKind.InvalidData)
+        (store_means S.Store) (sink_means O.Sink) given result store.old store.new (K.content kernel.new) out.old out.new }
     ensures kernel { LeavesKernel K.is_loaded result kernel.old kernel.new }
 {
     let mut steps = Steps::<L>::new(blank);
