@@ -1,0 +1,175 @@
+-- What is kept of a task: who has a record, and how the rows change where a tree is told something.
+use Rattle.std.proofs.Common.{IfSome, IfNone, ◌≡◌, ◌≢◌, ◌⊎◌, ℕ, List, [], ◌∷◌, map, Bool, true, false, cond, Option, Some, None, IsSome, get_or, refl, sym, ap, ◌∙◌, subst, inl, inr, ◌==◌, eq-eqb, ne_eqb}
+use Rattle.std.proofs.lemmas.Bool.{cases_eq, cond-true, cond-false}
+use Rattle.std.proofs.lemmas.Option.{none-some, same_Some}
+use Rattle.await_tree.specs.Steps.{rest_of, step_of}
+use Rattle.await_tree.specs.WaitList.Waiting.{Waiting}
+use Rattle.py_value.specs.declared.trigger.TaskNo.{TaskNo}
+use Rattle.await_tree.specs.Tree as tree
+use Rattle.await_tree.specs.declared.cause.Awaited.{Awaited}
+use Rattle.await_tree.specs.Whole.{tree_in}
+use Rattle.await_tree.specs.declared.cause.Step.{Step}
+use Rattle.trigger_table.specs.Entries.{HasTask, Told}
+use Rattle.trigger_table.specs.Indexed.{Sets}
+use Rattle.trigger_table.specs.Kept.{link_of, row_of, rows_of, kept_as, IsSound}
+use Rattle.trigger_table.specs.Links.{IsIn, IsApart}
+use Rattle.trigger_table.specs.Records.{rows_in}
+use Rattle.trigger_table.specs.declared.records.Records.{Records}
+use Rattle.trigger_table.proofs.RingLemmas.{tidy}
+use Rattle.trigger_table.specs.Rings.{items, list_of, IsTidy}
+use Rattle.trigger_table.specs.State.{Link, Row, HasRow, IsAbsent, entry_at, numbers_of, with_entry}
+use Rattle.trigger_table.specs.declared.entries.CauseRecord.{CauseRecord}
+use Rattle.trigger_table.specs.declared.entries.TaskRecord.{TaskRecord}
+use Rattle.trigger_table.specs.declared.rings.Rings.{Rings}
+use Rattle.trigger_table.proofs.ListLemmas.{map_on, map_map}
+use Rattle.trigger_table.proofs.KeptLemmas.{not_some, listed_row, entry_at_row, numbers_are}
+
+abbrev Slots : Type 0 → Type 0
+Slots T = List (Option T)
+
+-- ---- what is kept of a task changes
+
+abbrev record_of : TaskRecord → Waiting
+record_of kept = record { task = kept.task; tree = tree_in kept.tree }
+
+module _ (causes : Slots CauseRecord) (tasks tasks' : Slots TaskRecord) (waiters : Slots (Unit {0})) (bc bt o : Rings) (s : IsSound causes tasks waiters bc bt o) (r : ℕ) (new : TaskRecord) (had : IsSome (get_or tasks r None)) (sets : Sets tasks tasks' r (Some new)) where
+  some_still : (n : ℕ) → IsSome (get_or tasks n None) → IsSome (get_or tasks' n None)
+  some_still n some =
+      elim (cases_eq n r) [
+        | inl same ↦ subst IsSome (sym (ap (λ j. get_or tasks' j None) same ∙ sets.changed)) refl
+        | inr differs ↦ subst IsSome (sym (sets.others n differs)) some
+      ]
+
+  some_before : (n : ℕ) → IsSome (get_or tasks' n None) → IsSome (get_or tasks n None)
+  some_before n some =
+      elim (cases_eq n r) [
+        | inl same ↦ subst (λ j. IsSome (get_or tasks j None)) (sym same) had
+        | inr differs ↦ subst IsSome (sets.others n differs) some
+      ]
+
+  pub sound_entry : IsSound causes tasks' waiters bc bt o
+  sound_entry =
+      record {
+        ordered = λ n is. s.ordered n (some_before n is);
+        kept = λ n l is. let was = s.kept n l is in (was.0, some_still n was.1);
+        of_task = λ k n is. let was = s.of_task k n is in (some_still n was.0, was.1, was.2);
+        of_cause = s.of_cause;
+        task_room = λ n is. s.task_room n (some_before n is);
+        chains = s.chains;
+      }
+
+  pub rows_entry : rows_of tasks' bc bt o ≡ with_entry r (kept_as (Some new)) (rows_of tasks bc bt o)
+  unfolding row_of
+  rows_entry =
+      map_on _ _ (items o 0) (λ n _.
+      elim (cases_eq n r) [
+        | inl same ↦
+            ap (λ e. let row : Row = record { number = n; entry = kept_as e; links = map (link_of bc) (items bt n) } in row) (ap (λ j. get_or tasks' j None) same ∙ sets.changed)
+            ∙ sym (cond-true (n == r) _ _ (eq-eqb n r same))
+        | inr differs ↦
+            ap (λ e. let row : Row = record { number = n; entry = kept_as e; links = map (link_of bc) (items bt n) } in row) (sets.others n differs)
+            ∙ sym (cond-false (n == r) _ _ (ne_eqb n r differs))
+      ])
+      ∙ sym (map_map (row_of tasks bc bt) _ (items o 0))
+
+module _ (causes : Slots CauseRecord) (tasks : Slots TaskRecord) (waiters : Slots (Unit {0})) (bc bt o : Rings) (s : IsSound causes tasks waiters bc bt o) (tidy_task : IsTidy bt) (tidy_order : IsTidy o) where
+  -- a waiting task has a record
+  pub kept_row : (r : ℕ) → HasRow r (rows_of tasks bc bt o) → IsSome (get_or tasks r None)
+  kept_row r has = (s.kept r 0 (tidy_order.owned r 0 (listed_row causes tasks waiters bc bt o s tidy_task r has))).1
+
+  pub kept_of : (r : ℕ) → HasRow r (rows_of tasks bc bt o) → (kept : TaskRecord) × (get_or tasks r None ≡ Some kept)
+  kept_of r has = go (get_or tasks r None) refl (kept_row r has)
+    where
+      go : (slot : Option TaskRecord) → get_or tasks r None ≡ slot → IsSome slot → (kept : TaskRecord) × (slot ≡ Some kept)
+      go None is some = absurd (let f : false ≡ true = some in cc)
+      go (Some kept) is some = (kept, refl)
+
+  pub entry_is : (r : ℕ) → HasRow r (rows_of tasks bc bt o) → entry_at r (rows_of tasks bc bt o) ≡ kept_as (get_or tasks r None)
+  entry_is r has = entry_at_row causes tasks waiters bc bt o s tidy_task r (listed_row causes tasks waiters bc bt o s tidy_task r has)
+
+  row_of_kept : (r : ℕ) (kept : TaskRecord) → get_or tasks r None ≡ Some kept → IsIn r (items o 0)
+  row_of_kept r kept is = tidy_order.listed r 0 (s.ordered r (subst IsSome (sym is) refl))
+
+  pub kept_has_row : (r : ℕ) (kept : TaskRecord) → get_or tasks r None ≡ Some kept → HasRow r (rows_of tasks bc bt o)
+  kept_has_row r kept is = subst (IsIn r) (sym (numbers_are causes tasks waiters bc bt o s tidy_task)) (row_of_kept r kept is)
+
+  pub kept_entry : (r : ℕ) (kept : TaskRecord) → get_or tasks r None ≡ Some kept → entry_at r (rows_of tasks bc bt o) ≡ kept_as (Some kept)
+  kept_entry r kept is = entry_is r (kept_has_row r kept is) ∙ ap kept_as is
+
+  -- no record of a task where it doesn't wait
+  pub absent_task : (task : TaskNo) → IsAbsent task (rows_of tasks bc bt o) → (number : ℕ) → ¬ HasTask tasks number task
+  absent_task task absent number has = absent number (record { task = has.0.task; tree = tree_in has.0.tree }) (kept_entry number has.0 has.1) has.2
+
+  no_entry : (r : ℕ) (xs : List ℕ) → ¬ IsIn r xs → entry_at r (map (row_of tasks bc bt) xs) ≡ None
+  unfolding row_of
+  no_entry r [] off = refl
+  no_entry r (x ∷ xs) off = cond-false (x == r) _ _ (ne_eqb x r (λ same. off (inl same))) ∙ no_entry r xs (λ there. off (inr there))
+
+  -- who waits has a record
+  entry_kept : (r : ℕ) (w : Waiting) → entry_at r (rows_of tasks bc bt o) ≡ Some w → (kept : TaskRecord) × (get_or tasks r None ≡ Some kept) × (kept_as (Some kept) ≡ Some w)
+  entry_kept r w is = go (get_or tasks r None) refl
+    where
+      go : (slot : Option TaskRecord) → get_or tasks r None ≡ slot → (kept : TaskRecord) × (get_or tasks r None ≡ Some kept) × (kept_as (Some kept) ≡ Some w)
+      go (Some kept) slot = (kept, slot, sym (kept_entry r kept slot) ∙ is)
+      go None slot =
+          let off : ¬ IsIn r (items o 0) = λ found. not_some _ slot (s.kept r 0 (tidy_order.owned r 0 found)).1 in
+          absurd (none-some w (sym (no_entry r (items o 0) off) ∙ is))
+
+  pub nobody : (task : TaskNo) → ((number : ℕ) → ¬ HasTask tasks number task) → IsAbsent task (rows_of tasks bc bt o)
+  nobody task none number w is same =
+      let one = entry_kept number w is in
+      none number (one.0, one.1, ap (λ (o : Waiting). o.task) (same_Some _ _ one.2) ∙ same)
+
+  pub found_row : (task : TaskNo) (res : Option ℕ) → IfSome res (λ number. HasTask tasks number task) → IfSome res (λ number. HasRow number (rows_of tasks bc bt o))
+  found_row task None has = tt
+  found_row task (Some number) has = kept_has_row number has.0 has.1
+
+  pub found_entry : (task : TaskNo) (res : Option ℕ) → IfSome res (λ number. HasTask tasks number task) → IfSome res (λ number. (w : Waiting) × (entry_at number (rows_of tasks bc bt o) ≡ Some w) × (w.task ≡ task))
+  found_entry task None has = tt
+  found_entry task (Some number) has = (record { task = has.0.task; tree = tree_in has.0.tree }, kept_entry number has.0 has.1, has.2)
+
+  pub found_none : (task : TaskNo) (res : Option ℕ) → IfNone res ((number : ℕ) → ¬ HasTask tasks number task) → IfNone res (IsAbsent task (rows_of tasks bc bt o))
+  found_none task None none = nobody task none
+  found_none task (Some number) none = tt
+
+  -- what is told of a record is told of the task
+  pub told_answer : (tasks' : Slots TaskRecord) (r : ℕ) (come : tree.Tree → tree.Tree) (answer : Step) → ((kept : TaskRecord) → get_or tasks r None ≡ Some kept → Told tasks tasks' r kept.task (come (tree_in kept.tree)) answer) → (w : Waiting) → entry_at r (rows_of tasks bc bt o) ≡ Some w → answer ≡ step_of (come w.tree)
+  told_answer tasks' r come answer told w is =
+      let one = entry_kept r w is in
+      (told one.0 one.1).answers ∙ ap (λ (v : Waiting). step_of (come v.tree)) (same_Some _ _ one.2)
+
+  pub told_sound : (tasks' : Slots TaskRecord) (r : ℕ) (come : tree.Tree → tree.Tree) (answer : Step) → ((kept : TaskRecord) → get_or tasks r None ≡ Some kept → Told tasks tasks' r kept.task (come (tree_in kept.tree)) answer) → HasRow r (rows_of tasks bc bt o) → IsSound causes tasks' waiters bc bt o
+  told_sound tasks' r come answer told has =
+      let one = kept_of r has in
+      let t = told one.0 one.1 in
+      sound_entry causes tasks tasks' waiters bc bt o s r t.kept (kept_row r has) t.sets
+
+  pub told_rows : (tasks' : Slots TaskRecord) (r : ℕ) (come : tree.Tree → tree.Tree) (answer : Step) → ((kept : TaskRecord) → get_or tasks r None ≡ Some kept → Told tasks tasks' r kept.task (come (tree_in kept.tree)) answer) → HasRow r (rows_of tasks bc bt o) → (w : Waiting) → entry_at r (rows_of tasks bc bt o) ≡ Some w → rows_of tasks' bc bt o ≡ with_entry r (Some (record w { tree = rest_of (come w.tree) })) (rows_of tasks bc bt o)
+  told_rows tasks' r come answer told has w is =
+      let one = entry_kept r w is in
+      let t = told one.0 one.1 in
+      let v : record_of one.0 ≡ w = same_Some _ _ one.2 in
+      let made : kept_as (Some t.kept) ≡ Some (record w { tree = rest_of (come w.tree) }) =
+      ap (λ (n : TaskNo). let x : Waiting = record { task = n; tree = tree_in t.kept.tree } in Some x) t.of
+      ∙ ap (λ (x : tree.Tree). let y : Waiting = record { task = one.0.task; tree = x } in Some y) t.rest
+      ∙ ap (λ (x : Waiting). let y : Waiting = record x { tree = rest_of (come x.tree) } in Some y) v in
+      rows_entry causes tasks tasks' waiters bc bt o s r t.kept (kept_row r has) t.sets ∙ ap (λ e. with_entry r e (rows_of tasks bc bt o)) made
+
+  pub entry_leaves : (r : ℕ) (found : List Awaited) → ((kept : TaskRecord) → get_or tasks r None ≡ Some kept → found ≡ tree.leaves (tree_in kept.tree)) → (w : Waiting) → entry_at r (rows_of tasks bc bt o) ≡ Some w → found ≡ tree.leaves w.tree
+  entry_leaves r found told w is =
+      let one = entry_kept r w is in
+      told one.0 one.1 ∙ ap (λ (v : Waiting). tree.leaves v.tree) (same_Some _ _ one.2)
+
+-- a record that there is
+pub some_cause : (causes : Slots CauseRecord) (number : ℕ) → get_or causes number None ≢ None → (kept : CauseRecord) × (get_or causes number None ≡ Some kept)
+some_cause causes number some = go (get_or causes number None) refl some
+  where
+    go : (slot : Option CauseRecord) → get_or causes number None ≡ slot → slot ≢ None → (kept : CauseRecord) × (slot ≡ Some kept)
+    go None is some = absurd (some refl)
+    go (Some kept) is some = (kept, refl)
+
+-- no two tasks have one number
+pub rows_apart : (records : Records) → IsApart (numbers_of (rows_in records))
+unfolding rows_in
+rows_apart records =
+    subst IsApart (sym (numbers_are records.causes.slab.slots records.tasks.slab.slots records.waiters.slots records.by_cause records.by_task records.order records.sound (tidy records.by_task))) ((tidy records.order).apart 0)

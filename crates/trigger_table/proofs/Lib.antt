@@ -1,0 +1,13 @@
+pub mod LinkLemmas
+pub mod RingLemmas
+pub mod IndexLemmas
+pub mod ListLemmas
+pub mod KeptLemmas
+pub mod NameLemmas
+pub mod RowLemmas
+pub mod TaskLemmas
+pub mod EntryLemmas
+pub mod Members
+pub mod Counts
+pub mod Rekeys
+pub mod GoneLemmas

@@ -1,0 +1,11 @@
+use Rattle.std.proofs.Common.{rules, ◌≡◌, ◌≢◌, ℕ, ◌+◌, ◌*◌, ◌/◌, ◌%◌, ◌++◌, ◌∷◌, ◌<◌, ◌≤◌, ◌==◌, [], None, Some, OnOk, IfSome, slice_get, ◌-◌, length, Bool, true, false, List, get_or, refl, sym, ap, ◌∙◌, subst, arith, Option}
+use Rattle.trigger_table.specs.Links.{without, behind, IsLinked, keys_in}
+use Rattle.trigger_table.specs.Rings.{Moves, SameLists, items, key_limit, list_of}
+use Rattle.trigger_table.proofs.RingLemmas.{no_keys, nothing_linked}
+use Rattle.trigger_table.proofs.rings.Rings.new.Goals as goal
+
+pub invariant_of-result : goal.invariant_of-result
+invariant_of-result c = record { linked = rw (c.new.ensures.items, c.new-2.ensures.items, c.new-3.ensures.items) nothing_linked }
+
+pub returns-clause-lists : goal.returns-clause-lists
+returns-clause-lists c list = no_keys c.new.result.items c.new-3.result.items list c.new-3.ensures.items

@@ -1,0 +1,11 @@
+pub mod Links
+pub mod Rings
+pub mod Name
+pub mod Indexed
+pub mod Entries
+pub mod State
+pub mod Kept
+pub mod Records
+pub mod Parts
+pub mod Edges
+pub mod Keys
