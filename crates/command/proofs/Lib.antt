@@ -10,4 +10,4 @@ pub mod Words
 pub mod AnswerLaws
 pub mod AlikeRuns
 pub mod OneReading
-pub mod ProcessEnds
+pub mod FirstSteps

@@ -8,16 +8,14 @@ use Rattle.command.specs.declared.command_words.reading.WordsFault.{WordsFault}
 use Rattle.command.specs.declared.command_words.reading.WordsFault.TheVariants.{Usage, OutOfMemory}
 use Rattle.command.specs.Regression.Status.{code_of}
 use Rattle.command.specs.declared.regression.status.Status.{Status}
-use Rattle.command.specs.declared.regression.status.Status.TheVariants as status
-use Rattle.command.specs.declared.options.RunOptions.{RunOptions}
-use Rattle.command.specs.Reading.{IsTold, Reading}
-use Rattle.command.specs.Answer.{Answered, IsAnswer, LeavesKernel, Quit, RefusesWords}
+use Rattle.command.specs.Answer.{Answered, LeavesKernel, Quit, RefusesWords}
 
 -- ---- words
 
--- What an iterator gives until there is no more: the name of the program, if there is one, and then these words.
+-- What an iterator gives until there is no more: the name of the program, which is missing only where there is nothing at all, and then these words.
 pub record GivesWords {I X : Type 0} (items : I → List X) (len : I → ℕ) (given : I) (words : List X) : Type 0 where
   pub program : Option X
+  pub only_empty : program ≡ None → len given ≡ 0
   pub left : I
   pub all : items given ≡ option_to_list program ++ (words ++ items left)
   pub none_left : len left ≡ 0
@@ -51,27 +49,16 @@ AnswersGiven gives no_text from sink (Err fault) s store store' content out out'
 
 -- ---- the process
 
--- A line that can't be written, and want of memory, have a status of their own.
-abbrev pub IsCut : Status → Type 0
-IsCut s = (s ≡ status.WriteFault) ⊎ (s ≡ status.NoMemory)
-
--- The status of an answer to these words, of whose files nothing is told, unless the answer is cut.
-pub record EndsAnswer (words : List (List ℕ)) (s : Status) : Type 0 where
-  pub options : RunOptions
-  pub reading : Reading
-  pub is_told : IsTold None words options reading
-  pub lines : List (List ℕ)
+-- The process ends with the number of the status of the answer to what the system's library gave as its words, over a store and a sink of these kinds,
+-- and its simulator is as the command leaves it with that status.
+pub record EndsProcess {I E A S O K : Type 0} (gives : I → List (String A) → Type 0) (no_text : E → Type 0) (from : StoreMeans S) (sink : SinkMeans O)
+    (is_loaded : K → Type 0) (content : K → Content) (code : ExitCode) (before after : K) : Type 0 where
+  pub given : Result I E
+  pub store : S
+  pub store' : S
+  pub out : O
+  pub out' : O
   pub own : Status
-  pub is_answer : IsAnswer options reading lines own
-  pub ends : (s ≡ own) ⊎ IsCut s
-
--- The status of an answer to some words, or that of words without a reading, or that of an answer that is cut.
-abbrev pub EndsWords : Status → Type 0
-EndsWords s = ((words : List (List ℕ)) × EndsAnswer words s) ⊎ ((s ≡ status.Usage) ⊎ IsCut s)
-
--- The process ends with the number of a status, which is that of an answer, and its simulator is as the command leaves it with that status.
-pub record EndsProcess {K : Type 0} (is_loaded : K → Type 0) (code : ExitCode) (before after : K) : Type 0 where
-  pub own : Status
+  pub answer : AnswersGiven gives no_text from sink given own store store' (content after) out out'
   pub status : exit_status code ≡ code_of own
-  pub answer : EndsWords own
   pub kernel : LeavesKernel is_loaded own before after

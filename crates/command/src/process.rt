@@ -1,5 +1,6 @@
 //! The command as a process: its words and its status are those of the system, its files those of the current folder.
 ghost use Rattle.std.specs.Prelude.{◌≡◌, ◌<◌};
+ghost use Rattle.std.specs.Global.{Global};
 ghost use Rattle.std.specs.IoError.{error_kind};
 ghost use Rattle.std.specs.Vec.Iter.{into_iter_items, into_iter_len};
 ghost use Rattle.port_io.specs.Means.{sink_means, store_means};
@@ -11,10 +12,10 @@ use crate::regression::Status;
 use crate::top::{cocorun, refuse_words};
 use await_tree::wait_list::Steps;
 use gpi::Gpi;
-use port_io::{DirStore, Sink, Store, WriteSink};
+use port_io::{CurrentFolder, DirStore, Sink, Store, WriteSink};
 use std::alloc::Global;
 use std::env::{Args, Env};
-use std::io::{ErrorKind, Print};
+use std::io::{ErrorKind, Print, Printer};
 use std::marker::Brand;
 use std::process::ExitCode;
 use std::rt::Files;
@@ -86,8 +87,13 @@ fn run_words<S: Store, O: Sink, K: Gpi, L: Ledger>(
 /// Runs the command with the process's own words, on files of the current folder and standard output, over a simulator. It gives the
 /// status that the process is to end with: that of `cocorun` with the words behind the program's name, 2 where a word is no UTF-8, or 7 where
 /// there was no memory for the words. The simulator is as `cocorun` leaves it with that status.
-pub fn run_process<R: Env + Files + Print + AllocGlobal, K: Gpi>(rt: &R, kernel: &mut K) -> ExitCode
-    ensures { EndsProcess K.is_loaded result kernel.old kernel.new }
+pub fn run_process<'a, R: Env + Files + Print + AllocGlobal, K: Gpi>(
+    rt: &'a R,
+    kernel: &mut K,
+) -> ExitCode
+    ensures { EndsProcess {A = Global} (GivesWords (into_iter_items {Z = Global}) into_iter_len) (λ fault. error_kind fault ≡ ErrorKind.InvalidData)
+        (store_means ⟦<DirStore<CurrentFolder<'a, R>> as Store>⟧) (sink_means ⟦<WriteSink<Printer<'a, R>> as Sink>⟧)
+        K.is_loaded K.content result kernel.old kernel.new }
 {
     let mut store = DirStore::new(rt);
     let mut out = WriteSink::new(io::writer(rt));
