@@ -229,6 +229,16 @@ def tells_new_and_lost_files(folder):
     return [(0, "", told) for told in ("", CHANGED, "", CHANGED, "", "", "")], found
 
 
+def tells_proofs_and_the_list_of_crates(folder):
+    """a proof that is new is told, and a changed list of crates"""
+    change(folder, "crates/below/proofs/Lib.antt", "")
+    found = [ran(folder)]
+    shutil.rmtree(folder / "crates" / "below" / "proofs")
+    found.append(ran(folder))
+    change(folder, "crates.txt", (folder / "crates.txt").read_text() + "# a word\n")
+    return [(0, "", told) for told in (CHANGED, "", CHANGED)], [*found, ran(folder)]
+
+
 def tells_the_commit(folder):
     """the commit of the release is told"""
     if not shutil.which("git"):
@@ -286,6 +296,30 @@ def runs_where_nothing_can_be_written(folder):
     return [(0, "", "")] * 2, [ran(folder), ran(folder)]
 
 
+def runs_where_no_file_can_be_made(folder):
+    """it runs where the folder of the stamp takes no file"""
+    (folder / "release" / "out").symlink_to("/proc")
+    return [(0, "", "")] * 2, [ran(folder), ran(folder)]
+
+
+def runs_without_standard_error(folder):
+    """standard error that takes nothing changes neither status nor output"""
+    change(folder)
+    found, statuses = [], (0, 2, 3, 6)
+    for status in statuses:
+        here = {**os.environ, "STAND_IN_STATUS": str(status), "STAND_IN_LINE": "x", "COCORUN_BUILD": "", "COCORUN_WHICH": ""}
+        with open("/dev/full", "w") as full:
+            done = subprocess.run([folder / "cocorun", "d.v", "t.py"], cwd=folder, env=here, stdout=subprocess.PIPE, stderr=full)
+        found.append((done.returncode, done.stdout))
+    return [(status, b"x") for status in statuses], found
+
+
+def tells_what_fails(folder):
+    """./test counts a case that fails, and ends with 1"""
+    done = subprocess.run([TOP / "test", "--program", "/bin/true", "words: a budget of 0 behind ="], stdout=subprocess.PIPE, stderr=subprocess.STDOUT)
+    return (1, True), (done.returncode, b" 0 failed" not in done.stdout)
+
+
 def names_the_program(folder):
     """with COCORUN_WHICH=1 it names the program, and runs nothing"""
     return (0, f"{folder}/release/cocorun\n", ""), ran(folder, COCORUN_WHICH="1", line="x")
@@ -300,6 +334,7 @@ def tells_another_machine(folder):
 
 
 AROUND = [
-    runs_from_elsewhere, sums_once, tells_a_change, tells_an_old_change, tells_new_and_lost_files, tells_the_commit, refuses_a_spoiled_release,
-    runs_what_was_built, builds_when_asked, runs_where_nothing_can_be_written, names_the_program, tells_another_machine,
+    runs_from_elsewhere, sums_once, tells_a_change, tells_an_old_change, tells_new_and_lost_files, tells_proofs_and_the_list_of_crates, tells_the_commit,
+    refuses_a_spoiled_release, runs_what_was_built, builds_when_asked, runs_where_nothing_can_be_written, runs_where_no_file_can_be_made,
+    runs_without_standard_error, tells_what_fails, names_the_program, tells_another_machine,
 ]
