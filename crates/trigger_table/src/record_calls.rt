@@ -188,7 +188,8 @@ impl Records {
     ) -> Result<(), NoMemory>
         requires last { IsLast number (rows_in self.old) }
         requires known { IsSome (slice_index_or (causes_in self.old) cause None) }
-        ensures ok { OnOk result ((waiter : ℕ) × (rows_in self.new ≡ add_link number (record { waiter = waiter; cause = cause }) (rows_in self.old))) }
+        ensures ok { OnOk result
+            ((waiter : ℕ) × (rows_in self.new ≡ add_link number (record { waiter = waiter; cause = cause }) (rows_in self.old))) }
         ensures err { OnErr result (rows_in self.new ≡ rows_in self.old) }
         ensures causes { causes_in self.new ≡ causes_in self.old }
         ensures ticks { steps.new ≡ steps.old + 1 }

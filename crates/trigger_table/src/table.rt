@@ -27,7 +27,8 @@ pub(crate) fn let_go<K: Gpi, L: Ledger>(
     requires known { slice_index_or (causes_in records.old) number None ≢ None }
     requires fits { Fits (K.content kernel.old) (fired_keys fired) (runner_keys (causes_in records.old)) (record_keys (causes_in records.old)) }
     ensures rows { rows_in records.new ≡ rows_in records.old }
-    ensures others { (other : ℕ) → other ≢ number → slice_index_or (causes_in records.new) other None ≡ slice_index_or (causes_in records.old) other None }
+    ensures others { (other : ℕ) → other ≢ number
+        → slice_index_or (causes_in records.new) other None ≡ slice_index_or (causes_in records.old) other None }
     ensures stays { IsNeeded number (state_in records.old) → causes_in records.new ≡ causes_in records.old }
     ensures needed { slice_index_or (causes_in records.new) number None ≢ None → IsNeeded number (state_in records.new) }
     ensures loaded { K.is_loaded kernel.new }
