@@ -8,4 +8,5 @@ pub mod Steps
 pub mod SameKeys
 pub mod Sound
 pub mod Trees
+pub mod Forced
 mod WorkedSteps

@@ -1,5 +1,5 @@
 -- An event depends on the members of the registered keys alone.
-use Rattle.std.proofs.Common.{◌≡◌, ℕ, ◌≤◌, ◌==◌, ◌||◌, ◌&&◌, ◌⊎◌, Bool, true, false, min, if◌then◌else◌, List, [], ◌∷◌, ◌++◌, Option, Some, None, refl, sym, ◌∙◌, ap, arith, inl, inr, ⊎_elim, eqb-true, subst, length, slice_set}
+use Rattle.std.proofs.Common.{◌≡◌, ℕ, ◌≤◌, ◌==◌, ◌||◌, ◌&&◌, ◌⊎◌, Bool, true, false, min, if◌then◌else◌, List, [], ◌∷◌, ◌++◌, Option, Some, None, refl, sym, ◌∙◌, ap, arith, inl, inr, ⊎_elim, eqb-true, subst, length, get_or, slice_set}
 use Rattle.std.proofs.lemmas.Bool.Decides.{nat_tests}
 use Rattle.gpi.specs.declared.types.Key.{Key}
 use Rattle.gpi.specs.declared.types.Key.TheVariants as key
@@ -14,8 +14,8 @@ use Rattle.gpi.specs.declared.types.Update.{Update}
 use Rattle.gpi.specs.Design.{Proc}
 use Rattle.gpi.specs.Keys.{Keys, has, holds, least, lesser, AreSame, IsWith, same_key}
 use Rattle.gpi.specs.Activation.{with_part}
-use Rattle.gpi.specs.State.{State, woken}
-use Rattle.gpi.specs.Events.{Event, event, or_else, if_has, level_keys, edge_keys, tells, value_at, put, report_case, due_case, time_case}
+use Rattle.gpi.specs.State.{State, woken, arriving, waiting_on, delayed_times}
+use Rattle.gpi.specs.Events.{Event, event, or_else, if_has, level_keys, edge_keys, tells, value_at, stored_at, hidden_at, with_hidden, show, put_over, put, force, release_over, release, report_case, due_case, time_case}
 
 itself : (n : ℕ) → (n == n) ≡ true
 itself n = grind (arith, nat_tests)
@@ -98,23 +98,63 @@ write_same : (t : Bool) (s w : State) (told : Option Told) (l k : List Key) → 
     ≡ (let e : Event = if t then record { state = s; told = None; fired = [] } else record { state = w; told = told; fired = k } in e)
 write_same t s w told l k e = rw e refl
 
-pub put_same : (ps : List Proc) (s : State) (xs ys : Keys) → AreSame xs ys → (sig : SigId) (bits : List Digit) → put ps s xs sig bits ≡ put ps s ys sig bits
-put_same ps s xs ys h sig bits =
+pub show_same : (ps : List Proc) (s : State) (xs ys : Keys) → AreSame xs ys → (sig : SigId) (bits : List Digit) → show ps s xs sig bits ≡ show ps s ys sig bits
+show_same ps s xs ys h sig bits =
     let c : Report = record { sig = sig; before = value_at s sig; after = bits } in
     write_same (same_digits c.before bits) s (record s { signals = slice_set s.signals sig.0 bits; active = s.active ++ woken 0 ps (c ∷ []) s.active })
     (tells c) (edge_keys c xs) (edge_keys c ys) (edge_same c xs ys h)
 
+put_over_same : (o : Option (List Digit)) (ps : List Proc) (s : State) (xs ys : Keys) → AreSame xs ys → (sig : SigId) (bits : List Digit)
+    → put_over o ps s xs sig bits ≡ put_over o ps s ys sig bits
+put_over_same None ps s xs ys h sig bits = show_same ps s xs ys h sig bits
+put_over_same (Some ds) ps s xs ys h sig bits = refl
+
+pub put_same : (ps : List Proc) (s : State) (xs ys : Keys) → AreSame xs ys → (sig : SigId) (bits : List Digit) → put ps s xs sig bits ≡ put ps s ys sig bits
+put_same ps s xs ys h sig bits = put_over_same (hidden_at s sig) ps s xs ys h sig bits
+
+pub force_same : (ps : List Proc) (s : State) (xs ys : Keys) → AreSame xs ys → (sig : SigId) (bits : List Digit) → force ps s xs sig bits ≡ force ps s ys sig bits
+force_same ps s xs ys h sig bits = show_same ps (with_hidden s sig (Some (stored_at s sig))) xs ys h sig bits
+
+release_over_same : (o : Option (List Digit)) (net : Bool) (ps : List Proc) (s : State) (xs ys : Keys) → AreSame xs ys → (sig : SigId)
+    → release_over o net ps s xs sig ≡ release_over o net ps s ys sig
+release_over_same None net ps s xs ys h sig = refl
+release_over_same (Some ds) true ps s xs ys h sig = show_same ps (with_hidden s sig None) xs ys h sig ds
+release_over_same (Some ds) false ps s xs ys h sig = refl
+
+pub release_same : (ps : List Proc) (nets : List Bool) (s : State) (xs ys : Keys) → AreSame xs ys → (sig : SigId)
+    → release ps nets s xs sig ≡ release ps nets s ys sig
+release_same ps nets s xs ys h sig = release_over_same (hidden_at s sig) (get_or nets sig.0 false) ps s xs ys h sig
+
 due_same : (ps : List Proc) (s : State) (xs ys : Keys) → AreSame xs ys → (us : List Update) → due_case ps s xs us ≡ due_case ps s ys us
 due_same ps s xs ys h [] = refl
-due_same ps s xs ys h (u ∷ us) = ap Some (put_same ps (record s { due = us; region = region.Active }) xs ys h u.sig (with_part (value_at s u.sig) u.low u.bits))
+due_same ps s xs ys h (u ∷ us) = ap Some (put_same ps (record s { due = us; region = region.Active }) xs ys h u.sig (with_part (stored_at s u.sig) u.low u.bits))
 
 if_some : (a b c : Bool) (e : Event) → a ≡ b → (if a && c then Some e else None) ≡ (if b && c then Some e else None)
 if_some a b c e h = rw h refl
 
+-- the state at a time, where these keys fire
+abbrev at_time : State → ℕ → List Key → Event
+at_time s t fired =
+    record { state = record s { later = arriving t s.delayed; delayed = waiting_on t s.delayed; time = t; region = region.Begin }; told = None; fired = fired }
+
+with_first : (a b c d : Bool) → b ≡ (c || d) → (a || b) ≡ ((a || c) || d)
+with_first true b c d h = refl
+with_first false b c d h = h
+
 time_same : (s : State) (xs ys : Keys) → AreSame xs ys → (o : Option ℕ) → time_case s xs o ≡ time_case s ys o
 time_same s xs ys h None = refl
 time_same s xs ys h (Some t) =
-    ap (λ (l : List Key). Some (let e : Event = record { state = record s { time = t; region = region.Begin }; told = None; fired = l ++ key.At t ∷ [] } in e)) (if_same key.NextStep xs ys h)
+    ap (λ (l : List Key). Some (at_time s t (l ++ if_has (key.At t) xs))) (if_same key.NextStep xs ys h)
+    ∙ ap (λ (l : List Key). Some (at_time s t (if_has key.NextStep ys ++ l))) (if_same (key.At t) xs ys h)
+
+-- a time is one of either list, or of neither
+holds_both : (t : ℕ) (ts us : List ℕ) → holds t (ts ++ us) ≡ (holds t ts || holds t us)
+holds_both t [] us = refl
+holds_both t (q ∷ ts) us = with_first (t == q) (holds t (ts ++ us)) (holds t ts) (holds t us) (holds_both t ts us)
+
+pub times_same : (ds xs ys : List ℕ) → ((t : ℕ) → holds t xs ≡ holds t ys) → least (ds ++ xs) ≡ least (ds ++ ys)
+times_same ds xs ys h =
+    least_same (ds ++ xs) (ds ++ ys) (λ t. holds_both t ds xs ∙ (ap (λ (b : Bool). holds t ds || b) (h t) ∙ sym (holds_both t ds ys)))
 
 join : (a b c d : Option Event) → a ≡ b → c ≡ d → or_else a c ≡ or_else b d
 join a b c d e f = rw (e, f) refl
@@ -127,7 +167,7 @@ event_same ps s xs ys h =
     (join _ _ _ _ (due_same ps (record s { later = [] }) xs ys h s.later)
     (join _ _ _ _ (if_some _ _ _ _ (h key.ReadWrite))
     (join _ _ _ _ (if_some _ _ _ _ (h key.ReadOnly))
-    (time_same s xs ys h (least xs.times) ∙ ap (time_case s ys) (least_same xs.times ys.times (λ t. h (key.At t)))))))))
+    (time_same s xs ys h (least (delayed_times s.delayed ++ xs.times)) ∙ ap (time_case s ys) (times_same (delayed_times s.delayed) xs.times ys.times (λ t. h (key.At t)))))))))
 
 same_self : (k : Key) → same_key k k ≡ true
 same_self (key.At t) = itself t

@@ -1,5 +1,5 @@
 -- Steps of an activation.
-use Rattle.std.proofs.Common.{◌≡◌, ℕ, zero, suc, ◌+◌, ◌<◌, ◌≤◌, ◌==◌, Bool, true, false, if◌then◌else◌, List, [], ◌∷◌, ◌++◌, length, take, drop, get_or, set, slice_get, Some, None, Option, Result, Ok, Err, OnOk, refl, ap, sym, ◌∙◌, arith, subst, add-one, append_assoc}
+use Rattle.std.proofs.Common.{◌≡◌, ℕ, zero, suc, ◌+◌, ◌<◌, ◌≤◌, ◌==◌, Bool, true, false, if◌then◌else◌, List, [], ◌∷◌, ◌++◌, length, take, drop, map, get_or, set, slice_get, Some, None, Option, Result, Ok, Err, OnOk, refl, ap, sym, ◌∙◌, arith, subst, add-one, append_assoc}
 use Rattle.std.proofs.lemmas.List.{take_at, take-take, length-take, drop_more, drop_all}
 use Rattle.four_value.specs.declared.Digit.{Digit}
 use Rattle.gpi.specs.declared.types.Update.{Update}
@@ -11,7 +11,7 @@ use Rattle.gpi.specs.declared.terms.Term.{Term}
 use Rattle.gpi.specs.Terms.{value, width, read, IsSound as IsSoundTerm}
 use Rattle.gpi.specs.Targets.{AreFitting, IsFitting}
 use Rattle.gpi.specs.Cases.{first_match, all_agree, AreLabels, AreItems}
-use Rattle.gpi.specs.Activation.{Map, Run, acts_of, activation, run_list, run_at, IsSound, SoundList, by_item, all_applied, applied}
+use Rattle.gpi.specs.Activation.{Run, acts_of, activation, run_list, run_at, IsSound, Hidden, IsHidden, AreHidden, SoundList, by_item, after, hidden_in, blocking, written_over, written}
 
 -- ---- lists that only grow
 
@@ -47,12 +47,52 @@ fitting_at [] n u ws h e f = absurd (omega arith)
 fitting_at (v ∷ us) zero u ws h e f = subst (λ (x : Update). IsFitting x ws) (sym e) f.0
 fitting_at (v ∷ us) (suc n) u ws h e f = fitting_at us n u ws (omega arith) e f.1
 
-pub applied_step : (us : List Update) (n : ℕ) (u : Update) (m : Map) → n < length us → u ≡ get_or us n u
-    → all_applied (drop n us) m ≡ all_applied (drop (n + 1) us) (applied u m)
-applied_step us n u m h e = rw (drop_more us n u h, ← e) refl
+pub written_step : (us : List Update) (n : ℕ) (u : Update) (r : Run) → n < length us → u ≡ get_or us n u
+    → blocking (drop n us) r ≡ blocking (drop (n + 1) us) (written u r)
+written_step us n u r h e = rw (drop_more us n u h, ← e) refl
 
-pub applied_none : (us : List Update) (n : ℕ) (m : Map) → length us ≤ n → all_applied (drop n us) m ≡ m
-applied_none us n m h = rw (drop_all n us h) refl
+pub written_none : (us : List Update) (n : ℕ) (r : Run) → length us ≤ n → blocking (drop n us) r ≡ r
+written_none us n r h = rw (drop_all n us h) refl
+
+over_after : (n : ℕ) (o : Option (List Digit)) (u : Update) (r : Run) → written_over o (after n u) r ≡ written_over o u r
+over_after n None u r = refl
+over_after n (Some ds) u r = refl
+
+-- what is written doesn't depend on a delay
+pub written_after : (n : ℕ) (us : List Update) (r : Run) → blocking (map (after n) us) r ≡ blocking us r
+written_after n [] r = refl
+written_after n (u ∷ us) r =
+    ap (λ (q : Run). blocking (map (after n) us) q) (over_after n (hidden_in r.hidden u.sig.0) u r) ∙ written_after n us (written u r)
+
+pub after_both : (n : ℕ) (us vs : List Update) → map (after n) (us ++ vs) ≡ map (after n) us ++ map (after n) vs
+after_both n [] vs = refl
+after_both n (u ∷ us) vs = ap (λ (q : List Update). after n u ∷ q) (after_both n us vs)
+
+-- ---- hidden values
+
+pub length_hidden : (hs : Hidden) (ws : List ℕ) → AreHidden hs ws → length hs ≡ length ws
+length_hidden [] [] h = refl
+length_hidden (x ∷ hs) (w ∷ ws) h = ap suc (length_hidden hs ws h.1)
+length_hidden [] (w ∷ ws) h = absurd h
+length_hidden (x ∷ hs) [] h = absurd h
+
+pub hidden_width : (hs : Hidden) (ws : List ℕ) (n : ℕ) (ds : List Digit) → AreHidden hs ws → n < length ws → get_or hs n None ≡ Some ds
+    → length ds ≡ get_or ws n 0
+hidden_width [] [] n ds h l e = absurd (omega arith)
+hidden_width (x ∷ hs) (w ∷ ws) zero ds h l e = subst (λ (o : Option (List Digit)). IsHidden o w) e h.0
+hidden_width (x ∷ hs) (w ∷ ws) (suc n) ds h l e = hidden_width hs ws n ds h.1 (omega arith) e
+hidden_width [] (w ∷ ws) n ds h l e = absurd h
+hidden_width (x ∷ hs) [] n ds h l e = absurd h
+
+pub hidden_set : (hs : Hidden) (ws : List ℕ) (n : ℕ) (o : Option (List Digit)) → AreHidden hs ws → n < length ws → IsHidden o (get_or ws n 0)
+    → AreHidden (set hs n o) ws
+hidden_set [] [] n o h l k = tt
+hidden_set (x ∷ hs) (w ∷ ws) zero o h l k = (k, h.1)
+hidden_set (x ∷ hs) (w ∷ ws) (suc n) o h l k = (h.0, hidden_set hs ws n o h.1 (omega arith) k)
+hidden_set [] (w ∷ ws) n o h l k = absurd h
+hidden_set (x ∷ hs) [] n o h l k = absurd h
+
+pub ruleset hidden = (length_hidden, hidden_width, hidden_set)
 
 -- ---- labels
 
@@ -120,8 +160,10 @@ pub on_ok : {A E P Q : Type 0} (r : Result A E) → OnOk r P → (P → Q) → O
 on_ok (Ok v) h f = f h
 on_ok (Err e) h f = h
 
-pub ruleset pushes = (fitting_push, kept_same, kept_more, kept_both, append_assoc)
+pub ruleset pushes = (fitting_push, kept_same, kept_more, kept_both, append_assoc, after_both)
 
-pub ruleset applies = (fitting_at, applied_step, applied_none)
+pub ruleset applies = (fitting_at, written_step, written_none)
+
+pub ruleset assigns = (drop_kept, kept_more, written_after)
 
 pub ruleset labels = (match_yes, match_no, match_none, label_at)

@@ -1,6 +1,6 @@
 -- Worked steps of simulators, computed from the definitions: what each call of the interface answers and leaves, from the
 -- opening state of a design on.
-use Rattle.std.proofs.Common.{if◌then◌else◌, ◌≡◌, ℕ, ◌&&◌, ◌||◌, not, Bool, true, false, List, [], ◌∷◌, replicate, Option, None, Some, refl, Box, Global}
+use Rattle.std.proofs.Common.{if◌then◌else◌, ◌≡◌, ℕ, ◌+◌, ◌&&◌, ◌||◌, not, Bool, true, false, List, [], ◌∷◌, replicate, length, Option, None, Some, refl, Box, Global}
 use Rattle.four_value.specs.declared.Digit.{Digit}
 use Rattle.four_value.specs.declared.Digit.TheVariants.{Zero, One, X, Z}
 use Rattle.gpi.specs.declared.types.SigId.{SigId}
@@ -25,7 +25,8 @@ use Rattle.gpi.specs.declared.targets.Target.TheVariants.{Whole}
 use Rattle.gpi.specs.declared.acts.Act.{Act}
 use Rattle.gpi.specs.declared.acts.Act.TheVariants.{Blocking, Nonblocking}
 use Rattle.gpi.specs.Keys.{Keys, same_key, among, raised, raised_by}
-use Rattle.gpi.specs.Events.{Event, event, idle, put}
+use Rattle.gpi.specs.Events.{Event, event, idle, put, force, release}
+use Rattle.gpi.specs.Limits.{latest_update}
 use Rattle.gpi.specs.Content.{Content, no_counts, opening}
 
 -- a call of the interface
@@ -33,6 +34,8 @@ data Call : Type 0 where
   Register : Key → Call
   Remove : Key → Call
   Deposit : ℕ → List Digit → Call
+  Force : ℕ → List Digit → Call
+  Release : ℕ → Call
   Advance : Call
 
 -- what it answers: nothing, or an event with what it tells and fires, or Idle; and the time and the region then
@@ -55,6 +58,7 @@ without_keys gone keys = record { times = without keys.times keys gone; others =
 abbrev leaves : Content → Event → Content
 leaves c e = record {
   procs = c.procs;
+  nets = c.nets;
   state = e.state;
   keys = without_keys e.fired c.keys;
   counts = record c.counts { fired = raised_by e.fired c.counts.fired };
@@ -78,12 +82,16 @@ abbrev after : Call → Content → Content
 after (Register k) c = record c { keys = with_key k c.keys; counts = record c.counts { primed = raised c.counts.primed } }
 after (Remove k) c = record c { keys = without_keys (k ∷ []) c.keys; counts = record c.counts { removed = raised c.counts.removed } }
 after (Deposit n bits) c = leaves c (put c.procs c.state c.keys (sig n) bits)
+after (Force n bits) c = leaves c (force c.procs c.state c.keys (sig n) bits)
+after (Release n) c = leaves c (release c.procs c.nets c.state c.keys (sig n))
 after Advance c = leaves_any c (event c.procs c.state c.keys)
 
 abbrev answer : Call → Content → Answer
 answer (Register k) c = Done
 answer (Remove k) c = Done
 answer (Deposit n bits) c = moved (put c.procs c.state c.keys (sig n) bits)
+answer (Force n bits) c = moved (force c.procs c.state c.keys (sig n) bits)
+answer (Release n) c = moved (release c.procs c.nets c.state c.keys (sig n))
 answer Advance c = answer_any (event c.procs c.state c.keys)
 
 unfoldable answers : List Call → Content → List Answer
@@ -112,11 +120,15 @@ tells n bits = Some (record { sig = sig n; bits = bits })
 
 -- `module top(input clk, input [7:0] a, output reg [7:0] q); always @(posedge clk) q <= a; endmodule`
 
-abbrev flop_body : Act
-flop_body = Nonblocking (Whole (object.Signal (sig 2) 8)) (term.Signal (sig 1) 8)
+abbrev flop_body : ℕ → Act
+flop_body n = Nonblocking (Whole (object.Signal (sig 2) 8)) (term.Signal (sig 1) 8) n
+
+-- its update comes so many steps later
+abbrev flop_after : ℕ → Content
+flop_after n = opening (design (wire 1 ∷ wire 8 ∷ reg 8 ∷ []) (record { kind = Always; wakes = record { sig = sig 0; edge = Pos } ∷ []; body = flop_body n }))
 
 abbrev flop : Content
-flop = opening (design (wire 1 ∷ wire 8 ∷ reg 8 ∷ []) (record { kind = Always; wakes = record { sig = sig 0; edge = Pos } ∷ []; body = flop_body }))
+flop = flop_after 0
 
 abbrev flop_calls : List Call
 flop_calls =
@@ -214,3 +226,62 @@ loop_rests b = refl
 loop_counts : (b : Box Term Global) → (content_after loop_calls (loop b)).counts ≡ no_counts
 unfolding content_after
 loop_counts b = refl
+
+-- ---- `always @(posedge clk) q <= #3 a;`
+
+-- the update alone makes a time step, in which NextStep fires; the second edge's update comes in the time step of a key, after what fires
+abbrev delay_calls : List Call
+delay_calls =
+    Register key.NextStep ∷ Deposit 0 (One ∷ []) ∷ Advance ∷ Advance ∷ Advance ∷ Advance
+    ∷ Deposit 1 flip_one ∷ Deposit 0 (Zero ∷ []) ∷ Deposit 0 (One ∷ []) ∷ Advance ∷ Register (key.At 6) ∷ Advance ∷ Advance ∷ Advance ∷ []
+
+delay_answers : answers delay_calls (flop_after 3)
+    ≡ Done ∷ Moved (tells 0 (One ∷ [])) [] 0 region.Begin
+    ∷ Moved None [] 0 region.Active
+    ∷ Moved None (key.NextStep ∷ []) 3 region.Begin
+    ∷ Moved (tells 2 (replicate 8 Z)) [] 3 region.Active
+    ∷ Idle
+    ∷ Moved (tells 1 flip_one) [] 3 region.Active ∷ Moved (tells 0 (Zero ∷ [])) [] 3 region.Active ∷ Moved (tells 0 (One ∷ [])) [] 3 region.Active
+    ∷ Moved None [] 3 region.Active
+    ∷ Done ∷ Moved None (key.At 6 ∷ []) 6 region.Begin
+    ∷ Moved (tells 2 flip_one) [] 6 region.Active
+    ∷ Idle ∷ []
+unfolding answers
+delay_answers = refl
+
+-- an update at the latest time, and one that would come after it and is given up
+latest_waits : length (content_after (Deposit 0 (One ∷ []) ∷ Advance ∷ []) (flop_after latest_update)).state.delayed ≡ 1
+unfolding content_after
+latest_waits = refl
+
+later_is_given_up : (content_after (Deposit 0 (One ∷ []) ∷ Advance ∷ []) (flop_after (latest_update + 1))).state.delayed ≡ []
+unfolding content_after
+later_is_given_up = refl
+
+-- ---- `module top(input a, output y, output reg q); assign y = ~a; endmodule`, with forced signals
+
+abbrev inverter_body : Box Term Global → Act
+inverter_body b = Blocking (Whole (object.Signal (sig 1) 1)) (Unary Invert (boxed b (term.Signal (sig 0) 1)))
+
+abbrev inverter : Box Term Global → Content
+inverter b = opening (design (wire 1 ∷ wire 1 ∷ reg 1 ∷ []) (record { kind = Assign; wakes = any 0 ∷ []; body = inverter_body b }))
+
+abbrev force_calls : List Call
+force_calls =
+    Advance ∷ Advance  -- the net is driven
+    ∷ Register (key.Fall (sig 1)) ∷ Force 1 (Zero ∷ []) ∷ Force 1 (Zero ∷ [])  -- the second is no change
+    ∷ Deposit 0 (One ∷ []) ∷ Advance ∷ Advance  -- its driver writes 0, which is hidden
+    ∷ Deposit 0 (Zero ∷ []) ∷ Advance  -- and 1
+    ∷ Release 1 ∷ Release 1  -- it shows its driver's value, and is forced no more
+    ∷ Force 2 (One ∷ []) ∷ Deposit 2 (Zero ∷ []) ∷ Release 2 ∷ Deposit 2 (Zero ∷ []) ∷ []  -- a register goes on with what it shows
+
+force_answers : (b : Box Term Global) → answers force_calls (inverter b)
+    ≡ Moved None [] 0 region.Active ∷ Moved (tells 1 (X ∷ [])) [] 0 region.Active
+    ∷ Done ∷ Moved (tells 1 (Zero ∷ [])) (key.Fall (sig 1) ∷ []) 0 region.Active ∷ Moved None [] 0 region.Active
+    ∷ Moved (tells 0 (One ∷ [])) [] 0 region.Active ∷ Moved None [] 0 region.Active ∷ Idle
+    ∷ Moved (tells 0 (Zero ∷ [])) [] 0 region.Active ∷ Moved None [] 0 region.Active
+    ∷ Moved (tells 1 (One ∷ [])) [] 0 region.Active ∷ Moved None [] 0 region.Active
+    ∷ Moved (tells 2 (One ∷ [])) [] 0 region.Active ∷ Moved None [] 0 region.Active ∷ Moved None [] 0 region.Active
+    ∷ Moved (tells 2 (Zero ∷ [])) [] 0 region.Active ∷ []
+unfolding answers
+force_answers b = refl

@@ -1,5 +1,5 @@
--- One activation of a statement (IEEE 1364-2005, clause 9): the map of signals, and the list of updates.
-use Rattle.std.specs.Prelude.{◌≡◌, ℕ, zero, suc, ◌+◌, List, [], ◌∷◌, ◌++◌, length, take, drop, slice_index_or, slice_set, Option, Some, None}
+-- One activation of a statement (IEEE 1364-2005, clause 9): the shown and the hidden values of the signals, and the list of updates.
+use Rattle.std.specs.Prelude.{◌≡◌, ℕ, zero, suc, ◌+◌, List, [], ◌∷◌, ◌++◌, length, take, drop, map, slice_index_or, slice_set, Option, Some, None}
 use Rattle.four_value.specs.declared.Digit.{Digit}
 use Rattle.four_value.specs.declared.Digit.TheVariants.{One}
 use Rattle.gpi.specs.declared.types.Update.{Update}
@@ -14,39 +14,52 @@ use Rattle.gpi.specs.declared.acts.CaseKind.{CaseKind}
 use Rattle.gpi.specs.declared.acts.Label.{Label}
 use Rattle.gpi.specs.Cases.{first_match, AreLabels, AreItems}
 
--- the values of the signals, by number
+-- the values that the signals show, by number
 abbrev pub Map : Type 0
 Map = List (List Digit)
+
+-- the hidden values, by number: a signal has one while it is forced (clause 9.3.2)
+abbrev pub Hidden : Type 0
+Hidden = List (Option (List Digit))
 
 -- the statements of a list
 abbrev pub acts_of : Acts → List Act
 acts_of a = a.list.items
 
--- a map, and the updates appended so far
+-- both maps, and the updates appended so far
 pub record Run : Type 0 where
   pub signals : Map
+  pub hidden : Hidden
   pub updates : List Update
 
 -- the vector with these digits from the place low on
 abbrev pub with_part : List Digit → ℕ → List Digit → List Digit
 with_part ds low part = take low ds ++ (part ++ drop (low + length part) ds)
 
--- an update applied to the map
-abbrev pub applied : Update → Map → Map
-applied u m = slice_set m u.sig.0 (with_part (slice_index_or m u.sig.0 []) u.low u.bits)
+-- the hidden value of a signal
+abbrev pub hidden_in : Hidden → ℕ → Option (List Digit)
+hidden_in h s = slice_index_or h s None
 
--- in order
-abbrev pub all_applied : List Update → Map → Map
-all_applied [] m = m
-all_applied (u ∷ us) m = all_applied us (applied u m)
+-- digits are written into the hidden value of a signal that has one, else into the one that it shows
+abbrev pub written_over : Option (List Digit) → Update → Run → Run
+written_over None u r = record r { signals = slice_set r.signals u.sig.0 (with_part (slice_index_or r.signals u.sig.0 []) u.low u.bits) }
+written_over (Some ds) u r = record r { hidden = slice_set r.hidden u.sig.0 (Some (with_part ds u.low u.bits)) }
 
--- a blocking assignment: all indices are evaluated before the first part is written (clause 9.2.1)
+abbrev pub written : Update → Run → Run
+written u r = written_over (hidden_in r.hidden u.sig.0) u r
+
+-- a blocking assignment: all indices are evaluated before the first part is written, and the parts are written in order (clause 9.2.1)
 abbrev pub blocking : List Update → Run → Run
-blocking us r = record r { signals = all_applied us r.signals }
+blocking [] r = r
+blocking (u ∷ us) r = blocking us (written u r)
 
--- a nonblocking assignment: its updates are appended (clause 9.2.2)
-abbrev pub nonblocking : List Update → Run → Run
-nonblocking us r = record r { updates = r.updates ++ us }
+-- an update so many steps later
+abbrev pub after : ℕ → Update → Update
+after n u = record u { delay = n }
+
+-- a nonblocking assignment: its updates are appended, with the delay (clause 9.2.2)
+abbrev pub nonblocking : ℕ → List Update → Run → Run
+nonblocking n us r = record r { updates = r.updates ++ map (after n) us }
 
 -- the branch of `if`: the first only where the condition is true (clause 9.4)
 abbrev pub by_truth : Digit → Run → Run → Run
@@ -66,7 +79,7 @@ abbrev mutual
   activation (Case' kind t labels shape all p other) r =
       by_item (first_match kind (value t (read r.signals)) labels (read r.signals)) (λ k. activation_at all k r) (activation other r)
   activation (Blocking target t) r = blocking (updates_of target (read r.signals) (value t (read r.signals))) r
-  activation (Nonblocking target t) r = nonblocking (updates_of target (read r.signals) (value t (read r.signals))) r
+  activation (Nonblocking target t n) r = nonblocking n (updates_of target (read r.signals) (value t (read r.signals))) r
 
   pub activations : {k : _} → Row_of-Act k → Run → Run
   activations end_of-Act r = r
@@ -76,6 +89,17 @@ abbrev mutual
   activation_at end_of-Act n r = r
   activation_at (more_of-Act a rest) zero r = activation a r
   activation_at (more_of-Act a rest) (suc n) r = activation_at rest n r
+
+-- each hidden value has the width of its signal; ws are the widths of the signals
+abbrev pub IsHidden : Option (List Digit) → ℕ → Type 0
+IsHidden None w = Unit {0}
+IsHidden (Some ds) w = length ds ≡ w
+
+abbrev pub AreHidden : Hidden → List ℕ → Type 0
+AreHidden [] [] = Unit {0}
+AreHidden (h ∷ hs) (w ∷ ws) = IsHidden h w × AreHidden hs ws
+AreHidden [] (w ∷ ws) = ⊥
+AreHidden (h ∷ hs) [] = ⊥
 
 -- how many statements a row has
 abbrev pub row_length : {k : _} → Row_of-Act k → ℕ
@@ -91,7 +115,7 @@ abbrev mutual
   IsSound (Case' kind t labels shape all p other) ws =
       term.IsSound t ws × AreLabels labels (width t) ws × AreItems labels (row_length all) × AreSound all ws × IsSound other ws
   IsSound (Blocking target t) ws = IsSoundTarget target ws × term.IsSound t ws × (width t ≡ target_width target)
-  IsSound (Nonblocking target t) ws = IsSoundTarget target ws × term.IsSound t ws × (width t ≡ target_width target)
+  IsSound (Nonblocking target t n) ws = IsSoundTarget target ws × term.IsSound t ws × (width t ≡ target_width target)
 
   pub AreSound : {k : _} → Row_of-Act k → List ℕ → Type 0
   AreSound end_of-Act ws = Unit {0}

@@ -1,5 +1,5 @@
 -- What a simulator holds, and what its calls leave (IEEE 1364-2005, clause 11).
-use Rattle.std.specs.Prelude.{length, ◌<◌, [], ◌≡◌, ℕ, ◌≤◌, List, ◌∷◌, Option, None, Some, false}
+use Rattle.std.specs.Prelude.{length, ◌<◌, [], ◌≡◌, ℕ, ◌≤◌, List, ◌∷◌, Option, None, Some, Bool, false}
 use Rattle.gpi.specs.declared.types.Region.TheVariants as region
 use Rattle.gpi.specs.declared.types.Key.{Key}
 use Rattle.gpi.specs.declared.types.Key.TheVariants as key
@@ -8,7 +8,7 @@ use Rattle.gpi.specs.declared.types.Advance.{Advance}
 use Rattle.gpi.specs.declared.types.Advance.TheVariants as advance
 use Rattle.gpi.specs.declared.design.Flat.{Flat}
 use Rattle.gpi.specs.Limits.{latest_time}
-use Rattle.gpi.specs.Design.{Proc, procs_of, start_map, starters}
+use Rattle.gpi.specs.Design.{Proc, procs_of, nets_of, start_map, start_hidden, starters}
 use Rattle.gpi.specs.Keys.{Keys, no_keys, IsWith, IsWithout, fired_of, raised, raised_by}
 use Rattle.gpi.specs.State.{State, is_end}
 use Rattle.gpi.specs.Events.{Event}
@@ -16,6 +16,8 @@ use Rattle.gpi.specs.declared.types.Told.{Told}
 
 pub record Content : Type 0 where
   pub procs : List Proc
+  -- which signals are nets, by number
+  pub nets : List Bool
   pub state : State
   pub keys : Keys
   pub counts : Counts
@@ -27,7 +29,18 @@ no_counts = record { primed = 0; removed = 0; fired = 0 }
 abbrev pub opening : Flat → Content
 opening flat = let ps = procs_of flat.processes in record {
   procs = ps;
-  state = record { signals = start_map flat.signals; active = starters 0 ps; reports = []; due = []; later = []; time = 0; region = region.Begin };
+  nets = nets_of flat.signals;
+  state = record {
+    signals = start_map flat.signals;
+    hidden = start_hidden flat.signals;
+    active = starters 0 ps;
+    reports = [];
+    due = [];
+    later = [];
+    delayed = [];
+    time = 0;
+    region = region.Begin;
+  };
   keys = no_keys;
   counts = no_counts;
 }
@@ -36,7 +49,8 @@ opening flat = let ps = procs_of flat.processes in record {
 abbrev pub no_design : Content
 no_design = record {
   procs = [];
-  state = record { signals = []; active = []; reports = []; due = []; later = []; time = 0; region = region.Begin };
+  nets = [];
+  state = record { signals = []; hidden = []; active = []; reports = []; due = []; later = []; delayed = []; time = 0; region = region.Begin };
   keys = no_keys;
   counts = no_counts;
 }
@@ -44,6 +58,7 @@ no_design = record {
 -- an event is done: its state, and its fired keys are registered no more and counted
 pub record Does (before : Content) (e : Event) (after : Content) : Type 0 where
   pub procs : after.procs ≡ before.procs
+  pub nets : after.nets ≡ before.nets
   pub state : after.state ≡ e.state
   pub keys : IsWithout e.fired before.keys after.keys
   pub counts : after.counts ≡ record before.counts { fired = raised_by e.fired before.counts.fired }
@@ -65,12 +80,14 @@ IsAsked n s key.NextStep = Unit {0}
 
 pub record Registers (before : Content) (k : Key) (after : Content) : Type 0 where
   pub procs : after.procs ≡ before.procs
+  pub nets : after.nets ≡ before.nets
   pub state : after.state ≡ before.state
   pub keys : IsWith k before.keys after.keys
   pub counts : after.counts ≡ record before.counts { primed = raised before.counts.primed }
 
 pub record Removes (before : Content) (k : Key) (after : Content) : Type 0 where
   pub procs : after.procs ≡ before.procs
+  pub nets : after.nets ≡ before.nets
   pub state : after.state ≡ before.state
   pub keys : IsWithout (k ∷ []) before.keys after.keys
   pub counts : after.counts ≡ record before.counts { removed = raised before.counts.removed }

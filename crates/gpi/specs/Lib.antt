@@ -14,3 +14,4 @@ pub mod Keys
 pub mod State
 pub mod Events
 pub mod Content
+pub mod Forced

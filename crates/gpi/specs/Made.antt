@@ -1,4 +1,4 @@
--- What the constructors of expressions make: the value, the width and soundness of the new one by those of its parts.
+-- A means of proof: what the constructors of expressions make, for the proofs of elaboration and of copies.
 use Rattle.std.specs.Prelude.{◌≡◌, ℕ, ◌+◌, ◌*◌, ◌≤◌, List, [], ◌∷◌, ◌++◌}
 use Rattle.four_value.specs.declared.Digit.{Digit}
 use Rattle.four_value.specs.Limits.{most_digits}

@@ -1,4 +1,4 @@
--- When a design is sound.
+-- When a design is sound: its numbers lie in their lists, its widths fit, and its nodes form one tree.
 use Rattle.std.specs.Prelude.{◌≡◌, ℕ, zero, suc, ◌+◌, ◌<◌, ◌≤◌, ◌==◌, ◌&&◌, ◌||◌, nat_lt, nat_le, Bool, true, false, IsTrue, List, [], ◌∷◌, length, min, Option, Some, None, if◌then◌else◌}
 use Rattle.gpi.specs.declared.design.Wake.{Wake}
 use Rattle.gpi.specs.declared.design.Process.{Process}

@@ -24,12 +24,12 @@ object_width (Word words i w) = w
 
 -- all digits of an object
 abbrev pub whole_update : Option ℕ → List Digit → List Update
-whole_update (Some s) ds = record { sig = record { 0 = s }; low = 0; bits = ds } ∷ []
+whole_update (Some s) ds = record { sig = record { 0 = s }; low = 0; bits = ds; delay = 0 } ∷ []
 whole_update None ds = []
 
 -- those digits of a select that lie inside; none where no one does
 abbrev pub part_update : Option ℕ → Option Overlap → List Digit → List Update
-part_update (Some s) (Some o) ds = record { sig = record { 0 = s }; low = o.place; bits = slice ds o.skip o.count } ∷ []
+part_update (Some s) (Some o) ds = record { sig = record { 0 = s }; low = o.place; bits = slice ds o.skip o.count; delay = 0 } ∷ []
 part_update (Some s) None ds = []
 part_update None o ds = []
 

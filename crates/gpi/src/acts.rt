@@ -10,7 +10,7 @@ ghost use Rattle.gpi.specs.Targets.{IsTargetCopy};
 use crate::both_ok::both_ok;
 use crate::targets::Target;
 use crate::terms::Term;
-pub use activation::{apply, placed};
+pub use activation::placed;
 use four_value::{Bits, Digit};
 use port_io::{NoMemory, Sequence, boxed, boxed_both};
 use std::alloc::Global;
@@ -32,8 +32,8 @@ pub enum Act {
     Case(CaseKind, Term, Sequence<Label>, Acts, Box<Act>),
     /// A blocking assignment (clause 9.2.1) of a value of the target's width.
     Blocking(Target, Term),
-    /// A nonblocking assignment (clause 9.2.2) of a value of the target's width.
-    Nonblocking(Target, Term),
+    /// A nonblocking assignment (clause 9.2.2) of a value of the target's width, whose updates come so many steps later.
+    Nonblocking(Target, Term, u64),
 }
 
 /// Statements in order, which contracts see as their list, `acts_of`.
@@ -171,9 +171,9 @@ fn copy_act(alloc: Global, act: &Act) -> Result<Act, NoMemory>
             let (target, value) = copy_assignment(alloc, target, value)?;
             Ok(Act::Blocking(target, value))
         }
-        Act::Nonblocking(target, value) => {
+        Act::Nonblocking(target, value, delay) => {
             let (target, value) = copy_assignment(alloc, target, value)?;
-            Ok(Act::Nonblocking(target, value))
+            Ok(Act::Nonblocking(target, value, *delay))
         }
     }
 }

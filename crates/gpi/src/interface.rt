@@ -7,7 +7,7 @@ use std::alloc::Global;
 
 /// A simulator of one design (IEEE 1364-2005, clause 11), event by event.
 ///
-/// Contracts see what it holds as a `Content`: the processes, the state, the registered keys, by membership alone, and the
+/// Contracts see what it holds as a `Content`: the processes, which signals are nets, the state, the registered keys, by membership alone, and the
 /// counts. Before the first `load`, and after one that found no memory, it holds no design, and only `load`, `now`, `region`
 /// and `counts` are called.
 pub trait Gpi {
@@ -16,11 +16,11 @@ pub trait Gpi {
     ghost use Rattle.gpi.specs.Soundness.{IsSoundFlat};
     ghost use Rattle.gpi.specs.Keys.{has, fired_of, is_time};
     ghost use Rattle.gpi.specs.State.{is_end};
-    ghost use Rattle.gpi.specs.Events.{event, idle, put, value_at};
+    ghost use Rattle.gpi.specs.Events.{event, idle, put, force, release, is_forced, value_at};
     ghost use Rattle.gpi.specs.Content.{Content, opening, no_design, Does, Answers, IsAsked, Registers, Removes, IsRunning, IsToldOf};
     ghost use Rattle.gpi.specs.declared.types.Key.{Key};
 
-    /// The processes, the state, the registered keys and the counts.
+    /// The processes, which signals are nets, the state, the registered keys and the counts.
     ghost content: { Self → Content };
 
     /// It holds a design.
@@ -46,14 +46,14 @@ pub trait Gpi {
     fn counts(&self) -> Counts
         ensures { result ≡ (content self.now).counts };
 
-    /// The value of a signal. It takes no memory.
+    /// The value that a signal shows. It takes no memory.
     fn read(&self, sig: SigId) -> Bits
         requires loaded { is_loaded self.now }
         requires sig { sig.0 < length (content self.now).state.signals }
         ensures { result ≡ value_at (content self.now).state sig };
 
-    /// Writes a signal at once: where its value changes, processes are woken and the keys of the change fire. It takes no
-    /// memory.
+    /// Writes a signal at once: where its value changes, processes are woken and the keys of the change fire. Of a forced signal
+    /// the hidden value alone is written. It takes no memory.
     fn deposit(&mut self, sig: SigId, bits: Bits) -> Fired
         requires loaded { is_loaded self.old }
         requires open { is_end (content self.old).state.region ≡ false }
@@ -63,6 +63,36 @@ pub trait Gpi {
         ensures is { let e = put (content self.old).procs (content self.old).state (content self.old).keys sig bits in
             (result ≡ fired_of e.fired) × Does (content self.old) e (content self.new) }
         ensures widths { widths_of (content self.new).state.signals ≡ widths_of (content self.old).state.signals };
+
+    /// Forces a signal (IEEE 1364-2005, clause 9.3.2): it shows these digits from now on, whatever the design or a deposit
+    /// writes, until it is released; what they write is kept hidden, and at first it is what the signal showed. Where the
+    /// shown value changes, processes are woken and the keys of the change fire. It takes no memory.
+    fn force(&mut self, sig: SigId, bits: Bits) -> Fired
+        requires loaded { is_loaded self.old }
+        requires open { is_end (content self.old).state.region ≡ false }
+        requires sig { sig.0 < length (content self.old).state.signals }
+        requires width { length bits ≡ length (value_at (content self.old).state sig) }
+        ensures loaded { is_loaded self.new }
+        ensures is { let e = force (content self.old).procs (content self.old).state (content self.old).keys sig bits in
+            (result ≡ fired_of e.fired) × Does (content self.old) e (content self.new) }
+        ensures widths { widths_of (content self.new).state.signals ≡ widths_of (content self.old).state.signals };
+
+    /// Ends a force (clause 9.3.2): a net shows the hidden value, and where that is a change processes are woken and the keys of
+    /// the change fire; a register goes on with what it shows. Of a signal that isn't forced nothing changes. It takes no memory.
+    fn release(&mut self, sig: SigId) -> Fired
+        requires loaded { is_loaded self.old }
+        requires open { is_end (content self.old).state.region ≡ false }
+        requires sig { sig.0 < length (content self.old).state.signals }
+        ensures loaded { is_loaded self.new }
+        ensures is { let c = content self.old in let e = release c.procs c.nets c.state c.keys sig in
+            (result ≡ fired_of e.fired) × Does c e (content self.new) }
+        ensures widths { widths_of (content self.new).state.signals ≡ widths_of (content self.old).state.signals };
+
+    /// Whether a signal is forced. It takes no memory.
+    fn is_forced(&self, sig: SigId) -> bool
+        requires loaded { is_loaded self.now }
+        requires sig { sig.0 < length (content self.now).state.signals }
+        ensures { result ≡ is_forced (content self.now).state sig };
 
     /// Registers a key. Only for a time can memory be wanting, and then nothing has changed.
     fn register(&mut self, key: Key) -> Result<(), NoMemory>

@@ -10,6 +10,7 @@ mod both_ok;
 mod depths;
 mod design;
 mod interface;
+mod laws;
 mod operators;
 mod parents;
 mod selects;
@@ -20,13 +21,15 @@ mod terms;
 mod tree;
 mod types;
 
-pub use acts::{Act, Acts, CaseKind, Label, apply, placed};
+pub use acts::{Act, Acts, CaseKind, Label, placed};
 pub use design::{Flat, Kind, MOST_ELEMENTS, Node, Process, Signal, Spot, Wake, WakeEdge};
 pub use interface::Gpi;
+pub use laws::{forced_signals_stay, released_nets_show};
 pub use operators::{Arith, Compare, Logic, Reduce, Shift, Unary, chosen};
 pub use selects::{Order, Overlap, Range, Words};
 pub use targets::{Object, Target};
 pub use terms::Term;
 pub use types::{
-    Advance, Counts, Fired, Key, LATEST_TIME, Moved, Region, Report, SigId, Told, Update,
+    Advance, Counts, Delayed, Fired, Key, LATEST_TIME, LATEST_UPDATE, Moved, Region, Report, SigId,
+    Told, Update, Write,
 };

@@ -235,7 +235,7 @@ impl Act {
                     && items.are_sound(table)
                     && other.is_sound(table)
             }
-            Act::Blocking(target, value) | Act::Nonblocking(target, value) => {
+            Act::Blocking(target, value) | Act::Nonblocking(target, value, _) => {
                 fits(target, value, table)
             }
         }

@@ -21,6 +21,9 @@ pub enum Region {
 /// The latest time, in steps, for which a key may be registered.
 pub const LATEST_TIME: u64 = 9_223_372_036_854_775_808;
 
+/// The latest time, in steps, at which a delayed update may arrive: a later one is given up.
+pub const LATEST_UPDATE: u64 = 4_611_686_018_427_387_904;
+
 /// What can be waited for.
 #[derive(Clone, Copy, Debug, PartialEq, Eq)]
 pub enum Key {
@@ -62,12 +65,34 @@ pub struct Report {
     pub after: Bits,
 }
 
-/// An update of a signal: these digits from the place `low` on.
+/// An update of a signal (IEEE 1364-2005, clause 11.2): these digits from the place `low` on, so many steps after the
+/// assignment (clause 9.2.2), 0 for one without a delay.
 #[derive(Clone, Copy, Debug)]
 pub struct Update {
     pub sig: SigId,
     pub low: u8,
     pub bits: Bits,
+    pub delay: u64,
+}
+
+/// An update that waits for its time, in steps.
+#[derive(Clone, Copy, Debug)]
+pub struct Delayed {
+    pub time: u64,
+    pub update: Update,
+}
+
+/// What a test writes to a signal.
+#[derive(Clone, Copy, Debug)]
+pub enum Write {
+    /// A value that the next change of the design replaces.
+    Plain(Bits),
+    /// A value that the signal shows until it is released (IEEE 1364-2005, clause 9.3.2).
+    Force(Bits),
+    /// The value that it shows at that moment, which it goes on to show until it is released.
+    Freeze,
+    /// The end of a force (clause 9.3.2).
+    Release,
 }
 
 /// What an event did: the change that it tells, and the keys that it fired.

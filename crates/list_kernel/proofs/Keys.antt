@@ -1,5 +1,5 @@
 -- Keys fired one after the other.
-use Rattle.std.proofs.Common.{◌≡◌, ℕ, ◌==◌, ◌&&◌, ◌||◌, Bool, true, false, not, List, [], ◌∷◌, ◌++◌, refl, sym, ◌∙◌, ⊎_elim, eqb-true}
+use Rattle.std.proofs.Common.{◌≡◌, ℕ, ◌==◌, ◌&&◌, ◌||◌, Bool, true, false, not, if◌then◌else◌, List, [], ◌∷◌, ◌++◌, refl, sym, ◌∙◌, ⊎_elim, eqb-true}
 use Rattle.std.proofs.lemmas.Bool.{cases_Bool}
 use Rattle.gpi.specs.declared.types.Key.{Key}
 use Rattle.gpi.specs.declared.types.Key.TheVariants.{At, Rise, Fall, Change, ReadWrite, ReadOnly, NextStep}
@@ -111,3 +111,16 @@ fires_both xs ys a b c f h = record {
   counts = h.counts ∙ rw (f.counts, raised_both xs ys a.counts.fired) refl;
   signals = h.signals ∙ f.signals;
 }
+
+among_next : (t : ℕ) (b : Bool) → among (At t) (if b then NextStep ∷ [] else []) ≡ false
+among_next t true = refl
+among_next t false = refl
+
+-- the keys of a time step are fired one after the other
+pub time_fires : (t : ℕ) (a b d : Book) (first second : List Key) → first ≡ if_has NextStep (keys_of a) → Fires first a b
+    → second ≡ if_has (At t) (keys_of b) → Fires second b d
+    → (first ++ second ≡ if_has NextStep (keys_of a) ++ if_has (At t) (keys_of a)) × Fires (first ++ second) a d
+time_fires t a b d first second e f g h =
+    let o : among (At t) first ≡ false = rw e (among_next t (has NextStep (keys_of a))) in
+    let same : has (At t) (keys_of b) ≡ has (At t) (keys_of a) = f.keys (At t) ∙ rw o (sym (keep_all _)) in
+    (rw (e, g, same) refl, fires_both first second a b d f h)

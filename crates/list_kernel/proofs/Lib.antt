@@ -9,3 +9,6 @@ pub mod Chain
 pub mod Placed
 pub mod Opening
 pub mod Told
+pub mod Hiding
+pub mod Queues
+pub mod Forces

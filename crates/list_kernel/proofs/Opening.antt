@@ -8,7 +8,7 @@ use Rattle.gpi.specs.declared.design.Process.{Process}
 use Rattle.gpi.specs.declared.design.Signal.{Signal}
 use Rattle.gpi.specs.Keys.{holds}
 use Rattle.gpi.specs.declared.design.Wake.{Wake}
-use Rattle.gpi.specs.Design.{Proc, proc_of, procs_of, starters, starts, start_map, widths}
+use Rattle.gpi.specs.Design.{Proc, proc_of, procs_of, starters, starts, start_map, is_net, nets_of, widths}
 use Rattle.gpi.specs.Soundness.{AreProcesses, are_wakes, are_wide}
 use Rattle.gpi.specs.Activation.{IsSound}
 use Rattle.list_kernel.specs.Lists.{AreBelow, AreDistinct}
@@ -90,6 +90,16 @@ pub start_more : (map new : List (List Digit)) (ss : List Signal) (n : ℕ) (s :
 start_more map new ss n s bits h e f g =
     let k : map ++ (replicate s.width s.start ∷ start_map (drop (n + 1) ss)) ≡ start_map ss = rw (started ss n s h) at g in
     rw (f, append_assoc, e) k
+
+pub nets_more : (nets new : List Bool) (ss : List Signal) (n : ℕ) (s : Signal) (net : Bool) → slice_get ss n ≡ Some s → net ≡ is_net s.start
+    → new ≡ nets ++ net ∷ [] → nets ++ nets_of (drop n ss) ≡ nets_of ss → new ++ nets_of (drop (n + 1) ss) ≡ nets_of ss
+nets_more nets new ss n s net h e f g =
+    let k : nets ++ (is_net s.start ∷ nets_of (drop (suc n) ss)) ≡ nets_of ss = rw (drop_get ss n s h) at g in
+    rw (f, append_assoc, e, add-one) k
+
+pub length_nets : (ss : List Signal) → length (nets_of ss) ≡ length ss
+length_nets [] = refl
+length_nets (s ∷ ss) = ap suc (length_nets ss)
 
 wide_parts : (a b c : Bool) → ((a && b) && c) ≡ true → (a ≡ true) × (b ≡ true)
 wide_parts true true c h = (refl, refl)

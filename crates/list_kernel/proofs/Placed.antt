@@ -1,12 +1,13 @@
 -- Keys of the design's signals, and when nothing is left to do.
-use Rattle.std.proofs.Common.{◌≡◌, ℕ, zero, suc, ◌<◌, ◌&&◌, Bool, true, false, not, if◌then◌else◌, List, [], ◌∷◌, length, get_or, refl, sym, ◌∙◌, arith, IsTrue, Option, Some, None, is_none}
+use Rattle.std.proofs.Common.{◌≡◌, ℕ, zero, suc, ◌<◌, ◌&&◌, Bool, true, false, not, if◌then◌else◌, List, [], ◌∷◌, ◌++◌, length, get_or, refl, sym, ◌∙◌, arith, IsTrue, Option, Some, None, is_none}
 use Rattle.gpi.specs.declared.types.Key.{Key}
 use Rattle.gpi.specs.declared.types.Key.TheVariants.{At, Rise, Fall, Change, ReadWrite, ReadOnly, NextStep}
 use Rattle.gpi.specs.declared.types.Report.{Report}
 use Rattle.gpi.specs.declared.types.Update.{Update}
+use Rattle.gpi.specs.declared.types.Delayed.{Delayed}
 use Rattle.gpi.specs.Design.{Proc}
 use Rattle.gpi.specs.Keys.{Keys, has, least, lesser}
-use Rattle.gpi.specs.State.{State, is_end}
+use Rattle.gpi.specs.State.{State, delayed_times, is_end}
 use Rattle.gpi.specs.Events.{Event, idle, or_else, report_case, due_case, active_case, time_case}
 use Rattle.gpi.specs.Content.{IsAsked}
 use Rattle.list_kernel.specs.declared.book.Watch.{Watch}
@@ -65,7 +66,11 @@ none_time : (s : State) (keys : Keys) (ts : List ℕ) → is_none (time_case s k
 none_time s keys [] = refl
 none_time s keys (t ∷ ts) = none_lesser s keys t (least ts)
 
+empty_times : (ds : List Delayed) (ts : List ℕ) → is_empty (delayed_times ds ++ ts) ≡ (is_empty ds && is_empty ts)
+empty_times [] ts = refl
+empty_times (d ∷ ds) ts = refl
+
 pub idle_is : (ps : List Proc) (s : State) (keys : Keys) → idle ps s keys
     ≡ (is_empty s.reports && (is_empty s.due && (is_empty s.active && (is_empty s.later
-    && (not (has ReadWrite keys && not (is_end s.region)) && (not (has ReadOnly keys && not (is_end s.region)) && is_empty keys.times))))))
-idle_is ps s keys = simp (none_or, none_report, none_due, none_active, none_if, none_time)
+    && (not (has ReadWrite keys && not (is_end s.region)) && (not (has ReadOnly keys && not (is_end s.region)) && (is_empty s.delayed && is_empty keys.times)))))))
+idle_is ps s keys = simp (none_or, none_report, none_due, none_active, none_if, none_time, empty_times)

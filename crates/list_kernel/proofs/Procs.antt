@@ -1,7 +1,7 @@
 -- One process of the list.
 use Rattle.std.proofs.Common.{◌≡◌, ℕ, zero, suc, ◌+◌, ◌<◌, ◌≤◌, Bool, true, false, List, [], ◌∷◌, ◌++◌, length, get_or, refl, sym, ap, subst, arith, slice_get, Some, None, Option, Result, Ok, Err, OnOk, drop, ◌∙◌, if◌then◌else◌}
 use Rattle.gpi.specs.declared.design.Process.{Process}
-use Rattle.gpi.specs.Activation.{IsSound, Map, activation}
+use Rattle.gpi.specs.Activation.{IsSound, Map, Hidden, activation}
 use Rattle.gpi.specs.Soundness.{AreProcesses}
 use Rattle.gpi.specs.Design.{Proc, proc_of, procs_of}
 use Rattle.list_kernel.specs.Lists.{barred, own_of}
@@ -12,7 +12,8 @@ use Rattle.four_value.specs.Vector.{same_digits}
 use Rattle.gpi.specs.declared.types.Report.{Report}
 use Rattle.gpi.specs.declared.types.Region.TheVariants as region
 use Rattle.gpi.specs.declared.types.Update.{Update}
-use Rattle.gpi.specs.State.{State, changes, woken, bars_itself}
+use Rattle.gpi.specs.declared.types.Delayed.{Delayed}
+use Rattle.gpi.specs.State.{State, changes, woken, bars_itself, at_once, all_delaying}
 use Rattle.gpi.specs.Events.{activate}
 
 pub sound_at : (ps : List Process) (p : ℕ) (x : Process) (ws : List ℕ) → p < length ps → x ≡ get_or ps p x → AreProcesses ps ws → IsSound x.body ws
@@ -46,23 +47,23 @@ pub ended_is : (ps : List Process) (s : State) (before : Map) (p : ℕ) (x : Pro
     → reports ≡ changes 0 before s.signals
     → own ≡ own_of x.kind p
     → active ≡ s.active ++ woken 0 (procs_of ps) reports (barred own s.active)
-    → record { signals = s.signals; active = active; reports = reports; due = s.due; later = s.later; time = s.time; region = region.Active }
+    → record { signals = s.signals; hidden = s.hidden; active = active; reports = reports; due = s.due; later = s.later; delayed = s.delayed; time = s.time; region = region.Active }
     ≡ ended (procs_of ps) s before p (slice_get (procs_of ps) p)
 ended_is ps s before p x own active reports h e er eo ea =
     rw (proc_at ps p x h e, ea, eo, own_barred x.kind p s.active, er) refl
 
 -- the state after the body of a process has run, by its parts
-pub ran_is : (ps : List Process) (s : State) (p : ℕ) (x : Process) (signals : Map) (later : List Update)
+pub ran_is : (ps : List Process) (s : State) (p : ℕ) (x : Process) (signals : Map) (hidden : Hidden) (later : List Update) (delayed : List Delayed)
     → p < length ps → x ≡ get_or ps p x
-    → signals ≡ (activation x.body (record { signals = s.signals; updates = [] })).signals
-    → later ≡ s.later ++ (activation x.body (record { signals = s.signals; updates = [] })).updates
-    → record { signals = signals; active = s.active; reports = s.reports; due = s.due; later = later; time = s.time; region = s.region }
-    ≡ with_run s (ran (slice_get (procs_of ps) p) s.signals)
-ran_is ps s p x signals later h e es el = rw (proc_at ps p x h e, el, es) refl
+    → (let r = activation x.body (record { signals = s.signals; hidden = s.hidden; updates = [] }) in
+    (signals ≡ r.signals) × (hidden ≡ r.hidden) × (later ≡ s.later ++ at_once r.updates) × (delayed ≡ all_delaying s.time r.updates s.delayed))
+    → record { signals = signals; hidden = hidden; active = s.active; reports = s.reports; due = s.due; later = later; delayed = delayed; time = s.time; region = s.region }
+    ≡ with_run s (ran (slice_get (procs_of ps) p) s.signals s.hidden)
+ran_is ps s p x signals hidden later delayed h e f = rw (proc_at ps p x h e, f.3, f.2, f.1, f.0) refl
 
 -- the two together are an activation
 pub activated : (ps : List Proc) (s : State) (p : ℕ) (o : Option Proc) (rest : List ℕ) → (o ≡ None → ⊥)
-    → ended ps (record (with_run s (ran o s.signals)) { active = rest }) s.signals p o ≡ activate ps (record s { active = rest }) p o
+    → ended ps (record (with_run s (ran o s.signals s.hidden)) { active = rest }) s.signals p o ≡ activate ps (record s { active = rest }) p o
 activated ps s p None rest h = absurd (h refl)
 activated ps s p (Some proc) rest h = refl
 
@@ -73,7 +74,7 @@ some_at (y ∷ ps) zero h e = cc
 some_at (y ∷ ps) (suc p) h e = some_at ps p (omega arith) e
 
 pub ran_state : (ps qs : List Proc) (s t u : State) (before : Map) (p : ℕ) (rest : List ℕ) → (slice_get ps p ≡ None → ⊥) → qs ≡ ps
-    → t ≡ with_run s (ran (slice_get ps p) s.signals) → before ≡ s.signals → u ≡ ended qs (record t { active = rest }) before p (slice_get qs p)
+    → t ≡ with_run s (ran (slice_get ps p) s.signals s.hidden) → before ≡ s.signals → u ≡ ended qs (record t { active = rest }) before p (slice_get qs p)
     → u ≡ activate ps (record s { active = rest }) p (slice_get ps p)
 ran_state ps qs s t u before p rest n q f b e =
     e ∙ rw (q, f, b) (activated ps s p (slice_get ps p) rest n)

@@ -1,18 +1,22 @@
 -- What an event tells is of the design; and an activation as the answer of a simulator.
-use Rattle.std.proofs.Common.{◌≡◌, ℕ, ◌<◌, ◌&&◌, Bool, true, false, not, if◌then◌else◌, List, [], ◌∷◌, length, Option, Some, None, refl, sym, ◌∙◌, ap, subst, arith, slice_get}
+use Rattle.std.proofs.Common.{◌≡◌, ℕ, ◌<◌, ◌&&◌, Bool, true, false, not, if◌then◌else◌, List, [], ◌∷◌, ◌++◌, length, Option, Some, None, refl, sym, ◌∙◌, ap, subst, arith, slice_get}
 use Rattle.gpi.specs.declared.types.Key.TheVariants as key
 use Rattle.gpi.specs.declared.types.Moved.{Moved}
+use Rattle.gpi.specs.declared.types.Region.TheVariants as region
+use Rattle.gpi.specs.declared.types.SigId.{SigId}
 use Rattle.gpi.specs.declared.types.Told.{Told}
 use Rattle.gpi.specs.declared.types.Report.{Report}
 use Rattle.gpi.specs.declared.types.Update.{Update}
+use Rattle.four_value.specs.declared.Digit.{Digit}
 use Rattle.four_value.specs.Vector.{same_digits}
 use Rattle.gpi.specs.Terms.{widths_of}
 use Rattle.gpi.specs.Targets.{AreFitting}
 use Rattle.gpi.specs.Activation.{with_part}
 use Rattle.gpi.specs.Design.{Proc}
-use Rattle.gpi.specs.Keys.{Keys, has, fired_of, least}
-use Rattle.gpi.specs.State.{State, is_end}
-use Rattle.gpi.specs.Events.{Event, or_else, activate, value_at, report_case, due_case, active_case, later_case, settle_case, end_case, time_case}
+use Rattle.gpi.specs.declared.types.Key.{Key}
+use Rattle.gpi.specs.Keys.{Keys, has, fired_of, least, raised_by, IsWithout}
+use Rattle.gpi.specs.State.{State, delayed_times, arriving, waiting_on, is_end}
+use Rattle.gpi.specs.Events.{Event, or_else, if_has, activate, value_at, hidden_at, stored_at, put_over, report_case, due_case, active_case, later_case, settle_case, end_case, time_case}
 use Rattle.gpi.specs.Content.{Content, IsChangeOf}
 use Rattle.gpi.proofs.Widths.{length_widths}
 use Rattle.list_kernel.specs.Kernel.{Answered, AreOf, from_time, from_end, from_settle, from_later, from_active, from_due, from_reports}
@@ -41,11 +45,15 @@ report_tells : (n : ℕ) (s : State) (keys : Keys) (rs : List Report) → AreOf 
 report_tells n s keys [] h = λ x q. absurd (cc)
 report_tells n s keys (r ∷ rs) h = λ x q. same n _ x q h.0
 
+put_tells : (n : ℕ) (o : Option (List Digit)) (ps : List Proc) (s : State) (keys : Keys) (sig : SigId) (bits : List Digit) → sig.0 < n → IsChangeOf n (put_over o ps s keys sig bits).told
+put_tells n (Some ds) ps s keys sig bits k = tt
+put_tells n None ps s keys sig bits k = choice_told n (same_digits (value_at s sig) bits) _ _ tt k
+
 due_tells : (n : ℕ) (ps : List Proc) (s : State) (keys : Keys) (us : List Update) (ws : List ℕ) → length ws ≡ n → AreFitting us ws → Tells n (due_case ps s keys us)
 due_tells n ps s keys [] ws l h = λ x q. absurd (cc)
 due_tells n ps s keys (u ∷ us) ws l h = λ x q.
     let k : u.sig.0 < n = (let f = h.0.0 in omega arith) in
-    same n _ x q (choice_told n (same_digits (value_at s u.sig) (with_part (value_at s u.sig) u.low u.bits)) _ _ tt k)
+    same n _ x q (put_tells n (hidden_at s u.sig) ps (record s { due = us; region = region.Active }) keys u.sig (with_part (stored_at s u.sig) u.low u.bits) k)
 
 active_tells : (n : ℕ) (ps : List Proc) (s : State) (bs : List ℕ) → Tells n (active_case ps s bs)
 active_tells n ps s [] = λ x q. absurd (cc)
@@ -66,7 +74,7 @@ event_tells c r d l =
     (or_tells n (later_case c.procs c.state c.keys) (from_settle c) (due_tells n c.procs (record c.state { later = [] }) c.keys c.state.later (widths_of c.state.signals) w l)
     (or_tells n (settle_case c.state c.keys) (from_end c) (if_tells n (has key.ReadWrite c.keys && not (is_end c.state.region)) _ tt)
     (or_tells n (end_case c.state c.keys) (from_time c) (if_tells n (has key.ReadOnly c.keys && not (is_end c.state.region)) _ tt)
-    (time_tells n c.state c.keys (least c.keys.times)))))))
+    (time_tells n c.state c.keys (least (delayed_times c.state.delayed ++ c.keys.times))))))))
 
 pub told_of : (b a : Content) (e : Option Event) (m : Moved) (n : ℕ) → Answered b e (Some m) a → Tells n e → IsChangeOf n m.change
 told_of b a None m n h t = absurd (let f = h.0 in cc)
@@ -75,16 +83,34 @@ told_of b a (Some x) m n h t =
     subst (λ (c : Option Told). IsChangeOf n c) (sym (ap (λ (q : Moved). q.change) f)) (t x refl)
 
 -- the activation of the first active process
-pub ran_case : (b a : Content) (p : ℕ) (rest : List ℕ) → b.state.active ≡ p ∷ rest → a.procs ≡ b.procs
+pub ran_case : (b a : Content) (p : ℕ) (rest : List ℕ) → b.state.active ≡ p ∷ rest → a.procs ≡ b.procs → a.nets ≡ b.nets
     → a.state ≡ activate b.procs (record b.state { active = rest }) p (slice_get b.procs p) → a.keys ≡ b.keys → a.counts ≡ b.counts
     → Answered b (active_case b.procs b.state b.state.active) (Some (record { change = None; fired = fired_of [] })) a
-ran_case b a p rest e f s k c =
+ran_case b a p rest e f n s k c =
     subst (λ (xs : List ℕ). Answered b (active_case b.procs b.state xs) (Some (record { change = None; fired = fired_of [] })) a) (sym e) (
       refl,
       record {
         procs = f;
+        nets = n;
         state = s;
         keys = λ q. ap (has q) k ∙ keep_all (has q b.keys);
         counts = c;
+      },
+    )
+
+-- time has moved on
+pub time_case_is : (b a : Content) (t : ℕ) (o : Option ℕ) (m : Moved) (keys : List Key) → o ≡ Some t → keys ≡ if_has key.NextStep b.keys ++ if_has (key.At t) b.keys
+    → m ≡ record { change = None; fired = fired_of keys } → a.procs ≡ b.procs → a.nets ≡ b.nets
+    → a.state ≡ record b.state { later = arriving t b.state.delayed; delayed = waiting_on t b.state.delayed; time = t; region = region.Begin }
+    → IsWithout keys b.keys a.keys → a.counts ≡ record b.counts { fired = raised_by keys b.counts.fired } → Answered b (time_case b.state b.keys o) (Some m) a
+time_case_is b a t o m keys e f g p n s k c =
+    subst (λ (q : Option ℕ). Answered b (time_case b.state b.keys q) (Some m) a) (sym e) (
+      ap Some (g ∙ ap (λ (ks : List Key). let x : Moved = record { change = None; fired = fired_of ks } in x) f),
+      record {
+        procs = p;
+        nets = n;
+        state = s;
+        keys = subst (λ (ks : List Key). IsWithout ks b.keys a.keys) f k;
+        counts = c ∙ ap (λ (ks : List Key). record b.counts { fired = raised_by ks b.counts.fired }) f;
       },
     )

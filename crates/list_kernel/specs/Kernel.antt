@@ -5,27 +5,31 @@ use Rattle.gpi.specs.Terms.{widths_of}
 use Rattle.gpi.specs.declared.types.Moved.{Moved}
 use Rattle.gpi.specs.declared.types.Report.{Report}
 use Rattle.gpi.specs.Keys.{fired_of, least}
-use Rattle.gpi.specs.Activation.{Map, Run}
-use Rattle.gpi.specs.State.{State, changes, woken, bars_itself}
+use Rattle.gpi.specs.Activation.{Map, Hidden, Run}
+use Rattle.gpi.specs.State.{State, changes, woken, bars_itself, at_once, all_delaying, delayed_times}
 use Rattle.gpi.specs.declared.types.Region.TheVariants as region
 use Rattle.gpi.specs.Design.{Proc, procs_of}
-use Rattle.gpi.specs.Targets.{AreFitting}
 use Rattle.gpi.specs.Soundness.{AreProcesses}
 use Rattle.gpi.specs.Events.{Event, report_case, due_case, active_case, later_case, settle_case, end_case, time_case, or_else}
 use Rattle.gpi.specs.Content.{Content, Does}
 use Rattle.list_kernel.specs.declared.kernel.ListKernel.{ListKernel}
 use Rattle.list_kernel.specs.Books.{keys_of}
+use Rattle.list_kernel.specs.Values.{AreValues}
+use Rattle.list_kernel.specs.Updates.{AreUpdates}
 use Rattle.list_kernel.specs.Lists.{AreBelow, AreDistinct}
 
 abbrev pub content_of : ListKernel → Content
 content_of k = record {
   procs = procs_of k.processes.items;
+  nets = k.nets.items;
   state = record {
-    signals = k.signals.items;
+    signals = k.values.shown.items;
+    hidden = k.values.hidden.items;
     active = k.active.items;
     reports = k.reports.items;
-    due = k.due.items;
-    later = k.later.items;
+    due = k.updates.due.items;
+    later = k.updates.later.items;
+    delayed = k.updates.delayed.items;
     time = k.time;
     region = k.region;
   };
@@ -38,23 +42,22 @@ AreOf [] n = Unit {0}
 AreOf (r ∷ rs) n = (r.sig.0 < n) × AreOf rs n
 
 pub record IsLoaded (k : ListKernel) : Type 0 where
-  pub few_signals : length k.signals.items ≤ most_elements
+  pub values : AreValues k.values
+  pub updates : AreUpdates k.updates (widths_of k.values.shown.items)
   pub few_processes : length k.processes.items ≤ most_elements
-  pub bodies : AreProcesses k.processes.items (widths_of k.signals.items)
-  pub before : length k.before.items ≡ length k.signals.items
-  pub watches : length k.book.watches.items ≡ length k.signals.items
+  pub bodies : AreProcesses k.processes.items (widths_of k.values.shown.items)
+  pub nets : length k.nets.items ≡ length k.values.shown.items
+  pub watches : length k.book.watches.items ≡ length k.values.shown.items
   pub below : AreBelow (length k.processes.items) k.active.items
   pub distinct : AreDistinct k.active.items
   pub active_room : length k.processes.items ≤ vec_capacity k.active
-  pub reports_room : length k.signals.items ≤ vec_capacity k.reports
-  pub reports : AreOf k.reports.items (length k.signals.items)
-  pub due : AreFitting k.due.items (widths_of k.signals.items)
-  pub later : AreFitting k.later.items (widths_of k.signals.items)
+  pub reports_room : length k.values.shown.items ≤ vec_capacity k.reports
+  pub reports : AreOf k.reports.items (length k.values.shown.items)
 
 -- it still holds its design, and each signal has the width that it had
 pub record Stays (before after : ListKernel) : Type 0 where
   pub loaded : IsLoaded after
-  pub widths : widths_of after.signals.items ≡ widths_of before.signals.items
+  pub widths : widths_of after.values.shown.items ≡ widths_of before.values.shown.items
 
 -- what is told of an event that is done
 pub record TellsIt (before : Content) (e : Event) (told : Moved) (after : Content) : Type 0 where
@@ -68,7 +71,7 @@ Answered before (Some e) answer after = (answer ≡ Some (record { change = e.to
 
 -- the cases of an event, from one on
 abbrev pub from_time : Content → Option Event
-from_time c = time_case c.state c.keys (least c.keys.times)
+from_time c = time_case c.state c.keys (least (delayed_times c.state.delayed ++ c.keys.times))
 
 abbrev pub from_end : Content → Option Event
 from_end c = or_else (end_case c.state c.keys) (from_time c)
@@ -88,14 +91,19 @@ from_due c = or_else (due_case c.procs c.state c.keys c.state.due) (from_active 
 abbrev pub from_reports : Content → Option Event
 from_reports c = or_else (report_case c.state c.keys c.state.reports) (from_due c)
 
--- what a process leaves of a map; a number without a process leaves all as it is
-abbrev pub ran : Option Proc → Map → Run
-ran (Some proc) m = proc.run m
-ran None m = record { signals = m; updates = [] }
+-- what a process leaves of the values; a number without a process leaves all as it is
+abbrev pub ran : Option Proc → Map → Hidden → Run
+ran (Some proc) m h = proc.run m h
+ran None m h = record { signals = m; hidden = h; updates = [] }
 
--- the body has run: the map and the later updates are new
+-- the body has run: the values are new, and its updates wait
 abbrev pub with_run : State → Run → State
-with_run s r = record s { signals = r.signals; later = s.later ++ r.updates }
+with_run s r = record s {
+  signals = r.signals;
+  hidden = r.hidden;
+  later = s.later ++ at_once r.updates;
+  delayed = all_delaying s.time r.updates s.delayed;
+}
 
 -- the activation is over: its changes are to be told, and wake what waits for them
 abbrev pub ended : List Proc → State → Map → ℕ → Option Proc → State

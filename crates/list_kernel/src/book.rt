@@ -73,7 +73,7 @@ fn least_of(times: &[u64]) -> Option<u64>
 }
 
 /// The lesser of a time and another, if there is one.
-fn lesser(t: u64, other: Option<u64>) -> u64
+pub fn lesser(t: u64, other: Option<u64>) -> u64
     ensures { Option.Some result ≡ lesser t other }
 {
     match other {

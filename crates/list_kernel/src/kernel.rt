@@ -18,16 +18,33 @@ ghost use Rattle.std.specs.Prelude.{
   MatchOption,
   vec_capacity,
   None,
+  Some,
   List,
   slice_get,
+  slice_index_or,
 };
 ghost use Rattle.gpi.specs.Limits.{most_elements};
-ghost use Rattle.gpi.specs.Design.{procs_of, proc_of, start_map, starters};
-ghost use Rattle.gpi.specs.Soundness.{IsSoundFlat, AreProcesses, are_wakes, are_wide};
+ghost use Rattle.gpi.specs.Design.{procs_of, proc_of, is_net, nets_of, starters};
+ghost use Rattle.gpi.specs.Soundness.{IsSoundFlat, AreProcesses};
 ghost use Rattle.gpi.specs.Activation.{IsSound, with_part};
-ghost use Rattle.gpi.specs.Terms.{widths_of};
-ghost use Rattle.gpi.specs.Keys.{has, fired_of, holds};
-ghost use Rattle.gpi.specs.Events.{event, put, value_at, report_case, due_case, active_case, later_case, settle_case, end_case, tells, edge_keys};
+ghost use Rattle.gpi.specs.Keys.{fired_of, holds, least};
+ghost use Rattle.gpi.specs.State.{delayed_times};
+ghost use Rattle.gpi.specs.Events.{
+  show,
+  put,
+  release_over,
+  value_at,
+  stored_at,
+  with_hidden,
+  report_case,
+  due_case,
+  active_case,
+  later_case,
+  settle_case,
+  end_case,
+  tells,
+  edge_keys,
+};
 ghost use Rattle.gpi.specs.Content.{Content, opening, no_design, Does, IsRunning};
 ghost use Rattle.list_kernel.specs.Lists.{own_of, is_empty};
 ghost use Rattle.list_kernel.specs.Kernel.{
@@ -48,10 +65,12 @@ ghost use Rattle.list_kernel.specs.Kernel.{
   from_reports,
 };
 
-use crate::book::{Book, Watch, in_order};
+use crate::book::{Book, in_order};
 use crate::run::activate;
+use crate::updates::{Updates, soonest};
+use crate::values::Values;
 use crate::wake::{are_same, tell_changes, wake};
-use four_value::Bits;
+use four_value::{Bits, Digit};
 use gpi::{
     Advance, Counts, Fired, Flat, Gpi, Key, Kind, Moved, Process, Region, Report, SigId, Signal,
     Told, Update, Wake, placed,
@@ -64,35 +83,31 @@ use std::mem::swap;
 #[derive(Drop)]
 pub struct ListKernel {
     processes: Vec<Process>,
-    signals: Vec<Bits>,
-    before: Vec<Bits>,
+    nets: Vec<bool>,
+    values: Values,
     active: Vec<u32>,
     reports: Vec<Report>,
-    due: Vec<Update>,
-    later: Vec<Update>,
+    updates: Updates,
     time: u64,
     region: Region,
     book: Book,
 }
 
 impl ListKernel {
-    /// Writes a signal.
+    /// A signal shows these digits from now on.
     #[tactic(auto, using(gpi::proofs::Widths::widths, crate::proofs::Loaded::loaded))]
-    fn put(&mut self, sig: SigId, bits: Bits) -> Moved
+    fn show(&mut self, sig: SigId, bits: Bits) -> Moved
         requires loaded { IsLoaded self.old }
-        requires sig { sig.0 < length self.old.signals.items }
+        requires sig { sig.0 < length self.old.values.shown.items }
         requires width { length bits ≡ length (value_at (content_of self.old).state sig) }
         ensures stays { Stays self.old self.new }
-        ensures is { let c = content_of self.old in TellsIt c (put c.procs c.state c.keys sig bits) result (content_of self.new) }
+        ensures is { let c = content_of self.old in TellsIt c (show c.procs c.state c.keys sig bits) result (content_of self.new) }
     {
-        let before = self.signals[sig.0 as usize];
+        let before = self.values.shown[sig.0 as usize];
         if are_same(before, bits) {
-            return Moved {
-                change: None,
-                fired: nothing(),
-            };
+            return unseen();
         }
-        self.signals[sig.0 as usize] = bits;
+        self.values.show(sig, bits);
         let reports = [Report {
             sig,
             before,
@@ -106,10 +121,75 @@ impl ListKernel {
         }
     }
 
+    /// A signal gets a hidden value, or another one.
+    #[tactic(auto, using(crate::proofs::Hiding::hidden_places))]
+    fn hide(&mut self, sig: SigId, bits: Bits)
+        requires loaded { IsLoaded self.old }
+        requires sig { sig.0 < length self.old.values.shown.items }
+        requires width { length bits ≡ length (value_at (content_of self.old).state sig) }
+        ensures stays { Stays self.old self.new }
+        ensures is { let c = content_of self.old in
+            content_of self.new ≡ record c { state = with_hidden c.state sig (Some bits) } }
+    {
+        self.values.hide(sig, bits);
+    }
+
+    /// A signal has no hidden value any more.
+    fn unhide(&mut self, sig: SigId)
+        requires loaded { IsLoaded self.old }
+        requires sig { sig.0 < length self.old.values.shown.items }
+        ensures stays { Stays self.old self.new }
+        ensures is { let c = content_of self.old in
+            content_of self.new ≡ record c { state = with_hidden c.state sig None } }
+    {
+        self.values.unhide(sig);
+    }
+
+    /// Writes a signal: of a forced one the hidden value alone.
+    #[tactic(auto, using(crate::proofs::Hiding::hidden_places))]
+    fn put(&mut self, sig: SigId, bits: Bits) -> Moved
+        requires loaded { IsLoaded self.old }
+        requires sig { sig.0 < length self.old.values.shown.items }
+        requires width { length bits ≡ length (value_at (content_of self.old).state sig) }
+        ensures stays { Stays self.old self.new }
+        ensures is { let c = content_of self.old in TellsIt c (put c.procs c.state c.keys sig bits) result (content_of self.new) }
+    {
+        if self.values.is_forced(sig) {
+            self.hide(sig, bits);
+            return unseen();
+        }
+        self.show(sig, bits)
+    }
+
+    /// Whether a signal is a net.
+    fn is_net(&self, sig: SigId) -> bool
+        requires { sig.0 < length self.now.nets.items }
+        ensures { result ≡ slice_index_or self.now.nets.items sig.0 false }
+    {
+        self.nets[sig.0 as usize]
+    }
+
+    /// Releases a forced signal with this hidden value: a net shows it, a register goes on with what it shows.
+    fn release_forced(&mut self, sig: SigId, bits: Bits) -> Moved
+        requires loaded { IsLoaded self.old }
+        requires sig { sig.0 < length self.old.values.shown.items }
+        requires width { length bits ≡ length (value_at (content_of self.old).state sig) }
+        ensures stays { Stays self.old self.new }
+        ensures is { let c = content_of self.old in
+            TellsIt c (release_over (Some bits) (slice_index_or c.nets sig.0 false) c.procs c.state c.keys sig) result (content_of self.new) }
+    {
+        let net = self.is_net(sig);
+        self.unhide(sig);
+        if net {
+            return self.show(sig, bits);
+        }
+        unseen()
+    }
+
     /// A report is told.
     fn tell(&mut self, report: &Report) -> Moved
         requires loaded { IsLoaded self.old }
-        requires sig { report.now.sig.0 < length self.old.signals.items }
+        requires sig { report.now.sig.0 < length self.old.values.shown.items }
         ensures stays { Stays self.old self.new }
         ensures is { let c = content_of self.old in TellsIt c (record {
           state = record c.state { region = Region.Active };
@@ -129,17 +209,18 @@ impl ListKernel {
     }
 
     /// An update is applied.
+    #[tactic(auto, using(crate::proofs::Hiding::hidden_places, crate::proofs::Hiding::stored_width))]
     fn apply(&mut self, update: &Update) -> Moved
         requires loaded { IsLoaded self.old }
-        requires sig { update.now.sig.0 < length self.old.signals.items }
+        requires sig { update.now.sig.0 < length self.old.values.shown.items }
         requires inside { update.now.low + length update.now.bits ≤ length (value_at (content_of self.old).state update.now.sig) }
         ensures stays { Stays self.old self.new }
         ensures is { let c = content_of self.old in
             TellsIt c (put c.procs (record c.state { region = Region.Active }) c.keys update.now.sig
-            (with_part (value_at c.state update.now.sig) update.now.low update.now.bits)) result (content_of self.new) }
+            (with_part (stored_at c.state update.now.sig) update.now.low update.now.bits)) result (content_of self.new) }
     {
         self.region = Region::Active;
-        let bits = placed(self.signals[update.sig.0 as usize], update.low, update.bits);
+        let bits = placed(self.values.stored(update.sig), update.low, update.bits);
         self.put(update.sig, bits)
     }
 
@@ -160,23 +241,23 @@ impl ListKernel {
         requires { IsLoaded self.old }
         ensures stays { Stays self.old self.new }
         ensures is { let c = content_of self.old in Answered c (due_case c.procs c.state c.keys c.state.due) result (content_of self.new) }
-        ensures none { result ≡ None → self.new.due.items ≡ [] }
+        ensures none { result ≡ None → self.new.updates.due.items ≡ [] }
         ensures quiet { self.old.reports.items ≡ [] → self.new.reports.items ≡ [] }
     {
-        let update = take_first(&mut self.due)?;
+        let update = take_first(&mut self.updates.due)?;
         Some(self.apply(&update))
     }
 
     /// 4: later updates become due.
     fn later_first(&mut self) -> Option<Moved>
         requires loaded { IsLoaded self.old }
-        requires none { self.old.due.items ≡ [] }
+        requires none { self.old.updates.due.items ≡ [] }
         ensures stays { Stays self.old self.new }
         ensures is { let c = content_of self.old in Answered c (later_case c.procs c.state c.keys) result (content_of self.new) }
     {
-        match take_first(&mut self.later) {
+        match take_first(&mut self.updates.later) {
             Some(update) => {
-                swap(&mut self.due, &mut self.later);
+                swap(&mut self.updates.due, &mut self.updates.later);
                 Some(self.apply(&update))
             }
             None => None,
@@ -191,7 +272,7 @@ impl ListKernel {
         ensures is { let c = content_of self.old in IfOk result
             (λ answer. Answered c (active_case c.procs c.state c.state.active) answer (content_of self.new)) }
         ensures kept { OnErr result (content_of self.new ≡ content_of self.old) }
-        ensures due { self.new.due.items ≡ self.old.due.items }
+        ensures due { self.new.updates.due.items ≡ self.old.updates.due.items }
         ensures cause { OnErr result (0 < length self.old.active.items) }
     {
         if self.active.is_empty() {
@@ -202,33 +283,31 @@ impl ListKernel {
             Ok(()) => {
                 self.active.remove(0);
                 self.end_activation(p);
-                Ok(Some(Moved {
-                    change: None,
-                    fired: nothing(),
-                }))
+                Ok(Some(unseen()))
             }
             Err(e) => Err(e),
         }
     }
 
-    /// Runs the body of a process, with the map as it was kept in `before`.
+    /// Runs the body of a process. The values keep what was shown before it.
     fn run_body(&mut self, p: u32) -> Result<(), NoMemory>
         requires loaded { IsLoaded self.old }
         requires below { p < length self.old.processes.items }
         ensures stays { Stays self.old self.new }
-        ensures before { self.new.before.items ≡ self.old.signals.items }
+        ensures before { self.new.values.shown_before.items ≡ self.old.values.shown.items }
         ensures procs { self.new.processes.items ≡ self.old.processes.items }
+        ensures nets { self.new.nets.items ≡ self.old.nets.items }
         ensures book { self.new.book ≡ self.old.book }
         ensures is { let c = content_of self.old in
-            OnOk result ((content_of self.new).state ≡ with_run c.state (ran (slice_get c.procs p) c.state.signals)) }
+            OnOk result ((content_of self.new).state ≡ with_run c.state (ran (slice_get c.procs p) c.state.signals c.state.hidden)) }
         ensures kept { OnErr result (content_of self.new ≡ content_of self.old) }
     {
         let process = &self.processes[p as usize];
         activate(
             &process.body,
-            &mut self.signals,
-            &mut self.before,
-            &mut self.later,
+            self.time,
+            &mut self.values,
+            &mut self.updates,
         )
     }
 
@@ -240,11 +319,16 @@ impl ListKernel {
         requires free { holds p self.old.active.items ≡ false }
         ensures loaded { IsLoaded self.new }
         ensures procs { self.new.processes.items ≡ self.old.processes.items }
+        ensures nets { self.new.nets.items ≡ self.old.nets.items }
         ensures book { self.new.book ≡ self.old.book }
         ensures is { let c = content_of self.old in (content_of self.new).state
-            ≡ ended c.procs c.state self.old.before.items p (slice_get c.procs p) }
+            ≡ ended c.procs c.state self.old.values.shown_before.items p (slice_get c.procs p) }
     {
-        tell_changes(&self.before, &self.signals, &mut self.reports);
+        tell_changes(
+            &self.values.shown_before,
+            &self.values.shown,
+            &mut self.reports,
+        );
         let process = &self.processes[p as usize];
         wake(
             &self.processes,
@@ -282,7 +366,7 @@ impl ListKernel {
     /// From 4 on.
     fn from_later(&mut self) -> Option<Moved>
         requires loaded { IsLoaded self.old }
-        requires none { self.old.due.items ≡ [] }
+        requires none { self.old.updates.due.items ≡ [] }
         ensures stays { Stays self.old self.new }
         ensures is { Answered (content_of self.old) (from_later (content_of self.old)) result (content_of self.new) }
     {
@@ -296,7 +380,7 @@ impl ListKernel {
     fn from_active(&mut self) -> Result<Option<Moved>, NoMemory>
         requires loaded { IsLoaded self.old }
         requires quiet { self.old.reports.items ≡ [] }
-        requires none { self.old.due.items ≡ [] }
+        requires none { self.old.updates.due.items ≡ [] }
         ensures stays { Stays self.old self.new }
         ensures is { IfOk result (λ answer. Answered (content_of self.old) (from_active (content_of self.old)) answer (content_of self.new)) }
         ensures kept { OnErr result (content_of self.new ≡ content_of self.old) }
@@ -338,20 +422,28 @@ impl ListKernel {
         }
     }
 
-    /// 7: time moves on.
+    /// The next time at which something is to happen: a registered one, or that of a delayed update.
+    fn next_time(&self) -> Option<u64>
+        ensures { let c = content_of self.now in result ≡ least (delayed_times c.state.delayed ++ c.keys.times) }
+    {
+        soonest(&self.updates.delayed, self.book.least())
+    }
+
+    /// 7: time moves on, and the updates that waited for it become the later ones.
     fn move_time(&mut self) -> Option<Moved>
         requires { IsLoaded self.old }
         ensures stays { Stays self.old self.new }
         ensures is { Answered (content_of self.old) (from_time (content_of self.old)) result (content_of self.new) }
     {
-        let t = self.book.least()?;
+        let time = self.next_time()?;
         let step = self.book.take(Key::NextStep);
-        self.book.fire(Key::At(t));
-        self.time = t;
+        let at = self.book.take(Key::At(time));
+        self.updates.arrive(time);
+        self.time = time;
         self.region = Region::Begin;
         Some(Moved {
             change: None,
-            fired: in_order(step, Some(Key::At(t))),
+            fired: in_order(step, at),
         })
     }
 
@@ -424,11 +516,31 @@ impl Gpi for ListKernel {
     }
 
     fn read(&self, sig: SigId) -> Bits {
-        self.signals[sig.0 as usize]
+        self.values.shown[sig.0 as usize]
     }
 
     fn deposit(&mut self, sig: SigId, bits: Bits) -> Fired {
         self.put(sig, bits).fired
+    }
+
+    #[tactic(auto, using(crate::proofs::Hiding::hidden_places))]
+    fn force(&mut self, sig: SigId, bits: Bits) -> Fired {
+        let stored = self.values.stored(sig);
+        self.hide(sig, stored);
+        self.show(sig, bits).fired
+    }
+
+    #[tactic(auto, using(crate::proofs::Hiding::hidden_places))]
+    fn release(&mut self, sig: SigId) -> Fired {
+        match self.values.hidden_of(sig) {
+            Some(bits) => self.release_forced(sig, bits).fired,
+            None => unseen().fired,
+        }
+    }
+
+    #[tactic(auto, using(crate::proofs::Hiding::hidden_places))]
+    fn is_forced(&self, sig: SigId) -> bool {
+        self.values.is_forced(sig)
     }
 
     #[tactic(auto, using(crate::proofs::Placed::asked_placed))]
@@ -445,11 +557,12 @@ impl Gpi for ListKernel {
     fn idle(&self) -> bool {
         let open = self.region != Region::End;
         empty(&self.reports)
-            && empty(&self.due)
+            && empty(&self.updates.due)
             && empty(&self.active)
-            && empty(&self.later)
+            && empty(&self.updates.later)
             && !(self.book.has(Key::ReadWrite) && open)
             && !(self.book.has(Key::ReadOnly) && open)
+            && empty(&self.updates.delayed)
             && empty(&self.book.times)
     }
 
@@ -476,12 +589,11 @@ impl ListKernel {
     {
         ListKernel {
             processes: Vec::new(alloc),
-            signals: Vec::new(alloc),
-            before: Vec::new(alloc),
+            nets: Vec::new(alloc),
+            values: Values::new(alloc),
             active: Vec::new(alloc),
             reports: Vec::new(alloc),
-            due: Vec::new(alloc),
-            later: Vec::new(alloc),
+            updates: Updates::new(alloc),
             time: 0,
             region: Region::Begin,
             book: Book::new(alloc),
@@ -495,19 +607,18 @@ fn opened(alloc: Global, flat: &Flat) -> Result<ListKernel, NoMemory>
     ensures { IfOk result (λ kernel. (content_of kernel ≡ opening flat.now) × IsLoaded kernel) }
 {
     let processes = copy_processes(alloc, &flat.processes)?;
-    let signals = start_signals(alloc, &flat.signals)?;
-    let before = Vec::from_slice(alloc, &signals)?;
+    let nets = start_nets(alloc, &flat.signals)?;
+    let values = Values::opened(alloc, &flat.signals)?;
     let active = start_active(alloc, &processes)?;
-    let reports = Vec::with_capacity(alloc, signals.len())?;
-    let book = Book::with_signals(alloc, signals.len())?;
+    let reports = Vec::with_capacity(alloc, flat.signals.len())?;
+    let book = Book::with_signals(alloc, flat.signals.len())?;
     Ok(ListKernel {
         processes,
-        signals,
-        before,
+        nets,
+        values,
         active,
         reports,
-        due: Vec::new(alloc),
-        later: Vec::new(alloc),
+        updates: Updates::new(alloc),
         time: 0,
         region: Region::Begin,
         book,
@@ -554,18 +665,25 @@ fn copy_wakes(alloc: Global, wakes: &Sequence<Wake>) -> Result<Sequence<Wake>, N
     Ok(copies)
 }
 
-/// The opening map: each signal has its opening digit everywhere.
-#[tactic(auto, using(crate::proofs::Opening::wide))]
-fn start_signals(alloc: Global, signals: &Sequence<Signal>) -> Result<Vec<Bits>, NoMemory>
-    requires { IsTrue (are_wide signals.now) }
-    ensures { IfOk result (λ map. map.items ≡ start_map signals.now) }
+/// Which signals are nets: those that begin with z.
+fn start_nets(alloc: Global, signals: &Sequence<Signal>) -> Result<Vec<bool>, NoMemory>
+    ensures { IfOk result (λ nets. nets.items ≡ nets_of signals.now) }
 {
-    let mut map = Vec::new(alloc);
+    let mut nets = Vec::new(alloc);
     for at in 0..signals.len() {
-        let signal = signals.get(at);
-        map.push(Bits::all(signal.width, signal.start))?;
+        nets.push(is_net(signals.get(at).start))?;
     }
-    Ok(map)
+    Ok(nets)
+}
+
+/// Whether a signal that begins with this digit is a net.
+fn is_net(start: Digit) -> bool
+    ensures { result ≡ is_net start }
+{
+    match start {
+        Digit::Z => true,
+        _ => false,
+    }
 }
 
 /// The processes that are active from the start.
@@ -608,12 +726,15 @@ fn take_first<T>(list: &mut Vec<T>) -> Option<T>
     Some(list.remove(0))
 }
 
-/// No key.
-fn nothing() -> Fired
-    ensures { result ≡ fired_of [] }
+/// Nothing is told, and no key fires.
+fn unseen() -> Moved
+    ensures { result ≡ record { change = None; fired = fired_of [] } }
 {
-    Fired {
-        first: None,
-        second: None,
+    Moved {
+        change: None,
+        fired: Fired {
+            first: None,
+            second: None,
+        },
     }
 }

@@ -5,7 +5,7 @@ use Rattle.std.specs.List.{list_any}
 use Rattle.four_value.specs.declared.Digit.{Digit}
 use Rattle.gpi.specs.Content.{Content, Answers, Does, Registers, Removes, no_design, opening}
 use Rattle.gpi.specs.Design.{start_map}
-use Rattle.gpi.specs.Events.{Event, event, put}
+use Rattle.gpi.specs.Events.{Event, event, put, force, release}
 use Rattle.gpi.specs.Keys.{among, fired_of, has, no_keys, same_key}
 use Rattle.gpi.specs.State.{State}
 use Rattle.gpi.specs.Terms.{widths_of}
@@ -20,7 +20,7 @@ use Rattle.gpi.specs.declared.types.SigId.{SigId}
 use Rattle.edge_tests.specs.Kernel.Calls.{IsBook}
 use Rattle.edge_tests.specs.Kernel.Keys.{keys_in, without, without_all}
 use Rattle.edge_tests.specs.declared.kernel.booked.Book.{Book}
-use Rattle.edge_tests.proofs.KernelLemmas.KeyLaws.{AreFew, among_push, among_without_all, event_few, put_few, told_back}
+use Rattle.edge_tests.proofs.KernelLemmas.KeyLaws.{AreFew, among_push, among_without_all, event_few, put_few, force_few, release_few, told_back}
 
 pub among_any : (key : Key) (keys : List Key) → list_any (same_key key) keys ≡ among key keys
 among_any key [] = refl
@@ -118,6 +118,26 @@ pub put_out : (before after : Content) (sig : SigId) (bits : List Digit) (fired 
 put_out before after sig bits fired book new b is does widths signals keys =
     let e : Event = put before.procs before.state before.keys sig bits in
     fired_out e fired before after book new b (put_few before.procs before.state before.keys sig bits) is does widths signals keys
+
+-- by a force
+pub force_out : (before after : Content) (sig : SigId) (bits : List Digit) (fired : Fired) (book new : Book)
+    → IsBook book before
+    → fired ≡ fired_of (force before.procs before.state before.keys sig bits).fired → Does before (force before.procs before.state before.keys sig bits) after
+    → widths_of after.state.signals ≡ widths_of before.state.signals
+    → new.signals ≡ book.signals → new.keys.items ≡ without_all (keys_in fired) book.keys.items → IsBook new after
+force_out before after sig bits fired book new b is does widths signals keys =
+    let e : Event = force before.procs before.state before.keys sig bits in
+    fired_out e fired before after book new b (force_few before.procs before.state before.keys sig bits) is does widths signals keys
+
+-- by a release
+pub release_out : (before after : Content) (sig : SigId) (fired : Fired) (book new : Book)
+    → IsBook book before
+    → fired ≡ fired_of (release before.procs before.nets before.state before.keys sig).fired → Does before (release before.procs before.nets before.state before.keys sig) after
+    → widths_of after.state.signals ≡ widths_of before.state.signals
+    → new.signals ≡ book.signals → new.keys.items ≡ without_all (keys_in fired) book.keys.items → IsBook new after
+release_out before after sig fired book new b is does widths signals keys =
+    let e : Event = release before.procs before.nets before.state before.keys sig in
+    fired_out e fired before after book new b (release_few before.procs before.nets before.state before.keys sig) is does widths signals keys
 
 -- by an event
 pub event_out : (before after : Content) (m : Moved) (book new : Book)

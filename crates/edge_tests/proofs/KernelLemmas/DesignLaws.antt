@@ -1,4 +1,4 @@
--- What the two designs consist of, and that both are sound.
+-- What the designs consist of, and that all are sound.
 use Rattle.std.proofs.Common.{◌≡◌, ◌≤◌, ◌<◌, ℕ, zero, suc, List, [], ◌∷◌, length, IsTrue, refl, ap, sym, ◌∙◌, subst, arith, Result, Ok, Err, IfOk}
 use Rattle.gpi.specs.Activation.{IsSound}
 use Rattle.gpi.specs.Design.{widths}
@@ -16,9 +16,9 @@ use Rattle.gpi.specs.declared.operators.Arith.TheVariants.{And}
 use Rattle.gpi.specs.declared.operators.Unary.TheVariants.{Invert}
 use Rattle.gpi.specs.declared.terms.Term.{Term}
 use Rattle.port_io.specs.declared.ports.NoMemory.{NoMemory}
-use Rattle.edge_tests.specs.Kernel.Designs.{IsDesign, IsEnabledInverse, IsFeedback, IsOscillator, clocked_copy, flip_flops, one_process, value_of, whole, wire}
+use Rattle.edge_tests.specs.Kernel.Designs.{IsDesign, IsEnabledInverse, IsFeedback, IsInverse, IsInverter, IsOscillator, clocked_copy, flip_flops, one_process, reg, value_of, whole, wire}
 use Rattle.edge_tests.specs.declared.kernel.designs.Design.{Design}
-use Rattle.edge_tests.specs.declared.kernel.designs.Design.TheVariants.{Oscillator, FlipFlops}
+use Rattle.edge_tests.specs.declared.kernel.designs.Design.TheVariants.{Oscillator, FlipFlops, DelayedFlipFlops, Inverter}
 
 -- `en & ~y`
 enabled_inverse : (inverse t : Term) → MakesUnary Invert (value_of 1 1) inverse → MakesArith And (value_of 0 1) inverse t → IsEnabledInverse t
@@ -42,6 +42,15 @@ oscillator_made process signals (Ok flat) f is e = record {
   is = is ∙ ap (λ (s : List Signal). one_process s process) e;
 }
 oscillator_made process signals (Err e) f is h = tt
+
+pub inverter_made : (process : Process) (signals : List Signal) (made : Result Flat NoMemory)
+    → IsInverse process → IfOk made (λ flat. flat ≡ one_process signals process) → signals ≡ wire 1 ∷ wire 1 ∷ reg 1 ∷ [] → IfOk made IsInverter
+inverter_made process signals (Ok flat) f is e = record {
+  process = process;
+  is_inverse = f;
+  is = is ∙ ap (λ (s : List Signal). one_process s process) e;
+}
+inverter_made process signals (Err e) f is h = tt
 
 -- a node alone is a tree
 alone : (node : Node) → node.children ≡ [] → IsTree (node ∷ [])
@@ -75,11 +84,23 @@ oscillator_sound flat o =
     (process_sound (wire 1 ∷ wire 1 ∷ []) o.process (omega arith) refl (subst (λ (a : Act). IsSound a ws) (sym o.is_feedback.body) body)
     (rw o.is_feedback.wakes refl))
 
-flip_flops_sound : IsSoundFlat flip_flops
-flip_flops_sound =
-    process_sound _ clocked_copy (omega arith) refl
+flip_flops_sound : (n : ℕ) → IsSoundFlat (flip_flops n)
+flip_flops_sound n =
+    process_sound _ (clocked_copy n) (omega arith) refl
     (((omega arith, refl, (omega arith, omega arith)), (omega arith, refl), refl)) refl
+
+inverter_sound : (flat : Flat) → IsInverter flat → IsSoundFlat flat
+inverter_sound flat o =
+    let ws : List ℕ = 1 ∷ 1 ∷ 1 ∷ [] in
+    let value = o.is_inverse.is_value in
+    let body : IsSound (Blocking (whole 1 1) o.is_inverse.value) ws =
+    ((omega arith, refl, (omega arith, omega arith)), value.sound ws (omega arith, refl), value.width_is) in
+    subst IsSoundFlat (sym o.is)
+    (process_sound (wire 1 ∷ wire 1 ∷ reg 1 ∷ []) o.process (omega arith) refl (subst (λ (a : Act). IsSound a ws) (sym o.is_inverse.body) body)
+    (rw o.is_inverse.wakes refl))
 
 pub design_sound : (asked : Design) (flat : Flat) → IsDesign asked flat → IsSoundFlat flat
 design_sound Oscillator flat h = oscillator_sound flat h
-design_sound FlipFlops flat h = subst IsSoundFlat (sym h) flip_flops_sound
+design_sound FlipFlops flat h = subst IsSoundFlat (sym h) (flip_flops_sound 0)
+design_sound DelayedFlipFlops flat h = subst IsSoundFlat (sym h) (flip_flops_sound 3)
+design_sound Inverter flat h = inverter_sound flat h

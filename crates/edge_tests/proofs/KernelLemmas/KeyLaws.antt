@@ -1,13 +1,13 @@
 -- Keys that lists tell, and how many keys an event fires.
-use Rattle.std.proofs.Common.{◌≡◌, ℕ, ◌+◌, ◌≤◌, ◌==◌, ◌&&◌, ◌||◌, not, if◌then◌else◌, Bool, true, false, List, [], ◌∷◌, ◌++◌, Option, Some, None, length, refl, ap, ◌∙◌, arith, eqb-true, length-append, subst}
+use Rattle.std.proofs.Common.{◌≡◌, ℕ, ◌+◌, ◌≤◌, ◌==◌, ◌&&◌, ◌||◌, not, if◌then◌else◌, Bool, true, false, List, [], ◌∷◌, ◌++◌, Option, Some, None, length, refl, ap, ◌∙◌, arith, eqb-true, length-append, slice_index_or, subst}
 use Rattle.four_value.specs.declared.Digit.{Digit}
 use Rattle.four_value.specs.declared.Digit.TheVariants.{Zero, One, X, Z}
 use Rattle.four_value.specs.Vector.{digit_at, same_digits}
 use Rattle.gpi.specs.Activation.{with_part}
 use Rattle.gpi.specs.Design.{Proc}
-use Rattle.gpi.specs.Events.{Event, event, put, or_else, if_has, level_keys, edge_keys, value_at, write_change, report_case, due_case, active_case, later_case, settle_case, end_case, time_case}
+use Rattle.gpi.specs.Events.{Event, event, show, put, put_over, force, release, release_over, hidden_at, stored_at, with_hidden, or_else, if_has, level_keys, edge_keys, value_at, write_change, report_case, due_case, active_case, later_case, settle_case, end_case, time_case}
 use Rattle.gpi.specs.Keys.{Keys, among, fired_of, has, least, same_key}
-use Rattle.gpi.specs.State.{State, is_end}
+use Rattle.gpi.specs.State.{State, delayed_times, is_end}
 use Rattle.gpi.specs.declared.types.Key.{Key}
 use Rattle.gpi.specs.declared.types.Key.TheVariants as key
 use Rattle.gpi.specs.declared.types.Region.TheVariants as region
@@ -120,9 +120,29 @@ few_if false e f h k = k
 write_few : (ps : List Proc) (s : State) (keys : Keys) (c : Report) → AreFew (write_change ps s keys c)
 write_few ps s keys c = few_if (same_digits c.before c.after) _ _ (omega arith) (two_edges c keys)
 
+show_few : (ps : List Proc) (s : State) (keys : Keys) (sig : SigId) (bits : List Digit) → AreFew (show ps s keys sig bits)
+show_few ps s keys sig bits = write_few ps s keys (record { sig = sig; before = value_at s sig; after = bits })
+
+over_few : (o : Option (List Digit)) (ps : List Proc) (s : State) (keys : Keys) (sig : SigId) (bits : List Digit) → AreFew (put_over o ps s keys sig bits)
+over_few None ps s keys sig bits = show_few ps s keys sig bits
+over_few (Some ds) ps s keys sig bits = omega arith
+
 -- of a deposit
 pub put_few : (ps : List Proc) (s : State) (keys : Keys) (sig : SigId) (bits : List Digit) → AreFew (put ps s keys sig bits)
-put_few ps s keys sig bits = write_few ps s keys (record { sig = sig; before = value_at s sig; after = bits })
+put_few ps s keys sig bits = over_few (hidden_at s sig) ps s keys sig bits
+
+-- of a force
+pub force_few : (ps : List Proc) (s : State) (keys : Keys) (sig : SigId) (bits : List Digit) → AreFew (force ps s keys sig bits)
+force_few ps s keys sig bits = show_few ps (with_hidden s sig (Some (stored_at s sig))) keys sig bits
+
+released_few : (o : Option (List Digit)) (net : Bool) (ps : List Proc) (s : State) (keys : Keys) (sig : SigId) → AreFew (release_over o net ps s keys sig)
+released_few None net ps s keys sig = omega arith
+released_few (Some ds) true ps s keys sig = show_few ps (with_hidden s sig None) keys sig ds
+released_few (Some ds) false ps s keys sig = omega arith
+
+-- of a release
+pub release_few : (ps : List Proc) (nets : List Bool) (s : State) (keys : Keys) (sig : SigId) → AreFew (release ps nets s keys sig)
+release_few ps nets s keys sig = released_few (hidden_at s sig) (slice_index_or nets sig.0 false) ps s keys sig
 
 abbrev FewIf : Option Event → Type 0
 FewIf None = Unit {0}
@@ -138,7 +158,7 @@ report_few s keys (c ∷ cs) = two_edges c keys
 
 due_few : (ps : List Proc) (s : State) (keys : Keys) (us : List Update) → FewIf (due_case ps s keys us)
 due_few ps s keys [] = tt
-due_few ps s keys (u ∷ us) = put_few ps (record s { due = us; region = region.Active }) keys u.sig (with_part (value_at s u.sig) u.low u.bits)
+due_few ps s keys (u ∷ us) = put_few ps (record s { due = us; region = region.Active }) keys u.sig (with_part (stored_at s u.sig) u.low u.bits)
 
 active_few : (ps : List Proc) (s : State) (ns : List ℕ) → FewIf (active_case ps s ns)
 active_few ps s [] = tt
@@ -150,7 +170,7 @@ some_few false e h = tt
 
 time_few : (s : State) (keys : Keys) (o : Option ℕ) → FewIf (time_case s keys o)
 time_few s keys None = tt
-time_few s keys (Some t) = two_both (if_has key.NextStep keys) (key.At t ∷ []) (one_if (has key.NextStep keys) key.NextStep) (omega arith)
+time_few s keys (Some t) = two_both (if_has key.NextStep keys) (if_has (key.At t) keys) (one_if (has key.NextStep keys) key.NextStep) (one_if (has (key.At t) keys) (key.At t))
 
 event_if : (ps : List Proc) (s : State) (keys : Keys) → FewIf (event ps s keys)
 event_if ps s keys =
@@ -159,8 +179,8 @@ event_if ps s keys =
     (either (active_case ps s s.active) _ (active_few ps s s.active)
     (either (later_case ps s keys) _ (due_few ps (record s { later = [] }) keys s.later)
     (either (settle_case s keys) _ (some_few (has key.ReadWrite keys && not (is_end s.region)) _ (omega arith))
-    (either (end_case s keys) (time_case s keys (least keys.times)) (some_few (has key.ReadOnly keys && not (is_end s.region)) _ (omega arith))
-    (time_few s keys (least keys.times)))))))
+    (either (end_case s keys) (time_case s keys (least (delayed_times s.delayed ++ keys.times))) (some_few (has key.ReadOnly keys && not (is_end s.region)) _ (omega arith))
+    (time_few s keys (least (delayed_times s.delayed ++ keys.times))))))))
 
 -- of an event
 pub event_few : (ps : List Proc) (s : State) (keys : Keys) (e : Event) → event ps s keys ≡ Some e → AreFew e

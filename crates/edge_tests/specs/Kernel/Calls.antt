@@ -4,7 +4,7 @@ use Rattle.std.specs.Prelude.{◌≡◌, ◌<◌, ℕ, ◌-◌, ◌^◌, min, tr
 use Rattle.std.specs.Str.{bytes_eq}
 use Rattle.four_value.specs.Vector.{vector}
 use Rattle.gpi.specs.Content.{Content, Answers, Does, IsAsked, Registers, Removes}
-use Rattle.gpi.specs.Events.{event, put, value_at}
+use Rattle.gpi.specs.Events.{event, put, force, release, is_forced, value_at}
 use Rattle.gpi.specs.Keys.{fired_of, has}
 use Rattle.gpi.specs.State.{is_end}
 use Rattle.gpi.specs.declared.types.Key.{Key}
@@ -45,18 +45,25 @@ call_of row =
     else (if bytes_eq (part_at 0 row) (codes "remove") then option_map call.Remove (named_key row)
     else (if bytes_eq (part_at 0 row) (codes "deposit")
     then Some (call.Deposit (signal_of (decimal (part_at 2 row))) (decimal (part_at 3 row)))
+    else (if bytes_eq (part_at 0 row) (codes "force")
+    then Some (call.Force (signal_of (decimal (part_at 2 row))) (decimal (part_at 3 row)))
+    else (if bytes_eq (part_at 0 row) (codes "release") then Some (call.Release (signal_of (decimal (part_at 2 row))))
+    else (if bytes_eq (part_at 0 row) (codes "read") then Some (call.Read (signal_of (decimal (part_at 2 row))))
     else (if bytes_eq (part_at 0 row) (codes "advance") then Some call.Advance
-    else None)))
+    else None))))))
 
 -- the interface allows the call
 abbrev pub IsAllowed : Content → Call → Type 0
 IsAllowed c (call.Register key) = IsAsked (length c.state.signals) c.state key × (has key c.keys ≡ false)
 IsAllowed c (call.Remove key) = has key c.keys ≡ true
 IsAllowed c (call.Deposit sig number) = (sig.0 < length c.state.signals) × (is_end c.state.region ≡ false)
+IsAllowed c (call.Force sig number) = (sig.0 < length c.state.signals) × (is_end c.state.region ≡ false)
+IsAllowed c (call.Release sig) = (sig.0 < length c.state.signals) × (is_end c.state.region ≡ false)
+IsAllowed c (call.Read sig) = sig.0 < length c.state.signals
 IsAllowed c call.Advance = Unit {0}
 
--- What a call is answered, and what it leaves: it is made where it is allowed, and nowhere else. A number is written in as many digits as
--- the signal has.
+-- What a call is answered, and what it leaves: it is made where it is allowed, and nowhere else. A number is written, or forced, in as many
+-- digits as the signal has.
 abbrev pub IsAnswered : Content → Call → Answer → Content → Type 0
 IsAnswered before call answer.Refused after = (after ≡ before) × (IsAllowed before call → ⊥)
 IsAnswered before (call.Register key) answer.Done after = IsAllowed before (call.Register key) × Registers before key after
@@ -64,6 +71,14 @@ IsAnswered before (call.Remove key) answer.Done after = IsAllowed before (call.R
 IsAnswered before (call.Deposit sig number) (answer.Fired fired) after =
     let e = put before.procs before.state before.keys sig (vector (length (value_at before.state sig)) number) in
     IsAllowed before (call.Deposit sig number) × (fired ≡ fired_of e.fired) × Does before e after
+IsAnswered before (call.Force sig number) (answer.Fired fired) after =
+    let e = force before.procs before.state before.keys sig (vector (length (value_at before.state sig)) number) in
+    IsAllowed before (call.Force sig number) × (fired ≡ fired_of e.fired) × Does before e after
+IsAnswered before (call.Release sig) (answer.Fired fired) after =
+    let e = release before.procs before.nets before.state before.keys sig in
+    IsAllowed before (call.Release sig) × (fired ≡ fired_of e.fired) × Does before e after
+IsAnswered before (call.Read sig) (answer.Value reading) after =
+    (after ≡ before) × IsAllowed before (call.Read sig) × (reading ≡ record { bits = value_at before.state sig; forced = is_forced before.state sig })
 IsAnswered before call.Advance (answer.Advanced a) after = Answers before (event before.procs before.state before.keys) a after
 IsAnswered _ _ _ _ = ⊥
 

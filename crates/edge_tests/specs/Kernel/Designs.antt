@@ -4,7 +4,7 @@ use Rattle.std.specs.Prelude.{◌≡◌, ℕ, List, [], ◌∷◌, Option, Some,
 use Rattle.std.specs.Str.{bytes_eq}
 use Rattle.four_value.specs.declared.Digit.TheVariants.{X, Z}
 use Rattle.gpi.specs.Content.{Content, opening}
-use Rattle.gpi.specs.Made.{Makes}
+use Rattle.gpi.specs.Made.{Makes, MakesUnary}
 use Rattle.gpi.specs.Operators.{arith_value, unary_value}
 use Rattle.gpi.specs.Terms.{IsSound}
 use Rattle.gpi.specs.declared.acts.Act.TheVariants.{Blocking, Nonblocking}
@@ -24,9 +24,9 @@ use Rattle.gpi.specs.declared.terms.Term.{Term}
 use Rattle.gpi.specs.declared.terms.Term.TheVariants as term
 use Rattle.gpi.specs.declared.types.SigId.{SigId}
 use Rattle.edge_tests.specs.declared.kernel.designs.Design.{Design}
-use Rattle.edge_tests.specs.declared.kernel.designs.Design.TheVariants.{Oscillator, FlipFlops}
+use Rattle.edge_tests.specs.declared.kernel.designs.Design.TheVariants.{Oscillator, FlipFlops, DelayedFlipFlops, Inverter}
 
--- ---- what both consist of
+-- ---- what all consist of
 
 abbrev pub sig : ℕ → SigId
 sig number = record { 0 = number }
@@ -81,25 +81,44 @@ pub record IsOscillator (flat : Flat) : Type 0 where
 
 -- ---- `module top(input clk, input [7:0] a, output reg [7:0] q); always @(posedge clk) q <= a; endmodule`
 
--- `always @(posedge clk) q <= a;`, where `clk`, `a` and `q` are the signals 0, 1 and 2
-abbrev pub clocked_copy : Process
-clocked_copy = record { kind = Always; wakes = wake 0 Pos ∷ []; body = Nonblocking (whole 2 8) (value_of 1 8) }
+-- `always @(posedge clk) q <= #n a;`, without the delay where n is 0, where `clk`, `a` and `q` are the signals 0, 1 and 2
+abbrev pub clocked_copy : ℕ → Process
+clocked_copy n = record { kind = Always; wakes = wake 0 Pos ∷ []; body = Nonblocking (whole 2 8) (value_of 1 8) n }
 
-abbrev pub flip_flops : Flat
-flip_flops = one_process (wire 1 ∷ wire 8 ∷ reg 8 ∷ []) clocked_copy
+abbrev pub flip_flops : ℕ → Flat
+flip_flops n = one_process (wire 1 ∷ wire 8 ∷ reg 8 ∷ []) (clocked_copy n)
 
--- ---- both
+-- ---- `module top(input a, output y, output reg q); assign y = ~a; endmodule`
+
+-- `assign y = ~a;`, where `a` and `y` are the signals 0 and 1
+pub record IsInverse (process : Process) : Type 0 where
+  pub kind : process.kind ≡ Assign
+  pub wakes : process.wakes ≡ wake 0 Any ∷ []
+  pub value : Term
+  pub is_value : MakesUnary Invert (value_of 0 1) value
+  pub body : process.body ≡ Blocking (whole 1 1) value
+
+pub record IsInverter (flat : Flat) : Type 0 where
+  pub process : Process
+  pub is_inverse : IsInverse process
+  pub is : flat ≡ one_process (wire 1 ∷ wire 1 ∷ reg 1 ∷ []) process
+
+-- ---- all
 
 -- the design of this name
 abbrev pub design_named : List ℕ → Option Design
 design_named name =
     if bytes_eq name (codes "oscillator") then Some Oscillator
     else (if bytes_eq name (codes "flip_flops") then Some FlipFlops
-    else None)
+    else (if bytes_eq name (codes "delayed_flip_flops") then Some DelayedFlipFlops
+    else (if bytes_eq name (codes "inverter") then Some Inverter
+    else None)))
 
 abbrev pub IsDesign : Design → Flat → Type 0
 IsDesign Oscillator flat = IsOscillator flat
-IsDesign FlipFlops flat = flat ≡ flip_flops
+IsDesign FlipFlops flat = flat ≡ flip_flops 0
+IsDesign DelayedFlipFlops flat = flat ≡ flip_flops 3
+IsDesign Inverter flat = IsInverter flat
 
 -- a simulator is in the opening state of the design
 pub record IsOpening (asked : Design) (after : Content) : Type 0 where

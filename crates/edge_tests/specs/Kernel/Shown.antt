@@ -1,6 +1,7 @@
 -- A means of proof: how the answer to a row is shown, for the test program of simulators.
-use Rattle.std.specs.Prelude.{ℕ, List, [], ◌++◌, Option, None, Some, codes, ◌≡◌, ◌⊎◌}
+use Rattle.std.specs.Prelude.{ℕ, Bool, List, [], ◌++◌, Option, None, Some, codes, ◌≡◌, ◌⊎◌, if◌then◌else◌}
 use Rattle.std.specs.Fmt.{decimal}
+use Rattle.four_value.specs.declared.Digit.{Digit}
 use Rattle.four_value.specs.Vector.{digit_letters}
 use Rattle.gpi.specs.Content.{Content, no_design}
 use Rattle.gpi.specs.State.{State}
@@ -18,6 +19,7 @@ use Rattle.edge_tests.specs.Kernel.Designs.{IsOpening, design_named}
 use Rattle.edge_tests.specs.declared.kernel.calls.Answer.{Answer}
 use Rattle.edge_tests.specs.declared.kernel.calls.Answer.TheVariants as answer
 use Rattle.edge_tests.specs.declared.kernel.calls.Call.{Call}
+use Rattle.edge_tests.specs.declared.kernel.calls.Reading.{Reading}
 use Rattle.edge_tests.specs.declared.kernel.designs.Design.{Design}
 use Rattle.table_rows.specs.Rows.{part_at}
 
@@ -47,10 +49,15 @@ change_text (Some told) = codes " " ++ decimal told.sig.0 ++ codes "=" ++ digit_
 abbrev pub event_text : Moved → List ℕ
 event_text moved = codes "event" ++ change_text moved.change ++ fired_text moved.fired
 
+-- what a signal shows, and whether it is forced
+abbrev pub value_text : Reading → List ℕ
+value_text reading = (if reading.forced then codes "forced " else codes "free ") ++ digit_letters reading.bits
+
 abbrev pub answer_text : Answer → List ℕ
 answer_text answer.Refused = codes "refused"
 answer_text answer.Done = codes "done"
 answer_text (answer.Fired fired) = codes "fired" ++ fired_text fired
+answer_text (answer.Value reading) = value_text reading
 answer_text (answer.Advanced advance.Idle) = codes "idle"
 answer_text (answer.Advanced (advance.Moved moved)) = event_text moved
 

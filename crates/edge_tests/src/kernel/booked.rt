@@ -11,7 +11,7 @@ ghost use Rattle.edge_tests.specs.Kernel.Calls.{IsAnswered, IsBook};
 ghost use Rattle.edge_tests.specs.Kernel.Keys.{keys_in, without, without_all};
 ghost use Rattle.edge_tests.specs.declared.kernel.calls.Call.TheVariants as call;
 
-use crate::kernel::calls::{Answer, Call};
+use crate::kernel::calls::{Answer, Call, Reading};
 use four_value::Bits;
 use gpi::{Advance, Fired, Flat, Gpi, Key, LATEST_TIME, Region, SigId};
 use port_io::NoMemory;
@@ -160,6 +160,54 @@ fn deposited<K: Gpi>(kernel: &mut K, book: &mut Book, sig: SigId, number: u64) -
     Answer::Fired(fired)
 }
 
+/// A signal is forced to a number.
+fn forced<K: Gpi>(kernel: &mut K, book: &mut Book, sig: SigId, number: u64) -> Answer
+    requires loaded { K.is_loaded kernel.old }
+    requires book { IsBook book.old (K.content kernel.old) }
+    ensures loaded { K.is_loaded kernel.new }
+    ensures book { IsBook book.new (K.content kernel.new) }
+    ensures is { IsAnswered (K.content kernel.old) (call.Force sig number) result (K.content kernel.new) }
+{
+    if kernel.region() == Region::End || sig.0 as usize >= book.signals {
+        return Answer::Refused;
+    }
+    let width = kernel.read(sig).width();
+    let fired = kernel.force(sig, Bits::from_number(width, u128::from(number)));
+    book.take_fired(fired);
+    Answer::Fired(fired)
+}
+
+/// A signal is released.
+fn released<K: Gpi>(kernel: &mut K, book: &mut Book, sig: SigId) -> Answer
+    requires loaded { K.is_loaded kernel.old }
+    requires book { IsBook book.old (K.content kernel.old) }
+    ensures loaded { K.is_loaded kernel.new }
+    ensures book { IsBook book.new (K.content kernel.new) }
+    ensures is { IsAnswered (K.content kernel.old) (call.Release sig) result (K.content kernel.new) }
+{
+    if kernel.region() == Region::End || sig.0 as usize >= book.signals {
+        return Answer::Refused;
+    }
+    let fired = kernel.release(sig);
+    book.take_fired(fired);
+    Answer::Fired(fired)
+}
+
+/// A signal is read.
+fn value<K: Gpi>(kernel: &K, book: &Book, sig: SigId) -> Answer
+    requires loaded { K.is_loaded kernel.now }
+    requires book { IsBook book.now (K.content kernel.now) }
+    ensures { IsAnswered (K.content kernel.now) (call.Read sig) result (K.content kernel.now) }
+{
+    if sig.0 as usize >= book.signals {
+        return Answer::Refused;
+    }
+    Answer::Value(Reading {
+        bits: kernel.read(sig),
+        forced: kernel.is_forced(sig),
+    })
+}
+
 /// One event is simulated.
 fn advanced<K: Gpi>(kernel: &mut K, book: &mut Book) -> Result<Answer, NoMemory>
     requires loaded { K.is_loaded kernel.old }
@@ -191,6 +239,9 @@ pub fn asked<K: Gpi>(kernel: &mut K, book: &mut Book, call: Call) -> Result<Answ
         Call::Register(key) => registered(kernel, book, key),
         Call::Remove(key) => Ok(removed(kernel, book, key)),
         Call::Deposit(sig, number) => Ok(deposited(kernel, book, sig, number)),
+        Call::Force(sig, number) => Ok(forced(kernel, book, sig, number)),
+        Call::Release(sig) => Ok(released(kernel, book, sig)),
+        Call::Read(sig) => Ok(value(kernel, book, sig)),
         Call::Advance => advanced(kernel, book),
     }
 }

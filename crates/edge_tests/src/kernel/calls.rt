@@ -4,8 +4,16 @@ ghost use Rattle.std.specs.Prelude.{◌≡◌};
 ghost use Rattle.table_rows.specs.Rows.{part_at};
 ghost use Rattle.edge_tests.specs.Kernel.Calls.{call_of, key_of, signal_of};
 
+use four_value::Bits;
 use gpi::{Advance, Fired, Key, SigId};
 use table_rows::{Row, number_of};
+
+/// What a signal shows, and whether it is forced.
+#[derive(Clone, Copy, Debug)]
+pub struct Reading {
+    pub bits: Bits,
+    pub forced: bool,
+}
 
 /// A call of the interface.
 #[derive(Clone, Copy, Debug)]
@@ -14,6 +22,10 @@ pub enum Call {
     Remove(Key),
     /// A number that is written to a signal, modulo 2 to the signal's width.
     Deposit(SigId, u64),
+    /// A number that a signal is forced to, modulo 2 to the signal's width.
+    Force(SigId, u64),
+    Release(SigId),
+    Read(SigId),
     Advance,
 }
 
@@ -24,8 +36,10 @@ pub enum Answer {
     Refused,
     /// Nothing is told.
     Done,
-    /// The keys that a deposit fired.
+    /// The keys that a deposit, a force or a release fired.
     Fired(Fired),
+    /// A signal was read.
+    Value(Reading),
     /// What `advance` answers.
     Advanced(Advance),
 }
@@ -71,6 +85,12 @@ pub fn call_of(row: &Row<'_>) -> Option<Call>
         key_of(row.part(2), row.number(3)).map(Call::Remove)
     } else if asked == b"deposit".as_slice() {
         Some(Call::Deposit(signal_of(row.number(2)), row.number(3)))
+    } else if asked == b"force".as_slice() {
+        Some(Call::Force(signal_of(row.number(2)), row.number(3)))
+    } else if asked == b"release".as_slice() {
+        Some(Call::Release(signal_of(row.number(2))))
+    } else if asked == b"read".as_slice() {
+        Some(Call::Read(signal_of(row.number(2))))
     } else if asked == b"advance".as_slice() {
         Some(Call::Advance)
     } else {

@@ -6,6 +6,8 @@ ghost use Rattle.edge_tests.specs.Kernel.Designs.{
   IsDesign,
   IsEnabledInverse,
   IsFeedback,
+  IsInverse,
+  IsInverter,
   IsOscillator,
   design_named,
   clocked_copy,
@@ -33,6 +35,10 @@ pub enum Design {
     Oscillator,
     /// `module top(input clk, input [7:0] a, output reg [7:0] q); always @(posedge clk) q <= a; endmodule`
     FlipFlops,
+    /// The same with `q <= #3 a;`.
+    DelayedFlipFlops,
+    /// `module top(input a, output y, output reg q); assign y = ~a; endmodule`
+    Inverter,
 }
 
 impl Design {
@@ -44,6 +50,10 @@ impl Design {
             Some(Design::Oscillator)
         } else if name == b"flip_flops".as_slice() {
             Some(Design::FlipFlops)
+        } else if name == b"delayed_flip_flops".as_slice() {
+            Some(Design::DelayedFlipFlops)
+        } else if name == b"inverter".as_slice() {
+            Some(Design::Inverter)
         } else {
             None
         }
@@ -57,7 +67,9 @@ impl Design {
     {
         match self {
             Design::Oscillator => oscillator(alloc),
-            Design::FlipFlops => flip_flops(alloc),
+            Design::FlipFlops => flip_flops(alloc, 0),
+            Design::DelayedFlipFlops => flip_flops(alloc, 3),
+            Design::Inverter => inverter(alloc),
         }
     }
 }
@@ -161,27 +173,53 @@ fn oscillator(alloc: Global) -> Result<Flat, NoMemory>
     one_process(alloc, signals, process)
 }
 
-/// `always @(posedge clk) q <= a;`
-fn clocked_copy(alloc: Global) -> Result<Process, NoMemory>
-    ensures { IfOk result (λ process. process ≡ clocked_copy) }
+/// `assign y = ~a;`
+fn inverse(alloc: Global) -> Result<Process, NoMemory>
+    ensures { IfOk result (λ process. IsInverse process) }
+{
+    let mut wakes = Sequence::new(alloc);
+    wakes.push(wake(0, WakeEdge::Any))?;
+    let value = Term::unary(alloc, Unary::Invert, value_of(0, 1))?;
+    Ok(Process {
+        kind: Kind::Assign,
+        wakes,
+        body: Act::Blocking(whole(1, 1), value),
+    })
+}
+
+/// `module top(input a, output y, output reg q); assign y = ~a; endmodule`
+fn inverter(alloc: Global) -> Result<Flat, NoMemory>
+    ensures { IfOk result (λ flat. IsInverter flat) }
+{
+    let mut signals = Sequence::new(alloc);
+    signals.push(wire(1))?;
+    signals.push(wire(1))?;
+    signals.push(reg(1))?;
+    let process = inverse(alloc)?;
+    one_process(alloc, signals, process)
+}
+
+/// `always @(posedge clk) q <= #n a;`, without the delay where n is 0.
+fn clocked_copy(alloc: Global, delay: u64) -> Result<Process, NoMemory>
+    ensures { IfOk result (λ process. process ≡ clocked_copy delay) }
 {
     let mut wakes = Sequence::new(alloc);
     wakes.push(wake(0, WakeEdge::Pos))?;
     Ok(Process {
         kind: Kind::Always,
         wakes,
-        body: Act::Nonblocking(whole(2, 8), value_of(1, 8)),
+        body: Act::Nonblocking(whole(2, 8), value_of(1, 8), delay),
     })
 }
 
-/// `module top(input clk, input [7:0] a, output reg [7:0] q); always @(posedge clk) q <= a; endmodule`
-fn flip_flops(alloc: Global) -> Result<Flat, NoMemory>
-    ensures { IfOk result (λ flat. flat ≡ flip_flops) }
+/// `module top(input clk, input [7:0] a, output reg [7:0] q); always @(posedge clk) q <= #n a; endmodule`, without the delay where n is 0.
+fn flip_flops(alloc: Global, delay: u64) -> Result<Flat, NoMemory>
+    ensures { IfOk result (λ flat. flat ≡ flip_flops delay) }
 {
     let mut signals = Sequence::new(alloc);
     signals.push(wire(1))?;
     signals.push(wire(8))?;
     signals.push(reg(8))?;
-    let process = clocked_copy(alloc)?;
+    let process = clocked_copy(alloc, delay)?;
     one_process(alloc, signals, process)
 }

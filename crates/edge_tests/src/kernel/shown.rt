@@ -5,7 +5,7 @@ ghost use Rattle.std.specs.Fmt.{decimal};
 ghost use Rattle.four_value.specs.Vector.{digit_letters};
 ghost use Rattle.edge_tests.specs.Kernel.Shown as meaning;
 
-use crate::kernel::calls::Answer;
+use crate::kernel::calls::{Answer, Reading};
 use four_value::Bits;
 use gpi::{Advance, Counts, Fired, Gpi, Key, Moved, Region, Told};
 use std::alloc::{AllocError, Global};
@@ -98,6 +98,20 @@ fn event_text(alloc: Global, moved: Moved) -> Result<Vec<u8>, AllocError>
     fired_behind(alloc, &text, moved.fired)
 }
 
+/// What a signal shows, and whether it is forced.
+fn value_text(alloc: Global, reading: Reading) -> Result<Vec<u8>, AllocError>
+    ensures { IfOk result (λ text. text.items ≡ meaning.value_text reading) }
+{
+    let mut text = if reading.forced {
+        b"forced ".to_vec(alloc)?
+    } else {
+        b"free ".to_vec(alloc)?
+    };
+    let value = letters(alloc, reading.bits)?;
+    text.extend_from_slice(&value)?;
+    Ok(text)
+}
+
 /// What a call is answered.
 pub fn answer_text(alloc: Global, answer: Answer) -> Result<Vec<u8>, AllocError>
     ensures { IfOk result (λ text. text.items ≡ meaning.answer_text answer) }
@@ -106,6 +120,7 @@ pub fn answer_text(alloc: Global, answer: Answer) -> Result<Vec<u8>, AllocError>
         Answer::Refused => b"refused".to_vec(alloc),
         Answer::Done => b"done".to_vec(alloc),
         Answer::Fired(fired) => fired_behind(alloc, b"fired", fired),
+        Answer::Value(reading) => value_text(alloc, reading),
         Answer::Advanced(Advance::Idle) => b"idle".to_vec(alloc),
         Answer::Advanced(Advance::Moved(moved)) => event_text(alloc, moved),
     }

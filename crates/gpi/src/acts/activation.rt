@@ -1,10 +1,10 @@
 //! One activation of a statement.
-ghost use Rattle.std.specs.Prelude.{◌≡◌, ℕ, ◌+◌, ◌<◌, ◌≤◌, ◌++◌, ◌∷◌, [], length, take, drop, OnOk, OnErr};
+ghost use Rattle.std.specs.Prelude.{◌≡◌, ℕ, ◌+◌, ◌<◌, ◌≤◌, ◌++◌, ◌∷◌, [], List, length, take, drop, map, OnOk, OnErr};
 ghost use Rattle.gpi.specs.Limits.{most_elements};
 ghost use Rattle.gpi.specs.Terms.{widths_of, read};
 ghost use Rattle.gpi.specs.Targets.{target_width, IsSoundTarget, updates_of, AreFitting, IsFitting};
 ghost use Rattle.gpi.specs.Cases.{first_match, AreLabels};
-ghost use Rattle.gpi.specs.Activation.{activation, IsSound, with_part, applied, all_applied};
+ghost use Rattle.gpi.specs.Activation.{activation, after, blocking, written, IsSound, AreHidden, with_part};
 
 use super::{Act, CaseKind, Label};
 use crate::targets::Target;
@@ -13,15 +13,23 @@ use four_value::{Bits, Digit};
 use port_io::{NoMemory, Sequence};
 
 impl Act {
-    /// Runs the statement from its beginning to its end: the map of signals becomes what the activation leaves, and its
-    /// updates are appended. Without memory the map and what was appended are of no use; what was there before is kept.
-    pub fn run(&self, signals: &mut Vec<Bits>, updates: &mut Vec<Update>) -> Result<(), NoMemory>
+    /// Runs the statement from its beginning to its end: the shown and the hidden values become what the activation leaves, and
+    /// its updates are appended. `hidden` has one place for each signal. Without memory both maps and what was appended are of no
+    /// use; what was there before in `updates` is kept.
+    pub fn run(
+        &self,
+        signals: &mut Vec<Bits>,
+        hidden: &mut Vec<Option<Bits>>,
+        updates: &mut Vec<Update>,
+    ) -> Result<(), NoMemory>
         requires few { length signals.old.items ≤ most_elements }
         requires sound { IsSound self.now (widths_of signals.old.items) }
+        requires hidden { AreHidden hidden.old.items (widths_of signals.old.items) }
         requires fits { AreFitting updates.old.items (widths_of signals.old.items) }
         ensures widths { widths_of signals.new.items ≡ widths_of signals.old.items }
-        ensures is { OnOk result (record { signals = signals.new.items; updates = updates.new.items }
-            ≡ activation self.now (record { signals = signals.old.items; updates = updates.old.items })) }
+        ensures hidden { AreHidden hidden.new.items (widths_of signals.old.items) }
+        ensures is { OnOk result (record { signals = signals.new.items; hidden = hidden.new.items; updates = updates.new.items }
+            ≡ activation self.now (record { signals = signals.old.items; hidden = hidden.old.items; updates = updates.old.items })) }
         ensures fits { OnOk result (AreFitting updates.new.items (widths_of signals.old.items)) }
         ensures kept { take (length updates.old.items) updates.new.items ≡ updates.old.items }
     {
@@ -29,31 +37,31 @@ impl Act {
             Act::Empty => Ok(()),
             Act::Block(acts) => {
                 for act in &acts.list {
-                    act.run(signals, updates)?;
+                    act.run(signals, hidden, updates)?;
                 }
                 Ok(())
             }
             Act::If(condition, first, second) => {
                 let truth = condition.eval(signals).reduce_or();
                 match truth {
-                    Digit::One => first.run(signals, updates),
-                    _ => second.run(signals, updates),
+                    Digit::One => first.run(signals, hidden, updates),
+                    _ => second.run(signals, hidden, updates),
                 }
             }
             Act::Case(kind, value, labels, items, other) => {
                 let bits = value.eval(signals);
                 match first_match(*kind, bits, labels, signals) {
-                    Some(item) => items.list[item as usize].run(signals, updates),
-                    None => other.run(signals, updates),
+                    Some(item) => items.list[item as usize].run(signals, hidden, updates),
+                    None => other.run(signals, hidden, updates),
                 }
             }
             Act::Blocking(target, value) => {
                 let bits = value.eval(signals);
-                assign(target, bits, signals, updates)
+                assign(target, bits, signals, hidden, updates)
             }
-            Act::Nonblocking(target, value) => {
+            Act::Nonblocking(target, value, delay) => {
                 let bits = value.eval(signals);
-                push_updates(target, bits, signals, updates)
+                push_updates(target, bits, *delay, signals, updates)
             }
         }
     }
@@ -81,55 +89,74 @@ fn first_match(
 }
 
 /// A blocking assignment of a value.
+#[tactic(auto, using(crate::proofs::Steps::assigns))]
 fn assign(
     target: &Target,
     bits: Bits,
     signals: &mut Vec<Bits>,
+    hidden: &mut Vec<Option<Bits>>,
     updates: &mut Vec<Update>,
 ) -> Result<(), NoMemory>
     requires few { length signals.old.items ≤ most_elements }
     requires sound { IsSoundTarget target.now (widths_of signals.old.items) }
+    requires hidden { AreHidden hidden.old.items (widths_of signals.old.items) }
     requires wide { length bits ≡ target_width target.now }
     requires fits { AreFitting updates.old.items (widths_of signals.old.items) }
     ensures widths { widths_of signals.new.items ≡ widths_of signals.old.items }
-    ensures map { OnOk result (signals.new.items ≡ all_applied (updates_of target.now (read signals.old.items) bits) signals.old.items) }
+    ensures hidden { AreHidden hidden.new.items (widths_of signals.old.items) }
+    ensures is { OnOk result (record { signals = signals.new.items; hidden = hidden.new.items; updates = updates.new.items }
+        ≡ blocking (updates_of target.now (read signals.old.items) bits)
+        (record { signals = signals.old.items; hidden = hidden.old.items; updates = updates.old.items })) }
     ensures list { OnOk result (updates.new.items ≡ updates.old.items) }
     ensures kept { take (length updates.old.items) updates.new.items ≡ updates.old.items }
 {
     let from = updates.len();
-    push_updates(target, bits, signals, updates)?;
-    apply_from(from, signals, updates);
+    push_updates(target, bits, 0, signals, updates)?;
+    write_from(from, signals, hidden, updates);
     Ok(())
 }
 
-/// Applies the updates from number `from` on, in order, and takes them away.
+/// Writes the updates from number `from` on, in order, and takes them away.
 #[tactic(auto, using(crate::proofs::Steps::applies))]
-fn apply_from(from: usize, signals: &mut Vec<Bits>, updates: &mut Vec<Update>)
+fn write_from(
+    from: usize,
+    signals: &mut Vec<Bits>,
+    hidden: &mut Vec<Option<Bits>>,
+    updates: &mut Vec<Update>,
+)
     requires inside { from ≤ length updates.old.items }
+    requires hidden { AreHidden hidden.old.items (widths_of signals.old.items) }
     requires fits { AreFitting updates.old.items (widths_of signals.old.items) }
     ensures widths { widths_of signals.new.items ≡ widths_of signals.old.items }
-    ensures map { signals.new.items ≡ all_applied (drop from updates.old.items) signals.old.items }
+    ensures hidden { AreHidden hidden.new.items (widths_of signals.old.items) }
+    ensures is { (us : List Update) → record { signals = signals.new.items; hidden = hidden.new.items; updates = us }
+        ≡ blocking (drop from updates.old.items) (record { signals = signals.old.items; hidden = hidden.old.items; updates = us }) }
     ensures list { updates.new.items ≡ take from updates.old.items }
 {
     let mut at = from;
     while at < updates.len() {
         let update = updates[at];
-        apply(&update, signals);
+        write(&update, signals, hidden);
         at += 1;
     }
     updates.truncate(from);
 }
 
-/// Applies an update to the map of signals.
-#[tactic(auto, using(crate::proofs::Widths::widths))]
-pub fn apply(update: &Update, signals: &mut Vec<Bits>)
-    requires { IsFitting update.now (widths_of signals.old.items) }
+/// Writes the digits of an update: into the hidden value of a signal that has one, else into the one that it shows.
+#[tactic(auto, using(crate::proofs::Widths::widths, crate::proofs::Steps::hidden))]
+fn write(update: &Update, signals: &mut Vec<Bits>, hidden: &mut Vec<Option<Bits>>)
+    requires fits { IsFitting update.now (widths_of signals.old.items) }
+    requires hidden { AreHidden hidden.old.items (widths_of signals.old.items) }
     ensures widths { widths_of signals.new.items ≡ widths_of signals.old.items }
-    ensures is { signals.new.items ≡ applied update.now signals.old.items }
+    ensures hidden { AreHidden hidden.new.items (widths_of signals.old.items) }
+    ensures is { (us : List Update) → record { signals = signals.new.items; hidden = hidden.new.items; updates = us }
+        ≡ written update.now (record { signals = signals.old.items; hidden = hidden.old.items; updates = us }) }
 {
-    let s = update.sig.0 as usize;
-    let bits = placed(signals[s], update.low, update.bits);
-    signals[s] = bits;
+    let at = update.sig.0 as usize;
+    match hidden[at] {
+        Some(bits) => hidden[at] = Some(placed(bits, update.low, update.bits)),
+        None => signals[at] = placed(signals[at], update.low, update.bits),
+    }
 }
 
 /// A vector with the digits of `part` from the place `low` on.
@@ -151,11 +178,12 @@ pub fn placed(bits: Bits, low: u8, part: Bits) -> Bits
     }
 }
 
-/// Appends the updates that give a target these digits.
+/// Appends the updates that give a target these digits, so many steps later.
 #[tactic(auto, using(crate::proofs::Steps::pushes))]
 fn push_updates(
     target: &Target,
     bits: Bits,
+    delay: u64,
     signals: &[Bits],
     updates: &mut Vec<Update>,
 ) -> Result<(), NoMemory>
@@ -163,7 +191,7 @@ fn push_updates(
     requires sound { IsSoundTarget target.now (widths_of signals.now) }
     requires wide { length bits ≡ target_width target.now }
     requires fits { AreFitting updates.old.items (widths_of signals.now) }
-    ensures is { OnOk result (updates.new.items ≡ updates.old.items ++ updates_of target.now (read signals.now) bits) }
+    ensures is { OnOk result (updates.new.items ≡ updates.old.items ++ map (after delay) (updates_of target.now (read signals.now) bits)) }
     ensures fits { OnOk result (AreFitting updates.new.items (widths_of signals.now)) }
     ensures kept { take (length updates.old.items) updates.new.items ≡ updates.old.items }
 {
@@ -175,6 +203,7 @@ fn push_updates(
                     sig: SigId(s),
                     low: 0,
                     bits,
+                    delay,
                 },
             ),
             None => Ok(()),
@@ -189,6 +218,7 @@ fn push_updates(
                             sig: SigId(s),
                             low: overlap.place,
                             bits: bits.slice(overlap.skip, overlap.count),
+                            delay,
                         },
                     ),
                     None => Ok(()),
@@ -199,8 +229,14 @@ fn push_updates(
         Target::Join(high, low) => {
             let low_width = low.width(signals);
             let high_width = high.width(signals);
-            push_updates(high, bits.slice(low_width, high_width), signals, updates)?;
-            push_updates(low, bits.slice(0, low_width), signals, updates)
+            push_updates(
+                high,
+                bits.slice(low_width, high_width),
+                delay,
+                signals,
+                updates,
+            )?;
+            push_updates(low, bits.slice(0, low_width), delay, signals, updates)
         }
     }
 }

@@ -1,22 +1,33 @@
-use Rattle.std.proofs.Common.{◌≡◌, length, ap, arith}
+use Rattle.std.proofs.Common.{◌∙◌, ap, refl, subst}
 use Rattle.gpi.specs.Terms.{widths_of}
-use Rattle.gpi.proofs.Widths.{length_widths}
-use Rattle.list_kernel.proofs.Fits.{activation_appends}
+use Rattle.gpi.specs.Targets.{AreFitting}
+use Rattle.gpi.specs.Activation.{Map}
+use Rattle.list_kernel.proofs.Hiding.{values_back}
+use Rattle.list_kernel.proofs.Queues.{updates_after, has_run}
 use Rattle.list_kernel.proofs.run.activate.Goals as goal
 
-pub returns-in-Ok-clause-signals : goal.returns-in-Ok-clause-signals
-returns-in-Ok-clause-signals c = (activation_appends c.args.act.now c.args.signals.now.items _ c.args.updates.now.items _ c.in-Ok.ensures.is).0
-
 pub returns-in-Ok-clause-updates : goal.returns-in-Ok-clause-updates
-returns-in-Ok-clause-updates c = (activation_appends c.args.act.now c.args.signals.now.items _ c.args.updates.now.items _ c.in-Ok.ensures.is).1
+returns-in-Ok-clause-updates c =
+    updates_after c.args.now c.run.new.updates.appended.items c.args.updates.now c.enqueue_appended.new.self (widths_of c.args.values.now.shown.items) c.requires.updates
+    (subst (λ (m : Map). AreFitting c.run.new.updates.appended.items (widths_of m)) c.keep.ensures.shown c.in-Ok.ensures.fits)
+    (ap (λ v. v.items) c.enqueue_appended.ensures.due ∙ c.run.ensures.due)
+    (rw c.run.ensures.later at c.enqueue_appended.ensures.later)
+    (rw c.run.ensures.delayed at c.enqueue_appended.ensures.delayed)
+    c.enqueue_appended.ensures.appended c.enqueue_appended.ensures.room
 
-pub copy_from_slice-requires-in-Err : goal.copy_from_slice-requires-in-Err
-copy_from_slice-requires-in-Err c =
-    let l : length (widths_of c.run.new.signals.items) ≡ length (widths_of c.args.signals.now.items) = ap length c.run.ensures.widths in
-    let m = length_widths c.run.new.signals.items in
-    let n = length_widths c.args.signals.now.items in
-    let v = c.run.new.signals.ok.0 in
-    let b : length c.deref-in-Err.result.now ≡ length c.copy_from_slice.new.self.items = ap length c.deref-in-Err.ensures.value in
-    let i : length c.copy_from_slice.new.self.items ≡ length c.deref.result.now = ap length c.copy_from_slice.ensures.items in
-    let d : length c.deref.result.now ≡ length c.args.signals.now.items = ap length c.deref.ensures.value in
-    omega arith
+pub returns-in-Ok-clause-is : goal.returns-in-Ok-clause-is
+returns-in-Ok-clause-is c =
+    has_run c.args.act.now c.args.now c.keep.new.self.shown.items c.run.new.values.shown.items c.args.values.now.shown.items c.keep.new.self.hidden.items c.run.new.values.hidden.items
+    c.args.values.now.hidden.items c.run.new.updates.appended.items c.args.updates.now c.enqueue_appended.new.self c.run.new.values c.keep.ensures.shown c.keep.ensures.hidden
+    c.in-Ok.ensures.is refl refl
+    (rw c.run.ensures.later at c.enqueue_appended.ensures.later)
+    (rw c.run.ensures.delayed at c.enqueue_appended.ensures.delayed)
+
+pub returns-in-Err-clause-values : goal.returns-in-Err-clause-values
+returns-in-Err-clause-values c =
+    values_back c.args.values.now c.put_back.new.self c.requires.values
+    (c.put_back.ensures.shown ∙ (c.run.ensures.shown_kept ∙ c.keep.ensures.shown_kept))
+    (c.put_back.ensures.hidden ∙ (c.run.ensures.hidden_kept ∙ c.keep.ensures.hidden_kept))
+    (c.put_back.ensures.shown_before ∙ (c.run.ensures.shown_kept ∙ c.keep.ensures.shown_kept))
+    (c.put_back.ensures.hidden_before ∙ (c.run.ensures.hidden_kept ∙ c.keep.ensures.hidden_kept))
+    (c.put_back.ensures.any_forced ∙ (c.run.ensures.any_forced ∙ c.keep.ensures.any_forced))

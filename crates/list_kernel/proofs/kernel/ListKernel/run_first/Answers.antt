@@ -1,5 +1,5 @@
-use Rattle.std.proofs.Common.{◌≡◌, ◌∷◌, ◌<◌, ℕ, List, length, get_or, Some, None, ap, sym, ◌∙◌, subst, arith}
-use Rattle.gpi.specs.declared.types.Fired.{Fired}
+use Rattle.std.proofs.Common.{◌≡◌, ◌∷◌, ◌<◌, ℕ, List, length, get_or, Some, ap, sym, ◌∙◌, subst, arith}
+use Rattle.gpi.specs.declared.types.Moved.{Moved}
 use Rattle.gpi.specs.Design.{procs_of}
 use Rattle.gpi.specs.State.{State}
 use Rattle.gpi.specs.Events.{active_case}
@@ -24,8 +24,9 @@ returns-in-Ok-clause-is c =
     let below : AreBelow (length c.args.self.now.processes.items) (p ∷ rest) = subst (λ (xs : List ℕ). AreBelow (length c.args.self.now.processes.items) xs) first c.requires.loaded.below in
     let procs : procs_of c.run_body.new.self.processes.items ≡ procs_of c.args.self.now.processes.items = ap procs_of c.run_body.ensures.procs in
     let all_procs : procs_of c.end_activation.new.self.processes.items ≡ procs_of c.args.self.now.processes.items = ap procs_of c.end_activation.ensures.procs ∙ procs in
+    let all_nets : c.end_activation.new.self.nets.items ≡ c.args.self.now.nets.items = c.end_activation.ensures.nets ∙ c.run_body.ensures.nets in
     let book : c.end_activation.new.self.book ≡ c.args.self.now.book = c.end_activation.ensures.book ∙ c.run_body.ensures.book in
-    let state = ran_state b.procs (procs_of c.run_body.new.self.processes.items) b.state (content_of c.run_body.new.self).state a.state c.run_body.new.self.before.items p rest
+    let state = ran_state b.procs (procs_of c.run_body.new.self.processes.items) b.state (content_of c.run_body.new.self).state a.state c.run_body.new.self.values.shown_before.items p rest
     (some_at c.args.self.now.processes.items p below.0) procs c.in-Ok.ensures.is c.run_body.ensures.before c.end_activation.ensures.is in
-    subst (λ (f : Fired). Answered b (active_case b.procs b.state b.state.active) (Some (record { change = None; fired = f })) a) (sym c.nothing.ensures)
-    (ran_case b a p rest first all_procs state (ap keys_of book) (ap (λ (k : Book). k.counts) book))
+    subst (λ (m : Moved). Answered b (active_case b.procs b.state b.state.active) (Some m) a) (sym c.unseen.ensures)
+    (ran_case b a p rest first all_procs all_nets state (ap keys_of book) (ap (λ (k : Book). k.counts) book))

@@ -12,5 +12,5 @@ returns-in-Ok-None-clause-is c = answers_none _ _ _ (rw c.in-Ok-None.field-0-is 
 
 pub returns-in-Ok-Some-clause-told : goal.returns-in-Ok-Some-clause-told
 returns-in-Ok-Some-clause-told c =
-    told_of (content_of c.args.self.now) (content_of c.one_event.new.self) (from_reports (content_of c.args.self.now)) c.in-Ok-Some.moved (length c.args.self.now.signals.items)
-    (rw c.in-Ok-Some.field-0-is at c.in-Ok-Some.ensures.is) (event_tells (content_of c.args.self.now) c.requires.reports c.requires.due c.requires.later)
+    told_of (content_of c.args.self.now) (content_of c.one_event.new.self) (from_reports (content_of c.args.self.now)) c.in-Ok-Some.moved (length c.args.self.now.values.shown.items)
+    (rw c.in-Ok-Some.field-0-is at c.in-Ok-Some.ensures.is) (event_tells (content_of c.args.self.now) c.requires.reports c.requires.updates.due c.requires.updates.later)

@@ -1,5 +1,5 @@
 use Rattle.list_kernel.proofs.Opening.{start_more}
-use Rattle.list_kernel.proofs.kernel.start_signals.Goals as goal
+use Rattle.list_kernel.proofs.values.start_signals.Goals as goal
 
 pub loop-at-preserved : goal.loop-at-preserved
 loop-at-preserved c =
