@@ -16,3 +16,4 @@ pub mod RowLaws
 pub mod ConditionalLaws
 pub mod GroupLaws
 pub mod DefineLaws
+pub mod UnitLaws

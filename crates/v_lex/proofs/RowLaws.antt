@@ -9,7 +9,7 @@ use Rattle.v_lex.specs.declared.directive.LexRule.TheVariants as rule
 use Rattle.v_lex.specs.declared.directive.Piece.{Piece}
 use Rattle.v_lex.specs.Comments.{piece}
 use Rattle.v_lex.specs.Pieces.{piece_at}
-use Rattle.v_lex.specs.Lexing.{State, Scan, Lexed, is_taken, left_open, with_content, after_content, earliest, start, nanosecond}
+use Rattle.v_lex.specs.Lexing.{State, Scan, Lexed, is_taken, left_open, with_content, after_content, earliest, start, nanosecond, at_modules}
 use Rattle.v_lex.specs.declared.directive.LexRule.{LexRule}
 use Rattle.v_lex.specs.declared.directive.BrokenRule.{BrokenRule}
 use Rattle.v_lex.specs.Scan.{scan_from, scan_of, faults_of, lexed}
@@ -75,7 +75,7 @@ next_step s place p behind h =
     (drop-append_seam p.bytes behind)
 
 scan_end : (s : State) (place : ℕ)
-    → scan_from s place 0 [] ≡ record { tokens = []; places = []; faults = left_open s.conditionals; last = s }
+    → scan_from s place 0 [] ≡ record { tokens = []; places = []; units = []; faults = left_open s.conditionals; last = s }
 unfolding scan_from
 scan_end s place = refl
 
@@ -171,12 +171,14 @@ reads_is text tokens h e =
     ≡ record {
       tokens = (told (row text).parts).tokens;
       places = (told (row text).parts).places ++ length text ∷ [];
+      units = at_modules (told (row text).parts).tokens (told (row text).parts).units;
       unit = (told (row text).parts).last.unit;
       step = unwrap_or (told (row text).parts).last.step nanosecond;
     } =
     ap (λ (s : Scan). record {
       tokens = s.tokens;
       places = s.places ++ length text ∷ [];
+      units = at_modules s.tokens s.units;
       unit = s.last.unit;
       step = unwrap_or s.last.step nanosecond;
     }) (sym t) in

@@ -13,7 +13,7 @@ use Rattle.v_lex.specs.declared.directive.LexRule.{LexRule}
 use Rattle.v_lex.specs.declared.directive.LexRule.TheVariants as rule
 use Rattle.v_lex.specs.Pieces.{piece_at}
 use Rattle.v_lex.specs.Lexing.{State, Scan, is_taken, is_allowed, broken_at, earlier, earliest, left_open, with_token, with_fault}
-use Rattle.v_lex.specs.Lexing.{with_content, after_content, start, nanosecond}
+use Rattle.v_lex.specs.Lexing.{with_content, after_content, start, nanosecond, is_module, with_unit, at_modules, module_count}
 use Rattle.v_lex.specs.Scan.{scan_from, scan_of, faults_of, lexed}
 use Rattle.v_lex.specs.Found.{Sum, nothing, found_with, end_of}
 
@@ -88,14 +88,24 @@ earlier_nothing (Some g) = refl
 
 -- ---- what was found before a place
 
-pub found_token : (f : Sum) (t : Token) (place : ℕ) (scan : Scan)
-    → found_with (record { tokens = f.tokens ++ t ∷ []; places = f.places ++ place ∷ []; first = f.first }) scan
-    ≡ found_with f (with_token place t scan)
-unfolding found_with
-found_token f t place scan = rw (append_assoc f.tokens (t ∷ []) scan.tokens, append_assoc f.places (place ∷ []) scan.places) refl
+pub found_token : (f : Sum) (t : Token) (place unit : ℕ) (units : List ℕ) (scan : Scan)
+    → ((more : List ℕ) → units ++ more ≡ f.units ++ with_unit t unit more)
+    → found_with (record { tokens = f.tokens ++ t ∷ []; places = f.places ++ place ∷ []; units = units; first = f.first }) scan
+    ≡ found_with f (with_token unit place t scan)
+unfolding found_with at_modules
+found_token f t place unit units scan h =
+    rw (append_assoc f.tokens (t ∷ []) scan.tokens, append_assoc f.places (place ∷ []) scan.places, h (at_modules scan.tokens scan.units)) refl
+
+-- the unit at a token, behind those before it
+pub unit_added : (before after more : List ℕ) (t : Token) (unit : ℕ) → is_module t ≡ true → after ≡ before ++ unit ∷ []
+    → after ++ more ≡ before ++ with_unit t unit more
+unit_added before after more t unit h e = rw (h, e) (append_assoc before (unit ∷ []) more)
+
+pub none_added : (before more : List ℕ) (t : Token) (unit : ℕ) → is_module t ≡ false → before ++ more ≡ before ++ with_unit t unit more
+none_added before more t unit h = rw h refl
 
 pub found_fault : (f : Sum) (r : LexRule) (place : ℕ) (scan : Scan)
-    → found_with (record { tokens = f.tokens; places = f.places; first = earlier f.first (Some (broken_at r place)) }) scan
+    → found_with (record { tokens = f.tokens; places = f.places; units = f.units; first = earlier f.first (Some (broken_at r place)) }) scan
     ≡ found_with f (with_fault place r scan)
 unfolding found_with earliest
 found_fault f r place scan = rw (earlier_assoc f.first (Some (broken_at r place)) (earliest scan.faults)) refl
@@ -162,23 +172,23 @@ pub scan_end : (s : State) (p : ℕ) (text : List ℕ) → length text ≤ p →
 unfolding scan_from
 scan_end s p text h = ap (scan_from s p 0) (drop_all p text h)
 
--- ---- each token has a place
+-- ---- each token has a place and a unit
 
 abbrev IsPaired : Scan → Type 0
-IsPaired scan = length scan.tokens ≡ length scan.places
+IsPaired scan = (length scan.tokens ≡ length scan.places) × (length scan.tokens ≡ length scan.units)
 
 paired_content : (s : State) (p : ℕ) (c : Content) (scan : Scan) → IsPaired scan → IsPaired (with_content s p c scan)
 unfolding with_content
 paired_content s p content.Gap scan h = h
-paired_content s p (content.Token t) scan h = ap suc h
+paired_content s p (content.Token t) scan h = (ap suc h.0, ap suc h.1)
 paired_content s p (content.Directive d) scan h =
     elim (is_allowed s d) as (λ t. IsPaired (cond t scan (with_fault p rule.Directive scan))) [ true ↦ h | false ↦ h ]
 paired_content s p (content.Broken r) scan h = h
 
 pub paired : (s : State) (p k : ℕ) (text : List ℕ) → IsPaired (scan_from s p k text)
 unfolding scan_from
-paired s p zero [] = refl
-paired s p (suc k) [] = refl
+paired s p zero [] = (refl, refl)
+paired s p (suc k) [] = (refl, refl)
 paired s p (suc k) (b ∷ bs) = paired s (p + 1) k bs
 paired s p zero (b ∷ bs) =
     let q = piece_at (is_taken s.conditionals) (b ∷ bs) in
@@ -219,7 +229,27 @@ unfolding found_with scan_from scan_of
 has_places f s text h =
     let t : f.tokens ≡ (scan_of text).tokens = sym (append-nil f.tokens) ∙ ap (λ (x : Sum). x.tokens) h in
     let p : f.places ≡ (scan_of text).places = sym (append-nil f.places) ∙ ap (λ (x : Sum). x.places) h in
-    ap length t ∙ paired start 0 0 text ∙ sym (ap length p)
+    ap length t ∙ (paired start 0 0 text).0 ∙ sym (ap length p)
+
+-- each `module` has a unit
+one_each : (ts : List Token) (units : List ℕ) → length ts ≡ length units → length (at_modules ts units) ≡ module_count ts
+unfolding at_modules module_count
+one_each [] units h = refl
+one_each (t ∷ ts) [] h = absurd (omega arith)
+one_each (t ∷ ts) (unit ∷ units) h =
+    let e : length ts ≡ length units = omega arith in
+    let k = one_each ts units e in
+    elim (is_module t) as (λ b. length (cond b (unit ∷ at_modules ts units) (at_modules ts units)) ≡ cond b (suc (module_count ts)) (module_count ts))
+    [ true ↦ ap suc k | false ↦ k ]
+
+pub has_units : (f : Sum) (s : State) (text : List ℕ) → found_with f (end_of s) ≡ found_with nothing (scan_of text)
+    → length f.units ≡ module_count f.tokens
+unfolding found_with scan_from scan_of at_modules
+has_units f s text h =
+    let scan = scan_of text in
+    let t : f.tokens ≡ scan.tokens = sym (append-nil f.tokens) ∙ ap (λ (x : Sum). x.tokens) h in
+    let u : f.units ≡ at_modules scan.tokens scan.units = sym (append-nil f.units) ∙ ap (λ (x : Sum). x.units) h in
+    ap length u ∙ one_each scan.tokens scan.units (paired start 0 0 text).1 ∙ sym (ap module_count t)
 
 pub has_few : (f : Sum) (s : State) (text : List ℕ) → found_with f (end_of s) ≡ found_with nothing (scan_of text)
     → length f.tokens ≤ length text
@@ -231,13 +261,14 @@ has_few f s text h =
 
 pub is_lexed : (f : Sum) (s : State) (text : List ℕ) → found_with f (end_of s) ≡ found_with nothing (scan_of text)
     → s ≡ (scan_of text).last
-    → record { tokens = f.tokens; places = f.places ++ length text ∷ []; unit = s.unit; step = unwrap_or s.step nanosecond }
+    → record { tokens = f.tokens; places = f.places ++ length text ∷ []; units = f.units; unit = s.unit; step = unwrap_or s.step nanosecond }
     ≡ lexed text
-unfolding found_with scan_from lexed
+unfolding found_with scan_from lexed at_modules
 is_lexed f s text h e =
     let t : f.tokens ≡ (scan_of text).tokens = sym (append-nil f.tokens) ∙ ap (λ (x : Sum). x.tokens) h in
     let p : f.places ≡ (scan_of text).places = sym (append-nil f.places) ∙ ap (λ (x : Sum). x.places) h in
-    rw (t, p, e) refl
+    let u : f.units ≡ at_modules (scan_of text).tokens (scan_of text).units = sym (append-nil f.units) ∙ ap (λ (x : Sum). x.units) h in
+    rw (t, p, u, e) refl
 
 pub last_end : (s : State) (p : ℕ) (text : List ℕ) (whole : State) → length text ≤ p → (scan_from s p 0 (drop p text)).last ≡ whole
     → s ≡ whole

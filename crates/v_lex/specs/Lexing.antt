@@ -1,11 +1,13 @@
--- What directives set, and what the parts of a text tell (IEEE 1364-2005, clauses 3 and 19): tokens, their places, and the rules that are
--- broken.
-use Rattle.std.specs.Prelude.{ℕ, ◌-◌, min, Bool, true, false, not, ◌&&◌, nat_le, List, [], ◌∷◌, ◌++◌, length, take, map, Option, Some}
+-- What directives set, and what the parts of a text tell (IEEE 1364-2005, clauses 3 and 19): tokens, their places, the units of time that
+-- hold there, and the rules that are broken.
+use Rattle.std.specs.Prelude.{ℕ, suc, ◌-◌, min, Bool, true, false, not, ◌&&◌, nat_le, List, [], ◌∷◌, ◌++◌, length, take, map, Option, Some}
 use Rattle.std.specs.Prelude.{None, if◌then◌else◌}
 use Rattle.std.specs.List.{slice_get}
 use Rattle.std.specs.Str.{bytes_eq}
 use lib.Chars.{codes}
 use Rattle.v_syntax.specs.declared.token.Token.{Token}
+use Rattle.v_syntax.specs.declared.token.Token.TheVariants as token
+use Rattle.v_syntax.specs.declared.word.Keyword.TheVariants as word
 use Rattle.v_lex.specs.declared.directive.Directive.{Directive}
 use Rattle.v_lex.specs.declared.directive.Directive.TheVariants.{TimeScale, Define, Undef, IfDef, IfNDef, ElsIf, Else, EndIf, ResetAll}
 use Rattle.v_lex.specs.declared.directive.Directive.TheVariants.{DefaultNetType, Unnamed, Broken}
@@ -124,14 +126,16 @@ is_allowed s Broken = false
 pub record Scan : Type 0 where
   pub tokens : List Token
   pub places : List ℕ
+  -- the unit of time that holds at each token, in femtoseconds
+  pub units : List ℕ
   pub faults : List BrokenRule
   pub last : State
 
 abbrev pub broken_at : LexRule → ℕ → BrokenRule
 broken_at r p = record { rule = r; place = p }
 
-abbrev pub with_token : ℕ → Token → Scan → Scan
-with_token place t scan = record scan { tokens = t ∷ scan.tokens; places = place ∷ scan.places }
+abbrev pub with_token : ℕ → ℕ → Token → Scan → Scan
+with_token unit place t scan = record scan { tokens = t ∷ scan.tokens; places = place ∷ scan.places; units = unit ∷ scan.units }
 
 abbrev pub with_fault : ℕ → LexRule → Scan → Scan
 with_fault place r scan = record scan { faults = broken_at r place ∷ scan.faults }
@@ -139,7 +143,7 @@ with_fault place r scan = record scan { faults = broken_at r place ∷ scan.faul
 -- what stands at a place, before what comes after it
 unfoldable pub with_content : State → ℕ → Content → Scan → Scan
 with_content s place content.Gap scan = scan
-with_content s place (content.Token t) scan = with_token place t scan
+with_content s place (content.Token t) scan = with_token s.unit place t scan
 with_content s place (content.Directive d) scan = if is_allowed s d then scan else with_fault place rule.Directive scan
 with_content s place (content.Broken r) scan = with_fault place r scan
 
@@ -164,11 +168,35 @@ unfoldable pub earliest : List BrokenRule → Option BrokenRule
 earliest [] = None
 earliest (f ∷ fs) = earlier (Some f) (earliest fs)
 
+-- ---- the units of modules (clause 19.8)
+
+-- the keyword `module`
+abbrev pub is_module : Token → Bool
+is_module (token.Keyword word.Module) = true
+is_module _ = false
+
+-- the unit that holds at a token where that is `module`, before further ones
+abbrev pub with_unit : Token → ℕ → List ℕ → List ℕ
+with_unit t unit units = if is_module t then unit ∷ units else units
+
+-- of the units that hold at these tokens, those at each `module`
+unfoldable pub at_modules : List Token → List ℕ → List ℕ
+at_modules [] units = []
+at_modules (t ∷ ts) [] = []
+at_modules (t ∷ ts) (unit ∷ units) = with_unit t unit (at_modules ts units)
+
+-- how many of the tokens are `module`
+unfoldable pub module_count : List Token → ℕ
+module_count [] = 0
+module_count (t ∷ ts) = if is_module t then suc (module_count ts) else module_count ts
+
 -- what is told of a text that breaks no rule
 pub record Lexed : Type 0 where
   pub tokens : List Token
   -- the byte place of each token, and behind them the end of the text
   pub places : List ℕ
+  -- for each token `module` the unit of time that holds there, in femtoseconds
+  pub units : List ℕ
   -- the unit of time at the end of the text, in femtoseconds
   pub unit : ℕ
   -- the least precision, in femtoseconds; 1 ns where no directive sets one

@@ -9,6 +9,7 @@ pub mod Lexing
 pub mod Row
 pub mod Conditionals
 pub mod Defines
+pub mod Units
 pub mod Numbers
 pub mod Comments
 pub mod DirectiveScan

@@ -11,7 +11,7 @@ use Rattle.v_lex.specs.Bytes.{is_separator}
 use Rattle.v_lex.specs.Spelling.{AllIn, Form, SystemName, Number, HasForm, IsLongest, IsQuoted, Spells}
 use Rattle.v_lex.specs.Gaps.{IsSeparator, IsComment, IsOpenComment, BeginsComment}
 use Rattle.v_lex.specs.Directives.{IsDirective, BeginsConditional}
-use Rattle.v_lex.specs.Lexing.{State, Scan, Lexed, is_taken, left_open, with_content, after_content, earliest, start, nanosecond}
+use Rattle.v_lex.specs.Lexing.{State, Scan, Lexed, is_taken, left_open, with_content, after_content, earliest, start, nanosecond, at_modules}
 
 -- ---- broken rules
 
@@ -97,9 +97,9 @@ abbrev pub spelled : List Part → List ℕ
 spelled [] = []
 spelled (p ∷ ps) = p.bytes ++ spelled ps
 
--- The tokens of parts with their places, the rules that they break, and what their directives set.
+-- The tokens of parts with their places and the units of time there, the rules that they break, and what their directives set.
 unfoldable pub told_of : State → ℕ → List Part → Scan
-told_of s place [] = record { tokens = []; places = []; faults = left_open s.conditionals; last = s }
+told_of s place [] = record { tokens = []; places = []; units = []; faults = left_open s.conditionals; last = s }
 told_of s place (p ∷ ps) = with_content s place p.content (told_of (after_content s place p.content) (place + length p.bytes) ps)
 
 -- the parts are the whole text
@@ -117,6 +117,7 @@ Reads text lexed =
     × (lexed ≡ record {
       tokens = (told row).tokens;
       places = (told row).places ++ length text ∷ [];
+      units = at_modules (told row).tokens (told row).units;
       unit = (told row).last.unit;
       step = unwrap_or (told row).last.step nanosecond;
     })

@@ -2,11 +2,11 @@
 use Rattle.std.specs.Prelude.{ℕ, zero, suc, ◌+◌, ◌-◌, List, [], ◌∷◌, ◌++◌, length, unwrap_or}
 use Rattle.v_lex.specs.declared.directive.BrokenRule.{BrokenRule}
 use Rattle.v_lex.specs.Pieces.{piece_at}
-use Rattle.v_lex.specs.Lexing.{State, Scan, Lexed, is_taken, with_content, after_content, left_open, start, nanosecond}
+use Rattle.v_lex.specs.Lexing.{State, Scan, Lexed, is_taken, with_content, after_content, left_open, start, nanosecond, at_modules}
 
 -- A text from a place on, whose first bytes may still belong to the piece before it.
 unfoldable pub scan_from : State → ℕ → ℕ → List ℕ → Scan
-scan_from s place inside [] = record { tokens = []; places = []; faults = left_open s.conditionals; last = s }
+scan_from s place inside [] = record { tokens = []; places = []; units = []; faults = left_open s.conditionals; last = s }
 scan_from s place (suc inside) (b ∷ bs) = scan_from s (place + 1) inside bs
 scan_from s place zero (b ∷ bs) =
     let p = piece_at (is_taken s.conditionals) (b ∷ bs) in
@@ -24,6 +24,7 @@ lexed text =
     record {
       tokens = (scan_of text).tokens;
       places = (scan_of text).places ++ length text ∷ [];
+      units = at_modules (scan_of text).tokens (scan_of text).units;
       unit = (scan_of text).last.unit;
       step = unwrap_or (scan_of text).last.step nanosecond;
     }

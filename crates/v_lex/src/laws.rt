@@ -2,9 +2,13 @@
 
 ghost use Rattle.std.specs.Prelude.{◌≡◌, ◌↔◌, List, ℕ, true, false, not, ◌&&◌, ◌++◌, ◌∷◌, []};
 ghost use Rattle.std.specs.List.{list_all};
+ghost use Rattle.v_syntax.specs.declared.token.Token.TheVariants as token;
+ghost use Rattle.v_syntax.specs.declared.word.Keyword.TheVariants as word;
+ghost use Rattle.v_lex.specs.declared.directive.Content.TheVariants as content;
 ghost use Rattle.v_lex.specs.Lexing.{State, start, is_taken};
 ghost use Rattle.v_lex.specs.Row.{Part, IsRowOf, Stands, spelled, told};
 ghost use Rattle.v_lex.specs.Defines.{IsDefined};
+ghost use Rattle.v_lex.specs.Units.{IsUnit, units_of};
 ghost use Rattle.v_lex.specs.Conditionals.{state_after, place_behind, Opening, role_of, is_unbroken, holds, MayBeSkipped};
 ghost use Rattle.v_lex.specs.Conditionals.{IsGroup, IsClosed, Branch, written, IsConditional, is_branch_taken, takes_one};
 
@@ -47,4 +51,13 @@ pub fn conditionals()
     ensures balanced { (row : List Part)
         → ((told row).faults ≡ []) ↔ ((list_all (λ p. is_unbroken p.content) row ≡ true) × IsGroup row) }
     ensures grouped { (parts : List Part) → IsGroup parts → IsClosed false parts }
+{}
+
+/// The unit of time (IEEE 1364-2005, clauses 19.6 and 19.8). Behind parts of a text, from its start on, it is that of the last
+/// `timescale`, and 1 ns where there is none or a `resetall` stands behind it (`unit`). Of the units that are told for the tokens
+/// `module` one after the other, each is the one behind the parts before its token (`each`).
+pub fn units()
+    ensures unit { (parts : List Part) (unit : ℕ) → ((state_after start 0 parts).unit ≡ unit) ↔ IsUnit unit parts }
+    ensures each { (before : List Part) (part : Part) (rest : List Part) → part.content ≡ content.Token (token.Keyword word.Module)
+        → (later : List ℕ) × (units_of (before ++ part ∷ rest) ≡ units_of before ++ (state_after start 0 before).unit ∷ later) }
 {}

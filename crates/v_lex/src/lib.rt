@@ -23,6 +23,6 @@ mod tokens;
 mod words;
 
 pub use fault::LexFault;
-pub use laws::{conditionals, one_row};
+pub use laws::{conditionals, one_row, units};
 pub use scanner::lex;
 pub use tokens::Tokens;

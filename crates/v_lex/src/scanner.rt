@@ -1,8 +1,9 @@
 //! The whole text, piece by piece.
 
-ghost use Rattle.std.specs.Prelude.{◌≡◌, ◌≤◌, ◌<◌, ◌+◌, ◌^◌, List, [], length, Option, None, IfOk, IfErr, OnOk};
+ghost use Rattle.std.specs.Prelude.{◌≡◌, ◌≤◌, ◌<◌, ◌+◌, ◌^◌, ◌++◌, ℕ, List, [], length, Option, None, IfOk, IfErr, OnOk};
 ghost use Rattle.port_io.specs.Limits.{most_bytes};
 ghost use Rattle.v_lex.specs.Lexing.{Scan, State, earlier, earliest, left_open, with_content, with_token, with_fault, after_content};
+ghost use Rattle.v_lex.specs.Lexing.{is_module, with_unit};
 ghost use Rattle.v_lex.specs.Row.{Reads};
 ghost use Rattle.v_lex.specs.Scan.{scan_of};
 ghost use Rattle.v_lex.specs.Faults.{IsFault};
@@ -15,14 +16,33 @@ use crate::state::{NANOSECOND, State};
 use crate::{LexFault, Tokens};
 use port_io::NoMemory;
 use std::alloc::Global;
-use v_syntax::Token;
+use v_syntax::{Keyword, Token};
 
 /// What was found before a place.
 #[derive(Drop)]
 struct Found {
     tokens: Vec<Token>,
     places: Vec<u32>,
+    /// The unit of time at each `module`, in femtoseconds.
+    units: Vec<u64>,
     first: Option<BrokenRule>,
+}
+
+/// Whether the token is the keyword `module`.
+fn is_module(token: &Token) -> bool
+    ensures { result ≡ is_module token.now }
+{
+    matches!(token, Token::Keyword(Keyword::Module))
+}
+
+/// Adds the unit that holds at a token, where the token is `module`.
+fn add_unit(units: &mut Vec<u64>, token: &Token, unit: u64) -> Result<(), NoMemory>
+    ensures { OnOk result ((more : List ℕ) → units.new.items ++ more ≡ units.old.items ++ with_unit token.now unit more) }
+{
+    if is_module(token) {
+        units.push(unit)?;
+    }
+    Ok(())
 }
 
 /// Of two broken rules the one at the lesser place; at one place the first.
@@ -58,6 +78,7 @@ impl Found {
         Found {
             tokens: Vec::new(alloc),
             places: Vec::new(alloc),
+            units: Vec::new(alloc),
             first: None,
         }
     }
@@ -68,10 +89,11 @@ impl Found {
         self.first = earlier(self.first, Some(BrokenRule { rule, place }));
     }
 
-    fn token(&mut self, token: Token, place: u32) -> Result<(), NoMemory>
+    fn token(&mut self, unit: u64, token: Token, place: u32) -> Result<(), NoMemory>
         ensures { OnOk result ((scan : Scan)
-            → found_with (of_found self.new) scan ≡ found_with (of_found self.old) (with_token place token scan)) }
+            → found_with (of_found self.new) scan ≡ found_with (of_found self.old) (with_token unit place token scan)) }
     {
+        add_unit(&mut self.units, &token, unit)?;
         self.tokens.push(token)?;
         self.places.push(place)?;
         Ok(())
@@ -93,7 +115,7 @@ impl Found {
     {
         match content {
             Content::Gap => Ok(()),
-            Content::Token(token) => self.token(token, place),
+            Content::Token(token) => self.token(state.unit, token, place),
             Content::Broken(rule) => {
                 self.broken(rule, place);
                 Ok(())
@@ -143,9 +165,10 @@ pub fn lex(alloc: Global, text: &[u8]) -> Result<Tokens, LexFault>
     let Found {
         tokens,
         mut places,
+        units,
         ..
     } = found;
     places.push(text.len() as u32)?;
     let step = state.step.unwrap_or(NANOSECOND);
-    Ok(Tokens::new(tokens, places, state.unit, step))
+    Ok(Tokens::new(tokens, places, units, state.unit, step))
 }

@@ -2,16 +2,18 @@
 
 ghost use Rattle.std.specs.Prelude.{◌≡◌, ◌≤◌, ◌<◌, ◌+◌, ◌↔◌, length, slice_index, slice_index_or, IsTrue};
 ghost use Rattle.port_io.specs.Limits.{most_bytes};
+ghost use Rattle.v_lex.specs.Lexing.{module_count};
 
 use std::marker::Model;
 use v_syntax::Token;
 
-/// The tokens of a text with their byte places, and what its directives set: the unit of time at its end, and the
-/// least precision. A text has at most 1,048,576 bytes, and so at most as many tokens.
+/// The tokens of a text with their byte places, and what its directives set: the unit of time at each `module` and at the end
+/// of the text, and the least precision. A text has at most 1,048,576 bytes, and so at most as many tokens.
 #[derive(Drop)]
 pub struct Tokens {
     tokens: Vec<Token>,
     places: Vec<u32>,
+    units: Vec<u64>,
     unit: u64,
     step: u64,
 }
@@ -19,25 +21,35 @@ pub struct Tokens {
 impl Model for Tokens {
     ghost use Rattle.std.specs.Prelude.{◌≡◌, ◌≤◌, ◌+◌, length};
     ghost use Rattle.port_io.specs.Limits.{most_bytes};
-    ghost use Rattle.v_lex.specs.Lexing.{Lexed};
+    ghost use Rattle.v_lex.specs.Lexing.{Lexed, module_count};
 
     ghost Value = { Lexed };
 
-    ghost view = { λ t. record { tokens = t.tokens.items; places = t.places.items; unit = t.unit; step = t.step } };
+    ghost view = { λ t. record { tokens = t.tokens.items; places = t.places.items; units = t.units.items; unit = t.unit; step = t.step } };
 
-    ghost invariant = { λ t. (length t.places.items ≡ length t.tokens.items + 1) × (length t.tokens.items ≤ most_bytes) };
+    ghost invariant = { λ t. (length t.places.items ≡ length t.tokens.items + 1) × (length t.units.items ≡ module_count t.tokens.items)
+        × (length t.tokens.items ≤ most_bytes) };
 }
 
 impl Tokens {
-    /// The tokens, their places and behind them the end of the text, the unit, and the least precision.
-    pub(crate) fn new(tokens: Vec<Token>, places: Vec<u32>, unit: u64, step: u64) -> Tokens
+    /// The tokens, their places and behind them the end of the text, the unit at each `module`, the unit at the end, and the least
+    /// precision.
+    pub(crate) fn new(
+        tokens: Vec<Token>,
+        places: Vec<u32>,
+        units: Vec<u64>,
+        unit: u64,
+        step: u64,
+    ) -> Tokens
         requires paired { length places.items ≡ length tokens.items + 1 }
+        requires one_each { length units.items ≡ module_count tokens.items }
         requires few { length tokens.items ≤ most_bytes }
-        ensures { result ≡ record { tokens = tokens.items; places = places.items; unit = unit; step = step } }
+        ensures { result ≡ record { tokens = tokens.items; places = places.items; units = units.items; unit = unit; step = step } }
     {
         Tokens {
             tokens,
             places,
+            units,
             unit,
             step,
         }
@@ -88,6 +100,15 @@ impl Tokens {
         ensures few { length self.now.tokens ≤ most_bytes }
     {
         &self.tokens
+    }
+
+    /// For each token `module`, in order, the unit of time that holds there, in femtoseconds (IEEE 1364-2005, clause 19.8): that of
+    /// the last `timescale` directive before it, and 1 ns where there is none or a `resetall` stands after it.
+    pub fn units(&self) -> &[u64]
+        ensures all { result.now ≡ self.now.units }
+        ensures one_each { length self.now.units ≡ module_count self.now.tokens }
+    {
+        &self.units
     }
 
     /// The unit of time that holds at the end of the text, in femtoseconds (IEEE 1364-2005, clause 19.8).

@@ -4,4 +4,5 @@ pub mod ModuleLaws
 pub mod Lowest
 pub mod SourceLaws
 pub mod Source
+pub mod ModuleCounts
 pub mod ParseLaws

@@ -1,5 +1,6 @@
 -- What a caller of the parser sees.
-use Rattle.std.proofs.Common.{◌≡◌, List, map, Result, Ok, Err, refl, sym, ap, subst, ◌∙◌}
+use Rattle.std.proofs.lemmas.List.{length-map}
+use Rattle.std.proofs.Common.{◌≡◌, List, length, map, Result, Ok, Err, refl, sym, ap, subst, ◌∙◌}
 use Rattle.std.specs.Prelude.{IfOk, IfErr}
 use Rattle.v_syntax.specs.declared.token.Token.{Token}
 use Rattle.v_syntax.specs.declared.source.Module.{Module}
@@ -12,6 +13,7 @@ use Rattle.v_parse.specs.declared.fault.ParseFault.{ParseFault}
 use Rattle.v_parse.specs.declared.fault.ParseFault.TheVariants as faults
 use Rattle.v_parse.specs.Reading.{source_of}
 use Rattle.v_parse.specs.Answers.{IsFault, IsPlaced, IsRead, MakesSource, Tells}
+use Rattle.v_parse.proofs.ModuleCounts.{modules_counted}
 use Rattle.v_parse.proofs.Source.{source_sound, source_again, source_syntax, source_deep}
 
 abbrev Read : Type 0
@@ -66,6 +68,12 @@ made_tells text ms read (Ok s) h made = h ∙ ap (λ (xs : List Module). (let x 
 made_tells text ms read (Err faults.OutOfMemory) h made = tt
 made_tells text ms read (Err (faults.Syntax p)) h made = absurd (cc)
 made_tells text ms read (Err (faults.TooDeep p)) h made = absurd (cc)
+
+-- each module has a unit
+pub made_counts : (ms : List Module) (read : Lexed) (r : Result Source ParseFault) → MakesSource ms read r → IfOk r (λ s. IsSource height_limit read.tokens (view s))
+    → IfOk r (λ s. length s.units.items ≡ length s.modules.items)
+made_counts ms read (Ok s) made found = made.one_each ∙ sym (modules_counted height_limit read.tokens (view s) found) ∙ length-map s.modules.items view_module
+made_counts ms read (Err f) made found = tt
 
 pub placed_source : (ms : List Module) (read : Lexed) (r : Result Source ParseFault) → MakesSource ms read r → IfOk r (IsPlaced read)
 placed_source ms read (Ok s) made = made.is_placed

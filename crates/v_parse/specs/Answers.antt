@@ -5,7 +5,7 @@ use Rattle.v_syntax.specs.declared.source.Module.{Module}
 use Rattle.v_syntax.specs.declared.source.Source.{Source}
 use Rattle.v_syntax.specs.SourceTrees.{ModuleTree}
 use Rattle.v_syntax.specs.Refusal.{IsSyntaxAt, IsTooDeepAt}
-use Rattle.v_lex.specs.Lexing.{Lexed}
+use Rattle.v_lex.specs.Lexing.{Lexed, module_count}
 use Rattle.v_expression.specs.Phrase.Stops.{Stop, Syntax, TooDeep}
 use Rattle.v_parse.specs.declared.fault.ParseFault.{ParseFault}
 use Rattle.v_parse.specs.declared.fault.ParseFault.TheVariants as faults
@@ -21,16 +21,19 @@ abbrev pub IsRead : {X : Type 0} → (X → Type 0) → Result X ParseFault → 
 IsRead is (Ok x) = is x
 IsRead is (Err e) = e ≡ faults.OutOfMemory
 
--- the source has the places of the text's tokens, and its step
+-- the source has the places of the text's tokens, the unit of time at each `module`, and the text's step
 pub record IsPlaced (text : Lexed) (s : Source) : Type 0 where
   pub places : s.places.items ≡ text.places
+  pub units : s.units.items ≡ text.units
   pub step : s.step ≡ text.step
 
 -- ---- what is made of modules that were read
 
--- A means of proof: the source has these modules, and the places and the step of the text.
+-- A means of proof: the source has these modules, and the places, the units and the step of the text, which has a unit for each token
+-- `module`.
 pub record Makes (modules : List Module) (text : Lexed) (s : Source) : Type 0 where
   pub modules_are : s.modules.items ≡ modules
+  pub one_each : length s.units.items ≡ module_count text.tokens
   pub is_placed : IsPlaced text s
 
 abbrev pub MakesSource : List Module → Lexed → Result Source ParseFault → Type 0

@@ -5,14 +5,14 @@ ghost use Rattle.v_syntax.specs.declared.token.Token.{Token};
 ghost use Rattle.v_syntax.specs.SourceTrees.{ModuleTree, view, view_module};
 ghost use Rattle.v_syntax.specs.Refusal.{IsSource, height_limit};
 ghost use Rattle.v_lex.specs.Row.{Reads};
-ghost use Rattle.v_lex.specs.Lexing.{Lexed};
+ghost use Rattle.v_lex.specs.Lexing.{Lexed, module_count};
 ghost use Rattle.v_expression.specs.Phrase.Stops.{Gives};
 ghost use Rattle.v_parse.specs.Reading.{source_of};
 ghost use Rattle.v_parse.specs.Answers.{IsFault, IsPlaced, IsRead, MakesSource, Tells};
 
 use crate::ParseFault;
 use crate::modules::modules;
-use std::alloc::Global;
+use std::alloc::{AllocError, Global};
 use v_expression::phrase::{ReadError, next, syntax_error};
 use v_lex::Tokens;
 use v_syntax::{Module, Source, Token};
@@ -53,14 +53,26 @@ fn read(alloc: Global, text: &[Token]) -> Result<Vec<Module>, ParseFault>
     }
 }
 
-/// These modules, with the places of the tokens and the step of the text. Only want of memory is an error.
+/// The places of the tokens, and the unit of time at each module. Only want of memory is an error.
+fn places_and_units(alloc: Global, tokens: &Tokens) -> Result<(Vec<u32>, Vec<u64>), AllocError>
+    ensures places { IfOk result (λ x. x.0.items ≡ tokens.now.places) }
+    ensures units { IfOk result (λ x. x.1.items ≡ tokens.now.units) }
+    ensures one_each { IfOk result (λ x. length x.1.items ≡ module_count tokens.now.tokens) }
+{
+    let places = tokens.places().to_vec(alloc)?;
+    let units = tokens.units().to_vec(alloc)?;
+    Ok((places, units))
+}
+
+/// These modules, with the places of the tokens, the units and the step of the text. Only want of memory is an error.
 fn placed(alloc: Global, modules: Vec<Module>, tokens: &Tokens) -> Result<Source, ParseFault>
     ensures { MakesSource modules.items tokens.now result }
 {
-    match tokens.places().to_vec(alloc) {
-        Ok(places) => Ok(Source {
+    match places_and_units(alloc, tokens) {
+        Ok((places, units)) => Ok(Source {
             modules,
             places,
+            units,
             step: tokens.step(),
         }),
         Err(_) => Err(ParseFault::OutOfMemory),
@@ -75,8 +87,10 @@ pub fn parse(alloc: Global, tokens: &Tokens) -> Result<Source, ParseFault>
     ensures only { (ms : List ModuleTree) → IsSource height_limit tokens.now.tokens ms → IsRead (λ s. view s ≡ ms) result }
     // A fault is at the first token that no partial tree within the height spells.
     ensures refused { IfErr result (λ f. IsFault tokens.now.tokens f) }
-    // The places of the tokens and the step are those of the text.
+    // The places of the tokens, the unit of time at each `module` and the step are those of the text.
     ensures placed { IfOk result (IsPlaced tokens.now) }
+    // Each module has one unit.
+    ensures one_each { IfOk result (λ s. length s.units.items ≡ length s.modules.items) }
 {
     match read(alloc, tokens.as_slice()) {
         Ok(modules) => placed(alloc, modules, tokens),

@@ -47,7 +47,7 @@ module _ (end : ℕ) where
 
   assignment_opens : (p : StatementPlace) (here : List Token) → of_target (kind_at here) ≡ true → Opening end p form.Assignment here
   assignment_opens p [] h = absurd (let e : false ≡ true = h in cc)
-  assignment_opens p (t ∷ us) h = (us, inl (inl (inl (inr (assignment_tree, t ∷ us, (refl, refl), target_front end t us h), tt), omega arith), tt), less t (t ∷ us) us refl)
+  assignment_opens p (t ∷ us) h = (us, inl (inl (inl (inr (assignment_tree, t ∷ us, (refl, refl), target_front end t us h), (false, (tt, tt))), omega arith), tt), less t (t ∷ us) us refl)
 
   if_opens : (p : StatementPlace) (here : List Token) → a_word word.If (kind_at here) ≡ true → Opening end p form.If here
   if_opens p here h = let (us, e) = word_here word.If here h in (us, inl (inl (inl (inl (inr e, tt), omega arith), tt), able end 1 (inside p)), less _ here us e)

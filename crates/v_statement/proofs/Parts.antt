@@ -3,19 +3,20 @@ use Rattle.std.proofs.Common.{◌≡◌, ℕ, zero, suc, Bool, true, false, ◌|
 use Rattle.v_syntax.specs.declared.token.Token.{Token}
 use Rattle.v_syntax.specs.declared.token.Token.TheVariants as token
 use Rattle.v_syntax.specs.declared.mark.Mark.TheVariants as mark
+use Rattle.v_syntax.specs.declared.statement.AssignmentKind.TheVariants.{Blocking}
 use Rattle.v_syntax.specs.StatementTrees.{Value, Text, VariableTree, Variable, Delay}
-use Rattle.v_syntax.specs.TokenMeanings.{assignment_kind}
 use Rattle.v_expression.specs.Starts.{mark_begins_expression}
-use Rattle.v_syntax.specs.Statements.{listed, assignment_tree, task_tree, label, delay, delay_below, assignment, argument, arguments, task_enable, variable_assignment, expression}
+use Rattle.v_syntax.specs.Statements.{sign, listed, delay_value, later_kind, delay_control, assignment_kind, assignment_tree, task_tree, label, delay, delay_below, assignment, argument, arguments, task_enable, variable_assignment, expression}
 use Rattle.v_expression.specs.Starts.{starts_expression}
 use Rattle.v_expression.specs.Reading.{expression_of, target_of}
 use Rattle.v_expression.specs.Phrase.Readers.{Reader, down, starts_mark, identifier_of}
+use Rattle.v_syntax.specs.Phrases as phrase
 use Rattle.v_expression.specs.Phrase.Readers as read
-use Rattle.v_expression.specs.Phrase.Kinds.{Kinds, kind_at, any_kind, a_mark, a_name, a_text, a_task, either_of, Tells}
+use Rattle.v_expression.specs.Phrase.Kinds.{Kinds, kind_at, any_kind, a_mark, a_name, a_text, a_task, either_of, without, Tells}
 use Rattle.v_expression.proofs.PhraseLemmas.KindLaws.{tells_mark}
 use Rattle.v_expression.proofs.PhraseLemmas.Laws.{Goes, Laws, Ready}
 use Rattle.v_expression.proofs.PhraseLemmas.Tokens.{nothing_laws, place_in_laws, mark_laws, mark_here}
-use Rattle.v_expression.proofs.PhraseLemmas.Meanings.{identifier_laws, name_laws, number_laws, text_laws, task_laws, assignment_kind_laws}
+use Rattle.v_expression.proofs.PhraseLemmas.Meanings.{identifier_laws, name_laws, number_laws, text_laws, task_laws}
 use Rattle.v_expression.proofs.PhraseLemmas.Both.{apply_laws, keep_laws, skip_laws}
 use Rattle.v_expression.proofs.PhraseLemmas.Ready.{ready_behind}
 use Rattle.v_expression.proofs.PhraseLemmas.Maybe.{maybe_laws}
@@ -26,7 +27,7 @@ use Rattle.v_expression.proofs.PhraseLemmas.Never.{never_deep}
 use Rattle.v_expression.proofs.PhraseLemmas.Levels.{down_laws, down_ready}
 use Rattle.v_expression.proofs.Phrases.{of_expression, ends_expression, of_target, tells_expression, expression_phrase_laws, expression_ready, target_phrase_laws}
 use Rattle.v_statement.specs.Firsts.{starts_argument}
-use Rattle.v_statement.specs.Reading.{label_of, delay_of, delay_below_of, assignment_of, value_below, argument_of, arguments_of, task_of_room}
+use Rattle.v_statement.specs.Reading.{label_of, delay_of, delay_below_of, delay_control_of, later_kind_of, assignment_kind_of, assignment_of, value_below, argument_of, arguments_of, task_of_room}
 
 pub label_laws : (n : ℕ) → Laws n (λ m. label) (a_mark mark.Colon) false any_kind (λ m. label_of)
 unfolding label_of
@@ -62,13 +63,31 @@ or_false true = refl
 or_false false = refl
 
 module _ (end n : ℕ) where
-  assigned_laws : Laws n (λ m. assignment end m) of_target false any_kind (λ m ts. read.both (λ x y. x) (read.both (λ f x. f x) (read.both (λ f x. f x) (read.both (λ f x. f x) (read.nothing assignment_tree) (down m (target_of end))) (read.token_of assignment_kind)) (down m (expression_of end))) (read.sign mark.Semicolon) ts)
+  delay_control_laws : Laws n (λ m. delay_control end) (a_mark mark.Hash) false any_kind (λ m. delay_control_of end)
+  unfolding delay_control_of
+  delay_control_laws = apply_laws n (apply_laws n (keep_laws n (nothing_laws delay_value n) (mark_laws mark.Hash n) refl) (place_in_laws end n) refl) (number_laws n) refl
+
+  later_kind_laws : Laws n (λ m. phrase.both (λ f x. f x) (phrase.both (λ x y. x) (phrase.nothing later_kind) (sign mark.LessOrEqual)) (phrase.maybe (delay_control end))) (a_mark mark.LessOrEqual) false (without any_kind (a_mark mark.Hash))
+      (λ m. later_kind_of end)
+  unfolding later_kind_of
+  later_kind_laws =
+      apply_laws n (keep_laws n (nothing_laws later_kind n) (mark_laws mark.LessOrEqual n) refl) (maybe_laws n (starts_mark mark.Hash) (tells_mark mark.Hash) delay_control_laws (record { ready = inl (((tt, tt), tt), tt) })) refl
+
+  abbrev of_assignment_kind : Kinds
+  of_assignment_kind = either_of (a_mark mark.Assign) (a_mark mark.LessOrEqual)
+
+  assignment_kind_laws : Laws n (λ m. assignment_kind end) of_assignment_kind false (without any_kind (a_mark mark.Hash)) (λ m. assignment_kind_of end)
+  unfolding assignment_kind_of
+  assignment_kind_laws = either_first n (narrow (keep_laws n (nothing_laws Blocking n) (mark_laws mark.Assign n) refl) (without any_kind (a_mark mark.Hash)) refl) later_kind_laws
+      (starts_mark mark.Assign) (tells_mark mark.Assign) refl (record { ready = inl (tt, tt) }) (λ k. ((tt, tt), tt))
+
+  assigned_laws : Laws n (λ m. assignment end m) of_target false any_kind (λ m ts. read.both (λ x y. x) (read.both (λ f x. f x) (read.both (λ f x. f x) (read.both (λ f x. f x) (read.nothing assignment_tree) (down m (target_of end))) (assignment_kind_of end)) (down m (expression_of end))) (read.sign mark.Semicolon) ts)
   assigned_laws =
-      keep_laws n (apply_laws n (apply_laws n (apply_laws n (nothing_laws assignment_tree n) (target_phrase_laws end n) refl) (assignment_kind_laws n) refl) (expression_phrase_laws end n) refl) (mark_laws mark.Semicolon n) refl
+      keep_laws n (apply_laws n (apply_laws n (apply_laws n (nothing_laws assignment_tree n) (target_phrase_laws end n) refl) assignment_kind_laws refl) (expression_phrase_laws end n) refl) (mark_laws mark.Semicolon n) refl
 
   pub assignment_laws : Laws n (λ m. assignment end m) of_target false any_kind (λ m. assignment_of end m)
   unfolding assignment_of
-  assignment_laws = down_laws n (λ m. assignment end m) of_target any_kind _ (λ m. assignment_of end m) (λ here. refl) (λ room here. refl) (λ k. omega (arith, k.0.1)) (λ m. ((((tt, omega arith), tt), omega arith), tt)) assigned_laws.spells (λ k. assigned_laws)
+  assignment_laws = down_laws n (λ m. assignment end m) of_target any_kind _ (λ m. assignment_of end m) (λ here. refl) (λ room here. refl) (λ k. omega (arith, k.0.1)) (λ m. ((((tt, omega arith), (false, (tt, tt))), omega arith), tt)) assigned_laws.spells (λ k. assigned_laws)
 
   -- ---- system tasks
 

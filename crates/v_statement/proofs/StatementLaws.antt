@@ -107,7 +107,7 @@ module _ (end : ℕ) where
     unfolding assignment_of condition_of conditional_of case_head_of case_of for_head_of for_of
     form_ready form.Null = record { ready = inl (tt, tt) }
     form_ready form.Block = record { ready = inl (block_missing end p n (St (inside p) n)) }
-    form_ready form.Assignment = down_ready n (λ m. ended (F form.Assignment m)) (of_form p form.Assignment) (R form.Assignment) (λ here. refl) (λ m. ((((tt, omega arith), tt), omega arith), tt)) (goes form.Assignment)
+    form_ready form.Assignment = down_ready n (λ m. ended (F form.Assignment m)) (of_form p form.Assignment) (R form.Assignment) (λ here. refl) (λ m. ((((tt, omega arith), (false, (tt, tt))), omega arith), tt)) (goes form.Assignment)
     form_ready form.If = down_ready n (λ m. ended (F form.If m)) (of_form p form.If) (R form.If) (λ here. refl) (λ m. ((((tt, tt), omega arith), tt), able (inside p) m)) (goes form.If)
     form_ready form.Case = down_ready n (λ m. ended (F form.Case m)) (of_form p form.Case) (R form.Case) (λ here. refl)
         (λ m. ((((((((tt, tt), tt), omega arith), tt)), ((false, (((tt, (omega arith, tt)), tt), able (inside p) m)), tt))), tt)) (goes form.Case)

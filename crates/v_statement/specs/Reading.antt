@@ -1,9 +1,12 @@
 -- A means of proof: what the code reads, step by step. `end` is the number of the text's tokens; `room` bounds the heights of
 -- a statement's parts, as the rules' n does, and s reads a statement one level down.
 use Rattle.std.specs.Prelude.{ℕ, zero, suc, List, Option, Some, None, Result, Ok}
+use Rattle.four_value.specs.declared.Digit.{Digit}
 use Rattle.v_syntax.specs.declared.token.Token.{Token}
 use Rattle.v_syntax.specs.declared.mark.Mark.TheVariants as mark
 use Rattle.v_syntax.specs.declared.word.Keyword.TheVariants as word
+use Rattle.v_syntax.specs.declared.statement.AssignmentKind.{AssignmentKind}
+use Rattle.v_syntax.specs.declared.statement.AssignmentKind.TheVariants.{Blocking}
 use Rattle.v_syntax.specs.declared.statement.CaseKind.{CaseKind}
 use Rattle.v_syntax.specs.declared.statement.StatementForm.{StatementForm}
 use Rattle.v_syntax.specs.declared.statement.StatementForm.TheVariants as form
@@ -11,8 +14,8 @@ use Rattle.v_syntax.specs.declared.statement.StatementPlace.{StatementPlace}
 use Rattle.v_syntax.specs.declared.statement.StatementPlace.TheVariants.{InAlways, InInitial, WholeInitial}
 use Rattle.v_syntax.specs.ExpressionTrees.{Tree}
 use Rattle.v_syntax.specs.StatementTrees.{ArgumentTree, Value, Text, VariableTree, Variable, HeaderTree, Header, StatementTree, Null, Delay, CaseTree, Match, Default}
-use Rattle.v_syntax.specs.TokenMeanings.{name_of, number_of, text_of, task_of, assignment_kind, case_kind}
-use Rattle.v_syntax.specs.Statements.{inside, delayed_tree, assignment_tree, if_tree, case_tree, numbered, for_tree, task_tree}
+use Rattle.v_syntax.specs.TokenMeanings.{name_of, number_of, text_of, task_of, case_kind}
+use Rattle.v_syntax.specs.Statements.{inside, delayed_tree, delay_value, later_kind, assignment_tree, if_tree, case_tree, numbered, for_tree, task_tree}
 use Rattle.v_expression.specs.Phrase.Stops.{Stop, ◌>>=◌, deep_at}
 use Rattle.v_expression.specs.Reading.{expression_of, target_of}
 use Rattle.v_expression.specs.Starts.{starts_expression}
@@ -25,8 +28,20 @@ label_of = sign mark.Colon ▹ token_of name_of
 unfoldable pub delay_of : ℕ → Reader StatementTree
 delay_of end = nothing Delay ◃ sign mark.Hash ⊛ place_in end ⊛ token_of number_of ◃ sign mark.Semicolon
 
+-- ---- assignments
+
+unfoldable pub delay_control_of : ℕ → Reader (ℕ × List Digit)
+delay_control_of end = nothing delay_value ◃ sign mark.Hash ⊛ place_in end ⊛ token_of number_of
+
+-- <= [# number]
+unfoldable pub later_kind_of : ℕ → Reader AssignmentKind
+later_kind_of end = nothing later_kind ◃ sign mark.LessOrEqual ⊛ maybe (starts_mark mark.Hash) (delay_control_of end)
+
+unfoldable pub assignment_kind_of : ℕ → Reader AssignmentKind
+assignment_kind_of end = either (starts_mark mark.Assign) (nothing Blocking ◃ sign mark.Assign) (later_kind_of end)
+
 unfoldable pub assignment_of : ℕ → ℕ → Reader StatementTree
-assignment_of end room = down room (λ r. nothing assignment_tree ⊛ target_of end r ⊛ token_of assignment_kind ⊛ expression_of end r ◃ sign mark.Semicolon)
+assignment_of end room = down room (λ r. nothing assignment_tree ⊛ target_of end r ⊛ assignment_kind_of end ⊛ expression_of end r ◃ sign mark.Semicolon)
 
 -- how many levels are left below, where one is needed
 unfoldable pub levels : ℕ → List Token → Result ℕ Stop

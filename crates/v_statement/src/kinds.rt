@@ -6,18 +6,7 @@ ghost use Rattle.v_expression.specs.Phrase.Readers.{token_of};
 ghost use Rattle.v_expression.specs.Phrase.Stops.{Gives};
 
 use v_expression::phrase::{ReadError, next, syntax_error};
-use v_syntax::{AssignmentKind, CaseKind, Keyword, Mark, Token};
-
-/// `=` or `<=`
-pub fn assignment_kind(tokens: &[Token]) -> Result<(AssignmentKind, &[Token]), ReadError>
-    ensures { Gives (λ x. (x.0, x.1.now)) result (token_of meanings.assignment_kind tokens.now) }
-{
-    match next(tokens) {
-        Some((Token::Mark(Mark::Assign), rest)) => Ok((AssignmentKind::Blocking, rest)),
-        Some((Token::Mark(Mark::LessOrEqual), rest)) => Ok((AssignmentKind::Nonblocking, rest)),
-        _ => Err(syntax_error(tokens)),
-    }
-}
+use v_syntax::{CaseKind, Keyword, Token};
 
 /// `case`, `casez` or `casex`
 pub fn case_kind(tokens: &[Token]) -> Result<(CaseKind, &[Token]), ReadError>

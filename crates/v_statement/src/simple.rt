@@ -4,14 +4,14 @@ ghost use Rattle.std.specs.Prelude.{◌≡◌, ◌<◌};
 ghost use Rattle.v_syntax.specs.StatementTrees.{view, view_variable, view_header};
 ghost use Rattle.v_expression.specs.Phrase.Stops.{Gives};
 ghost use Rattle.v_statement.specs.Reading.{delay_of, assignment_of, variable_of, header_of, null_of};
+ghost use Rattle.v_statement.specs.Reading.{later_kind_of, assignment_kind_of};
 
-use crate::kinds::assignment_kind;
 use crate::levels::below;
 use port_io::boxed;
 use std::alloc::Global;
-use v_expression::phrase::{ReadError, after, identifier, next, place, syntax_error};
+use v_expression::phrase::{ReadError, after, identifier, next, place, starts_mark, syntax_error};
 use v_expression::{expression, target};
-use v_syntax::{ForHeader, Mark, Statement, Token, VariableAssignment};
+use v_syntax::{AssignmentKind, ForHeader, Mark, Statement, Token, VariableAssignment};
 
 /// `;`
 #[tactic(auto, unfolding(crate::specs::Reading::null_of))]
@@ -43,7 +43,45 @@ pub fn delay(
     Ok((boxed(alloc, Statement::Delay { at, delay: *delay })?, rest))
 }
 
-/// `target = expression ;` or `target <= expression ;` (clause 9.2)
+/// `<= [# number]`, where the number is a delay (annex A.6.5).
+#[tactic(auto, unfolding(crate::specs::Reading::later_kind_of, crate::specs::Reading::delay_control_of))]
+fn later_kind(
+    alloc: Global,
+    total: usize,
+    tokens: &[Token],
+) -> Result<(Box<AssignmentKind>, &[Token]), ReadError>
+    ensures { Gives (λ x. (x.0.value, x.1.now)) result (later_kind_of total tokens.now) }
+{
+    let rest = after(Mark::LessOrEqual, tokens)?;
+    if !starts_mark(Mark::Hash, rest) {
+        return Ok((boxed(alloc, AssignmentKind::Nonblocking)?, rest));
+    }
+    let here = after(Mark::Hash, rest)?;
+    let Some((Token::Number(delay), rest)) = next(here) else {
+        return Err(syntax_error(here));
+    };
+    let at = place(total, here);
+    let kind = AssignmentKind::Delayed { at, delay: *delay };
+    Ok((boxed(alloc, kind)?, rest))
+}
+
+/// `=`, or `<= [# number]`
+#[tactic(auto, unfolding(crate::specs::Reading::assignment_kind_of))]
+fn assignment_kind(
+    alloc: Global,
+    total: usize,
+    tokens: &[Token],
+) -> Result<(Box<AssignmentKind>, &[Token]), ReadError>
+    ensures { Gives (λ x. (x.0.value, x.1.now)) result (assignment_kind_of total tokens.now) }
+{
+    if starts_mark(Mark::Assign, tokens) {
+        let rest = after(Mark::Assign, tokens)?;
+        return Ok((boxed(alloc, AssignmentKind::Blocking)?, rest));
+    }
+    later_kind(alloc, total, tokens)
+}
+
+/// `target = expression ;` or `target <= [# number] expression ;` (clause 9.2)
 #[tactic(auto, unfolding(crate::specs::Reading::assignment_of, crate::specs::Reading::levels))]
 pub fn assignment(
     alloc: Global,
@@ -56,11 +94,11 @@ pub fn assignment(
 {
     let room = below(room, tokens)?;
     let (target, rest) = target(alloc, total, room, tokens)?;
-    let (kind, rest) = assignment_kind(rest)?;
+    let (kind, rest) = assignment_kind(alloc, total, rest)?;
     let (value, rest) = expression(alloc, total, room, rest)?;
     let rest = after(Mark::Semicolon, rest)?;
     let made = Statement::Assignment {
-        kind,
+        kind: Box::into_inner(kind),
         target: Box::into_inner(target),
         value: Box::into_inner(value),
     };

@@ -1,6 +1,7 @@
 -- The grammar of statements (IEEE 1364-2005, annex A.6). Each phrase is one rule; `end` is the number of all tokens, and n
 -- bounds the height of what is spelled, of partial trees too.
 use Rattle.std.specs.Prelude.{ℕ, zero, suc, ◌≤◌, List, [], ◌∷◌, ◌++◌, Option, Some, None, ◌⊎◌}
+use Rattle.four_value.specs.declared.Digit.{Digit}
 use Rattle.v_syntax.specs.declared.token.Token.{Token}
 use Rattle.v_syntax.specs.declared.token.Token.TheVariants as token
 use Rattle.v_syntax.specs.declared.mark.Mark.{Mark}
@@ -10,6 +11,7 @@ use Rattle.v_syntax.specs.declared.word.Keyword.TheVariants as word
 use Rattle.v_syntax.specs.declared.word.SystemTask.{SystemTask}
 use Rattle.v_syntax.specs.declared.statement.Identifier.{Identifier}
 use Rattle.v_syntax.specs.declared.statement.AssignmentKind.{AssignmentKind}
+use Rattle.v_syntax.specs.declared.statement.AssignmentKind.TheVariants.{Blocking, Nonblocking, Delayed}
 use Rattle.v_syntax.specs.declared.statement.CaseKind.{CaseKind}
 use Rattle.v_syntax.specs.declared.statement.StatementForm.{StatementForm}
 use Rattle.v_syntax.specs.declared.statement.StatementForm.TheVariants as form
@@ -19,7 +21,7 @@ use Rattle.v_syntax.specs.ExpressionTrees.{Tree, TargetTree, height, target_heig
 use Rattle.v_syntax.specs.ExpressionSpans.{Spans, TargetSpans}
 use Rattle.v_syntax.specs.ExpressionFronts.{Begins, TargetBegins}
 use Rattle.v_syntax.specs.StatementTrees.{ArgumentTree, Value, Text, VariableTree, Variable, HeaderTree, Header, StatementTree, Null, Block, Assignment, If, IfElse, Case, For, TaskEnable, Delay, CaseTree, Match, Default, statement_trees, case_trees}
-use Rattle.v_syntax.specs.TokenMeanings.{name_of, number_of, text_of, task_of, assignment_kind, case_kind}
+use Rattle.v_syntax.specs.TokenMeanings.{name_of, number_of, text_of, task_of, case_kind}
 use Rattle.v_syntax.specs.Phrases.{Phrase, nothing, never, both, exactly, token_of, place_in, ◌⊛◌, ◌◃◌, ◌▹◌, maybe, many, some, separated, one_of, either}
 
 abbrev pub sign : Mark → Phrase Token (Unit {0})
@@ -111,12 +113,28 @@ delay_below end (suc n) = delay end
 abbrev pub delayed_block : ℕ → ℕ → Phrase Token StatementTree → Phrase Token StatementTree
 delayed_block end n s = nothing delayed_tree ◃ word_of word.Begin ⊛ maybe label ⊛ many s ⊛ maybe (delay_below end n) ◃ word_of word.End
 
+-- the number of the number's token, and its digits
+abbrev pub delay_value : ℕ → List Digit → ℕ × List Digit
+delay_value at ds = (at, ds)
+
+-- # number, in an assignment (annex A.6.5)
+abbrev pub delay_control : ℕ → Phrase Token (ℕ × List Digit)
+delay_control end = nothing delay_value ◃ sign mark.Hash ⊛ place_in end ⊛ token_of number_of
+
+abbrev pub later_kind : Option (ℕ × List Digit) → AssignmentKind
+later_kind None = Nonblocking
+later_kind (Some (at, ds)) = Delayed at ds
+
+-- = or <= [# number]
+abbrev pub assignment_kind : ℕ → Phrase Token AssignmentKind
+assignment_kind end = either (nothing Blocking ◃ sign mark.Assign) (nothing later_kind ◃ sign mark.LessOrEqual ⊛ maybe (delay_control end))
+
 abbrev pub assignment_tree : TargetTree → AssignmentKind → Tree → StatementTree
 assignment_tree t k e = Assignment k t e
 
--- target = expression ; or target <= expression ; (annex A.6.2)
+-- target = expression ; or target <= [# number] expression ; (annex A.6.2)
 abbrev pub assignment : ℕ → ℕ → Phrase Token StatementTree
-assignment end n = nothing assignment_tree ⊛ target end n ⊛ token_of assignment_kind ⊛ expression end n ◃ sign mark.Semicolon
+assignment end n = nothing assignment_tree ⊛ target end n ⊛ assignment_kind end ⊛ expression end n ◃ sign mark.Semicolon
 
 abbrev pub if_tree : Tree → StatementTree × Option StatementTree → StatementTree
 if_tree c (s, None) = If c s

@@ -6,8 +6,6 @@ use Rattle.v_syntax.specs.declared.token.Token.TheVariants as token
 use Rattle.v_syntax.specs.declared.mark.Mark.TheVariants as mark
 use Rattle.v_syntax.specs.declared.word.Keyword.TheVariants as word
 use Rattle.v_syntax.specs.declared.word.SystemTask.{SystemTask}
-use Rattle.v_syntax.specs.declared.statement.AssignmentKind.{AssignmentKind}
-use Rattle.v_syntax.specs.declared.statement.AssignmentKind.TheVariants as assignment
 use Rattle.v_syntax.specs.declared.statement.CaseKind.{CaseKind}
 use Rattle.v_syntax.specs.declared.statement.CaseKind.TheVariants as case
 use Rattle.v_syntax.specs.declared.item.Direction.{Direction}
@@ -34,12 +32,6 @@ text_of _ = None
 abbrev pub task_of : Token → Option SystemTask
 task_of (token.SystemTask task) = Some task
 task_of _ = None
-
--- `=` or `<=`
-abbrev pub assignment_kind : Token → Option AssignmentKind
-assignment_kind (token.Mark mark.Assign) = Some assignment.Blocking
-assignment_kind (token.Mark mark.LessOrEqual) = Some assignment.Nonblocking
-assignment_kind _ = None
 
 abbrev pub case_kind : Token → Option CaseKind
 case_kind (token.Keyword word.Case) = Some case.Case

@@ -49,6 +49,9 @@ pub struct Source {
     pub modules: Vec<Module>,
     /// The byte at which each token begins, and behind them the end of the text.
     pub places: Vec<u32>,
+    /// For each module, in order, the unit of time at its `module`, in femtoseconds: that of the last `timescale` directive before
+    /// it (clause 19.8), and 1 ns where there is none or a `resetall` stands after it (clause 19.6).
+    pub units: Vec<u64>,
     /// The least precision of all `timescale` directives, in femtoseconds (clause 19.8).
     pub step: u64,
 }

@@ -14,13 +14,16 @@ pub struct Identifier {
     pub name: Name,
 }
 
-/// Whether an assignment takes effect at once (IEEE 1364-2005, clause 9.2.1) or later (clause 9.2.2).
-#[derive(Clone, Copy, Debug, PartialEq, Eq)]
+/// Whether an assignment takes effect at once (IEEE 1364-2005, clause 9.2.1) or later (clause 9.2.2), and how much later.
+#[derive(Clone, Copy)]
 pub enum AssignmentKind {
     /// `=`
     Blocking,
-    /// `<=`
+    /// `<=`: in the same time step.
     Nonblocking,
+    /// `<= # delay`: so many units of time later (clauses 9.2.2 and 9.7.1, annex A.6.2). `at` is the number of the token of the
+    /// delay's number.
+    Delayed { at: TokenNumber, delay: Bits },
 }
 
 /// Which digits a case statement doesn't look at (IEEE 1364-2005, clause 9.5.1).
@@ -68,7 +71,7 @@ pub enum Statement {
         label: Option<Name>,
         statements: Vec<Statement>,
     },
-    /// `target = value ;` or `target <= value ;` (clause 9.2)
+    /// `target = value ;`, `target <= value ;` or `target <= # delay value ;` (clause 9.2)
     Assignment {
         kind: AssignmentKind,
         target: Target,

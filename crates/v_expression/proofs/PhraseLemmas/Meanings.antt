@@ -4,7 +4,7 @@ use Rattle.v_syntax.specs.declared.token.Token.{Token}
 use Rattle.v_syntax.specs.declared.token.Token.TheVariants as token
 use Rattle.v_syntax.specs.declared.mark.Mark.TheVariants as mark
 use Rattle.v_syntax.specs.declared.word.Keyword.TheVariants as word
-use Rattle.v_syntax.specs.TokenMeanings.{name_of, number_of, text_of, task_of, assignment_kind, case_kind, direction_of, port_kind, parameter_kind, edge_of, event_separator}
+use Rattle.v_syntax.specs.TokenMeanings.{name_of, number_of, text_of, task_of, case_kind, direction_of, port_kind, parameter_kind, edge_of, event_separator}
 use Rattle.v_syntax.specs.Phrases as phrase
 use Rattle.v_syntax.specs.Statements.{named_at, identifier}
 use Rattle.v_expression.specs.Phrase.Readers.{is_some, identifier_of}
@@ -13,11 +13,6 @@ use Rattle.v_expression.specs.Phrase.Kinds.{AtKeyword, AtMark, kind_of, Kinds, a
 use Rattle.v_expression.proofs.PhraseLemmas.Laws.{Laws}
 use Rattle.v_expression.proofs.PhraseLemmas.Tokens.{nothing_laws, place_in_laws, meant_laws}
 use Rattle.v_expression.proofs.PhraseLemmas.Both.{apply_laws}
-
-abbrev pub of_assignment_kind : Kinds
-of_assignment_kind (AtMark mark.Assign) = true
-of_assignment_kind (AtMark mark.LessOrEqual) = true
-of_assignment_kind _ = false
 
 abbrev pub of_case_kind : Kinds
 of_case_kind (AtKeyword word.Case) = true
@@ -66,11 +61,6 @@ pub task_tells : (t : Token) → is_some (task_of t) ≡ a_task (kind_of t)
 task_tells (token.SystemTask s) = refl
 task_tells _ = refl
 
-assignment_tells : (t : Token) → is_some (assignment_kind t) ≡ of_assignment_kind (kind_of t)
-assignment_tells (token.Mark mark.Assign) = refl
-assignment_tells (token.Mark _) = refl
-assignment_tells _ = refl
-
 pub case_tells : (t : Token) → is_some (case_kind t) ≡ of_case_kind (kind_of t)
 case_tells (token.Keyword word.Case) = refl
 case_tells (token.Keyword _) = refl
@@ -114,9 +104,6 @@ text_laws n = meant_laws text_of a_text text_tells n
 
 pub task_laws : (n : ℕ) → Laws n (λ m. phrase.token_of task_of) a_task false any_kind (λ m. read.token_of task_of)
 task_laws n = meant_laws task_of a_task task_tells n
-
-pub assignment_kind_laws : (n : ℕ) → Laws n (λ m. phrase.token_of assignment_kind) of_assignment_kind false any_kind (λ m. read.token_of assignment_kind)
-assignment_kind_laws n = meant_laws assignment_kind of_assignment_kind assignment_tells n
 
 pub case_kind_laws : (n : ℕ) → Laws n (λ m. phrase.token_of case_kind) of_case_kind false any_kind (λ m. read.token_of case_kind)
 case_kind_laws n = meant_laws case_kind of_case_kind case_tells n

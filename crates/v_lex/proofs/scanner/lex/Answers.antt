@@ -4,7 +4,7 @@ use Rattle.v_lex.specs.Lexing.{earlier, earliest, left_open}
 use Rattle.v_lex.specs.Scan.{faults_of}
 use Rattle.v_lex.specs.Found.{of_found}
 use Rattle.v_lex.specs.States.{state_of}
-use Rattle.v_lex.proofs.ScanLaws.{is_first, has_places, has_few, is_lexed, earliest_none}
+use Rattle.v_lex.proofs.ScanLaws.{is_first, has_places, has_units, has_few, is_lexed, earliest_none}
 use Rattle.v_lex.proofs.RowLaws.{fault_is, reads_is}
 use Rattle.v_lex.proofs.scanner.lex.Goals as goal
 
@@ -23,6 +23,10 @@ pub new-requires-clause-few : goal.new-requires-clause-few
 new-requires-clause-few c =
     let h = has_few (of_found c.in_ok-found.found) (state_of c.in_ok-found.state) c.args.text.now c.in_ok-found.ensures.found in
     omega (arith, h)
+
+pub new-requires-clause-one_each : goal.new-requires-clause-one_each
+new-requires-clause-one_each c =
+    has_units (of_found c.in_ok-found.found) (state_of c.in_ok-found.state) c.args.text.now c.in_ok-found.ensures.found
 
 pub new-requires-clause-paired : goal.new-requires-clause-paired
 new-requires-clause-paired c =
