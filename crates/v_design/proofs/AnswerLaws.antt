@@ -11,7 +11,7 @@ use Rattle.v_syntax.specs.Refusal.{IsSource, Reaches, IsSyntaxAt, IsTooDeepAt, h
 use Rattle.v_lex.specs.declared.directive.LexRule.{LexRule}
 use Rattle.v_lex.specs.declared.directive.LexRule.TheVariants as lexical
 use Rattle.v_lex.specs.declared.directive.BrokenRule.{BrokenRule}
-use Rattle.v_lex.specs.Lexing.{Lexed, earliest, start, nanosecond}
+use Rattle.v_lex.specs.Lexing.{Lexed, earliest, start, nanosecond, at_modules}
 use Rattle.v_lex.specs.Row.{Part, Reads, BreaksFirst, told}
 use Rattle.v_lex.proofs.RowLaws.{one_row}
 use Rattle.v_flat.specs.declared.scope.rule.ElabRule.{ElabRule}
@@ -34,6 +34,7 @@ lexed_of : List ℕ → List Part → Lexed
 lexed_of text row = record {
   tokens = (told row).tokens;
   places = (told row).places ++ length text ∷ [];
+  units = at_modules (told row).tokens (told row).units;
   unit = (told row).last.unit;
   step = unwrap_or (told row).last.step nanosecond;
 }

@@ -19,9 +19,9 @@ use Rattle.v_design.specs.declared.fault.DesignRefusal.TheVariants as refusal
 
 -- ---- the modules of a text
 
--- modules with the bytes of the tokens that they spell, and the step
+-- modules with the bytes of the tokens that they spell, the units of the modules, and the step
 abbrev pub source_with : List ModuleTree → Lexed → SourceText
-source_with modules read = record { modules = modules; places = read.places; step_fs = read.step }
+source_with modules read = record { modules = modules; places = read.places; units = read.units; step_fs = read.step }
 
 -- The text breaks no lexical rule, and these modules spell its tokens within the height.
 pub record IsSourceOf (text : List ℕ) (source : SourceText) : Type 0 where

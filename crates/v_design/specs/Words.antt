@@ -23,6 +23,7 @@ elaboration_word elab.TwoDrivers = codes "TwoDrivers"
 elaboration_word elab.BadTarget = codes "BadTarget"
 elaboration_word elab.LoopTooLong = codes "LoopTooLong"
 elaboration_word elab.TooMany = codes "TooMany"
+elaboration_word elab.BadDelay = codes "BadDelay"
 
 abbrev pub rule_word : DesignRule → List ℕ
 rule_word rule.BadByte = codes "BadByte"

@@ -43,6 +43,7 @@ fn elaboration_name(rule: ElabRule) -> &'static [u8]
         ElabRule::BadTarget => b"BadTarget",
         ElabRule::LoopTooLong => b"LoopTooLong",
         ElabRule::TooMany => b"TooMany",
+        ElabRule::BadDelay => b"BadDelay",
     }
 }
 

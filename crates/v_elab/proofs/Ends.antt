@@ -9,21 +9,22 @@ use Rattle.v_flat.specs.declared.scope.found.Found.{Found}
 use Rattle.v_flat.specs.declared.scope.found.Found.TheVariants.{Sound, Noted, Lost}
 use Rattle.v_flat.specs.Scope.Rules.{at, earlier}
 use Rattle.v_flat.specs.Scope.Found.{ended, wants, EachIs, ForValue, Holds, HoldsOk}
+use Rattle.v_flat.specs.declared.timing.Timing.{Timing}
 use Rattle.v_flat.specs.Design.{State, plain_item}
 use Rattle.v_elab.specs.declared.state.State as code
 use Rattle.v_elab.specs.States.{EndsAs, EndsItem, GoesOn, IsState, Stays}
 use Rattle.v_elab.specs.ItemsSteps.{IsStep, item_step, leaves_room}
 
-limited : (p : ℕ) (k : KindTree) (s : State) → plain_item p k s ≡ wants (leaves_room k (length s.design.processes)) rule.TooMany p (item_step k s)
-limited p (Ports h is) s = refl
-limited p (Nets r ns) s = refl
-limited p (Registers r rs) s = refl
-limited p (Integers is) s = refl
-limited p (Parameters k r ps) s = refl
-limited p (Drivers ds) s = refl
-limited p (Always c a) s = refl
-limited p (Initial a) s = refl
-limited p (Instance m ps i qs) s = refl
+limited : (timing : Timing) (p : ℕ) (k : KindTree) (s : State) → plain_item timing p k s ≡ wants (leaves_room k (length s.design.processes)) rule.TooMany p (item_step timing k s)
+limited timing p (Ports h is) s = refl
+limited timing p (Nets r ns) s = refl
+limited timing p (Registers r rs) s = refl
+limited timing p (Integers is) s = refl
+limited timing p (Parameters k r ps) s = refl
+limited timing p (Drivers ds) s = refl
+limited timing p (Always c a) s = refl
+limited timing p (Initial a) s = refl
+limited timing p (Instance m ps i qs) s = refl
 
 many_procs : (ps : List Process) → length (procs_of ps) ≡ length ps
 many_procs [] = refl
@@ -56,11 +57,11 @@ ends_there false p x (Sound y) h = tt
 ends_there false p x (Noted d y) h = tt
 ends_there false p x (Lost d) h = tt
 
-pub item_ends : (p : ℕ) (k : KindTree) (x : code.State) (b : Bool) (f g : Found code.State) (r : Result code.State Broken) → b ≡ leaves_room k (length x.parts.processes)
-    → IsStep (item_step k) x f → g ≡ wants b rule.TooMany p f → r ≡ ended g → EndsItem p k x r
-item_ends p k x b f g r room step e o = subst (λ (z : Result code.State Broken). EndsItem p k x z) (sym (o ∙ ap (λ (z : Found code.State). ended z) e)) (record {
-  is = λ s h. subst (λ (u : Found State). EndsAs IsState (ended u) (ended (wants b rule.TooMany p f))) (sym (limited p k s))
-      (subst (λ (c : Bool). EndsAs IsState (ended (wants c rule.TooMany p (item_step k s))) (ended (wants b rule.TooMany p f)))
-      (room ∙ ap (λ n. leaves_room k n) (same_count s x h)) (ends b p (item_step k s) f (step.goes_on s h.goes_on) (step.sound s h)));
+pub item_ends : (timing : Timing) (p : ℕ) (k : KindTree) (x : code.State) (b : Bool) (f g : Found code.State) (r : Result code.State Broken) → b ≡ leaves_room k (length x.parts.processes)
+    → IsStep (item_step timing k) x f → g ≡ wants b rule.TooMany p f → r ≡ ended g → EndsItem timing p k x r
+item_ends timing p k x b f g r room step e o = subst (λ (z : Result code.State Broken). EndsItem timing p k x z) (sym (o ∙ ap (λ (z : Found code.State). ended z) e)) (record {
+  is = λ s h. subst (λ (u : Found State). EndsAs IsState (ended u) (ended (wants b rule.TooMany p f))) (sym (limited timing p k s))
+      (subst (λ (c : Bool). EndsAs IsState (ended (wants c rule.TooMany p (item_step timing k s))) (ended (wants b rule.TooMany p f)))
+      (room ∙ ap (λ n. leaves_room k n) (same_count s x h)) (ends b p (item_step timing k s) f (step.goes_on s h.goes_on) (step.sound s h)));
   stays = ends_there b p x f step.stays;
 })

@@ -18,6 +18,7 @@ use Rattle.v_flat.specs.declared.scope.meaning.Bounds.{Bounds}
 use Rattle.v_flat.specs.declared.scope.meaning.DataObject.{DataObject}
 use Rattle.v_flat.specs.declared.scope.meaning.Meaning.{Meaning}
 use Rattle.v_flat.specs.declared.scope.meaning.Meaning.TheVariants.{Constant, Object, Later}
+use Rattle.v_flat.specs.declared.timing.Timing.{Timing}
 use Rattle.v_flat.specs.Scope.Scope.{Scope, find}
 use Rattle.v_flat.specs.Statements.{Span, statement_reads}
 use Rattle.v_flat.specs.Design.{Design, is_read, any_change, wakes_of, wake_in, wake_by, events_of}
@@ -93,9 +94,9 @@ awaited_fit s us h (Events es) a d l = events_fit s us h es
 
 -- ---- processes
 
-pub runs_sound : (k : Kind) (ws : List Wake) (s : Scope) (a : StatementTree) (us : List ℕ) → ((more : List ℕ) → AreSignals s (us ++ more))
-    → ((more : List ℕ) → are_wakes ws (length (us ++ more)) ≡ true) → (p : Process) → Runs k ws s a p → IsSoundIn p us
-runs_sound k ws s a us named below p h = record {
+pub runs_sound : (timing : Timing) (k : Kind) (ws : List Wake) (s : Scope) (a : StatementTree) (us : List ℕ) → ((more : List ℕ) → AreSignals s (us ++ more))
+    → ((more : List ℕ) → are_wakes ws (length (us ++ more)) ≡ true) → (p : Process) → Runs timing k ws s a p → IsSoundIn p us
+runs_sound timing k ws s a us named below p h = record {
   body = λ more. h.sound (us ++ more) (statement_names s (us ++ more) (named more) a);
   wakes = λ more. subst (λ (vs : List Wake). are_wakes vs (length (us ++ more)) ≡ true) (sym (ap (λ (x : Proc). x.wakes) h.is)) (below more);
 }

@@ -54,7 +54,7 @@ module _ (l : Level) (i : Inner) (x : Walked) where
   given_there s m = ended (instance_checked i.at (connections_in i.parameters) i.name.now (connections_in i.ports) s m)
 
   abbrev module_in : State → List (List ℕ) → Result ModuleTree Broken
-  module_in s above = ended (module_there i.module.now l.room above s.design (find_module i.module.now.name (modules_of l.modules.now)))
+  module_in s above = ended (module_there i.module.now l.room above s.design (find_module i.module.now.name (modules_of l.modules.now).list))
 
   abbrev Whole : Type 0
   Whole = Result (ModuleTree × (List Given × Joints)) Broken

@@ -14,7 +14,7 @@ use Rattle.v_flat.specs.declared.scope.found.Found.TheVariants.{Sound}
 use Rattle.v_flat.specs.Scope.Found.{HoldsOk, ended, needs}
 use Rattle.v_flat.specs.Scope.Limits.{most_parts}
 use Rattle.v_flat.specs.Headers.{module_name}
-use Rattle.v_flat.specs.Design.{Design, find_module, module_there}
+use Rattle.v_flat.specs.Design.{Design, Modules, find_module, module_there}
 use Rattle.v_elab.specs.States.{EndsAs}
 use Rattle.v_elab.specs.Enters.{HaveTheSame}
 use Rattle.v_elab.specs.InnerSteps.{IsModule, IsThere}
@@ -61,8 +61,8 @@ name_by true false p n x e = tt
 name_by false true p n x e = tt
 name_by false false p n x e = tt
 
-pub there_is : (i : Identifier) (room nodes : ℕ) (ms : List ModuleTree) (names : List (List ℕ)) (x : Bor Module) (is_new is_room : Bool) (r : Result (Bor Module) Broken)
-    → Some (view_module x.now) ≡ find_module i.name ms → is_new ≡ not (list_any (bytes_eq i.name) names) → is_room ≡ (nat_lt 0 room && nat_lt nodes most_parts)
+pub there_is : (i : Identifier) (room nodes : ℕ) (ms : Modules) (names : List (List ℕ)) (x : Bor Module) (is_new is_room : Bool) (r : Result (Bor Module) Broken)
+    → Some (view_module x.now) ≡ find_module i.name ms.list → is_new ≡ not (list_any (bytes_eq i.name) names) → is_room ≡ (nat_lt 0 room && nat_lt nodes most_parts)
     → r ≡ ended (tested is_new is_room i.at x) → IsThere i room ms names nodes r
 there_is i room nodes ms names x is_new is_room r found new room_is is = subst (λ (z : Result (Bor Module) Broken). IsThere i room ms names nodes z) (sym is) (record {
   is = λ above d same many.
@@ -74,10 +74,10 @@ there_is i room nodes ms names x is_new is_room r found new room_is is = subst (
       (subst (λ (b : Bool). EndsAs IsModule (ended (tested is_new b i.at (view_module x.now))) (ended (tested is_new is_room i.at x))) room_is
       (by_tests is_new is_room i.at (view_module x.now) x refl))));
   room_is = room_by is_new is_room i.at room nodes x room_is;
-  name_is = name_by is_new is_room i.at i.name x (found_named i.name ms (view_module x.now) (sym found));
+  name_is = name_by is_new is_room i.at i.name x (found_named i.name ms.list (view_module x.now) (sym found));
 })
 
-pub none_there : (i : Identifier) (room nodes : ℕ) (ms : List ModuleTree) (names : List (List ℕ)) (r : Result (Bor Module) Broken) → None ≡ find_module i.name ms
+pub none_there : (i : Identifier) (room nodes : ℕ) (ms : Modules) (names : List (List ℕ)) (r : Result (Bor Module) Broken) → None ≡ find_module i.name ms.list
     → r ≡ Err (record { rule = rule.UnknownModule; place = i.at }) → IsThere i room ms names nodes r
 none_there i room nodes ms names r found is = subst (λ (z : Result (Bor Module) Broken). IsThere i room ms names nodes z) (sym is) (record {
   is = λ above d same many.

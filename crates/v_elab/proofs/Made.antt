@@ -19,9 +19,10 @@ use Rattle.v_flat.specs.Scope.Scope.{Scope, means}
 use Rattle.v_flat.specs.Checks.{checked}
 use Rattle.v_flat.specs.Targets.{driving}
 use Rattle.v_flat.specs.Statements.{done, reads, statement_reads, statement_checked}
+use Rattle.v_flat.specs.declared.timing.Timing.{Timing}
 use Rattle.v_flat.specs.Design.{Design, State, always_item, assigning, beginning, driver, events_of, initial_item, net, register, running, wakes_of, whole_of}
 use Rattle.v_process.specs.Drive.Digits.{Keeps}
-use Rattle.v_process.specs.Processes.{Runs, IsFoundProcess, IsDriver, IsAlways}
+use Rattle.v_process.specs.Processes.{Runs, IsFoundProcess, IsDriver, IsAlways, untimed}
 use Rattle.v_process.specs.Items.{AddsProcess}
 use Rattle.v_process.proofs.Items.{driver_adds, register_adds, initial_adds, events_add, implicit_adds}
 use Rattle.v_layout.specs.Build.Parts.{IsSoundIn}
@@ -33,12 +34,12 @@ use Rattle.v_elab.proofs.Fitting.{AreBelow, awaited_fit, changes_fit, runs_sound
 use Rattle.v_elab.proofs.Adding.{Amid, HasSignals, IsItem, same_signals_each, step_added}
 
 -- what runs a statement in a state that is ready, and waits for signals of it, is sound
-found_sound : (k : Kind) (ws : List Wake) (a : StatementTree) (x : code.State) (f : Found Process) → IsReady x
-    → ((more : List ℕ) → are_wakes ws (length (widths x.parts.signals ++ more)) ≡ true) → Holds (λ (p : Process). Runs k ws (means x.scope) a p) f
+found_sound : (timing : Timing) (k : Kind) (ws : List Wake) (a : StatementTree) (x : code.State) (f : Found Process) → IsReady x
+    → ((more : List ℕ) → are_wakes ws (length (widths x.parts.signals ++ more)) ≡ true) → Holds (λ (p : Process). Runs timing k ws (means x.scope) a p) f
     → Holds (λ (p : Process). IsSoundIn p (widths x.parts.signals)) f
-found_sound k ws a x f ready below h =
-    holds_so (λ (p : Process). Runs k ws (means x.scope) a p) (λ (p : Process). IsSoundIn p (widths x.parts.signals)) f h
-    (λ p r. runs_sound k ws (means x.scope) a (widths x.parts.signals) ready.signals below p r)
+found_sound timing k ws a x f ready below h =
+    holds_so (λ (p : Process). Runs timing k ws (means x.scope) a p) (λ (p : Process). IsSoundIn p (widths x.parts.signals)) f h
+    (λ p r. runs_sound timing k ws (means x.scope) a (widths x.parts.signals) ready.signals below p r)
 
 -- ---- continuous assignments
 
@@ -65,7 +66,7 @@ driver_sound : (t : TargetTree) (e : Tree) (n : ℕ) (ws : List Wake) (x w : cod
     → n ≡ length x.parts.signals → IsDriver (means x.scope) t e ws x.driven f w.driven → (s : State) → GoesOn s x
     → Holds (λ (p : Process). IsSoundIn p (widths x.parts.signals)) f
 driver_sound t e n ws x w f ready all m d s h =
-    found_sound Assign ws (Assignment Blocking t e) x f ready
+    found_sound untimed Assign ws (Assignment Blocking t e) x f ready
     (λ more. subst (λ (vs : List Wake). are_wakes vs (length (widths x.parts.signals ++ more)) ≡ true) (sym (all s.design (sym h.signals ∙ sym m)))
     (changes_fit (reads (means x.scope) e) s.design (length (widths x.parts.signals ++ more)) (with_more (length s.design.signals) x.parts.signals more h.signals)))
     (d s.driven h.driven).process.holds
@@ -86,7 +87,7 @@ net_step i e n ws x w f g ready all m d a b = driver_step (whole_of i) e n ws x 
 -- ---- opening values
 
 register_item : (i : Identifier) (e : Tree) (x w : code.State) (f : Found Process) (s : State)
-    → IsFoundProcess Initial [] s.scope (Assignment Blocking (whole_of i) e) (done (checked s.scope e)) f → w.driven ≡ x.driven → GoesOn s x
+    → IsFoundProcess untimed Initial [] s.scope (Assignment Blocking (whole_of i) e) (done (checked s.scope e)) f → w.driven ≡ x.driven → GoesOn s x
     → IsItem (register (Register i (Some (Initially e))) s) s s.driven w f
 register_item i e x w f s d k h = record {
   adds = register_adds i e f s d;
@@ -95,52 +96,52 @@ register_item i e x w f s d k h = record {
 }
 
 pub register_step : (i : Identifier) (e : Tree) (x w : code.State) (f : Found Process) (g : Found code.State) → IsReady x
-    → IsFoundProcess Initial [] (means x.scope) (Assignment Blocking (whole_of i) e) (done (checked (means x.scope) e)) f → Amid x w → w.driven ≡ x.driven → AddsFound w f g
+    → IsFoundProcess untimed Initial [] (means x.scope) (Assignment Blocking (whole_of i) e) (done (checked (means x.scope) e)) f → Amid x w → w.driven ≡ x.driven → AddsFound w f g
     → IsStep (register (Register i (Some (Initially e)))) x g
 register_step i e x w f g ready d a k b =
     step_added (register (Register i (Some (Initially e)))) (λ s. s.driven) x w f g a b
     (λ s h. register_item i e x w f s
-    (subst (λ (c : Scope). IsFoundProcess Initial [] c (Assignment Blocking (whole_of i) e) (done (checked c e)) f) h.scope d) k h)
-    (λ s h. found_sound Initial [] (Assignment Blocking (whole_of i) e) x f ready (λ more. refl) d.holds)
+    (subst (λ (c : Scope). IsFoundProcess untimed Initial [] c (Assignment Blocking (whole_of i) e) (done (checked c e)) f) h.scope d) k h)
+    (λ s h. found_sound untimed Initial [] (Assignment Blocking (whole_of i) e) x f ready (λ more. refl) d.holds)
 
 -- ---- `initial`
 
-initial_found : (a : StatementTree) (x w : code.State) (f : Found Process) (s : State) → IsFoundProcess Initial [] s.scope a (statement_checked s.scope a) f
-    → w.driven ≡ x.driven → GoesOn s x → IsItem (initial_item a s) s s.driven w f
-initial_found a x w f s d k h =
-    let p : Proc = record { kind = Initial; wakes = []; run = running s.scope a } in record {
-      adds = initial_adds a f s d;
-      signals = same_signals_each {A = Unit {0}} (λ (u : Unit {0}). p) s.driven s (statement_checked s.scope a);
+initial_found : (timing : Timing) (a : StatementTree) (x w : code.State) (f : Found Process) (s : State) → IsFoundProcess timing Initial [] s.scope a (statement_checked timing s.scope a) f
+    → w.driven ≡ x.driven → GoesOn s x → IsItem (initial_item timing a s) s s.driven w f
+initial_found timing a x w f s d k h =
+    let p : Proc = record { kind = Initial; wakes = []; run = running timing s.scope a } in record {
+      adds = initial_adds timing a f s d;
+      signals = same_signals_each {A = Unit {0}} (λ (u : Unit {0}). p) s.driven s (statement_checked timing s.scope a);
       driven = subst (λ v. Keeps v s.driven) (sym k) h.driven;
     }
 
-pub initial_step : (a : StatementTree) (x w : code.State) (f : Found Process) (g : Found code.State) → IsReady x
-    → IsFoundProcess Initial [] (means x.scope) a (statement_checked (means x.scope) a) f → Amid x w → w.driven ≡ x.driven → AddsFound w f g
-    → IsStep (initial_item a) x g
-initial_step a x w f g ready d a' k b =
-    step_added (initial_item a) (λ s. s.driven) x w f g a' b
-    (λ s h. initial_found a x w f s (subst (λ (c : Scope). IsFoundProcess Initial [] c a (statement_checked c a) f) h.scope d) k h)
-    (λ s h. found_sound Initial [] a x f ready (λ more. refl) d.holds)
+pub initial_step : (timing : Timing) (a : StatementTree) (x w : code.State) (f : Found Process) (g : Found code.State) → IsReady x
+    → IsFoundProcess timing Initial [] (means x.scope) a (statement_checked timing (means x.scope) a) f → Amid x w → w.driven ≡ x.driven → AddsFound w f g
+    → IsStep (initial_item timing a) x g
+initial_step timing a x w f g ready d a' k b =
+    step_added (initial_item timing a) (λ s. s.driven) x w f g a' b
+    (λ s h. initial_found timing a x w f s (subst (λ (c : Scope). IsFoundProcess timing Initial [] c a (statement_checked timing c a) f) h.scope d) k h)
+    (λ s h. found_sound timing Initial [] a x f ready (λ more. refl) d.holds)
 
 -- ---- `always`
 
-always_adds : (c : ControlTree) (a : StatementTree) (f : Found Process) (s : State) → IsAlways (awaited s.scope c a s.design) s.scope a f → AddsProcess s (always_item c a s) s.driven f
-always_adds Implicit a f s h = implicit_adds a f s h
-always_adds (Events es) a f s h = events_add es a f s h
+always_adds : (timing : Timing) (c : ControlTree) (a : StatementTree) (f : Found Process) (s : State) → IsAlways timing (awaited s.scope c a s.design) s.scope a f → AddsProcess s (always_item timing c a s) s.driven f
+always_adds timing Implicit a f s h = implicit_adds timing a f s h
+always_adds timing (Events es) a f s h = events_add timing es a f s h
 
-always_signals : (c : ControlTree) (a : StatementTree) (s : State) → ForValue (λ (v : State). HasSignals s v) (always_item c a s)
-always_signals Implicit a s =
-    let p : Proc = record { kind = Always; wakes = wakes_of (statement_reads s.scope a) s.design; run = running s.scope a } in
-    same_signals_each {A = Unit {0}} (λ (u : Unit {0}). p) s.driven s (statement_checked s.scope a)
-always_signals (Events es) a s =
-    same_signals_each {A = List Wake × Unit {0}} (λ (x : List Wake × Unit {0}). (let p : Proc = record { kind = Always; wakes = x.0; run = running s.scope a } in p)) s.driven s
-    (both (events_of s.scope es) (statement_checked s.scope a))
+always_signals : (timing : Timing) (c : ControlTree) (a : StatementTree) (s : State) → ForValue (λ (v : State). HasSignals s v) (always_item timing c a s)
+always_signals timing Implicit a s =
+    let p : Proc = record { kind = Always; wakes = wakes_of (statement_reads s.scope a) s.design; run = running timing s.scope a } in
+    same_signals_each {A = Unit {0}} (λ (u : Unit {0}). p) s.driven s (statement_checked timing s.scope a)
+always_signals timing (Events es) a s =
+    same_signals_each {A = List Wake × Unit {0}} (λ (x : List Wake × Unit {0}). (let p : Proc = record { kind = Always; wakes = x.0; run = running timing s.scope a } in p)) s.driven s
+    (both (events_of s.scope es) (statement_checked timing s.scope a))
 
-always_found : (c : ControlTree) (a : StatementTree) (x w : code.State) (f : Found Process) (s : State) → IsAlways (awaited s.scope c a s.design) s.scope a f
-    → w.driven ≡ x.driven → GoesOn s x → IsItem (always_item c a s) s s.driven w f
-always_found c a x w f s d k h = record {
-  adds = always_adds c a f s d;
-  signals = always_signals c a s;
+always_found : (timing : Timing) (c : ControlTree) (a : StatementTree) (x w : code.State) (f : Found Process) (s : State) → IsAlways timing (awaited s.scope c a s.design) s.scope a f
+    → w.driven ≡ x.driven → GoesOn s x → IsItem (always_item timing c a s) s s.driven w f
+always_found timing c a x w f s d k h = record {
+  adds = always_adds timing c a f s d;
+  signals = always_signals timing c a s;
   driven = subst (λ v. Keeps v s.driven) (sym k) h.driven;
 }
 
@@ -152,27 +153,27 @@ awaited_there c a n v x s all m h = all s.design (sym h.signals ∙ sym m)
 wakes_below : (v : Found (List Wake)) (ws : List Wake) (n : ℕ) → v ≡ Sound ws → Holds (AreBelow n) v → are_wakes ws n ≡ true
 wakes_below v ws n h k = subst (λ (z : Found (List Wake)). Holds (AreBelow n) z) h k
 
-always_sound : (v : Found (List Wake)) (a : StatementTree) (x : code.State) (f : Found Process) → IsReady x
-    → ((more : List ℕ) → Holds (AreBelow (length (widths x.parts.signals ++ more))) v) → IsAlways v (means x.scope) a f
+always_sound : (timing : Timing) (v : Found (List Wake)) (a : StatementTree) (x : code.State) (f : Found Process) → IsReady x
+    → ((more : List ℕ) → Holds (AreBelow (length (widths x.parts.signals ++ more))) v) → IsAlways timing v (means x.scope) a f
     → Holds (λ (p : Process). IsSoundIn p (widths x.parts.signals)) f
-always_sound v a x f ready below h = one f h.waits h.holds
+always_sound timing v a x f ready below h = one f h.waits h.holds
   where
-    one : (y : Found Process) → Holds (λ (p : Process). v ≡ Sound p.wakes) y → Holds (λ (p : Process). Runs Always p.wakes (means x.scope) a p) y
+    one : (y : Found Process) → Holds (λ (p : Process). v ≡ Sound p.wakes) y → Holds (λ (p : Process). Runs timing Always p.wakes (means x.scope) a p) y
         → Holds (λ (p : Process). IsSoundIn p (widths x.parts.signals)) y
     one (Sound p) w r =
-        runs_sound Always p.wakes (means x.scope) a (widths x.parts.signals) ready.signals
+        runs_sound timing Always p.wakes (means x.scope) a (widths x.parts.signals) ready.signals
         (λ more. wakes_below v p.wakes (length (widths x.parts.signals ++ more)) w (below more)) p r
     one (Noted b p) w r = tt
     one (Lost b) w r = tt
 
-pub always_step : (c : ControlTree) (a : StatementTree) (n : ℕ) (v : Found (List Wake)) (x w : code.State) (f : Found Process) (g : Found code.State) → IsReady x
-    → ((d : Design) → length d.signals ≡ n → v ≡ awaited (means x.scope) c a d) → n ≡ length x.parts.signals → IsAlways v (means x.scope) a f → Amid x w → w.driven ≡ x.driven
-    → AddsFound w f g → IsStep (always_item c a) x g
-always_step c a n v x w f g ready all m d amid k b =
-    step_added (always_item c a) (λ s. s.driven) x w f g amid b
-    (λ s h. always_found c a x w f s
-    (subst (λ (z : Scope). IsAlways (awaited z c a s.design) z a f) h.scope
-    (subst (λ (z : Found (List Wake)). IsAlways z (means x.scope) a f) (awaited_there c a n v x s all m h) d)) k h)
-    (λ s h. always_sound v a x f ready
+pub always_step : (timing : Timing) (c : ControlTree) (a : StatementTree) (n : ℕ) (v : Found (List Wake)) (x w : code.State) (f : Found Process) (g : Found code.State) → IsReady x
+    → ((d : Design) → length d.signals ≡ n → v ≡ awaited (means x.scope) c a d) → n ≡ length x.parts.signals → IsAlways timing v (means x.scope) a f → Amid x w → w.driven ≡ x.driven
+    → AddsFound w f g → IsStep (always_item timing c a) x g
+always_step timing c a n v x w f g ready all m d amid k b =
+    step_added (always_item timing c a) (λ s. s.driven) x w f g amid b
+    (λ s h. always_found timing c a x w f s
+    (subst (λ (z : Scope). IsAlways timing (awaited z c a s.design) z a f) h.scope
+    (subst (λ (z : Found (List Wake)). IsAlways timing z (means x.scope) a f) (awaited_there c a n v x s all m h) d)) k h)
+    (λ s h. always_sound timing v a x f ready
     (λ more. subst (λ (z : Found (List Wake)). Holds (AreBelow (length (widths x.parts.signals ++ more))) z) (sym (awaited_there c a n v x s all m h))
     (awaited_fit (means x.scope) (widths x.parts.signals ++ more) (ready.signals more) c a s.design (with_more (length s.design.signals) x.parts.signals more h.signals))) d)

@@ -12,7 +12,8 @@ use Rattle.v_flat.specs.Scope.Found.{HoldsOk, ended}
 use Rattle.v_flat.specs.Scope.Limits.{most_parts}
 use Rattle.v_flat.specs.Scope.Scope.{Scope, find, means}
 use Rattle.v_flat.specs.Paths.{Path}
-use Rattle.v_flat.specs.Design.{State, Sub, child_name, item, plain_item}
+use Rattle.v_flat.specs.declared.timing.Timing.{Timing}
+use Rattle.v_flat.specs.Design.{Modules, State, Sub, child_name, item, plain_item}
 use Rattle.v_check.specs.Names.Proper.{AreProper}
 use Rattle.v_layout.specs.declared.build.parts.Parts.{Parts}
 use Rattle.v_layout.specs.Build.Parts.{Grows}
@@ -30,17 +31,17 @@ use Rattle.v_elab.proofs.Passed.{grows_itself}
 abbrev sub_of : Level → Sub
 sub_of l = walk_below (modules_of l.modules.now) l.room
 
-plain_by : (sub : Sub) (room : ℕ) (ms : List ModuleTree) (above : List (List ℕ)) (path : Path) (p : ℕ) (k : KindTree) (s : State) → IsPlain k
-    → item sub room ms above path (ItemAt p k) s ≡ ended (plain_item p k s)
-plain_by sub room ms above path p (Ports h is) s q = refl
-plain_by sub room ms above path p (Nets r ns) s q = refl
-plain_by sub room ms above path p (Registers r rs) s q = refl
-plain_by sub room ms above path p (Integers is) s q = refl
-plain_by sub room ms above path p (Parameters k r ps) s q = refl
-plain_by sub room ms above path p (Drivers ds) s q = refl
-plain_by sub room ms above path p (Always c a) s q = refl
-plain_by sub room ms above path p (Initial a) s q = refl
-plain_by sub room ms above path p (Instance m v i c) s q = absurd q
+plain_by : (timing : Timing) (sub : Sub) (room : ℕ) (ms : Modules) (above : List (List ℕ)) (path : Path) (p : ℕ) (k : KindTree) (s : State) → IsPlain k
+    → item timing sub room ms above path (ItemAt p k) s ≡ ended (plain_item timing p k s)
+plain_by timing sub room ms above path p (Ports h is) s q = refl
+plain_by timing sub room ms above path p (Nets r ns) s q = refl
+plain_by timing sub room ms above path p (Registers r rs) s q = refl
+plain_by timing sub room ms above path p (Integers is) s q = refl
+plain_by timing sub room ms above path p (Parameters k r ps) s q = refl
+plain_by timing sub room ms above path p (Drivers ds) s q = refl
+plain_by timing sub room ms above path p (Always c a) s q = refl
+plain_by timing sub room ms above path p (Initial a) s q = refl
+plain_by timing sub room ms above path p (Instance m v i c) s q = absurd q
 
 stays_ready : (x y : code.State) → IsReady x → Stays x y → IsReady y
 stays_ready x y h k = record {
@@ -65,12 +66,12 @@ same_names s t x y h k stays = record {
       ∙ h.instances n (ap (λ (c : Scope). is_none (find n c)) (sym (sym k.goes_on.scope ∙ stays.scope ∙ h.is.goes_on.scope)) ∙ free);
 }
 
-pub plain_passed : (l : Level) (p : ℕ) (k : KindTree) (x : Walked) (r : Result code.State Broken) (y : code.State) → IsInner (ItemAt p k) None → IsReady x.state → EndsItem p k x.state r
+pub plain_passed : (l : Level) (p : ℕ) (k : KindTree) (x : Walked) (r : Result code.State Broken) (y : code.State) → IsInner (ItemAt p k) None → IsReady x.state → EndsItem l.timing p k x.state r
     → r ≡ Ok y → Passes l (over_item l (ItemAt p k)) x (Ok (with_state x y))
 plain_passed l p k x r y plain ready h e = record {
   is = λ above path s same t w.
-      let u = ends_ok IsState (ended (plain_item p k s)) r y (h.is s w.is) e in
-      subst (λ (q : Result State Broken). EndsAs IsWalked q (let v : Result Walked Broken = Ok (with_state x y) in v)) (sym (plain_by (sub_of l) l.room (modules_of l.modules.now) above path p k s plain ∙ u.1.0))
+      let u = ends_ok IsState (ended (plain_item l.timing p k s)) r y (h.is s w.is) e in
+      subst (λ (q : Result State Broken). EndsAs IsWalked q (let v : Result Walked Broken = Ok (with_state x y) in v)) (sym (plain_by l.timing (sub_of l) l.room (modules_of l.modules.now) above path p k s plain ∙ u.1.0))
       (same_names s u.0 x y w u.1.1 stays);
   goes_on = record { ready = stays_ready x.state y ready stays; grows = stays_grows x.state y stays };
 }
@@ -78,11 +79,11 @@ plain_passed l p k x r y plain ready h e = record {
     stays : Stays x.state y
     stays = of_ok (λ (z : code.State). Stays x.state z) r y h.stays e
 
-pub plain_broken : (l : Level) (p : ℕ) (k : KindTree) (x : Walked) (r : Result code.State Broken) (b : Broken) → IsInner (ItemAt p k) None → EndsItem p k x.state r → r ≡ Err b
+pub plain_broken : (l : Level) (p : ℕ) (k : KindTree) (x : Walked) (r : Result code.State Broken) (b : Broken) → IsInner (ItemAt p k) None → EndsItem l.timing p k x.state r → r ≡ Err b
     → Passes l (over_item l (ItemAt p k)) x (Err b)
 plain_broken l p k x r b plain h e = record {
   is = λ above path s same t w.
       subst (λ (q : Result State Broken). EndsAs IsWalked q (let v : Result Walked Broken = Err b in v))
-      (sym (plain_by (sub_of l) l.room (modules_of l.modules.now) above path p k s plain ∙ ends_err IsState (ended (plain_item p k s)) r b (h.is s w.is) e)) refl;
+      (sym (plain_by l.timing (sub_of l) l.room (modules_of l.modules.now) above path p k s plain ∙ ends_err IsState (ended (plain_item l.timing p k s)) r b (h.is s w.is) e)) refl;
   goes_on = tt;
 }

@@ -10,7 +10,7 @@ use Rattle.v_header.specs.Names.{texts}
 use Rattle.v_flat.specs.Declarations.{Given}
 use Rattle.v_flat.specs.Headers.{ports_of}
 use Rattle.v_flat.specs.Paths.{Path, below}
-use Rattle.v_flat.specs.Design.{Design, Joints, Outside, State, Sub, find_module, instance_checked, instance_item, module_there, walk, with_child}
+use Rattle.v_flat.specs.Design.{Design, Joints, Modules, Outside, State, Sub, find_module, instance_checked, instance_item, module_there, timing_of, walk, with_child}
 use Rattle.v_elab.specs.Connect.Joints.{AreJoints}
 use Rattle.v_layout.specs.declared.build.parts.Parts.{Parts}
 use Rattle.v_layout.specs.Build.Parts.{Grows, IsSoFar}
@@ -41,7 +41,7 @@ outside_of s y = record { given = y.1.0; scope = s.scope; joints = y.1.1.list }
 abbrev child_of : Inner → State → Before → Design → Result State Broken
 child_of n s y d = Ok (with_child n.name.now.name (length s.design.nodes) y.1.1.driven s d)
 
-module _ (sub : Sub) (room : ℕ) (ms : List ModuleTree) (above : List (List ℕ)) (path : Path) (n : Inner) (s : State) where
+module _ (sub : Sub) (room : ℕ) (ms : Modules) (above : List (List ℕ)) (path : Path) (n : Inner) (s : State) where
   abbrev behind : Before → Result State Broken
   behind y = next (sub (n.module.now.name ∷ above) y.0 (below path n.name.now.name) (outside_of s y) s.design) (child_of n s y)
 
@@ -50,8 +50,8 @@ module _ (sub : Sub) (room : ℕ) (ms : List ModuleTree) (above : List (List ℕ
 
   item_by : instance_item sub room ms above path n.at n.module.now (connections_in n.parameters) n.name.now (connections_in n.ports) s ≡ next (entered room ms above n s) behind
   item_by =
-      sym (next_next (ended (module_there n.module.now room above s.design (find_module n.module.now.name ms))) (λ m. next (checked_in m) (λ x. (let r : Result Before Broken = Ok (m, x) in r))) behind
-      ∙ next_same (ended (module_there n.module.now room above s.design (find_module n.module.now.name ms)))
+      sym (next_next (ended (module_there n.module.now room above s.design (find_module n.module.now.name ms.list))) (λ m. next (checked_in m) (λ x. (let r : Result Before Broken = Ok (m, x) in r))) behind
+      ∙ next_same (ended (module_there n.module.now room above s.design (find_module n.module.now.name ms.list)))
       (λ m. next (next (checked_in m) (λ x. (let r : Result Before Broken = Ok (m, x) in r))) behind) (λ m. next (checked_in m) (λ x. behind (m, x)))
       (λ m. next_next (checked_in m) (λ x. (let r : Result Before Broken = Ok (m, x) in r)) behind))
 
@@ -67,6 +67,7 @@ pub record IsBelow (l b : Level) (e : Entered) : Type 0 where
   pub above : texts b.above.now ≡ texts e.above.items
   pub room : b.room ≡ l.room - 1
   pub path : b.path.now ≡ e.path.items
+  pub timing : b.timing ≡ timing_of (modules_of b.modules.now) e.module.now.name.name
 
 module _ (l b : Level) (n : Inner) (x : Walked) (r : Result Entered Broken) (e : Entered) (q : Result Parts Broken) (ready : IsReady x.state) (enters : Enters l n x r) (is_entered : r ≡ Ok e)
     (is_below : IsBelow l b e) (walks : Walks b (view_module e.module.now) e.outside e.parts q) where
@@ -78,11 +79,11 @@ module _ (l b : Level) (n : Inner) (x : Walked) (r : Result Entered Broken) (e :
       → EndsAs IsSoFar (sub_of l (n.module.now.name ∷ above) y.0 (below path n.name.now.name) (outside_of s y) s.design) q
   walked_below s path above y w i =
       subst (λ (f : Sub). EndsAs IsSoFar (f (n.module.now.name ∷ above) y.0 (below path n.name.now.name) (outside_of s y) s.design) q)
-      (ap (λ (k : ℕ). walk (modules_of b.modules.now) k) is_below.room ∙ ap (λ (ms : List ModuleTree). walk ms (l.room - 1)) is_below.modules ∙ sym (one_below (modules_of l.modules.now) l.room waits.room_is))
+      (ap (λ (k : ℕ). walk (modules_of b.modules.now) k) is_below.room ∙ ap (λ (ms : Modules). walk ms (l.room - 1)) is_below.modules ∙ sym (one_below (modules_of l.modules.now) l.room waits.room_is))
       (subst (λ (m : ModuleTree). EndsAs IsSoFar (walk (modules_of b.modules.now) b.room (n.module.now.name ∷ above) m (below path n.name.now.name) (outside_of s y) s.design) q) (sym i.module_is)
       (walks.is (n.module.now.name ∷ above) (below path n.name.now.name) (outside_of s y) s.design
       (subst (λ (ns : List (List ℕ)). HaveTheSame (n.module.now.name ∷ above) ns) (sym is_below.above) i.above_is)
-      (subst (λ (t : List ℕ). HasText (below path n.name.now.name) t) (sym is_below.path) i.path_is)
+      (subst (λ (t : List ℕ). HasText (below path n.name.now.name) t) (sym is_below.path) i.path_is) is_below.timing
       (record {
         given = i.given;
         joints = subst (λ (m : ModuleTree). AreJoints s.scope (ports_of m) y.1.1.list e.outside.joints.list.items) i.module_is i.joints;

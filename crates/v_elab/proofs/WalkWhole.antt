@@ -8,9 +8,10 @@ use Rattle.v_flat.specs.declared.scope.rule.Broken.{Broken}
 use Rattle.v_flat.specs.Scope.Found.{HoldsOk, next}
 use Rattle.v_flat.specs.Scope.Limits.{most_parts}
 use Rattle.v_header.specs.Names.{texts}
-use Rattle.v_flat.specs.Headers.{items_in, ports_of}
+use Rattle.v_flat.specs.Headers.{items_in, module_name, ports_of}
 use Rattle.v_flat.specs.Paths.{Path, node_of}
-use Rattle.v_flat.specs.Design.{Design, Outside, State, closed, walk}
+use Rattle.v_flat.specs.declared.timing.Timing.{Timing}
+use Rattle.v_flat.specs.Design.{Design, Outside, State, closed, items, timing_of, walk}
 use Rattle.v_layout.specs.declared.build.parts.Parts.{Parts}
 use Rattle.v_layout.specs.Build.Parts.{Grows, IsSoFar}
 use Rattle.v_layout.specs.Texts.{HasText}
@@ -26,13 +27,23 @@ use Rattle.v_elab.specs.declared.walked.Walked.{Walked}
 use Rattle.v_elab.specs.Instances.{IsWalked}
 use Rattle.v_elab.specs.Enters.{HaveTheSame}
 use Rattle.v_elab.specs.Closes.{Closes}
-use Rattle.v_elab.specs.WalkSteps.{GoesOn, Passes, over_items}
+use Rattle.v_elab.specs.WalkSteps.{GoesOn, Passes, over_items, walk_below}
 use Rattle.v_elab.specs.Walks.{IsMore, Walks}
 use Rattle.v_elab.proofs.Levels.{walk_by}
 use Rattle.v_elab.proofs.WalkNames.{first_names}
 
 many_nodes : (d : Design) (x : Parts) → IsSoFar d x → length x.nodes.items ≡ length d.nodes
 many_nodes d x h = ap length h.nodes ∙ length-map d.nodes node_of
+
+-- at a level that has the timing of the module
+at_level : (l : Level) (above : List (List ℕ)) (m : ModuleTree) (path : Path) (out : Outside) (d : Design) → l.timing ≡ timing_of (modules_of l.modules.now) (module_name m).name
+    → walk (modules_of l.modules.now) l.room above m path out d
+    ≡ next (beginning m path out d) (λ s. next (over_items l (items_in m) above path s) (λ t. Ok (closed path (length d.nodes) t)))
+at_level l above m path out d timed =
+    let ms = modules_of l.modules.now in
+    walk_by ms l.room above m path out d
+    ∙ ap (λ (timing : Timing). next (beginning m path out d) (λ s. next (items timing (walk_below ms l.room) l.room ms above path (items_in m) s) (λ t. (let u : Result Design Broken = Ok (closed path (length d.nodes) t) in u))))
+    (sym timed)
 
 module _ (l : Level) (m : ModuleTree) (c : code.Outside) (x : Parts) (r : Result code_state.State Broken) (y : code_state.State) (v : Walked) (q : Result Walked Broken)
     (begins : Begins m l.path.now c x r) (begun : r ≡ Ok y) (state : v.state ≡ y) (none : first_place v.instances ≡ nowhere) (passes : Passes l (over_items l (items_in m)) v q) where
@@ -50,8 +61,8 @@ module _ (l : Level) (m : ModuleTree) (c : code.Outside) (x : Parts) (r : Result
 
   pub instance_walked : (w : Walked) (p : Parts) → q ≡ Ok w → Closes l.path.now (length x.nodes.items) w.state p → Walks l m c x (Ok p)
   instance_walked w p passed closes = record {
-    is = λ above path out d same t o h.
-        subst (λ (z : Result Design Broken). EndsAs IsSoFar z (let u : Result Parts Broken = Ok p in u)) (sym (walk_by (modules_of l.modules.now) l.room above m path out d))
+    is = λ above path out d same t timed o h.
+        subst (λ (z : Result Design Broken). EndsAs IsSoFar z (let u : Result Parts Broken = Ok p in u)) (sym (at_level l above m path out d timed))
         (ends_next IsState IsSoFar (beginning m path out d) (λ s. next (over_items l (items_in m) above path s) (last path d)) r y (let u : Result Parts Broken = Ok p in u)
         (begins.is path out d t o h) begun (λ s e k.
         ends_next IsWalked IsSoFar (over_items l (items_in m) above path s) (last path d) q w (let u : Result Parts Broken = Ok p in u)
@@ -74,8 +85,8 @@ module _ (l : Level) (m : ModuleTree) (c : code.Outside) (x : Parts) (r : Result
 
   pub items_broken : (f : Broken) → q ≡ Err f → Walks l m c x (Err f)
   items_broken f broken = record {
-    is = λ above path out d same t o h.
-        subst (λ (z : Result Design Broken). EndsAs IsSoFar z (let u : Result Parts Broken = Err f in u)) (sym (walk_by (modules_of l.modules.now) l.room above m path out d))
+    is = λ above path out d same t timed o h.
+        subst (λ (z : Result Design Broken). EndsAs IsSoFar z (let u : Result Parts Broken = Err f in u)) (sym (at_level l above m path out d timed))
         (ends_next IsState IsSoFar (beginning m path out d) (λ s. next (over_items l (items_in m) above path s) (last path d)) r y (let u : Result Parts Broken = Err f in u)
         (begins.is path out d t o h) begun (λ s e k.
         ends_broken IsWalked IsSoFar (over_items l (items_in m) above path s) (last path d) q f (let u : Result Parts Broken = Err f in u)
@@ -95,8 +106,8 @@ module _ (l : Level) (m : ModuleTree) (c : code.Outside) (x : Parts) (r : Result
 pub beginning_broken : (l : Level) (m : ModuleTree) (c : code.Outside) (x : Parts) (r : Result code_state.State Broken) (f : Broken) → Begins m l.path.now c x r → r ≡ Err f
     → Walks l m c x (Err f)
 beginning_broken l m c x r f begins broken = record {
-  is = λ above path out d same t o h.
-      subst (λ (z : Result Design Broken). EndsAs IsSoFar z (let u : Result Parts Broken = Err f in u)) (sym (walk_by (modules_of l.modules.now) l.room above m path out d))
+  is = λ above path out d same t timed o h.
+      subst (λ (z : Result Design Broken). EndsAs IsSoFar z (let u : Result Parts Broken = Err f in u)) (sym (at_level l above m path out d timed))
       (ends_broken IsState IsSoFar (beginning m path out d) (λ s. next (over_items l (items_in m) above path s) (λ t. (let u : Result Design Broken = Ok (closed path (length d.nodes) t) in u))) r f
       (let u : Result Parts Broken = Err f in u) (begins.is path out d t o h) broken refl);
   more = tt;

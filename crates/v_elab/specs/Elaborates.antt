@@ -8,9 +8,9 @@ use Rattle.v_flat.specs.Design.{Design, SourceText, StandsFor, flatten}
 use Rattle.v_elab.specs.declared.fault.ElabFault.{ElabFault}
 use Rattle.v_elab.specs.declared.fault.ElabFault.TheVariants.{Rule, OutOfMemory}
 
--- the text with the bytes of its tokens and its step
+-- the text with the bytes of its tokens, the units of its modules and its step
 abbrev pub text_of : Source → SourceText
-text_of s = record { modules = view s; places = s.places.items; step_fs = s.step }
+text_of s = record { modules = view s; places = s.places.items; units = s.units.items; step_fs = s.step }
 
 -- r is the flat design that a text stands for, or the rule that is broken first, with its byte
 abbrev pub Elaborates : SourceText → Option (List ℕ) → Result Flat ElabFault → Type 0

@@ -13,7 +13,7 @@ use Rattle.v_header.specs.Names.{texts}
 use Rattle.v_flat.specs.Declarations.{Given}
 use Rattle.v_flat.specs.Headers.{ports_of}
 use Rattle.v_flat.specs.Paths.{Path, below}
-use Rattle.v_flat.specs.Design.{Joints, State, find_module, instance_checked, module_there}
+use Rattle.v_flat.specs.Design.{Joints, Modules, State, find_module, instance_checked, module_there}
 use Rattle.v_header.specs.Parameter.Given.{GiveTheSame}
 use Rattle.v_process.specs.Drive.Digits.{Keeps}
 use Rattle.v_elab.specs.Connect.Joints.{AreJoints}
@@ -37,9 +37,9 @@ abbrev pub HaveTheSame : List (List ℕ) → List (List ℕ) → Type 0
 HaveTheSame xs ys = (n : List ℕ) → list_any (bytes_eq n) xs ≡ list_any (bytes_eq n) ys
 
 -- what the definition finds before the subtree: the module, the values of parameters, and the joints
-abbrev pub entered : ℕ → List ModuleTree → List (List ℕ) → Inner → State → Result (ModuleTree × (List Given × Joints)) Broken
+abbrev pub entered : ℕ → Modules → List (List ℕ) → Inner → State → Result (ModuleTree × (List Given × Joints)) Broken
 entered room ms above i s =
-    next (ended (module_there i.module.now room above s.design (find_module i.module.now.name ms))) (λ m.
+    next (ended (module_there i.module.now room above s.design (find_module i.module.now.name ms.list))) (λ m.
     next (ended (instance_checked i.at (connections_in i.parameters) i.name.now (connections_in i.ports) s m)) (λ x. Ok (m, x)))
 
 -- e is that, in the state s of the instance at this path

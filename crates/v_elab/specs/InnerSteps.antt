@@ -15,7 +15,7 @@ use Rattle.v_flat.specs.Scope.Scope.{Scope}
 use Rattle.v_flat.specs.Declarations.{Given}
 use Rattle.v_flat.specs.Headers.{Port, module_name, open_parameters, parameters_of, ports_of}
 use Rattle.v_flat.specs.Targets.{Drive}
-use Rattle.v_flat.specs.Design.{Design, Joints, State, find_module, given_of, instance_checked, joints_of, module_there}
+use Rattle.v_flat.specs.Design.{Design, Joints, Modules, State, find_module, given_of, instance_checked, joints_of, module_there}
 use Rattle.v_header.specs.Parameter.Given.{GiveTheSame}
 use Rattle.v_process.specs.declared.drive.digits.DrivenDigits.{DrivenDigits}
 use Rattle.v_process.specs.Drive.Digits.{Keeps}
@@ -53,8 +53,8 @@ abbrev pub IsModule : ModuleTree → Bor Module → Type 0
 IsModule m x = m ≡ view_module x.now
 
 -- r is the module of an instance, where these are the modules above and so many instances are built
-pub record IsThere (i : Identifier) (room : ℕ) (ms : List ModuleTree) (names : List (List ℕ)) (nodes : ℕ) (r : Result (Bor Module) Broken) : Type 0 where
-  pub is : (above : List (List ℕ)) (d : Design) → HaveTheSame above names → length d.nodes ≡ nodes → EndsAs IsModule (ended (module_there i room above d (find_module i.name ms))) r
+pub record IsThere (i : Identifier) (room : ℕ) (ms : Modules) (names : List (List ℕ)) (nodes : ℕ) (r : Result (Bor Module) Broken) : Type 0 where
+  pub is : (above : List (List ℕ)) (d : Design) → HaveTheSame above names → length d.nodes ≡ nodes → EndsAs IsModule (ended (module_there i room above d (find_module i.name ms.list))) r
   pub room_is : HoldsOk (λ (m : Bor Module). (0 < room) × (nodes < most_parts)) r
   pub name_is : HoldsOk (λ (m : Bor Module). m.now.name.name ≡ i.name) r
 

@@ -12,6 +12,7 @@ use Rattle.v_flat.specs.Scope.Found.{and_then, EachIs, ForValue, Holds}
 use Rattle.v_flat.specs.Scope.Limits.{most_parts}
 use Rattle.v_flat.specs.Scope.Scope.{Scope}
 use Rattle.v_flat.specs.Statements.{statement_reads}
+use Rattle.v_flat.specs.declared.timing.Timing.{Timing}
 use Rattle.v_flat.specs.Design.{Design, State, wakes_of, events_of, in_turn, net, register, driver, always_item, initial_item, net_count, register_count}
 use Rattle.v_elab.specs.declared.state.State as code
 use Rattle.v_elab.specs.States.{GoesOn, IsState, Stays}
@@ -69,10 +70,10 @@ leaves_room (Always c a) n = nat_le (n + 1) most_parts
 leaves_room (Initial a) n = nat_le (n + 1) most_parts
 leaves_room _ n = true
 
-abbrev pub item_step : KindTree → State → Found State
-item_step (Nets r ns) s = in_turn net ns s
-item_step (Registers r rs) s = in_turn register rs s
-item_step (Drivers ds) s = in_turn driver ds s
-item_step (Always c a) s = always_item c a s
-item_step (Initial a) s = initial_item a s
-item_step _ s = Sound s
+abbrev pub item_step : Timing → KindTree → State → Found State
+item_step timing (Nets r ns) s = in_turn net ns s
+item_step timing (Registers r rs) s = in_turn register rs s
+item_step timing (Drivers ds) s = in_turn driver ds s
+item_step timing (Always c a) s = always_item timing c a s
+item_step timing (Initial a) s = initial_item timing a s
+item_step timing _ s = Sound s

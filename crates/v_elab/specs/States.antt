@@ -7,6 +7,7 @@ use Rattle.v_flat.specs.declared.scope.rule.Broken.{Broken}
 use Rattle.v_flat.specs.Scope.Found.{HoldsOk, ended}
 use Rattle.v_flat.specs.Scope.Limits.{most_parts}
 use Rattle.v_flat.specs.Scope.Scope.{means}
+use Rattle.v_flat.specs.declared.timing.Timing.{Timing}
 use Rattle.v_flat.specs.Design.{State, plain_item}
 use Rattle.v_check.specs.Names.Proper.{AreProper}
 use Rattle.v_process.specs.Drive.Digits.{Keeps}
@@ -47,7 +48,7 @@ EndsAs P (Ok a) (Err y) = ⊥
 EndsAs P (Err x) (Ok b) = ⊥
 EndsAs P (Err x) (Err y) = x ≡ y
 
--- r is what is found in a whole item, whose first token is p, in the state that x is
-pub record EndsItem (p : ℕ) (k : KindTree) (x : code.State) (r : Result code.State Broken) : Type 0 where
-  pub is : (s : State) → IsState s x → EndsAs IsState (ended (plain_item p k s)) r
+-- r is what is found in a whole item, whose first token is p, in the state that x is, in a module of this timing
+pub record EndsItem (timing : Timing) (p : ℕ) (k : KindTree) (x : code.State) (r : Result code.State Broken) : Type 0 where
+  pub is : (s : State) → IsState s x → EndsAs IsState (ended (plain_item timing p k s)) r
   pub stays : HoldsOk (λ (y : code.State). Stays x y) r

@@ -1,12 +1,12 @@
 -- A means of proof: the items of an instance, one after the other.
 use Rattle.std.specs.Prelude.{◌≡◌, ℕ, zero, suc, List, Option, None, Some, Result, Ok}
 use Rattle.v_syntax.specs.declared.statement.Identifier.{Identifier}
-use Rattle.v_syntax.specs.SourceTrees.{ConnectionsTree, KindTree, Instance, ItemAt, ItemTree, ModuleTree}
+use Rattle.v_syntax.specs.SourceTrees.{ConnectionsTree, KindTree, Instance, ItemAt, ItemTree}
 use Rattle.v_flat.specs.declared.scope.rule.Broken.{Broken}
 use Rattle.v_flat.specs.Scope.Found.{HoldsOk, ended}
 use Rattle.v_header.specs.Names.{texts}
 use Rattle.v_flat.specs.Paths.{Path}
-use Rattle.v_flat.specs.Design.{State, Sub, item, items, plain_item, walk}
+use Rattle.v_flat.specs.Design.{Modules, State, Sub, item, items, plain_item, walk}
 use Rattle.v_layout.specs.declared.build.parts.Parts.{Parts}
 use Rattle.v_layout.specs.Build.Parts.{Grows}
 use Rattle.v_layout.specs.Texts.{HasText}
@@ -19,7 +19,7 @@ use Rattle.v_elab.specs.Instances.{IsWalked}
 use Rattle.v_elab.specs.Enters.{HaveTheSame, connections_in}
 
 -- the walk over an instance one level further down
-abbrev pub walk_below : List ModuleTree → ℕ → Sub
+abbrev pub walk_below : Modules → ℕ → Sub
 walk_below ms zero = λ a n q o e. Ok e
 walk_below ms (suc room) = walk ms room
 
@@ -34,10 +34,10 @@ pub record Passes (l : Level) (f : List (List ℕ) → Path → State → Result
   pub goes_on : HoldsOk (GoesOn x) r
 
 abbrev pub over_item : Level → ItemTree → List (List ℕ) → Path → State → Result State Broken
-over_item l i above path s = item (walk_below (modules_of l.modules.now) l.room) l.room (modules_of l.modules.now) above path i s
+over_item l i above path s = item l.timing (walk_below (modules_of l.modules.now) l.room) l.room (modules_of l.modules.now) above path i s
 
 abbrev pub over_items : Level → List ItemTree → List (List ℕ) → Path → State → Result State Broken
-over_items l is above path s = items (walk_below (modules_of l.modules.now) l.room) l.room (modules_of l.modules.now) above path is s
+over_items l is above path s = items l.timing (walk_below (modules_of l.modules.now) l.room) l.room (modules_of l.modules.now) above path is s
 
 -- ---- which items are instances
 

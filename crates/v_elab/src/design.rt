@@ -1,13 +1,15 @@
 //! The parts of a whole design.
 
-ghost use Rattle.std.specs.Prelude.{◌≡◌, [], IfOk, map, option_copied};
-ghost use Rattle.v_syntax.specs.SourceTrees.{view_module};
+ghost use Rattle.std.specs.Prelude.{◌≡◌, [], IfOk, option_copied};
 ghost use Rattle.v_header.specs.Top.Found.{modules_of};
+ghost use Rattle.v_flat.specs.Design.{modules_in};
+ghost use Rattle.v_elab.specs.Elaborates.{text_of};
 ghost use Rattle.v_elab.specs.Steps.{IsDesign, IsFromTop};
 
 use crate::connect::Joints;
 use crate::level::Level;
 use crate::outside::Outside;
+use crate::there::timing_in;
 use crate::walk::instance;
 use port_io::NoMemory;
 use std::alloc::Global;
@@ -16,7 +18,7 @@ use v_header::parameter::Given;
 use v_header::top::{Modules, module_numbers};
 use v_layout::build::Parts;
 use v_loop::Unrolled;
-use v_syntax::{Module, TokenNumber};
+use v_syntax::{Source, TokenNumber};
 
 /// The most levels of instances below the top.
 const MOST_LEVELS: usize = 64;
@@ -51,6 +53,7 @@ fn from_top(
                 above: &[name],
                 room: MOST_LEVELS,
                 path: name,
+                timing: timing_in(modules, module),
             };
             let mut unrolled = Unrolled::none();
             instance(
@@ -69,19 +72,21 @@ fn from_top(
     }
 }
 
-/// The parts of the design that modules stand for, or the rule that is broken first. Only want of memory is an error.
+/// The parts of the design that the modules of a text stand for, or the rule that is broken first. Only want of memory is an error.
 pub(crate) fn design(
     alloc: Global,
-    modules: &[Module],
+    source: &Source,
     top: Option<&[u8]>,
 ) -> Result<Result<Parts, Broken>, NoMemory>
-    ensures { IfOk result (IsDesign (map view_module modules.now) (option_copied top.entry)) }
+    ensures { IfOk result (IsDesign (modules_in (text_of source.now)) (option_copied top.entry)) }
 {
-    match module_numbers(alloc, modules)? {
+    match module_numbers(alloc, &source.modules)? {
         Ok(numbers) => from_top(
             alloc,
             &Modules {
-                list: modules,
+                list: &source.modules,
+                units: &source.units,
+                step_fs: source.step,
                 numbers: &numbers,
             },
             top,

@@ -11,6 +11,7 @@ use crate::processes::{always, initial};
 use crate::state::State;
 use port_io::NoMemory;
 use std::alloc::Global;
+use v_flat::Timing;
 use v_flat::scope::{Broken, ElabRule, Found};
 use v_loop::Unrolled;
 use v_syntax::{Item, ItemKind};
@@ -40,41 +41,45 @@ fn has_room(processes: usize, kind: &ItemKind) -> bool
     }
 }
 
-/// What is found in an item, however many processes there are. Only want of memory is an error.
+/// What is found in an item of a module of this timing, however many processes there are. Only want of memory is an error.
 #[tactic(auto, using(crate::proofs::Turns::no_step, crate::proofs::Turns::turns_found))]
 fn found_in(
     alloc: Global,
+    timing: Timing,
     unrolled: &mut Unrolled,
     kind: &ItemKind,
     state: State,
 ) -> Result<Found<State>, NoMemory>
     requires { IsReady state }
-    ensures { IfOk result (IsStep (item_step (view_kind kind.now)) state) }
+    ensures { IfOk result (IsStep (item_step timing (view_kind kind.now)) state) }
 {
     match kind {
         ItemKind::Nets { declarators, .. } => in_turn(alloc, declarators, state),
         ItemKind::Registers { declarators, .. } => in_turn(alloc, declarators, state),
         ItemKind::ContinuousAssignments(list) => in_turn(alloc, list, state),
-        ItemKind::Always { events, statement } => always(alloc, unrolled, events, statement, state),
-        ItemKind::Initial(statement) => initial(alloc, unrolled, statement, state),
+        ItemKind::Always { events, statement } => always(
+            alloc, timing, unrolled, events, statement, state,
+        ),
+        ItemKind::Initial(statement) => initial(alloc, timing, unrolled, statement, state),
         _ => Ok(Found::Sound(state)),
     }
 }
 
-/// The instance behind an item, or the rule that is broken first in it. TooMany is broken at the item's first token where its processes are
-/// more than a design may have. An instance leaves all as it is, and so does an item that gives no process. Statements of procedures count in
+/// The instance behind an item of a module of this timing, or the rule that is broken first in it. TooMany is broken at the item's first token
+/// where its processes are more than a design may have. An instance leaves all as it is, and so does an item that gives no process. Statements of procedures count in
 /// `unrolled`. Only want of memory is an error.
 #[tactic(auto, using(crate::proofs::Ends::item_ends))]
 pub fn item(
     alloc: Global,
+    timing: Timing,
     unrolled: &mut Unrolled,
     item: &Item,
     state: State,
 ) -> Result<Result<State, Broken>, NoMemory>
     requires { IsReady state }
-    ensures { IfOk result (EndsItem item.now.at (view_kind item.now.kind) state) }
+    ensures { IfOk result (EndsItem timing item.now.at (view_kind item.now.kind) state) }
 {
     let has_room = has_room(state.parts.processes.len(), &item.kind);
-    let found = found_in(alloc, unrolled, &item.kind, state)?;
+    let found = found_in(alloc, timing, unrolled, &item.kind, state)?;
     Ok(found.wants(has_room, ElabRule::TooMany, item.at).ended())
 }

@@ -48,7 +48,7 @@ pub(crate) fn plain(
     ensures { IfOk result (Passes level.now (over_item level.now (view_item item.now)) walked) }
 {
     let Walked { state, instances } = walked;
-    match crate::items::item(alloc, unrolled, item, state)? {
+    match crate::items::item(alloc, level.timing, unrolled, item, state)? {
         Ok(state) => Ok(Ok(Walked { state, instances })),
         Err(fault) => Ok(Err(fault)),
     }

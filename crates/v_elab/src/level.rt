@@ -1,5 +1,6 @@
 //! Where an instance stands.
 
+use v_flat::Timing;
 use v_header::top::Modules;
 
 /// Where an instance stands whose items are walked.
@@ -13,4 +14,6 @@ pub struct Level<'a> {
     pub room: usize,
     /// The path of the instance, with dots.
     pub path: &'a [u8],
+    /// What the delays of its module go by.
+    pub timing: Timing,
 }

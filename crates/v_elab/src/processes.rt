@@ -12,6 +12,7 @@ use crate::state::{State, signal_count, with_found};
 use crate::waits::{control_wakes, expression_wakes};
 use port_io::NoMemory;
 use std::alloc::Global;
+use v_flat::Timing;
 use v_flat::scope::Found;
 use v_loop::Unrolled;
 use v_process as process;
@@ -66,35 +67,37 @@ pub(crate) fn register(
     with_found(found, state)
 }
 
-/// The instance with the process of an `always` (IEEE 1364-2005, clause 9.9.2), or what is broken first in it. Only want of memory is an
-/// error.
+/// The instance with the process of an `always` of a module of this timing (IEEE 1364-2005, clause 9.9.2), or what is broken first in it. Only
+/// want of memory is an error.
 pub(crate) fn always(
     alloc: Global,
+    timing: Timing,
     unrolled: &mut Unrolled,
     control: &EventControl,
     statement: &Statement,
     mut state: State,
 ) -> Result<Found<State>, NoMemory>
     requires { IsReady state }
-    ensures { IfOk result (IsStep (always_item (view_control control.now) (view_statement statement.now)) state) }
+    ensures { IfOk result (IsStep (always_item timing (view_control control.now) (view_statement statement.now)) state) }
 {
     let signals = signal_count(&state.parts);
     let wakes = control_wakes(alloc, &mut state.scope, signals, control, statement)?;
-    let found = process::always(alloc, &mut state.scope, unrolled, wakes, statement)?;
+    let found = process::always(alloc, &mut state.scope, timing, unrolled, wakes, statement)?;
     with_found(found, state)
 }
 
-/// The instance with the process of an `initial` (IEEE 1364-2005, clause 9.9.1), or what is broken first in it. Only want of memory is an
-/// error.
+/// The instance with the process of an `initial` of a module of this timing (IEEE 1364-2005, clause 9.9.1), or what is broken first in it. Only
+/// want of memory is an error.
 pub(crate) fn initial(
     alloc: Global,
+    timing: Timing,
     unrolled: &mut Unrolled,
     statement: &Statement,
     mut state: State,
 ) -> Result<Found<State>, NoMemory>
     requires { IsReady state }
-    ensures { IfOk result (IsStep (initial_item (view_statement statement.now)) state) }
+    ensures { IfOk result (IsStep (initial_item timing (view_statement statement.now)) state) }
 {
-    let found = process::initial(alloc, &mut state.scope, unrolled, statement)?;
+    let found = process::initial(alloc, &mut state.scope, timing, unrolled, statement)?;
     with_found(found, state)
 }

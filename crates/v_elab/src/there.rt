@@ -4,9 +4,11 @@ ghost use Rattle.std.specs.Prelude.{◌≡◌, ◌&&◌, bytes_eq, nat_lt};
 ghost use Rattle.std.specs.List.{list_any};
 ghost use Rattle.v_header.specs.Names.{texts};
 ghost use Rattle.v_flat.specs.Scope.Limits.{most_parts};
+ghost use Rattle.v_flat.specs.Design.{timing_of};
 ghost use Rattle.v_header.specs.Top.Found.{modules_of};
 ghost use Rattle.v_elab.specs.InnerSteps.{IsThere};
 
+use v_flat::Timing;
 use v_flat::scope::{Broken, ElabRule, Found};
 use v_header::top::Modules;
 use v_syntax::{Identifier, Module};
@@ -31,6 +33,13 @@ fn has_room(levels: usize, instances: usize) -> bool
     ensures { result ≡ (nat_lt 0 levels && nat_lt instances most_parts) }
 {
     0 < levels && instances < MOST_INSTANCES
+}
+
+/// What the delays of a module go by (IEEE 1364-2005, clause 19.8).
+pub(crate) fn timing_in(modules: &Modules<'_>, module: &Module) -> Timing
+    ensures { result ≡ timing_of (modules_of modules.now) «module».now.name.name }
+{
+    modules.timing(module.name.name.bytes())
 }
 
 /// The module of an instance (IEEE 1364-2005, clause 12.1.2), where `above` are the modules from the top down to the instance around it, so many

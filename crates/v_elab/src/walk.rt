@@ -13,6 +13,7 @@ use crate::entering::enter;
 use crate::kinds::{as_inner, plain};
 use crate::level::Level;
 use crate::outside::Outside;
+use crate::there::timing_in;
 use crate::waiting::Entered;
 use crate::walked::Walked;
 use port_io::NoMemory;
@@ -98,11 +99,13 @@ fn one_item(
                     parts,
                     waiting,
                 } = entered;
+                let timing = timing_in(level.modules, module);
                 let below = Level {
                     modules: level.modules,
                     above: &above,
                     room: level.room - 1,
                     path: &path,
+                    timing,
                 };
                 match instance(alloc, &below, unrolled, module, outside, parts)? {
                     Ok(parts) => Ok(Ok(waiting.leave(alloc, inner.name.name.bytes(), parts)?)),

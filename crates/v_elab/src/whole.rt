@@ -24,7 +24,7 @@ pub fn elaborate(alloc: Global, source: &Source, top: Option<&str>) -> Result<Fl
         Some(name) => Some(name.as_bytes()),
         None => None,
     };
-    match design(alloc, &source.modules, name) {
+    match design(alloc, source, name) {
         Ok(Ok(parts)) => match parts.into_flat(alloc, source.step) {
             Ok(flat) => Ok(flat),
             Err(_) => Err(ElabFault::OutOfMemory),

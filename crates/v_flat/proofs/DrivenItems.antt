@@ -16,10 +16,11 @@ use Rattle.v_flat.specs.Scope.Scope.{Scope}
 use Rattle.v_flat.specs.Scope.Limits.{most_parts}
 use Rattle.v_flat.specs.Checks.{checked}
 use Rattle.v_flat.specs.Targets.{Drive, driving, as_target}
+use Rattle.v_flat.specs.declared.timing.Timing.{Timing}
 use Rattle.v_flat.specs.Statements.{statement_checked, statement_reads}
 use Rattle.v_flat.specs.Headers.{Port, find_port, ports_of, parameters_of, open_parameters}
 use Rattle.v_flat.specs.Declarations.{Given}
-use Rattle.v_flat.specs.Design.{Design, State, Sub, whole_of, adding, assigning, beginning, net, register, driver, in_turn, running, always, always_item, initial_item, wakes_of, events_of, net_count, register_count, plain_item, given_of, Joints, joint, output_joined, joined, ordered_joints, port_once, value_checked, named_joint, named_joints, joints_of, joint_count, find_module, module_there, is_fresh, instance_checked, with_child, instance_item, item, items}
+use Rattle.v_flat.specs.Design.{Design, Modules, State, Sub, whole_of, adding, assigning, beginning, net, register, driver, in_turn, running, always, always_item, initial_item, wakes_of, events_of, net_count, register_count, plain_item, given_of, Joints, joint, output_joined, joined, ordered_joints, port_once, value_checked, named_joint, named_joints, joints_of, joint_count, find_module, module_there, is_fresh, instance_checked, with_child, instance_item, item, items}
 use Rattle.v_flat.specs.Paths.{Path, below}
 use Rattle.v_flat.specs.Scope.Found.{Holds, HoldsOk}
 use Rattle.v_flat.specs.Laws.{Apart, Digits_are_driven_once}
@@ -48,29 +49,29 @@ in_turn_apart : {A : Type 0} (f : A → State → Found State) (xs : List A) (s 
 in_turn_apart f [] s h a = a
 in_turn_apart f (x ∷ rest) s h a = holds_then IsApart IsApart (f x s) (in_turn f rest) (h x s a) (λ t k. in_turn_apart f rest t h k)
 
-always_apart : (c : ControlTree) (b : StatementTree) (s : State) → Apart s.driven → Holds IsApart (always_item c b s)
-always_apart Implicit b s a =
-    holds_each (λ (u : Unit {0}). Unit {0}) IsApart (λ u. always (wakes_of (statement_reads s.scope b) s.design) b s) (statement_checked s.scope b) (holds_any (statement_checked s.scope b)) (λ x u. a)
-always_apart (Events es) b s a =
-    holds_each (λ (x : List Wake × Unit {0}). Unit {0}) IsApart (λ x. always x.0 b s) (both (events_of s.scope es) (statement_checked s.scope b)) (holds_any (both (events_of s.scope es) (statement_checked s.scope b))) (λ x u. a)
+always_apart : (q : Timing) (c : ControlTree) (b : StatementTree) (s : State) → Apart s.driven → Holds IsApart (always_item q c b s)
+always_apart q Implicit b s a =
+    holds_each (λ (u : Unit {0}). Unit {0}) IsApart (λ u. always q (wakes_of (statement_reads s.scope b) s.design) b s) (statement_checked q s.scope b) (holds_any (statement_checked q s.scope b)) (λ x u. a)
+always_apart q (Events es) b s a =
+    holds_each (λ (x : List Wake × Unit {0}). Unit {0}) IsApart (λ x. always q x.0 b s) (both (events_of s.scope es) (statement_checked q s.scope b)) (holds_any (both (events_of s.scope es) (statement_checked q s.scope b))) (λ x u. a)
 
-initial_apart : (b : StatementTree) (s : State) → Apart s.driven → Holds IsApart (initial_item b s)
-initial_apart b s a =
-    holds_each (λ (u : Unit {0}). Unit {0}) IsApart (λ u. adding (record { kind = process_kind.Initial; wakes = []; run = running s.scope b }) s.driven s) (statement_checked s.scope b) (holds_any (statement_checked s.scope b)) (λ x u. a)
+initial_apart : (q : Timing) (b : StatementTree) (s : State) → Apart s.driven → Holds IsApart (initial_item q b s)
+initial_apart q b s a =
+    holds_each (λ (u : Unit {0}). Unit {0}) IsApart (λ u. adding (record { kind = process_kind.Initial; wakes = []; run = running q s.scope b }) s.driven s) (statement_checked q s.scope b) (holds_any (statement_checked q s.scope b)) (λ x u. a)
 
 room_apart : (p n : ℕ) (s : State) (x : Found State) → Holds IsApart x → Holds IsApart (wants (nat_le (length s.design.processes + n) most_parts) rule.TooMany p x)
 room_apart p n s x h = holds_wants IsApart (nat_le (length s.design.processes + n) most_parts) rule.TooMany p x (λ u. h)
 
-plain_apart : (p : ℕ) (k : KindTree) (s : State) → Apart s.driven → Holds IsApart (plain_item p k s)
-plain_apart p (Nets r ns) s a = room_apart p (net_count ns) s (in_turn net ns s) (in_turn_apart net ns s net_apart a)
-plain_apart p (Registers r rs) s a = room_apart p (register_count rs) s (in_turn register rs s) (in_turn_apart register rs s register_apart a)
-plain_apart p (Drivers ds) s a = room_apart p (length ds) s (in_turn driver ds s) (in_turn_apart driver ds s driver_apart a)
-plain_apart p (Always c b) s a = room_apart p 1 s (always_item c b s) (always_apart c b s a)
-plain_apart p (Initial b) s a = room_apart p 1 s (initial_item b s) (initial_apart b s a)
-plain_apart p (Ports h is) s a = a
-plain_apart p (Integers is) s a = a
-plain_apart p (Parameters k r ps) s a = a
-plain_apart p (Instance m v i ps) s a = a
+plain_apart : (q : Timing) (p : ℕ) (k : KindTree) (s : State) → Apart s.driven → Holds IsApart (plain_item q p k s)
+plain_apart q p (Nets r ns) s a = room_apart p (net_count ns) s (in_turn net ns s) (in_turn_apart net ns s net_apart a)
+plain_apart q p (Registers r rs) s a = room_apart p (register_count rs) s (in_turn register rs s) (in_turn_apart register rs s register_apart a)
+plain_apart q p (Drivers ds) s a = room_apart p (length ds) s (in_turn driver ds s) (in_turn_apart driver ds s driver_apart a)
+plain_apart q p (Always c b) s a = room_apart p 1 s (always_item q c b s) (always_apart q c b s a)
+plain_apart q p (Initial b) s a = room_apart p 1 s (initial_item q b s) (initial_apart q b s a)
+plain_apart q p (Ports h is) s a = a
+plain_apart q p (Integers is) s a = a
+plain_apart q p (Parameters k r ps) s a = a
+plain_apart q p (Instance m v i ps) s a = a
 
 -- ---- instances
 
@@ -122,15 +123,15 @@ checked_apart p v i c s m a =
     (λ w. holds_both (λ (g : List Given). Unit {0}) AreApart (given_of s.scope v (open_parameters (parameters_of m))) (joints_of s.scope c (ports_of m) s.driven)
     (holds_any (given_of s.scope v (open_parameters (parameters_of m)))) (joints_apart s.scope c (ports_of m) s.driven a)))
 
-module _ (sub : Sub) (room : ℕ) (ms : List ModuleTree) (above : List (List ℕ)) (path : Path) where
+module _ (q : Timing) (sub : Sub) (room : ℕ) (ms : Modules) (above : List (List ℕ)) (path : Path) where
   instance_apart : (p : ℕ) (m : Identifier) (v : Option ConnectionsTree) (i : Identifier) (c : Option ConnectionsTree) (s : State) → Apart s.driven
       → HoldsOk IsApart (instance_item sub room ms above path p m v i c s)
   instance_apart p m v i c s a =
-      holds_next (λ (t : ModuleTree). Unit {0}) IsApart (ended (module_there m room above s.design (find_module m.name ms))) (λ inner.
+      holds_next (λ (t : ModuleTree). Unit {0}) IsApart (ended (module_there m room above s.design (find_module m.name ms.list))) (λ inner.
       next (ended (instance_checked p v i c s inner)) (λ x.
       next (sub (m.name ∷ above) inner (below path i.name) (record { given = x.0; scope = s.scope; joints = x.1.list }) s.design) (λ d.
       Ok (with_child i.name (length s.design.nodes) x.1.driven s d))))
-      (holds_ok_any (ended (module_there m room above s.design (find_module m.name ms))))
+      (holds_ok_any (ended (module_there m room above s.design (find_module m.name ms.list))))
       (λ inner u. holds_next (λ (x : List Given × Joints). Unit {0} × Apart x.1.driven) IsApart (ended (instance_checked p v i c s inner)) (λ x.
       next (sub (m.name ∷ above) inner (below path i.name) (record { given = x.0; scope = s.scope; joints = x.1.list }) s.design) (λ d.
       Ok (with_child i.name (length s.design.nodes) x.1.driven s d)))
@@ -139,10 +140,10 @@ module _ (sub : Sub) (room : ℕ) (ms : List ModuleTree) (above : List (List ℕ
       (λ d. Ok (with_child i.name (length s.design.nodes) x.1.driven s d))
       (holds_ok_any (sub (m.name ∷ above) inner (below path i.name) (record { given = x.0; scope = s.scope; joints = x.1.list }) s.design)) (λ d w. k.1)))
 
-  ended_apart : (p : ℕ) (k : KindTree) (s : State) → Apart s.driven → HoldsOk IsApart (ended (plain_item p k s))
-  ended_apart p k s a = holds_ended IsApart (plain_item p k s) (plain_apart p k s a)
+  ended_apart : (p : ℕ) (k : KindTree) (s : State) → Apart s.driven → HoldsOk IsApart (ended (plain_item q p k s))
+  ended_apart p k s a = holds_ended IsApart (plain_item q p k s) (plain_apart q p k s a)
 
-  item_apart : (i : ItemTree) (s : State) → Apart s.driven → HoldsOk IsApart (item sub room ms above path i s)
+  item_apart : (i : ItemTree) (s : State) → Apart s.driven → HoldsOk IsApart (item q sub room ms above path i s)
   item_apart (ItemAt p (Instance m v i c)) s a = instance_apart p m v i c s a
   item_apart (ItemAt p (Nets r ns)) s a = ended_apart p (Nets r ns) s a
   item_apart (ItemAt p (Registers r rs)) s a = ended_apart p (Registers r rs) s a
@@ -153,9 +154,9 @@ module _ (sub : Sub) (room : ℕ) (ms : List ModuleTree) (above : List (List ℕ
   item_apart (ItemAt p (Integers is)) s a = a
   item_apart (ItemAt p (Parameters k r ps)) s a = a
 
-  pub items_apart : (is : List ItemTree) (s : State) → Apart s.driven → HoldsOk IsApart (items sub room ms above path is s)
+  pub items_apart : (is : List ItemTree) (s : State) → Apart s.driven → HoldsOk IsApart (items q sub room ms above path is s)
   items_apart [] s a = a
-  items_apart (i ∷ is) s a = holds_next IsApart IsApart (item sub room ms above path i s) (items sub room ms above path is) (item_apart i s a) (λ t k. items_apart is t k)
+  items_apart (i ∷ is) s a = holds_next IsApart IsApart (item q sub room ms above path i s) (items q sub room ms above path is) (item_apart i s a) (λ t k. items_apart is t k)
 
 pub driven_once : Digits_are_driven_once
-driven_once sub room ms above path is s a = items_apart sub room ms above path is s a
+driven_once q sub room ms above path is s a = items_apart q sub room ms above path is s a

@@ -1,6 +1,6 @@
 -- The walk from the top: the design that a text stands for, or the first rule that it breaks (IEEE 1364-2005, clauses 12.1 to 12.3 and
 -- 12.8).
-use Rattle.std.specs.Prelude.{◌≡◌, ℕ, zero, suc, ◌+◌, List, [], ◌∷◌, ◌++◌, map, length, Option, None, Some, Result, Ok, Err, Bool, ◌&&◌, not, is_some, is_none, nat_le, nat_lt, bytes_eq, slice_set, slice_index_or, if◌then◌else◌}
+use Rattle.std.specs.Prelude.{◌≡◌, ℕ, zero, suc, ◌+◌, List, [], ◌∷◌, ◌++◌, drop, map, length, Option, None, Some, Result, Ok, Err, Bool, ◌&&◌, not, is_some, is_none, nat_le, nat_lt, bytes_eq, slice_set, slice_index_or, if◌then◌else◌}
 use Rattle.std.specs.List.{filter, flat_map, list_any, range_with_len}
 use Rattle.four_value.specs.declared.Digit.{Digit}
 use Rattle.four_value.specs.declared.Digit.TheVariants.{X, Z}
@@ -12,13 +12,12 @@ use Rattle.gpi.specs.declared.design.Kind.TheVariants as process_kind
 use Rattle.gpi.specs.declared.design.Wake.{Wake}
 use Rattle.gpi.specs.declared.design.WakeEdge.{WakeEdge}
 use Rattle.gpi.specs.declared.design.WakeEdge.TheVariants as wake_edge
-use Rattle.gpi.specs.Activation.{Map, Run, blocking}
+use Rattle.gpi.specs.Activation.{Map, Hidden, Run, blocking}
 use Rattle.gpi.specs.Targets.{whole_update}
 use Rattle.gpi.specs.Terms.{read}
 use Rattle.gpi.specs.declared.design.Flat.{Flat}
 use Rattle.gpi.specs.Design.{Proc, procs_of}
 use Rattle.v_syntax.specs.declared.statement.Identifier.{Identifier}
-use Rattle.v_syntax.specs.declared.statement.AssignmentKind.TheVariants.{Blocking}
 use Rattle.v_syntax.specs.declared.item.Direction.{Direction}
 use Rattle.v_syntax.specs.declared.item.Direction.TheVariants as direction
 use Rattle.v_syntax.specs.declared.item.Edge.{Edge}
@@ -45,7 +44,9 @@ use Rattle.v_flat.specs.Scope.Scope.{width_of, low_of, Scope, find, means, nothi
 use Rattle.v_flat.specs.Objects.{count_of}
 use Rattle.v_flat.specs.Checks.{checked, constant_of}
 use Rattle.v_flat.specs.Targets.{Drive, Driving, driving, as_target, target_width, updates}
-use Rattle.v_flat.specs.Statements.{Span, reads, statement_reads, statement_checked, assign, assigned_value, activation, done}
+use Rattle.v_flat.specs.declared.timing.Timing.{Timing}
+use Rattle.v_flat.specs.Delays.{nanosecond}
+use Rattle.v_flat.specs.Statements.{Span, reads, statement_reads, statement_checked, assigned_updates, assigned_value, activation, done}
 use Rattle.v_flat.specs.Headers.{Port, find_port, ports_of, parameters_of, open_parameters, all_names, later, module_name, items_in}
 use Rattle.v_flat.specs.Declarations.{Entries, Given, parameters, Declared, Place, declarations, in_order, kind_of}
 use Rattle.v_flat.specs.Paths.{Path, SignalAt, NodeAt, below, signal_of, node_of}
@@ -134,15 +135,15 @@ events_of s (e ∷ es) = each (λ x. x.0 ∷ x.1) (both (wake_by e (find e.name.
 
 -- ---- processes (clauses 6.1 and 9.9)
 
-abbrev pub from : Map → Run
-from m = record { signals = m; updates = [] }
+abbrev pub from : Map → Hidden → Run
+from m h = record { signals = m; hidden = h; updates = [] }
 
 -- a continuous assignment waits for what its expression reads (clause 6.1.2)
 abbrev pub assigning : Scope → TargetTree → Tree → Design → Proc
-assigning s t e d = record { kind = process_kind.Assign; wakes = wakes_of (reads s e) d; run = λ m. assign Blocking s t e (from m) }
+assigning s t e d = record { kind = process_kind.Assign; wakes = wakes_of (reads s e) d; run = λ m h. blocking (assigned_updates s t e (read m)) (from m h) }
 
 abbrev pub beginning : Scope → TargetTree → Tree → Proc
-beginning s t e = record { kind = process_kind.Initial; wakes = []; run = λ m. assign Blocking s t e (from m) }
+beginning s t e = record { kind = process_kind.Initial; wakes = []; run = λ m h. blocking (assigned_updates s t e (read m)) (from m h) }
 
 abbrev pub with_process : Proc → Design → Design
 with_process p d = record d { processes = d.processes ++ (p ∷ []) }
@@ -182,18 +183,19 @@ abbrev pub in_turn : {A : Type 0} → (A → State → Found State) → List A �
 in_turn f [] s = Sound s
 in_turn f (a ∷ rest) s = and_then (f a s) (in_turn f rest)
 
-abbrev pub running : Scope → StatementTree → Map → Run
-running s a m = activation s a (from m)
+-- q is the timing of the module
+abbrev pub running : Timing → Scope → StatementTree → Map → Hidden → Run
+running q s a m h = activation q s a (from m h)
 
-abbrev pub always : List Wake → StatementTree → State → State
-always ws a s = adding (record { kind = process_kind.Always; wakes = ws; run = running s.scope a }) s.driven s
+abbrev pub always : Timing → List Wake → StatementTree → State → State
+always q ws a s = adding (record { kind = process_kind.Always; wakes = ws; run = running q s.scope a }) s.driven s
 
-abbrev pub always_item : ControlTree → StatementTree → State → Found State
-always_item Implicit a s = each (λ u. always (wakes_of (statement_reads s.scope a) s.design) a s) (statement_checked s.scope a)
-always_item (Events es) a s = each (λ x. always x.0 a s) (both (events_of s.scope es) (statement_checked s.scope a))
+abbrev pub always_item : Timing → ControlTree → StatementTree → State → Found State
+always_item q Implicit a s = each (λ u. always q (wakes_of (statement_reads s.scope a) s.design) a s) (statement_checked q s.scope a)
+always_item q (Events es) a s = each (λ x. always q x.0 a s) (both (events_of s.scope es) (statement_checked q s.scope a))
 
-abbrev pub initial_item : StatementTree → State → Found State
-initial_item a s = each (λ u. adding (record { kind = process_kind.Initial; wakes = []; run = running s.scope a }) s.driven s) (statement_checked s.scope a)
+abbrev pub initial_item : Timing → StatementTree → State → Found State
+initial_item q a s = each (λ u. adding (record { kind = process_kind.Initial; wakes = []; run = running q s.scope a }) s.driven s) (statement_checked q s.scope a)
 
 -- the processes that an item gives
 abbrev pub net_count : List NetTree → ℕ
@@ -211,13 +213,13 @@ abbrev pub with_room : {A : Type 0} → ℕ → ℕ → Design → Found A → F
 with_room p n d x = wants (nat_le (length d.processes + n) most_parts) rule.TooMany p x
 
 -- an item that is no instance
-abbrev pub plain_item : ℕ → KindTree → State → Found State
-plain_item p (Nets r ns) s = with_room p (net_count ns) s.design (in_turn net ns s)
-plain_item p (Registers r rs) s = with_room p (register_count rs) s.design (in_turn register rs s)
-plain_item p (Drivers ds) s = with_room p (length ds) s.design (in_turn driver ds s)
-plain_item p (Always c a) s = with_room p 1 s.design (always_item c a s)
-plain_item p (Initial a) s = with_room p 1 s.design (initial_item a s)
-plain_item p _ s = Sound s
+abbrev pub plain_item : Timing → ℕ → KindTree → State → Found State
+plain_item q p (Nets r ns) s = with_room p (net_count ns) s.design (in_turn net ns s)
+plain_item q p (Registers r rs) s = with_room p (register_count rs) s.design (in_turn register rs s)
+plain_item q p (Drivers ds) s = with_room p (length ds) s.design (in_turn driver ds s)
+plain_item q p (Always c a) s = with_room p 1 s.design (always_item q c a s)
+plain_item q p (Initial a) s = with_room p 1 s.design (initial_item q a s)
+plain_item q p _ s = Sound s
 
 -- ---- instances: parameters (clause 12.2.2)
 
@@ -330,15 +332,15 @@ find_joint n [] = None
 find_joint n (j ∷ js) = if bytes_eq j.port n then Some j.value else find_joint n js
 
 -- an input is assigned the value of its connection; o is the port (clause 12.3.9.2)
-abbrev pub input_run : Scope → DataObject → Tree → Map → Run
-input_run outer o e m = blocking (whole_update (Some o.first) (assigned_value (width_of o.bounds) outer e (read m))) (from m)
+abbrev pub input_run : Scope → DataObject → Tree → Map → Hidden → Run
+input_run outer o e m h = blocking (whole_update (Some o.first) (assigned_value (width_of o.bounds) outer e (read m))) (from m h)
 
 abbrev pub input_joint : Scope → DataObject → Tree → Design → Design
 input_joint outer o e d = with_process (record { kind = process_kind.Assign; wakes = wakes_of (reads outer e) d; run = input_run outer o e }) d
 
 -- what an output is connected to is assigned its value (clause 12.3.9.2)
-abbrev pub output_run : Scope → DataObject → TargetTree → Map → Run
-output_run outer o t m = blocking (updates outer t (read m) (resize (read m o.first) (target_width outer t))) (from m)
+abbrev pub output_run : Scope → DataObject → TargetTree → Map → Hidden → Run
+output_run outer o t m h = blocking (updates outer t (read m) (resize (read m o.first) (target_width outer t))) (from m h)
 
 abbrev pub output_target : Scope → DataObject → Option TargetTree → Design → Design
 output_target outer o None d = d
@@ -355,6 +357,20 @@ port_joints outer js s [] d = d
 port_joints outer js s (p ∷ ps) d = port_joints outer js s ps (port_joint outer (find_joint p.name js) p.direction (find p.name s) d)
 
 -- ---- the walk (clauses 12.1.2 and 12.8)
+
+-- the modules of a text, the unit of time of each, and the step, in femtoseconds
+pub record Modules : Type 0 where
+  pub list : List ModuleTree
+  pub units : List ℕ
+  pub step_fs : ℕ
+
+-- the unit of the module of a name (clause 19.8)
+abbrev pub unit_of : List ℕ → List ModuleTree → List ℕ → ℕ
+unit_of n [] us = nanosecond
+unit_of n (m ∷ ms) us = if bytes_eq (module_name m).name n then slice_index_or us 0 nanosecond else unit_of n ms (drop 1 us)
+
+abbrev pub timing_of : Modules → List ℕ → Timing
+timing_of ms n = record { unit_fs = unit_of n ms.list ms.units; step_fs = ms.step_fs }
 
 abbrev pub find_module : List ℕ → List ModuleTree → Option ModuleTree
 find_module n [] = None
@@ -392,20 +408,20 @@ instance_checked p values i ports s m =
 abbrev pub with_child : List ℕ → ℕ → List Drive → State → Design → State
 with_child n node driven s d = record { scope = s.scope; design = d; driven = driven; children = s.children ++ ((n, spot.Inner node) ∷ []) }
 
-abbrev pub instance_item : Sub → ℕ → List ModuleTree → List (List ℕ) → Path → ℕ → Identifier → Option ConnectionsTree → Identifier → Option ConnectionsTree → State → Result State Broken
+abbrev pub instance_item : Sub → ℕ → Modules → List (List ℕ) → Path → ℕ → Identifier → Option ConnectionsTree → Identifier → Option ConnectionsTree → State → Result State Broken
 instance_item sub room ms above path p m values i ports s =
-    next (ended (module_there m room above s.design (find_module m.name ms))) (λ inner.
+    next (ended (module_there m room above s.design (find_module m.name ms.list))) (λ inner.
     next (ended (instance_checked p values i ports s inner)) (λ x.
     next (sub (m.name ∷ above) inner (below path i.name) (record { given = x.0; scope = s.scope; joints = x.1.list }) s.design) (λ d.
     Ok (with_child i.name (length s.design.nodes) x.1.driven s d))))
 
-abbrev pub item : Sub → ℕ → List ModuleTree → List (List ℕ) → Path → ItemTree → State → Result State Broken
-item sub room ms above path (ItemAt p (Instance m values i ports)) s = instance_item sub room ms above path p m values i ports s
-item sub room ms above path (ItemAt p k) s = ended (plain_item p k s)
+abbrev pub item : Timing → Sub → ℕ → Modules → List (List ℕ) → Path → ItemTree → State → Result State Broken
+item q sub room ms above path (ItemAt p (Instance m values i ports)) s = instance_item sub room ms above path p m values i ports s
+item q sub room ms above path (ItemAt p k) s = ended (plain_item q p k s)
 
-abbrev pub items : Sub → ℕ → List ModuleTree → List (List ℕ) → Path → List ItemTree → State → Result State Broken
-items sub room ms above path [] s = Ok s
-items sub room ms above path (i ∷ is) s = next (item sub room ms above path i s) (items sub room ms above path is)
+abbrev pub items : Timing → Sub → ℕ → Modules → List (List ℕ) → Path → List ItemTree → State → Result State Broken
+items q sub room ms above path [] s = Ok s
+items q sub room ms above path (i ∷ is) s = next (item q sub room ms above path i s) (items q sub room ms above path is)
 
 -- its node stands before those of its subtree
 abbrev pub opened : Path → List Declared → Design → Design
@@ -419,9 +435,9 @@ abbrev pub closed : Path → ℕ → State → Design
 closed path node s = record s.design { nodes = slice_set s.design.nodes node (record { path = path; children = s.children }) }
 
 -- the declared names are known: the connected ports, then the items
-abbrev pub walk_items : Sub → ℕ → List ModuleTree → List (List ℕ) → ModuleTree → Path → Outside → Design → Scope → List Declared → Result Design Broken
+abbrev pub walk_items : Sub → ℕ → Modules → List (List ℕ) → ModuleTree → Path → Outside → Design → Scope → List Declared → Result Design Broken
 walk_items sub room ms above m path out d s ds =
-    next (items sub room ms above path (items_in m) (record {
+    next (items (timing_of ms (module_name m).name) sub room ms above path (items_in m) (record {
       scope = s;
       design = port_joints out.scope out.joints s (ports_of m) (opened path ds d);
       driven = [];
@@ -432,13 +448,13 @@ abbrev pub place_of : ModuleTree → Entries → Design → Place
 place_of m constants d = record { constants = constants; others = later (all_names m); ports = ports_of m; first = length d.signals }
 
 -- the parameters, the declarations, the items
-abbrev pub instance : Sub → ℕ → List ModuleTree → Sub
+abbrev pub instance : Sub → ℕ → Modules → Sub
 instance sub room ms above m path out d =
     next (parameters (parameters_of m) out.given (later (all_names m)) []) (λ constants.
     next (declarations (place_of m constants d) m) (λ ds.
     walk_items sub room ms above m path out d (means (constants ++ entries (length d.signals) (in_order (ports_of m) ds))) (in_order (ports_of m) ds)))
 
-unfoldable pub walk : List ModuleTree → ℕ → Sub
+unfoldable pub walk : Modules → ℕ → Sub
 walk ms zero above m path out d = instance (λ a n q o e. Ok e) 0 ms above m path out d
 walk ms (suc room) above m path out d = instance (walk ms room) (suc room) ms above m path out d
 
@@ -470,21 +486,25 @@ modules_checked seen (m ∷ ms) =
     next (ended (needs (not (list_any (bytes_eq (module_name m).name) seen)) rule.DuplicateName (module_name m).at fine)) (λ u.
     modules_checked ((module_name m).name ∷ seen) ms)
 
-abbrev pub from_top : List ModuleTree → Option ModuleTree → Result Design Broken
+abbrev pub from_top : Modules → Option ModuleTree → Result Design Broken
 from_top ms None = ended (broken rule.NoTop 0)
 from_top ms (Some m) = walk ms 64 ((module_name m).name ∷ []) m ((module_name m).name ∷ []) (record { given = []; scope = nothing; joints = [] }) no_design
 
 -- the design of modules; places are numbers of tokens
-abbrev pub flat_design : List ModuleTree → Option (List ℕ) → Result Design Broken
-flat_design ms top = next (modules_checked [] ms) (λ u. from_top ms (top_of ms top))
+abbrev pub flat_design : Modules → Option (List ℕ) → Result Design Broken
+flat_design ms top = next (modules_checked [] ms.list) (λ u. from_top ms (top_of ms.list top))
 
 -- ---- a whole text
 
--- the modules of a text, the byte at which each of its tokens begins, and the step in femtoseconds
+-- the modules of a text, the byte at which each of its tokens begins, the unit of each module, and the step, in femtoseconds
 pub record SourceText : Type 0 where
   pub modules : List ModuleTree
   pub places : List ℕ
+  pub units : List ℕ
   pub step_fs : ℕ
+
+abbrev pub modules_in : SourceText → Modules
+modules_in text = record { list = text.modules; units = text.units; step_fs = text.step_fs }
 
 -- where a rule is broken, as a byte; NoTop is broken at the text's beginning
 abbrev pub byte_of : ElabRule → List ℕ → ℕ → ℕ
@@ -497,7 +517,7 @@ in_bytes places (Ok a) = Ok a
 in_bytes places (Err b) = Err (record { rule = b.rule; place = byte_of b.rule places b.place })
 
 abbrev pub flatten : SourceText → Option (List ℕ) → Result Design Broken
-flatten text top = in_bytes text.places (flat_design text.modules top)
+flatten text top = in_bytes text.places (flat_design (modules_in text) top)
 
 -- a flat design stands for a design
 pub record StandsFor (flat : Flat) (d : Design) (step_fs : ℕ) : Type 0 where

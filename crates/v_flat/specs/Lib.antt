@@ -3,6 +3,7 @@ pub mod Objects
 pub mod Expressions
 pub mod Checks
 pub mod Targets
+pub mod Delays
 pub mod Statements
 pub mod Headers
 pub mod Declarations

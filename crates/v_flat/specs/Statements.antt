@@ -1,5 +1,5 @@
 -- Statements (IEEE 1364-2005, clause 9): what is broken first, which signals are read, and one activation.
-use Rattle.std.specs.Prelude.{ℕ, zero, suc, List, [], ◌∷◌, ◌++◌, max, Option, None, Some, Bool, true, false, ◌||◌, bytes_eq, if◌then◌else◌}
+use Rattle.std.specs.Prelude.{ℕ, zero, suc, List, [], ◌∷◌, ◌++◌, max, Option, None, Some, is_some, unwrap_or, Bool, true, false, ◌||◌, bytes_eq, if◌then◌else◌}
 use Rattle.four_value.specs.declared.Digit.{Digit}
 use Rattle.four_value.specs.declared.Digit.TheVariants.{Zero, One as OneDigit, X, Z}
 use Rattle.four_value.specs.Vector.{resize}
@@ -22,7 +22,7 @@ use Rattle.v_flat.specs.declared.scope.rule.ElabRule.TheVariants as rule
 use Rattle.v_flat.specs.declared.scope.found.Found.{Found}
 use Rattle.v_flat.specs.declared.scope.found.Found.TheVariants.{Sound, Noted, Lost}
 use Rattle.v_flat.specs.Scope.Rules.{at}
-use Rattle.v_flat.specs.Scope.Found.{fine, lost, each, both, and_then, broken}
+use Rattle.v_flat.specs.Scope.Found.{fine, lost, each, both, and_then, broken, wants}
 use Rattle.v_flat.specs.declared.scope.meaning.Bounds.{Bounds}
 use Rattle.v_flat.specs.declared.scope.meaning.DataKind.{DataKind}
 use Rattle.v_flat.specs.declared.scope.meaning.DataKind.TheVariants.{Input, Net, Register}
@@ -34,6 +34,8 @@ use Rattle.v_flat.specs.Objects.{count_of}
 use Rattle.v_flat.specs.Expressions.{Values, width, meaning, own_value}
 use Rattle.v_flat.specs.Checks.{checked, constant_width, constant_of, given_to}
 use Rattle.v_flat.specs.Targets.{target_checked, target_width, updates}
+use Rattle.v_flat.specs.declared.timing.Timing.{Timing}
+use Rattle.v_flat.specs.Delays.{steps_of}
 
 -- nothing but that nothing is broken
 abbrev pub done : {A : Type 0} → Found A → Found (Unit {0})
@@ -113,31 +115,38 @@ abbrev pub labels_checked : Scope → List Tree → Found (Unit {0})
 labels_checked s [] = fine
 labels_checked s (e ∷ es) = done (both (checked s e) (labels_checked s es))
 
+-- the delay of an assignment, at its number; the others have none (clause 9.7.1)
+abbrev pub delay_checked : {A : Type 0} → Timing → AssignmentKind → Found A → Found A
+delay_checked q (assignment.Delayed p ds) x = wants (is_some (steps_of q ds)) rule.BadDelay p x
+delay_checked q assignment.Blocking x = x
+delay_checked q assignment.Nonblocking x = x
+
+-- q is the timing of the module
 abbrev mutual
-  pub statement_checked : Scope → StatementTree → Found (Unit {0})
-  statement_checked s Null = fine
-  statement_checked s (Block l ss) = statements_checked s ss
-  statement_checked s (Assignment k t e) = done (both (target_checked s t) (checked s e))
-  statement_checked s (If c a) = done (both (checked s c) (statement_checked s a))
-  statement_checked s (IfElse c a b) = done (both (checked s c) (both (statement_checked s a) (statement_checked s b)))
-  statement_checked s (Case k e cs) = done (both (checked s e) (cases_checked s cs))
-  statement_checked s (For p h body) =
+  pub statement_checked : Timing → Scope → StatementTree → Found (Unit {0})
+  statement_checked q s Null = fine
+  statement_checked q s (Block l ss) = statements_checked q s ss
+  statement_checked q s (Assignment k t e) = delay_checked q k (done (both (target_checked s t) (checked s e)))
+  statement_checked q s (If c a) = done (both (checked s c) (statement_checked q s a))
+  statement_checked q s (IfElse c a b) = done (both (checked s c) (both (statement_checked q s a) (statement_checked q s b)))
+  statement_checked q s (Case k e cs) = done (both (checked s e) (cases_checked q s cs))
+  statement_checked q s (For p h body) =
       and_then (counter (loop_name h).at (find (loop_name h).name s)) (λ o. and_then (turns p h s o) (λ x.
-      all_turns (λ v. statement_checked (turn (loop_name h).name o v s) body) x.0))
-  statement_checked s (TaskEnable t es) = fine
-  statement_checked s (Delay p ds) = fine
+      all_turns (λ v. statement_checked q (turn (loop_name h).name o v s) body) x.0))
+  statement_checked q s (TaskEnable t es) = fine
+  statement_checked q s (Delay p ds) = fine
 
-  pub statements_checked : Scope → StatementTrees → Found (Unit {0})
-  statements_checked s no_statement = fine
-  statements_checked s (more_statements a rest) = done (both (statement_checked s a) (statements_checked s rest))
+  pub statements_checked : Timing → Scope → StatementTrees → Found (Unit {0})
+  statements_checked q s no_statement = fine
+  statements_checked q s (more_statements a rest) = done (both (statement_checked q s a) (statements_checked q s rest))
 
-  pub case_checked : Scope → CaseTree → Found (Unit {0})
-  case_checked s (Match es a) = done (both (labels_checked s es) (statement_checked s a))
-  case_checked s (Default a) = statement_checked s a
+  pub case_checked : Timing → Scope → CaseTree → Found (Unit {0})
+  case_checked q s (Match es a) = done (both (labels_checked s es) (statement_checked q s a))
+  case_checked q s (Default a) = statement_checked q s a
 
-  pub cases_checked : Scope → CaseTrees → Found (Unit {0})
-  cases_checked s no_case = fine
-  cases_checked s (more_cases c cs) = done (both (case_checked s c) (cases_checked s cs))
+  pub cases_checked : Timing → Scope → CaseTrees → Found (Unit {0})
+  cases_checked q s no_case = fine
+  cases_checked q s (more_cases c cs) = done (both (case_checked q s c) (cases_checked q s cs))
 
 -- ---- the turns of a sound loop, and its register
 
@@ -235,16 +244,21 @@ abbrev mutual
 abbrev pub values_of : Run → Values
 values_of r = read r.signals
 
-abbrev pub take_updates : AssignmentKind → List Update → Run → Run
-take_updates assignment.Blocking us r = blocking us r
-take_updates assignment.Nonblocking us r = nonblocking us r
+-- where no rule is broken a delay has steps
+abbrev pub take_updates : Timing → AssignmentKind → List Update → Run → Run
+take_updates q assignment.Blocking us r = blocking us r
+take_updates q assignment.Nonblocking us r = nonblocking 0 us r
+take_updates q (assignment.Delayed p ds) us r = nonblocking (unwrap_or (steps_of q ds) 0) us r
 
 -- in the context of the greater width, and then resized (clauses 5.4.1 and 5.6)
 abbrev pub assigned_value : ℕ → Scope → Tree → Values → List Digit
 assigned_value w s e m = resize (meaning s e (max w (width s e)) m) w
 
-abbrev pub assign : AssignmentKind → Scope → TargetTree → Tree → Run → Run
-assign k s t e r = take_updates k (updates s t (values_of r) (assigned_value (target_width s t) s e (values_of r))) r
+abbrev pub assigned_updates : Scope → TargetTree → Tree → Values → List Update
+assigned_updates s t e m = updates s t m (assigned_value (target_width s t) s e m)
+
+abbrev pub assign : Timing → AssignmentKind → Scope → TargetTree → Tree → Run → Run
+assign q k s t e r = take_updates q k (assigned_updates s t e (values_of r)) r
 
 abbrev pub agreement_of : CaseKind → Agreement
 agreement_of case_kind.Case = Exact
@@ -278,37 +292,37 @@ abbrev pub leave_counter : DataObject → List Digit → Run → Run
 leave_counter o v r = blocking (whole_update (Some o.first) v) r
 
 abbrev mutual
-  pub activation : Scope → StatementTree → Run → Run
-  activation s Null r = r
-  activation s (Block l ss) r = activations s ss r
-  activation s (Assignment k t e) r = assign k s t e r
-  activation s (If c a) r = by_truth (truth (own_value s c (values_of r))) (activation s a r) r
-  activation s (IfElse c a b) r = by_truth (truth (own_value s c (values_of r))) (activation s a r) (activation s b r)
-  activation s (Case k e cs) r =
-      chosen (agreement_of k) (meaning s e (max (width s e) (case_width s cs)) (values_of r)) (max (width s e) (case_width s cs)) s cs r (default_run s cs r)
-  activation s (For p h body) r =
+  pub activation : Timing → Scope → StatementTree → Run → Run
+  activation q s Null r = r
+  activation q s (Block l ss) r = activations q s ss r
+  activation q s (Assignment k t e) r = assign q k s t e r
+  activation q s (If c a) r = by_truth (truth (own_value s c (values_of r))) (activation q s a r) r
+  activation q s (IfElse c a b) r = by_truth (truth (own_value s c (values_of r))) (activation q s a r) (activation q s b r)
+  activation q s (Case k e cs) r =
+      chosen q (agreement_of k) (meaning s e (max (width s e) (case_width s cs)) (values_of r)) (max (width s e) (case_width s cs)) s cs r (default_run q s cs r)
+  activation q s (For p h body) r =
       with_counter (find (loop_name h).name s) (λ o. leave_counter o (known_turns (turns p h s o)).1
-      (run_turns (λ v. activation (turn (loop_name h).name o v s) body) (known_turns (turns p h s o)).0 r)) r
-  activation s (TaskEnable t es) r = r
-  activation s (Delay p ds) r = r
+      (run_turns (λ v. activation q (turn (loop_name h).name o v s) body) (known_turns (turns p h s o)).0 r)) r
+  activation q s (TaskEnable t es) r = r
+  activation q s (Delay p ds) r = r
 
-  pub activations : Scope → StatementTrees → Run → Run
-  activations s no_statement r = r
-  activations s (more_statements a rest) r = activations s rest (activation s a r)
+  pub activations : Timing → Scope → StatementTrees → Run → Run
+  activations q s no_statement r = r
+  activations q s (more_statements a rest) r = activations q s rest (activation q s a r)
 
   -- the first item with a label that agrees, else the first default (clause 9.5)
-  pub chosen : Agreement → List Digit → ℕ → Scope → CaseTrees → Run → Run → Run
-  chosen k v w s no_case r other = other
-  chosen k v w s (more_cases c cs) r other = chosen_item k v w s c r (chosen k v w s cs r other)
+  pub chosen : Timing → Agreement → List Digit → ℕ → Scope → CaseTrees → Run → Run → Run
+  chosen q k v w s no_case r other = other
+  chosen q k v w s (more_cases c cs) r other = chosen_item q k v w s c r (chosen q k v w s cs r other)
 
-  pub chosen_item : Agreement → List Digit → ℕ → Scope → CaseTree → Run → Run → Run
-  chosen_item k v w s (Match es a) r other = either_run (any_agrees k v w s es (values_of r)) (activation s a r) other
-  chosen_item k v w s (Default a) r other = other
+  pub chosen_item : Timing → Agreement → List Digit → ℕ → Scope → CaseTree → Run → Run → Run
+  chosen_item q k v w s (Match es a) r other = either_run (any_agrees k v w s es (values_of r)) (activation q s a r) other
+  chosen_item q k v w s (Default a) r other = other
 
-  pub default_run : Scope → CaseTrees → Run → Run
-  default_run s no_case r = r
-  default_run s (more_cases c cs) r = default_item s c r (default_run s cs r)
+  pub default_run : Timing → Scope → CaseTrees → Run → Run
+  default_run q s no_case r = r
+  default_run q s (more_cases c cs) r = default_item q s c r (default_run q s cs r)
 
-  pub default_item : Scope → CaseTree → Run → Run → Run
-  default_item s (Match es a) r other = other
-  default_item s (Default a) r other = activation s a r
+  pub default_item : Timing → Scope → CaseTree → Run → Run → Run
+  default_item q s (Match es a) r other = other
+  default_item q s (Default a) r other = activation q s a r

@@ -13,7 +13,7 @@ use Rattle.v_flat.specs.Scope.Scope.{nothing}
 use Rattle.v_flat.specs.Headers.{all_names, items_in, later, module_name, parameters_of, port_name, ports_of}
 use Rattle.v_flat.specs.Declarations.{Declared, Entries, Given, declarations, in_order, parameters}
 use Rattle.v_flat.specs.Paths.{Path, below}
-use Rattle.v_flat.specs.Design.{Design, Joints, Outside, State, Sub, closed, find_module, flat_design, from_top, instance, instance_checked, instance_item, item, items, module_there, modules_checked, no_design, only, place_of, plain_item, top_of, unused, used_modules, walk, walk_items, with_child}
+use Rattle.v_flat.specs.Design.{Design, Joints, Modules, Outside, State, Sub, closed, find_module, flat_design, from_top, instance, instance_checked, instance_item, item, items, module_there, modules_checked, no_design, only, place_of, plain_item, timing_of, top_of, unused, used_modules, walk, walk_items, with_child}
 use Rattle.v_flat.proofs.Holds.{holds_ended, holds_next}
 use Rattle.v_flat.proofs.ShapeLemmas.Ends.{ended_sound, holds_next_so, needs_sound}
 use Rattle.v_laws.proofs.Members.{Member}
@@ -31,15 +31,15 @@ PortsDiffer m = Differ (map port_name (ports_of m))
 
 -- in a text of the modules ms, P is known of what an instance begins with, I of the design before and behind it, and J of the state between two of its items, with what it was
 -- given, the design before it and what it declares
-pub record Steps (ms : List ModuleTree) (P : ModuleTree → Outside → Design → Type 0) (I : ModuleTree → Outside → Design → Design → Type 0)
+pub record Steps (ms : Modules) (P : ModuleTree → Outside → Design → Type 0) (I : ModuleTree → Outside → Design → Design → Type 0)
     (J : ModuleTree → Outside → Design → List Declared → State → Type 0) : Type 0 where
   pub opens : (m : ModuleTree) (path : Path) (out : Outside) (d : Design) (constants : Entries) (ds : List Declared) → P m out d
       → parameters (parameters_of m) out.given (later (all_names m)) [] ≡ Ok constants → declarations (place_of m constants d) m ≡ Ok ds
       → J m out d (in_order (ports_of m) ds) (opening m path out d (scope_of constants d (in_order (ports_of m) ds)) (in_order (ports_of m) ds))
   pub plain : (m : ModuleTree) (out : Outside) (d : Design) (ds : List Declared) (p : ℕ) (k : KindTree) (s : State) → Member (ItemAt p k) (items_in m) → J m out d ds s
-      → Holds (J m out d ds) (plain_item p k s)
+      → Holds (J m out d ds) (plain_item (timing_of ms (module_name m).name) p k s)
   pub given : (m : ModuleTree) (out : Outside) (d : Design) (ds : List Declared) (p : ℕ) (v : Option ConnectionsTree) (i : Identifier) (c : Option ConnectionsTree) (s : State)
-      (n : ModuleTree) (x : List Given × Joints) → J m out d ds s → Member n ms → instance_checked p v i c s n ≡ Sound x → PortsDiffer n → P n (outside_of s x) s.design
+      (n : ModuleTree) (x : List Given × Joints) → J m out d ds s → Member n ms.list → instance_checked p v i c s n ≡ Sound x → PortsDiffer n → P n (outside_of s x) s.design
   pub inner : (m : ModuleTree) (out : Outside) (d : Design) (ds : List Declared) (p : ℕ) (v : Option ConnectionsTree) (i : Identifier) (c : Option ConnectionsTree) (s : State)
       (n : ModuleTree) (x : List Given × Joints) (e : Design) → J m out d ds s → instance_checked p v i c s n ≡ Sound x → PortsDiffer n → I n (outside_of s x) s.design e
       → J m out d ds (with_child i.name (length s.design.nodes) x.1.driven s e)
@@ -94,7 +94,7 @@ top_member ms (Some n) m e = module_found n ms m e
 top_member ms None m e =
     filtered_member (λ k. not (list_any (bytes_eq (module_name k).name) (used_modules ms))) m ms (only_member (unused (used_modules ms) ms) m e)
 
-module _ (ms : List ModuleTree) (P : ModuleTree → Outside → Design → Type 0) (I : ModuleTree → Outside → Design → Design → Type 0) (J : ModuleTree → Outside → Design → List Declared → State → Type 0) (steps : Steps ms P I J) where
+module _ (ms : Modules) (P : ModuleTree → Outside → Design → Type 0) (I : ModuleTree → Outside → Design → Design → Type 0) (J : ModuleTree → Outside → Design → List Declared → State → Type 0) (steps : Steps ms P I J) where
   abbrev Walked : ModuleTree → Outside → Design → Design → Type 0
   Walked m out d e = PortsDiffer m × I m out d e
 
@@ -107,7 +107,7 @@ module _ (ms : List ModuleTree) (P : ModuleTree → Outside → Design → Type 
     instance_holds : (p : ℕ) (m : Identifier) (v : Option ConnectionsTree) (i : Identifier) (c : Option ConnectionsTree) (s : State) → J own out d ds s
         → HoldsOk (J own out d ds) (instance_item sub room ms above path p m v i c s)
     instance_holds p m v i c s h =
-        holds_next_so (J own out d ds) (ended (module_there m room above s.design (find_module m.name ms))) (λ inner.
+        holds_next_so (J own out d ds) (ended (module_there m room above s.design (find_module m.name ms.list))) (λ inner.
         next (ended (instance_checked p v i c s inner)) (λ x.
         next (sub (m.name ∷ above) inner (below path i.name) (record { given = x.0; scope = s.scope; joints = x.1.list }) s.design) (λ e.
         Ok (with_child i.name (length s.design.nodes) x.1.driven s e))))
@@ -117,15 +117,15 @@ module _ (ms : List ModuleTree) (P : ModuleTree → Outside → Design → Type 
         (λ x checks. holds_next (Walked inner (outside_of s x) s.design) (J own out d ds)
         (sub (m.name ∷ above) inner (below path i.name) (record { given = x.0; scope = s.scope; joints = x.1.list }) s.design)
         (λ e. Ok (with_child i.name (length s.design.nodes) x.1.driven s e))
-        (good (room_there m room above s.design (find_module m.name ms) inner is) (m.name ∷ above) inner (below path i.name) (outside_of s x) s.design
+        (good (room_there m room above s.design (find_module m.name ms.list) inner is) (m.name ∷ above) inner (below path i.name) (outside_of s x) s.design
         (λ apart. steps.given own out d ds p v i c s inner x h
-        (module_found m.name ms inner (module_is m room above s.design (find_module m.name ms) inner is)) (ended_sound (instance_checked p v i c s inner) x checks) apart))
+        (module_found m.name ms.list inner (module_is m room above s.design (find_module m.name ms.list) inner is)) (ended_sound (instance_checked p v i c s inner) x checks) apart))
         (λ e k. steps.inner own out d ds p v i c s inner x e h (ended_sound (instance_checked p v i c s inner) x checks) k.0 k.1)))
 
-    plain_holds : (p : ℕ) (k : KindTree) (s : State) → Member (ItemAt p k) (items_in own) → J own out d ds s → HoldsOk (J own out d ds) (ended (plain_item p k s))
-    plain_holds p k s here h = holds_ended (J own out d ds) (plain_item p k s) (steps.plain own out d ds p k s here h)
+    plain_holds : (p : ℕ) (k : KindTree) (s : State) → Member (ItemAt p k) (items_in own) → J own out d ds s → HoldsOk (J own out d ds) (ended (plain_item (timing_of ms (module_name own).name) p k s))
+    plain_holds p k s here h = holds_ended (J own out d ds) (plain_item (timing_of ms (module_name own).name) p k s) (steps.plain own out d ds p k s here h)
 
-    item_holds : (i : ItemTree) (s : State) → Member i (items_in own) → J own out d ds s → HoldsOk (J own out d ds) (item sub room ms above path i s)
+    item_holds : (i : ItemTree) (s : State) → Member i (items_in own) → J own out d ds s → HoldsOk (J own out d ds) (item (timing_of ms (module_name own).name) sub room ms above path i s)
     item_holds (ItemAt p (Instance m v i c)) s here h = instance_holds p m v i c s h
     item_holds (ItemAt p (Nets r ns)) s here h = plain_holds p (Nets r ns) s here h
     item_holds (ItemAt p (Registers r rs)) s here h = plain_holds p (Registers r rs) s here h
@@ -136,10 +136,10 @@ module _ (ms : List ModuleTree) (P : ModuleTree → Outside → Design → Type 
     item_holds (ItemAt p (Integers is)) s here h = plain_holds p (Integers is) s here h
     item_holds (ItemAt p (Parameters k r ps)) s here h = plain_holds p (Parameters k r ps) s here h
 
-    items_hold : (is : List ItemTree) (s : State) → ((i : ItemTree) → Member i is → Member i (items_in own)) → J own out d ds s → HoldsOk (J own out d ds) (items sub room ms above path is s)
+    items_hold : (is : List ItemTree) (s : State) → ((i : ItemTree) → Member i is → Member i (items_in own)) → J own out d ds s → HoldsOk (J own out d ds) (items (timing_of ms (module_name own).name) sub room ms above path is s)
     items_hold [] s among h = h
     items_hold (i ∷ is) s among h =
-        holds_next (J own out d ds) (J own out d ds) (item sub room ms above path i s) (items sub room ms above path is) (item_holds i s (among i (inl refl)) h) (λ t k. items_hold is t (λ j m. among j (inr m)) k)
+        holds_next (J own out d ds) (J own out d ds) (item (timing_of ms (module_name own).name) sub room ms above path i s) (items (timing_of ms (module_name own).name) sub room ms above path is) (item_holds i s (among i (inl refl)) h) (λ t k. items_hold is t (λ j m. among j (inr m)) k)
 
   instance_walk : (sub : Sub) (room : ℕ) → Good sub room → (above : List (List ℕ)) (m : ModuleTree) (path : Path) (out : Outside) (d : Design) → (PortsDiffer m → P m out d)
       → HoldsOk (Walked m out d) (instance sub room ms above m path out d)
@@ -150,7 +150,7 @@ module _ (ms : List ModuleTree) (P : ModuleTree → Outside → Design → Type 
       (λ constants e. holds_next_so (Walked m out d) (declarations (place_of m constants d) m) (λ ds.
       walk_items sub room ms above m path out d (scope_of constants d (in_order (ports_of m) ds)) (in_order (ports_of m) ds))
       (λ ds is. holds_next (J m out d (in_order (ports_of m) ds)) (Walked m out d)
-      (items sub room ms above path (items_in m) (opening m path out d (scope_of constants d (in_order (ports_of m) ds)) (in_order (ports_of m) ds)))
+      (items (timing_of ms (module_name m).name) sub room ms above path (items_in m) (opening m path out d (scope_of constants d (in_order (ports_of m) ds)) (in_order (ports_of m) ds)))
       (λ t. Ok (closed path (length d.nodes) t))
       (items_hold sub room good above path m out d (in_order (ports_of m) ds) (items_in m) (opening m path out d (scope_of constants d (in_order (ports_of m) ds)) (in_order (ports_of m) ds))
       (λ i here. here) (steps.opens m path out d constants ds (h (ports_apart (place_of m constants d) m ds is)) e is))
@@ -163,8 +163,8 @@ module _ (ms : List ModuleTree) (P : ModuleTree → Outside → Design → Type 
   walk_holds (suc room) above m path out d h =
       instance_walk (walk ms room) (suc room) (λ t a n q o e k. walk_holds room a n q o e k) above m path out d h
 
-  top_holds : (Q : Design → Type 0) → ((m : ModuleTree) → Member m ms → P m (record { given = []; scope = nothing; joints = [] }) no_design)
-      → ((m : ModuleTree) (out : Outside) (e : Design) → I m out no_design e → Q e) → (top : Option ModuleTree) → ((m : ModuleTree) → top ≡ Some m → Member m ms) → HoldsOk Q (from_top ms top)
+  top_holds : (Q : Design → Type 0) → ((m : ModuleTree) → Member m ms.list → P m (record { given = []; scope = nothing; joints = [] }) no_design)
+      → ((m : ModuleTree) (out : Outside) (e : Design) → I m out no_design e → Q e) → (top : Option ModuleTree) → ((m : ModuleTree) → top ≡ Some m → Member m ms.list) → HoldsOk Q (from_top ms top)
   top_holds Q begins ends None among = tt
   top_holds Q begins ends (Some m) among =
       holds_ok_of (Walked m (record { given = []; scope = nothing; joints = [] }) no_design) Q (walk ms 64 ((module_name m).name ∷ []) m ((module_name m).name ∷ []) (record { given = []; scope = nothing; joints = [] }) no_design)
@@ -176,7 +176,7 @@ module _ (ms : List ModuleTree) (P : ModuleTree → Outside → Design → Type 
       holds_ok_of A B (Err b) h f = tt
 
   -- what follows of the design behind the top follows of the design of a text
-  pub design_holds : (Q : Design → Type 0) → ((m : ModuleTree) → Member m ms → P m (record { given = []; scope = nothing; joints = [] }) no_design)
+  pub design_holds : (Q : Design → Type 0) → ((m : ModuleTree) → Member m ms.list → P m (record { given = []; scope = nothing; joints = [] }) no_design)
       → ((m : ModuleTree) (out : Outside) (e : Design) → I m out no_design e → Q e) → (top : Option (List ℕ)) → HoldsOk Q (flat_design ms top)
   design_holds Q begins ends top =
-      holds_next_so Q (modules_checked [] ms) (λ u. from_top ms (top_of ms top)) (λ u e. top_holds Q begins ends (top_of ms top) (λ m f. top_member ms top m f))
+      holds_next_so Q (modules_checked [] ms.list) (λ u. from_top ms (top_of ms.list top)) (λ u e. top_holds Q begins ends (top_of ms.list top) (λ m f. top_member ms.list top m f))

@@ -8,7 +8,7 @@ use Rattle.four_value.specs.declared.Digit.{Digit}
 use Rattle.four_value.specs.Vector.{resize}
 use Rattle.gpi.specs.declared.design.Kind.TheVariants as process_kind
 use Rattle.gpi.specs.declared.types.Update.{Update}
-use Rattle.gpi.specs.Activation.{Map, Run, all_applied}
+use Rattle.gpi.specs.Activation.{Map, blocking}
 use Rattle.gpi.specs.Targets.{whole_update}
 use Rattle.gpi.specs.Terms.{read}
 use Rattle.v_syntax.specs.ExpressionTrees.{Tree, Number, Named, Bracketed, Unary, Binary, Conditional, Concatenation, Replication, SelectsTree, Whole, One, OfWord, SelectTree, Bit, Part, IndexedPart, Trees, none, more, TargetTree, NamedTarget, JoinedTarget, TargetTrees, no_target, more_targets}
@@ -20,12 +20,13 @@ use Rattle.v_flat.specs.Scope.Scope.{Scope, find, width_of}
 use Rattle.v_flat.specs.Objects.{count_of}
 use Rattle.v_flat.specs.Expressions.{width}
 use Rattle.v_flat.specs.Targets.{target_width, updates}
+use Rattle.v_flat.specs.declared.timing.Timing.{Timing}
 use Rattle.v_flat.specs.Statements.{Span, all_read, assigned_value, case_read, cases_read, known_turns, labels_read, loop_name, name_read, read_in_turns, reads, select_read, selects_read, statement_checked, statement_reads, statements_read, target_read, targets_read, turn, turns, with_counter}
-use Rattle.v_flat.specs.Design.{Design, always, any_change, assigning, input_run, is_read, output_run, running, wakes_of}
+use Rattle.v_flat.specs.Design.{Design, always, any_change, assigning, from, input_run, is_read, output_run, running, wakes_of}
 use Rattle.v_flat.proofs.Holds.{holds_each}
-use Rattle.v_laws.specs.Reads.{AddsWaiting, AgreeOn, Implicit_controls_wait_for_enough, IsAwaited, Lies, Settled, Suffices, WaitsForEnough}
+use Rattle.v_laws.specs.Reads.{AddsWaiting, AgreeOn, Implicit_controls_wait_for_enough, IsAwaited, IsSettled, Lies, Suffices, WaitsForEnough}
 use Rattle.v_laws.proofs.Members.{Member}
-use Rattle.v_laws.proofs.Settled.{statements_read_enough}
+use Rattle.v_laws.proofs.Settled.{made_apart, statements_read_enough}
 use Rattle.v_laws.proofs.Steady.{Steady}
 use Rattle.v_laws.proofs.Sufficient.{is_in}
 
@@ -173,51 +174,49 @@ agree_awaited xs d m n low h k e = h k (awaited xs d k (low k e) e)
 
 -- ---- processes
 
-abbrev run_of : Map → List Update → Run
-run_of m us = record { signals = m; updates = us }
-
 module _ (s : Scope) (d : Design) (lies : Lies s (length d.signals)) where
   pub assigning_waits : (t : TargetTree) (e : Tree) → Steady s t → Suffices s e → WaitsForEnough (assigning s t e d)
-  assigning_waits t e f g m = record {
+  assigning_waits t e f g m h = record {
     at_once = updates s t (read m) (assigned_value (target_width s t) s e (read m));
     later = [];
-    same = λ n l a. ap (λ (us : List Update). run_of (all_applied us n) []) (
+    same = λ n i l a same. ap (λ (us : List Update). blocking us (from n i)) (
         f (read n) (read m) (assigned_value (target_width s t) s e (read n))
         ∙ ap (λ (ds : List Digit). updates s t (read m) (resize ds (target_width s t)))
         (sym (g (max (target_width s t) (width s e)) (read m) (read n) (agree_awaited (reads s e) d m n (reads_low (length d.signals) s lies e) a)))
-        );
+        ) ∙ made_apart (updates s t (read m) (assigned_value (target_width s t) s e (read m))) [] (from n i);
   }
 
   pub input_waits : (o : DataObject) (e : Tree) → Suffices s e → WaitsForEnough (record { kind = process_kind.Assign; wakes = wakes_of (reads s e) d; run = input_run s o e })
-  input_waits o e g m = record {
+  input_waits o e g m h = record {
     at_once = whole_update (Some o.first) (assigned_value (width_of o.bounds) s e (read m));
     later = [];
-    same = λ n l a. ap (λ (ds : List Digit). run_of (all_applied (whole_update (Some o.first) (resize ds (width_of o.bounds))) n) [])
-        (sym (g (max (width_of o.bounds) (width s e)) (read m) (read n) (agree_awaited (reads s e) d m n (reads_low (length d.signals) s lies e) a)));
+    same = λ n i l a same. ap (λ (ds : List Digit). blocking (whole_update (Some o.first) (resize ds (width_of o.bounds))) (from n i))
+        (sym (g (max (width_of o.bounds) (width s e)) (read m) (read n) (agree_awaited (reads s e) d m n (reads_low (length d.signals) s lies e) a)))
+        ∙ made_apart (whole_update (Some o.first) (assigned_value (width_of o.bounds) s e (read m))) [] (from n i);
   }
 
-  pub implicit_waits : (a : StatementTree) → ((m : Map) → Settled s a m)
-      → WaitsForEnough (record { kind = process_kind.Always; wakes = wakes_of (statement_reads s a) d; run = running s a })
-  implicit_waits a h m =
-      let x = h m in
-      record { at_once = x.at_once; later = x.later; same = λ n l k. x.same n (l, agree_awaited (statement_reads s a) d m n (statement_low (length d.signals) s lies a) k) }
+  pub implicit_waits : (timing : Timing) (a : StatementTree) → IsSettled timing s a
+      → WaitsForEnough (record { kind = process_kind.Always; wakes = wakes_of (statement_reads s a) d; run = running timing s a })
+  implicit_waits timing a settled m h =
+      let x = settled m h in
+      record { at_once = x.at_once; later = x.later; same = λ n g l k same. x.same n g (l, agree_awaited (statement_reads s a) d m n (statement_low (length d.signals) s lies a) k) same }
 
 pub output_waits : (s : Scope) (o : DataObject) (t : TargetTree) → Steady s t → WaitsForEnough (record { kind = process_kind.Assign; wakes = any_change o.first ∷ []; run = output_run s o t })
-output_waits s o t f m = record {
+output_waits s o t f m h = record {
   at_once = updates s t (read m) (resize (read m o.first) (target_width s t));
   later = [];
-  same = λ n l a. ap (λ (us : List Update). run_of (all_applied us n) []) (
+  same = λ n i l a same. ap (λ (us : List Update). blocking us (from n i)) (
       f (read n) (read m) (resize (read n o.first) (target_width s t))
       ∙ ap (λ (ds : List Digit). updates s t (read m) (resize ds (target_width s t))) (sym (a o.first (inl (refl, refl))))
-      );
+      ) ∙ made_apart (updates s t (read m) (resize (read m o.first) (target_width s t))) [] (from n i);
 }
 
 pub implicit_controls_wait : Implicit_controls_wait_for_enough
-implicit_controls_wait s a lies =
-    holds_each (λ (u : Unit {0}). (m : Map) → Settled s.scope a m) (AddsWaiting s) (λ u. always (wakes_of (statement_reads s.scope a) s.design) a s) (statement_checked s.scope a)
-    (statements_read_enough s.scope a)
+implicit_controls_wait timing s a lies =
+    holds_each (λ (u : Unit {0}). IsSettled timing s.scope a) (AddsWaiting s) (λ u. always timing (wakes_of (statement_reads s.scope a) s.design) a s) (statement_checked timing s.scope a)
+    (statements_read_enough timing s.scope a)
     (λ u h. record {
-      process = record { kind = process_kind.Always; wakes = wakes_of (statement_reads s.scope a) s.design; run = running s.scope a };
+      process = record { kind = process_kind.Always; wakes = wakes_of (statement_reads s.scope a) s.design; run = running timing s.scope a };
       added = refl;
-      waits = implicit_waits s.scope s.design lies a h;
+      waits = implicit_waits s.scope s.design lies timing a h;
     })

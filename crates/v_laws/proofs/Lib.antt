@@ -12,6 +12,7 @@ pub mod Joined
 pub mod Opening
 pub mod Once
 pub mod Names
+pub mod Delays
 pub mod Least
 pub mod Counted
 pub mod Procedures

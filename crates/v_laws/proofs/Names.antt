@@ -286,7 +286,7 @@ closes_behind path d ds t h = record {
 name_steps : Steps Starts Behind Amid
 name_steps = record {
   opens = λ m path out d constants ds h e. opens_amid m path out d constants (in_order (ports_of m) ds) h (good_in_order (place_of m constants d) m ds h.short e);
-  plain = λ path d ds p k s h. plain_holds (Amid path d ds) p k s (λ t keeps. kept_amid path d ds s t h keeps);
+  plain = λ timing path d ds p k s h. plain_holds (Amid path d ds) timing p k s (λ t keeps. kept_amid path d ds s t h keeps);
   given = λ path d ds p v i c s m x h few e. h.fit;
   inner = λ path d ds i driven s e h few is b. inner_amid path d ds i driven s e h is b;
   closes = closes_behind;

@@ -18,11 +18,12 @@ use Rattle.v_flat.specs.Scope.Found.{Holds, both, wants, HoldsOk}
 use Rattle.v_flat.specs.Scope.Limits.{most_parts}
 use Rattle.v_flat.specs.Checks.{checked}
 use Rattle.v_flat.specs.Targets.{Drive, driving, target_width, updates}
+use Rattle.v_flat.specs.declared.timing.Timing.{Timing}
 use Rattle.v_flat.specs.Statements.{assigned_value, reads, statement_checked, statement_reads}
-use Rattle.v_flat.specs.Headers.{Port, all_names, later, parameters_of, ports_of}
+use Rattle.v_flat.specs.Headers.{module_name, Port, all_names, later, parameters_of, ports_of}
 use Rattle.v_flat.specs.Declarations.{Declared, Entries, Given, declarations, in_order, parameters, signals_in}
 use Rattle.v_flat.specs.Paths.{Path}
-use Rattle.v_flat.specs.Design.{Design, Joints, Outside, State, adding, all_signals, always, always_item, assigning, beginning, closed, driver, events_of, in_turn, initial_item, instance_checked, net, net_count, opened, place_of, plain_item, port_joints, register, register_count, running, wakes_of, whole_of, with_child, flat_design}
+use Rattle.v_flat.specs.Design.{Design, Joints, Modules, Outside, State, adding, all_signals, always, always_item, assigning, beginning, closed, driver, events_of, flat_design, in_turn, initial_item, instance_checked, net, net_count, opened, place_of, plain_item, port_joints, register, register_count, running, timing_of, wakes_of, whole_of, with_child}
 use Rattle.v_flat.proofs.Holds.{holds_any, holds_both, holds_each, holds_then, holds_wants}
 use Rattle.v_flat.proofs.ShapeLemmas.Kept.{joints_keep}
 use Rattle.v_flat.proofs.ShapeLemmas.Signals.{all_many}
@@ -178,32 +179,32 @@ module _ (m : ModuleTree) (out : Outside) (d : Design) (ds : List Declared) wher
   turn_amid f [] s g h = h
   turn_amid f (x ∷ rest) s g h = holds_then (Amid m out d ds) (Amid m out d ds) (f x s) (in_turn f rest) (g x s h) (λ t k. turn_amid f rest t g k)
 
-  always_amid : (c : ControlTree) (b : StatementTree) (s : State) → Amid m out d ds s → Holds (Amid m out d ds) (always_item c b s)
-  always_amid Implicit b s h =
-      holds_each (λ (u : Unit {0}). Unit {0}) (Amid m out d ds) (λ u. always (wakes_of (statement_reads s.scope b) s.design) b s) (statement_checked s.scope b) (holds_any (statement_checked s.scope b))
-      (λ x u. adds_other s (record { kind = process_kind.Always; wakes = wakes_of (statement_reads s.scope b) s.design; run = running s.scope b }) (λ f. cc) h)
-  always_amid (Events es) b s h =
-      holds_each (λ (x : List Wake × Unit {0}). Unit {0}) (Amid m out d ds) (λ x. always x.0 b s) (both (events_of s.scope es) (statement_checked s.scope b)) (holds_any (both (events_of s.scope es) (statement_checked s.scope b)))
-      (λ x u. adds_other s (record { kind = process_kind.Always; wakes = x.0; run = running s.scope b }) (λ f. cc) h)
+  always_amid : (timing : Timing) (c : ControlTree) (b : StatementTree) (s : State) → Amid m out d ds s → Holds (Amid m out d ds) (always_item timing c b s)
+  always_amid timing Implicit b s h =
+      holds_each (λ (u : Unit {0}). Unit {0}) (Amid m out d ds) (λ u. always timing (wakes_of (statement_reads s.scope b) s.design) b s) (statement_checked timing s.scope b) (holds_any (statement_checked timing s.scope b))
+      (λ x u. adds_other s (record { kind = process_kind.Always; wakes = wakes_of (statement_reads s.scope b) s.design; run = running timing s.scope b }) (λ f. cc) h)
+  always_amid timing (Events es) b s h =
+      holds_each (λ (x : List Wake × Unit {0}). Unit {0}) (Amid m out d ds) (λ x. always timing x.0 b s) (both (events_of s.scope es) (statement_checked timing s.scope b)) (holds_any (both (events_of s.scope es) (statement_checked timing s.scope b)))
+      (λ x u. adds_other s (record { kind = process_kind.Always; wakes = x.0; run = running timing s.scope b }) (λ f. cc) h)
 
-  initial_amid : (b : StatementTree) (s : State) → Amid m out d ds s → Holds (Amid m out d ds) (initial_item b s)
-  initial_amid b s h =
-      holds_each (λ (u : Unit {0}). Unit {0}) (Amid m out d ds) (λ u. adding (record { kind = process_kind.Initial; wakes = []; run = running s.scope b }) s.driven s) (statement_checked s.scope b) (holds_any (statement_checked s.scope b))
-      (λ x u. adds_other s (record { kind = process_kind.Initial; wakes = []; run = running s.scope b }) (λ f. cc) h)
+  initial_amid : (timing : Timing) (b : StatementTree) (s : State) → Amid m out d ds s → Holds (Amid m out d ds) (initial_item timing b s)
+  initial_amid timing b s h =
+      holds_each (λ (u : Unit {0}). Unit {0}) (Amid m out d ds) (λ u. adding (record { kind = process_kind.Initial; wakes = []; run = running timing s.scope b }) s.driven s) (statement_checked timing s.scope b) (holds_any (statement_checked timing s.scope b))
+      (λ x u. adds_other s (record { kind = process_kind.Initial; wakes = []; run = running timing s.scope b }) (λ f. cc) h)
 
   room_amid : (p n : ℕ) (s : State) (x : Found State) → Holds (Amid m out d ds) x → Holds (Amid m out d ds) (wants (nat_le (length s.design.processes + n) most_parts) rule.TooMany p x)
   room_amid p n s x h = holds_wants (Amid m out d ds) (nat_le (length s.design.processes + n) most_parts) rule.TooMany p x (λ u. h)
 
-  plain_amid : (p : ℕ) (k : KindTree) (s : State) → Amid m out d ds s → Holds (Amid m out d ds) (plain_item p k s)
-  plain_amid p (Nets r ns) s h = room_amid p (net_count ns) s (in_turn net ns s) (turn_amid net ns s net_amid h)
-  plain_amid p (Registers r rs) s h = room_amid p (register_count rs) s (in_turn register rs s) (turn_amid register rs s register_amid h)
-  plain_amid p (Drivers xs) s h = room_amid p (length xs) s (in_turn driver xs s) (turn_amid driver xs s driver_amid h)
-  plain_amid p (Always c b) s h = room_amid p 1 s (always_item c b s) (always_amid c b s h)
-  plain_amid p (Initial b) s h = room_amid p 1 s (initial_item b s) (initial_amid b s h)
-  plain_amid p (Ports q is) s h = h
-  plain_amid p (Integers is) s h = h
-  plain_amid p (Parameters q r ps) s h = h
-  plain_amid p (Instance n v i c) s h = h
+  plain_amid : (timing : Timing) (p : ℕ) (k : KindTree) (s : State) → Amid m out d ds s → Holds (Amid m out d ds) (plain_item timing p k s)
+  plain_amid timing p (Nets r ns) s h = room_amid p (net_count ns) s (in_turn net ns s) (turn_amid net ns s net_amid h)
+  plain_amid timing p (Registers r rs) s h = room_amid p (register_count rs) s (in_turn register rs s) (turn_amid register rs s register_amid h)
+  plain_amid timing p (Drivers xs) s h = room_amid p (length xs) s (in_turn driver xs s) (turn_amid driver xs s driver_amid h)
+  plain_amid timing p (Always c b) s h = room_amid p 1 s (always_item timing c b s) (always_amid timing c b s h)
+  plain_amid timing p (Initial b) s h = room_amid p 1 s (initial_item timing b s) (initial_amid timing b s h)
+  plain_amid timing p (Ports q is) s h = h
+  plain_amid timing p (Integers is) s h = h
+  plain_amid timing p (Parameters q r ps) s h = h
+  plain_amid timing p (Instance n v i c) s h = h
 
   -- ---- instances
 
@@ -304,10 +305,10 @@ module _ (m : ModuleTree) (path : Path) (out : Outside) (d : Design) (constants 
 
 -- ---- the whole
 
-once_steps : (ms : List ModuleTree) → Steps ms Starts Behind Amid
+once_steps : (ms : Modules) → Steps ms Starts Behind Amid
 once_steps ms = record {
   opens = λ m path out d constants ds h first second. opens_amid m path out d constants ds h first second;
-  plain = λ m out d ds p k s here h. plain_amid m out d ds p k s h;
+  plain = λ m out d ds p k s here h. plain_amid m out d ds (timing_of ms (module_name m).name) p k s h;
   given = λ m out d ds p v i c s n x h among e apart. given_starts m out d ds s n x h (joined_in m out d ds p v i c s n x h e apart);
   inner = λ m out d ds p v i c s n x e h f apart b. inner_amid m out d ds i s n x e h (joined_in m out d ds p v i c s n x h f apart) b;
   closes = λ m path out d ds t h. closes_behind m out d ds path t h;
@@ -318,7 +319,7 @@ abbrev pub OneAssignment : Design → Type 0
 OneAssignment d = (i j : ℕ) (p q : Proc) (n k : ℕ) → slice_get d.processes i ≡ Some p → slice_get d.processes j ≡ Some q → p.kind ≡ process_kind.Assign → q.kind ≡ process_kind.Assign
     → Changes p n k → Changes q n k → i ≡ j
 
-pub one_assignment : (ms : List ModuleTree) (top : Option (List ℕ)) → HoldsOk OneAssignment (flat_design ms top)
+pub one_assignment : (ms : Modules) (top : Option (List ℕ)) → HoldsOk OneAssignment (flat_design ms top)
 one_assignment ms top =
     design_holds ms Starts Behind Amid (once_steps ms) OneAssignment
     (λ m among. record {

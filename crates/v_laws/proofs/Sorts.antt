@@ -9,7 +9,7 @@ use Rattle.gpi.specs.declared.design.Kind.{Kind}
 use Rattle.gpi.specs.declared.design.Kind.TheVariants as process_kind
 use Rattle.gpi.specs.declared.design.Wake.{Wake}
 use Rattle.gpi.specs.declared.types.Update.{Update}
-use Rattle.gpi.specs.Activation.{Map}
+use Rattle.gpi.specs.Activation.{Hidden, Map}
 use Rattle.gpi.specs.Design.{Proc}
 use Rattle.gpi.specs.Targets.{whole_update}
 use Rattle.gpi.specs.Terms.{read}
@@ -35,18 +35,19 @@ use Rattle.v_flat.specs.Scope.Scope.{Scope, find, low_of, width_of}
 use Rattle.v_flat.specs.Objects.{count_of}
 use Rattle.v_flat.specs.Checks.{checked}
 use Rattle.v_flat.specs.Targets.{Drive, as_target, driving, name_update, object_update, target_width, updates}
+use Rattle.v_flat.specs.declared.timing.Timing.{Timing}
 use Rattle.v_flat.specs.Statements.{activation, assigned_value, reads, statement_checked, statement_reads}
-use Rattle.v_flat.specs.Headers.{Port, all_names, items_in, later, parameters_of, ports_of}
+use Rattle.v_flat.specs.Headers.{module_name, Port, all_names, items_in, later, parameters_of, ports_of}
 use Rattle.v_flat.specs.Declarations.{Declared, Entries, Given, declarations, in_order, parameters}
 use Rattle.v_flat.specs.Paths.{Path, SignalAt, below}
-use Rattle.v_flat.specs.Design.{Design, Joint, Joints, Outside, State, adding, all_signals, always, always_item, any_change, assigning, beginning, driver, events_of, find_joint, flat_design, from, in_turn, initial_item, input_joint, input_run, net, net_count, object_of, opened, output_run, output_target, place_of, plain_item, port_joint, port_joints, register, register_count, running, signals_of, start_of, wakes_of, whole_of, with_child, word_signals}
+use Rattle.v_flat.specs.Design.{Design, Joint, Joints, Modules, Outside, State, adding, all_signals, always, always_item, any_change, assigning, beginning, driver, events_of, find_joint, flat_design, from, in_turn, initial_item, input_joint, input_run, net, net_count, object_of, opened, output_run, output_target, place_of, plain_item, port_joint, port_joints, register, register_count, running, signals_of, start_of, timing_of, wakes_of, whole_of, with_child, word_signals}
 use Rattle.v_flat.proofs.Holds.{holds_any, holds_both, holds_each, holds_then, holds_wants}
 use Rattle.v_flat.proofs.ShapeLemmas.Kept.{joints_keep}
 use Rattle.v_flat.proofs.ShapeLemmas.Walk.{opening, scope_of}
 use Rattle.v_laws.specs.Digits.{Changes, Gives, IsDriven, IsWritten, Leaves}
 use Rattle.v_laws.specs.Drivers.{NetsHaveNoWords, One_driver, Processes_keep_to_their_kind, start_for}
 use Rattle.v_laws.proofs.Along.{Steps, design_holds, outside_of}
-use Rattle.v_laws.proofs.Applied.{changed_written, updating}
+use Rattle.v_laws.proofs.Applied.{blocking_leaves, changed_written, updating}
 use Rattle.v_laws.proofs.Directions.{ArePlain, HasDirection, directed, plain_declared}
 use Rattle.v_laws.proofs.Driven.{IsNet, driving_goes}
 use Rattle.v_laws.proofs.Found.{of_ok}
@@ -141,11 +142,14 @@ all_more ss ps p h k q m = go (member_both q ps (p ∷ []) m)
 
 -- a process that makes updates at once
 updates_keep : (ss : List SignalAt) (kind : Kind) (wakes : List Wake) (us : Map → List Update) → ((m : Map) (n k : ℕ) → IsWritten (us m) n k → IsSort ss n (start_for kind)) → KeepsTo ss (updating kind wakes us)
-updates_keep ss kind wakes us f = record { sort = λ n k g. go n k g; at_once = λ e n k l. l.written }
+updates_keep ss kind wakes us f = record { sort = λ n k g. go n k g; at_once = λ e n k l. none n k l }
   where
+    none : (n k : ℕ) → Leaves (updating kind wakes us) n k → ⊥
+    none n k l = subst (λ (vs : List Update). IsWritten vs n k) (blocking_leaves (us l.map) (from l.map l.hidden)) l.written
+
     go : (n k : ℕ) → Gives (updating kind wakes us) n k → IsSort ss n (start_for kind)
     go n k (inl c) = let w = changed_written kind wakes us n k c in f w.0 n k w.1
-    go n k (inr l) = absurd l.written
+    go n k (inr l) = absurd (none n k l)
 
 -- ---- the assignments of connected ports
 
@@ -305,8 +309,8 @@ module _ (m : ModuleTree) (out : Outside) (d : Design) (ds : List Declared) wher
   turn_amid f (x ∷ rest) s g h = holds_then (Amid m out d ds) (Amid m out d ds) (f x s) (in_turn f rest) (g x (inl refl) s h) (λ t k. turn_amid f rest t (λ y m. g y (inr m)) k)
 
   -- a procedure
-  body_keeps : (s : State) → Amid m out d ds s → (kind : Kind) (ws : List Wake) (b : StatementTree) → start_for kind ≡ X → (kind ≡ process_kind.Assign → ⊥) → Holds (λ (u : Unit {0}). KeepsTo s.design.signals (record { kind = kind; wakes = ws; run = running s.scope b })) (statement_checked s.scope b)
-  body_keeps s h kind ws b e not = weaker (statement_checked s.scope b) (statement_keeps (λ n. IsSort s.design.signals n X) s.scope registers b)
+  body_keeps : (timing : Timing) (s : State) → Amid m out d ds s → (kind : Kind) (ws : List Wake) (b : StatementTree) → start_for kind ≡ X → (kind ≡ process_kind.Assign → ⊥) → Holds (λ (u : Unit {0}). KeepsTo s.design.signals (record { kind = kind; wakes = ws; run = running timing s.scope b })) (statement_checked timing s.scope b)
+  body_keeps timing s h kind ws b e not = weaker (statement_checked timing s.scope b) (statement_keeps (λ n. IsSort s.design.signals n X) timing s.scope registers b)
     where
       registers : (name : List ℕ) (o : DataObject) (n : ℕ) → find name s.scope ≡ Some (Object o) → o.kind ≡ Register → o.first ≤ n → n < o.first + count_of o.words → IsSort s.design.signals n X
       registers name o n f k l u = subst (λ (x : DataKind). IsSort s.design.signals n (start_of x)) k (h.places name o n (h.scope name o f) l u)
@@ -315,63 +319,63 @@ module _ (m : ModuleTree) (out : Outside) (d : Design) (ds : List Declared) wher
       written n k (inl w) = absurd w
       written n k (inr q) = q
 
-      changed : (n k : ℕ) → ((r : Map) → Only (λ n. IsSort s.design.signals n X) (from r) (activation s.scope b (from r))) → Changes (record { kind = kind; wakes = ws; run = running s.scope b }) n k
+      changed : (n k : ℕ) → ((r : Map) (q : Hidden) → Only (λ n. IsSort s.design.signals n X) (from r q) (activation timing s.scope b (from r q))) → Changes (record { kind = kind; wakes = ws; run = running timing s.scope b }) n k
           → IsSort s.design.signals n X ⊎ (IsSort s.design.signals n X → ⊥) → IsSort s.design.signals n X
       changed n k f c (inl q) = q
-      changed n k f c (inr q) = absurd (c.after ((f c.map).signals n k c.digit q c.before))
+      changed n k f c (inr q) = absurd (c.after ((f c.map c.hidden).signals n k c.digit q c.before))
 
-      gives : ((r : Map) → Only (λ n. IsSort s.design.signals n X) (from r) (activation s.scope b (from r))) → (n k : ℕ) → Gives (record { kind = kind; wakes = ws; run = running s.scope b }) n k → IsSort s.design.signals n X
+      gives : ((r : Map) (q : Hidden) → Only (λ n. IsSort s.design.signals n X) (from r q) (activation timing s.scope b (from r q))) → (n k : ℕ) → Gives (record { kind = kind; wakes = ws; run = running timing s.scope b }) n k → IsSort s.design.signals n X
       gives f n k (inl c) = changed n k f c (sort_or_not s.design.signals n)
-      gives f n k (inr l) = written n k ((f l.map).updates n k l.written)
+      gives f n k (inr l) = written n k ((f l.map l.hidden).updates n k l.written)
 
-      weaker : (x : Found (Unit {0})) → Holds (λ (u : Unit {0}). (r : _) → Only (λ n. IsSort s.design.signals n X) r (activation s.scope b r)) x
-          → Holds (λ (u : Unit {0}). KeepsTo s.design.signals (record { kind = kind; wakes = ws; run = running s.scope b })) x
-      weaker (Sound u) f = record { sort = λ n k g. subst (λ digit. IsSort s.design.signals n digit) (sym e) (gives (λ r. f (from r)) n k g); at_once = λ a. absurd (not a) }
+      weaker : (x : Found (Unit {0})) → Holds (λ (u : Unit {0}). (r : _) → Only (λ n. IsSort s.design.signals n X) r (activation timing s.scope b r)) x
+          → Holds (λ (u : Unit {0}). KeepsTo s.design.signals (record { kind = kind; wakes = ws; run = running timing s.scope b })) x
+      weaker (Sound u) f = record { sort = λ n k g. subst (λ digit. IsSort s.design.signals n digit) (sym e) (gives (λ r q. f (from r q)) n k g); at_once = λ a. absurd (not a) }
       weaker (Noted r u) f = tt
       weaker (Lost r) f = tt
 
-  always_amid : (c : ControlTree) (b : StatementTree) (s : State) → Amid m out d ds s → Holds (Amid m out d ds) (always_item c b s)
-  always_amid Implicit b s h =
-      holds_each (λ (u : Unit {0}). KeepsTo s.design.signals (record { kind = process_kind.Always; wakes = wakes_of (statement_reads s.scope b) s.design; run = running s.scope b })) (Amid m out d ds)
-      (λ u. always (wakes_of (statement_reads s.scope b) s.design) b s) (statement_checked s.scope b) (body_keeps s h process_kind.Always (wakes_of (statement_reads s.scope b) s.design) b refl (λ f. cc))
-      (λ u k. adds s (record { kind = process_kind.Always; wakes = wakes_of (statement_reads s.scope b) s.design; run = running s.scope b }) s.driven h k)
-  always_amid (Events es) b s h =
-      holds_each (λ (x : List Wake × Unit {0}). Unit {0} × ((ws : List Wake) → KeepsTo s.design.signals (record { kind = process_kind.Always; wakes = ws; run = running s.scope b }))) (Amid m out d ds) (λ x. always x.0 b s)
-      (both (events_of s.scope es) (statement_checked s.scope b))
-      (holds_both (λ (ws : List Wake). Unit {0}) (λ (u : Unit {0}). (ws : List Wake) → KeepsTo s.design.signals (record { kind = process_kind.Always; wakes = ws; run = running s.scope b })) (events_of s.scope es) (statement_checked s.scope b)
-      (holds_any (events_of s.scope es)) (any_wakes (statement_checked s.scope b) (body_keeps s h process_kind.Always [] b refl (λ f. cc))))
-      (λ x k. adds s (record { kind = process_kind.Always; wakes = x.0; run = running s.scope b }) s.driven h (k.1 x.0))
+  always_amid : (timing : Timing) (c : ControlTree) (b : StatementTree) (s : State) → Amid m out d ds s → Holds (Amid m out d ds) (always_item timing c b s)
+  always_amid timing Implicit b s h =
+      holds_each (λ (u : Unit {0}). KeepsTo s.design.signals (record { kind = process_kind.Always; wakes = wakes_of (statement_reads s.scope b) s.design; run = running timing s.scope b })) (Amid m out d ds)
+      (λ u. always timing (wakes_of (statement_reads s.scope b) s.design) b s) (statement_checked timing s.scope b) (body_keeps timing s h process_kind.Always (wakes_of (statement_reads s.scope b) s.design) b refl (λ f. cc))
+      (λ u k. adds s (record { kind = process_kind.Always; wakes = wakes_of (statement_reads s.scope b) s.design; run = running timing s.scope b }) s.driven h k)
+  always_amid timing (Events es) b s h =
+      holds_each (λ (x : List Wake × Unit {0}). Unit {0} × ((ws : List Wake) → KeepsTo s.design.signals (record { kind = process_kind.Always; wakes = ws; run = running timing s.scope b }))) (Amid m out d ds) (λ x. always timing x.0 b s)
+      (both (events_of s.scope es) (statement_checked timing s.scope b))
+      (holds_both (λ (ws : List Wake). Unit {0}) (λ (u : Unit {0}). (ws : List Wake) → KeepsTo s.design.signals (record { kind = process_kind.Always; wakes = ws; run = running timing s.scope b })) (events_of s.scope es) (statement_checked timing s.scope b)
+      (holds_any (events_of s.scope es)) (any_wakes (statement_checked timing s.scope b) (body_keeps timing s h process_kind.Always [] b refl (λ f. cc))))
+      (λ x k. adds s (record { kind = process_kind.Always; wakes = x.0; run = running timing s.scope b }) s.driven h (k.1 x.0))
     where
       -- what it waits for is no matter
-      gives_same : (ws : List Wake) (n k : ℕ) → Gives (record { kind = process_kind.Always; wakes = ws; run = running s.scope b }) n k → Gives (record { kind = process_kind.Always; wakes = []; run = running s.scope b }) n k
-      gives_same ws n k (inl c) = inl (record { map = c.map; digit = c.digit; before = c.before; after = c.after })
-      gives_same ws n k (inr l) = inr (record { map = l.map; written = l.written })
+      gives_same : (ws : List Wake) (n k : ℕ) → Gives (record { kind = process_kind.Always; wakes = ws; run = running timing s.scope b }) n k → Gives (record { kind = process_kind.Always; wakes = []; run = running timing s.scope b }) n k
+      gives_same ws n k (inl c) = inl (record { map = c.map; hidden = c.hidden; digit = c.digit; before = c.before; after = c.after })
+      gives_same ws n k (inr l) = inr (record { map = l.map; hidden = l.hidden; written = l.written })
 
-      any_wakes : (x : Found (Unit {0})) → Holds (λ (u : Unit {0}). KeepsTo s.design.signals (record { kind = process_kind.Always; wakes = []; run = running s.scope b })) x
-          → Holds (λ (u : Unit {0}). (ws : List Wake) → KeepsTo s.design.signals (record { kind = process_kind.Always; wakes = ws; run = running s.scope b })) x
+      any_wakes : (x : Found (Unit {0})) → Holds (λ (u : Unit {0}). KeepsTo s.design.signals (record { kind = process_kind.Always; wakes = []; run = running timing s.scope b })) x
+          → Holds (λ (u : Unit {0}). (ws : List Wake) → KeepsTo s.design.signals (record { kind = process_kind.Always; wakes = ws; run = running timing s.scope b })) x
       any_wakes (Sound u) k = λ ws. record { sort = λ n i g. k.sort n i (gives_same ws n i g); at_once = λ f. cc }
       any_wakes (Noted r u) k = tt
       any_wakes (Lost r) k = tt
 
-  initial_amid : (b : StatementTree) (s : State) → Amid m out d ds s → Holds (Amid m out d ds) (initial_item b s)
-  initial_amid b s h =
-      holds_each (λ (u : Unit {0}). KeepsTo s.design.signals (record { kind = process_kind.Initial; wakes = []; run = running s.scope b })) (Amid m out d ds)
-      (λ u. adding (record { kind = process_kind.Initial; wakes = []; run = running s.scope b }) s.driven s) (statement_checked s.scope b) (body_keeps s h process_kind.Initial [] b refl (λ f. cc))
-      (λ u k. adds s (record { kind = process_kind.Initial; wakes = []; run = running s.scope b }) s.driven h k)
+  initial_amid : (timing : Timing) (b : StatementTree) (s : State) → Amid m out d ds s → Holds (Amid m out d ds) (initial_item timing b s)
+  initial_amid timing b s h =
+      holds_each (λ (u : Unit {0}). KeepsTo s.design.signals (record { kind = process_kind.Initial; wakes = []; run = running timing s.scope b })) (Amid m out d ds)
+      (λ u. adding (record { kind = process_kind.Initial; wakes = []; run = running timing s.scope b }) s.driven s) (statement_checked timing s.scope b) (body_keeps timing s h process_kind.Initial [] b refl (λ f. cc))
+      (λ u k. adds s (record { kind = process_kind.Initial; wakes = []; run = running timing s.scope b }) s.driven h k)
 
   room_amid : (p n : ℕ) (s : State) (x : Found State) → Holds (Amid m out d ds) x → Holds (Amid m out d ds) (wants (nat_le (length s.design.processes + n) most_parts) rule.TooMany p x)
   room_amid p n s x h = holds_wants (Amid m out d ds) (nat_le (length s.design.processes + n) most_parts) rule.TooMany p x (λ u. h)
 
-  plain_amid : (p : ℕ) (k : KindTree) (s : State) → Member (ItemAt p k) (items_in m) → Amid m out d ds s → Holds (Amid m out d ds) (plain_item p k s)
-  plain_amid p (Nets r ns) s here h = room_amid p (net_count ns) s (in_turn net ns s) (turn_amid net ns s (λ x m t k. net_amid x t k) h)
-  plain_amid p (Registers r rs) s here h = room_amid p (register_count rs) s (in_turn register rs s) (turn_amid register rs s (λ x m t k. register_amid p r rs here x m t k) h)
-  plain_amid p (Drivers xs) s here h = room_amid p (length xs) s (in_turn driver xs s) (turn_amid driver xs s (λ x m t k. driver_amid x t k) h)
-  plain_amid p (Always c b) s here h = room_amid p 1 s (always_item c b s) (always_amid c b s h)
-  plain_amid p (Initial b) s here h = room_amid p 1 s (initial_item b s) (initial_amid b s h)
-  plain_amid p (Ports q is) s here h = h
-  plain_amid p (Integers is) s here h = h
-  plain_amid p (Parameters q r ps) s here h = h
-  plain_amid p (Instance n v i c) s here h = h
+  plain_amid : (timing : Timing) (p : ℕ) (k : KindTree) (s : State) → Member (ItemAt p k) (items_in m) → Amid m out d ds s → Holds (Amid m out d ds) (plain_item timing p k s)
+  plain_amid timing p (Nets r ns) s here h = room_amid p (net_count ns) s (in_turn net ns s) (turn_amid net ns s (λ x m t k. net_amid x t k) h)
+  plain_amid timing p (Registers r rs) s here h = room_amid p (register_count rs) s (in_turn register rs s) (turn_amid register rs s (λ x m t k. register_amid p r rs here x m t k) h)
+  plain_amid timing p (Drivers xs) s here h = room_amid p (length xs) s (in_turn driver xs s) (turn_amid driver xs s (λ x m t k. driver_amid x t k) h)
+  plain_amid timing p (Always c b) s here h = room_amid p 1 s (always_item timing c b s) (always_amid timing c b s h)
+  plain_amid timing p (Initial b) s here h = room_amid p 1 s (initial_item timing b s) (initial_amid timing b s h)
+  plain_amid timing p (Ports q is) s here h = h
+  plain_amid timing p (Integers is) s here h = h
+  plain_amid timing p (Parameters q r ps) s here h = h
+  plain_amid timing p (Instance n v i c) s here h = h
 
   given_starts : (s : State) (n : ModuleTree) (x : List Given × Joints) → Amid m out d ds s → AreJoined (ports_of n) s.scope s.driven x.1 → Starts n (outside_of s x) s.design
   given_starts s n x h j = record { all = h.all; joined = λ p i k here a. (let r = j.new p i k here a in net i k r.1 (j.goes.nets i k r.0)) }
@@ -434,10 +438,10 @@ module _ (m : ModuleTree) (path : Path) (out : Outside) (d : Design) (constants 
           (λ p n k here j. sort_stays d.signals (all_signals path (length d.signals) own) n Z (starts.joined p n k here j)) inputs (ports_of m) (opened path own d) (λ p here. here)
           (all_stay d.signals (all_signals path (length d.signals) own) d.processes starts.all)
 
-sort_steps : (ms : List ModuleTree) → Steps ms Starts Behind Amid
+sort_steps : (ms : Modules) → Steps ms Starts Behind Amid
 sort_steps ms = record {
   opens = λ m path out d constants ds h first second. opens_amid m path out d constants ds h first second;
-  plain = λ m out d ds p k s here h. plain_amid m out d ds p k s here h;
+  plain = λ m out d ds p k s here h. plain_amid m out d ds (timing_of ms (module_name m).name) p k s here h;
   given = λ m out d ds p v i c s n x h among e apart. given_starts m out d ds s n x h (checked_joined s (no_words m out d ds s h) p v i c n x e apart);
   inner = λ m out d ds p v i c s n x e h f apart b. inner_amid m out d ds i s n x e h b;
   closes = λ m path out d ds t h. record { all = h.all; more = h.more; signals = h.signals };
@@ -453,7 +457,7 @@ member_at (q ∷ ps) (suc i) p e = inr (member_at ps i p e)
 abbrev AllOf : Design → Type 0
 AllOf d = AllKeep d.signals d.processes
 
-all_of : (ms : List ModuleTree) (top : Option (List ℕ)) → HoldsOk AllOf (flat_design ms top)
+all_of : (ms : Modules) (top : Option (List ℕ)) → HoldsOk AllOf (flat_design ms top)
 all_of ms top =
     design_holds ms Starts Behind Amid (sort_steps ms) AllOf (λ m among. record { all = λ p h. absurd h; joined = λ p n k here j. absurd (let e = j.found in cc) }) (λ m out e b. b.all) top
 

@@ -4,7 +4,6 @@ use Rattle.std.specs.Prelude.{bytes_eq}
 use Rattle.std.specs.List.{list_any}
 use Rattle.gpi.specs.declared.design.Kind.TheVariants as process_kind
 use Rattle.gpi.specs.declared.design.Wake.{Wake}
-use Rattle.gpi.specs.Activation.{Map}
 use Rattle.gpi.specs.Design.{Proc}
 use Rattle.v_syntax.specs.declared.statement.Identifier.{Identifier}
 use Rattle.v_syntax.specs.declared.item.Direction.{Direction}
@@ -27,17 +26,17 @@ use Rattle.v_flat.specs.Objects.{count_of}
 use Rattle.v_flat.specs.Checks.{checked}
 use Rattle.v_flat.specs.Targets.{Drive, as_target, driving}
 use Rattle.v_flat.specs.Statements.{reads, statement_checked, statement_reads}
-use Rattle.v_flat.specs.Headers.{Port, all_names, find_port, items_in, later, open_parameters, parameters_of, port_name, ports_of}
+use Rattle.v_flat.specs.Headers.{module_name, Port, all_names, find_port, items_in, later, open_parameters, parameters_of, port_name, ports_of}
 use Rattle.v_flat.specs.Declarations.{Declared, Entries, Given, in_order, parameters, signals_in}
 use Rattle.v_flat.specs.Paths.{Path}
-use Rattle.v_flat.specs.Design.{Design, Joint, Joints, Outside, State, adding, all_signals, always, always_item, any_change, assigning, beginning, driver, events_of, find_joint, flat_design, given_of, in_turn, initial_item, input_joint, input_run, instance_checked, is_fresh, joined, joint, joint_count, joints_of, named_joint, named_joints, net, net_count, opened, ordered_joints, output_joined, output_run, output_target, plain_item, port_joint, port_joints, port_once, register, register_count, running, value_checked, wakes_of, whole_of, with_child}
+use Rattle.v_flat.specs.Design.{Design, Joint, Joints, Modules, Outside, State, adding, all_signals, always, always_item, any_change, assigning, beginning, driver, events_of, find_joint, flat_design, given_of, in_turn, initial_item, input_joint, input_run, instance_checked, is_fresh, joined, joint, joint_count, joints_of, named_joint, named_joints, net, net_count, opened, ordered_joints, output_joined, output_run, output_target, plain_item, port_joint, port_joints, port_once, register, register_count, running, timing_of, value_checked, wakes_of, whole_of, with_child}
 use Rattle.v_flat.proofs.Holds.{holds_any, holds_both, holds_each, holds_lost, holds_then, holds_wants}
 use Rattle.v_flat.proofs.ShapeLemmas.Ends.{sound_both, wants_sound}
 use Rattle.v_flat.proofs.ShapeLemmas.Kept.{joints_keep}
 use Rattle.v_flat.proofs.ShapeLemmas.Names.{Differ, same_name}
 use Rattle.v_flat.proofs.ShapeLemmas.Signals.{all_many}
 use Rattle.v_flat.proofs.ShapeLemmas.Walk.{opening, scope_of}
-use Rattle.v_laws.specs.Reads.{Assignments_wait_for_enough, Lies, ListsEvents, Procedures_wait_for_enough, Settled, Suffices, WaitsForEnough}
+use Rattle.v_laws.specs.Reads.{Assignments_wait_for_enough, IsSettled, Lies, ListsEvents, Procedures_wait_for_enough, Suffices, WaitsForEnough}
 use Rattle.v_laws.proofs.Along.{PortsDiffer, Steps, design_holds, outside_of}
 use Rattle.v_laws.proofs.Awaited.{assigning_waits, implicit_waits, input_waits, output_waits}
 use Rattle.v_laws.proofs.Joined.{found_port, one_port}
@@ -62,7 +61,7 @@ weaker_ok : {A B : Design → Type 0} (r : Result Design Broken) → HoldsOk A r
 weaker_ok (Ok d) h f = f d h
 weaker_ok (Err b) h f = tt
 
-module _ (ms : List ModuleTree) where
+module _ (ms : Modules) where
   -- ---- processes
 
   abbrev Waits : Proc → Type 0
@@ -239,13 +238,13 @@ module _ (ms : List ModuleTree) where
   -- ---- along the walk
 
   record Begins (m : ModuleTree) (out : Outside) (d : Design) : Type 0 where
-    among : Member m ms
+    among : Member m ms.list
     joins : AllJoin (ports_of m) out.scope out.joints
     lies : Lies out.scope (length d.signals)
     wait : AllWait d.processes
 
   record Amid (m : ModuleTree) (out : Outside) (d : Design) (ds : List Declared) (s : State) : Type 0 where
-    among : Member m ms
+    among : Member m ms.list
     scope : HasScope (length d.signals) ds s.scope
     signals : length d.signals + signals_in ds ≤ length s.design.signals
     wait : AllWait s.design.processes
@@ -284,19 +283,19 @@ module _ (ms : List ModuleTree) where
     turn_amid f [] s g h = h
     turn_amid f (x ∷ rest) s g h = holds_then (Amid m out d ds) (Amid m out d ds) (f x s) (in_turn f rest) (g x s h) (λ t k. turn_amid f rest t g k)
 
-    always_amid : (q : ℕ) (c : ControlTree) (b : StatementTree) (s : State) → Member (ItemAt q (Always c b)) (items_in m) → Amid m out d ds s → Holds (Amid m out d ds) (always_item c b s)
+    always_amid : (q : ℕ) (c : ControlTree) (b : StatementTree) (s : State) → Member (ItemAt q (Always c b)) (items_in m) → Amid m out d ds s → Holds (Amid m out d ds) (always_item (timing_of ms (module_name m).name) c b s)
     always_amid q Implicit b s here h =
-        holds_each (λ (u : Unit {0}). (n : Map) → Settled s.scope b n) (Amid m out d ds) (λ u. always (wakes_of (statement_reads s.scope b) s.design) b s) (statement_checked s.scope b) (statements_read_enough s.scope b)
-        (λ x g. adds s (record { kind = process_kind.Always; wakes = wakes_of (statement_reads s.scope b) s.design; run = running s.scope b }) s.driven h
-        (always_waits (record { kind = process_kind.Always; wakes = wakes_of (statement_reads s.scope b) s.design; run = running s.scope b }) refl (inl (implicit_waits s.scope s.design (lies s h) b g))))
+        holds_each (λ (u : Unit {0}). IsSettled (timing_of ms (module_name m).name) s.scope b) (Amid m out d ds) (λ u. always (timing_of ms (module_name m).name) (wakes_of (statement_reads s.scope b) s.design) b s) (statement_checked (timing_of ms (module_name m).name) s.scope b) (statements_read_enough (timing_of ms (module_name m).name) s.scope b)
+        (λ x g. adds s (record { kind = process_kind.Always; wakes = wakes_of (statement_reads s.scope b) s.design; run = running (timing_of ms (module_name m).name) s.scope b }) s.driven h
+        (always_waits (record { kind = process_kind.Always; wakes = wakes_of (statement_reads s.scope b) s.design; run = running (timing_of ms (module_name m).name) s.scope b }) refl (inl (implicit_waits s.scope s.design (lies s h) (timing_of ms (module_name m).name) b g))))
     always_amid q (Events es) b s here h =
-        holds_each (λ (x : List Wake × Unit {0}). (events_of s.scope es ≡ Sound x.0) × Unit {0}) (Amid m out d ds) (λ x. always x.0 b s) (both (events_of s.scope es) (statement_checked s.scope b))
-        (holds_both (λ (ws : List Wake). events_of s.scope es ≡ Sound ws) (λ (u : Unit {0}). Unit {0}) (events_of s.scope es) (statement_checked s.scope b) (is_itself (events_of s.scope es)) (holds_any (statement_checked s.scope b)))
-        (λ x g. adds s (record { kind = process_kind.Always; wakes = x.0; run = running s.scope b }) s.driven h (always_waits (record { kind = process_kind.Always; wakes = x.0; run = running s.scope b }) refl (inr (listed x.0 g.0))))
+        holds_each (λ (x : List Wake × Unit {0}). (events_of s.scope es ≡ Sound x.0) × Unit {0}) (Amid m out d ds) (λ x. always (timing_of ms (module_name m).name) x.0 b s) (both (events_of s.scope es) (statement_checked (timing_of ms (module_name m).name) s.scope b))
+        (holds_both (λ (ws : List Wake). events_of s.scope es ≡ Sound ws) (λ (u : Unit {0}). Unit {0}) (events_of s.scope es) (statement_checked (timing_of ms (module_name m).name) s.scope b) (is_itself (events_of s.scope es)) (holds_any (statement_checked (timing_of ms (module_name m).name) s.scope b)))
+        (λ x g. adds s (record { kind = process_kind.Always; wakes = x.0; run = running (timing_of ms (module_name m).name) s.scope b }) s.driven h (always_waits (record { kind = process_kind.Always; wakes = x.0; run = running (timing_of ms (module_name m).name) s.scope b }) refl (inr (listed x.0 g.0))))
       where
-        listed : (ws : List Wake) → events_of s.scope es ≡ Sound ws → ListsEvents ms (record { kind = process_kind.Always; wakes = ws; run = running s.scope b })
+        listed : (ws : List Wake) → events_of s.scope es ≡ Sound ws → ListsEvents ms (record { kind = process_kind.Always; wakes = ws; run = running (timing_of ms (module_name m).name) s.scope b })
         listed ws e =
-            let one = at_of m ms h.among in let line = at_of (ItemAt q (Always (Events es) b)) (items_in m) here in
+            let one = at_of m ms.list h.among in let line = at_of (ItemAt q (Always (Events es) b)) (items_in m) here in
             record {
               number = one.0;
               own = m;
@@ -311,20 +310,20 @@ module _ (ms : List ModuleTree) where
               runs = refl;
             }
 
-    initial_amid : (b : StatementTree) (s : State) → Amid m out d ds s → Holds (Amid m out d ds) (initial_item b s)
+    initial_amid : (b : StatementTree) (s : State) → Amid m out d ds s → Holds (Amid m out d ds) (initial_item (timing_of ms (module_name m).name) b s)
     initial_amid b s h =
-        holds_each (λ (u : Unit {0}). Unit {0}) (Amid m out d ds) (λ u. adding (record { kind = process_kind.Initial; wakes = []; run = running s.scope b }) s.driven s) (statement_checked s.scope b) (holds_any (statement_checked s.scope b))
-        (λ x u. adds s (record { kind = process_kind.Initial; wakes = []; run = running s.scope b }) s.driven h (initial_waits (record { kind = process_kind.Initial; wakes = []; run = running s.scope b }) refl))
+        holds_each (λ (u : Unit {0}). Unit {0}) (Amid m out d ds) (λ u. adding (record { kind = process_kind.Initial; wakes = []; run = running (timing_of ms (module_name m).name) s.scope b }) s.driven s) (statement_checked (timing_of ms (module_name m).name) s.scope b) (holds_any (statement_checked (timing_of ms (module_name m).name) s.scope b))
+        (λ x u. adds s (record { kind = process_kind.Initial; wakes = []; run = running (timing_of ms (module_name m).name) s.scope b }) s.driven h (initial_waits (record { kind = process_kind.Initial; wakes = []; run = running (timing_of ms (module_name m).name) s.scope b }) refl))
 
     room_amid : (p n : ℕ) (s : State) (x : Found State) → Holds (Amid m out d ds) x → Holds (Amid m out d ds) (wants (nat_le (length s.design.processes + n) most_parts) rule.TooMany p x)
     room_amid p n s x h = holds_wants (Amid m out d ds) (nat_le (length s.design.processes + n) most_parts) rule.TooMany p x (λ u. h)
 
-    plain_amid : (p : ℕ) (k : KindTree) (s : State) → Member (ItemAt p k) (items_in m) → Amid m out d ds s → Holds (Amid m out d ds) (plain_item p k s)
+    plain_amid : (p : ℕ) (k : KindTree) (s : State) → Member (ItemAt p k) (items_in m) → Amid m out d ds s → Holds (Amid m out d ds) (plain_item (timing_of ms (module_name m).name) p k s)
     plain_amid p (Nets r ns) s here h = room_amid p (net_count ns) s (in_turn net ns s) (turn_amid net ns s net_amid h)
     plain_amid p (Registers r rs) s here h = room_amid p (register_count rs) s (in_turn register rs s) (turn_amid register rs s register_amid h)
     plain_amid p (Drivers xs) s here h = room_amid p (length xs) s (in_turn driver xs s) (turn_amid driver xs s driver_amid h)
-    plain_amid p (Always c b) s here h = room_amid p 1 s (always_item c b s) (always_amid p c b s here h)
-    plain_amid p (Initial b) s here h = room_amid p 1 s (initial_item b s) (initial_amid b s h)
+    plain_amid p (Always c b) s here h = room_amid p 1 s (always_item (timing_of ms (module_name m).name) c b s) (always_amid p c b s here h)
+    plain_amid p (Initial b) s here h = room_amid p 1 s (initial_item (timing_of ms (module_name m).name) b s) (initial_amid b s h)
     plain_amid p (Ports q is) s here h = h
     plain_amid p (Integers is) s here h = h
     plain_amid p (Parameters q r ps) s here h = h

@@ -7,7 +7,6 @@ use Rattle.gpi.specs.declared.design.Kind.{Kind}
 use Rattle.gpi.specs.declared.design.Kind.TheVariants as process_kind
 use Rattle.gpi.specs.Design.{Proc}
 use Rattle.v_syntax.specs.ExpressionTrees.{TargetTree}
-use Rattle.v_syntax.specs.SourceTrees.{ModuleTree}
 use Rattle.v_flat.specs.declared.scope.meaning.DataKind.TheVariants.{Net}
 use Rattle.v_flat.specs.declared.scope.meaning.DataObject.{DataObject}
 use Rattle.v_flat.specs.declared.scope.meaning.Meaning.TheVariants.{Object}
@@ -16,7 +15,7 @@ use Rattle.v_flat.specs.Scope.Scope.{Scope, find}
 use Rattle.v_flat.specs.Expressions.{Values}
 use Rattle.v_flat.specs.Targets.{Drive, driving, target_width, updates}
 use Rattle.v_flat.specs.Paths.{SignalAt}
-use Rattle.v_flat.specs.Design.{Design, flat_design}
+use Rattle.v_flat.specs.Design.{Design, Modules, flat_design}
 use Rattle.v_laws.specs.Digits.{Gives, IsDriven, IsWritten}
 
 -- no net has words, as each scope of a design has it
@@ -32,7 +31,7 @@ Updates_are_recorded = (q : Option ℕ) (s : Scope) (t : TargetTree) (ds : List 
 
 -- a digit that a continuous assignment gives a value, one of a connected port among them, gets none from any other process, whatever the maps are
 abbrev pub One_driver : Type 0
-One_driver = (ms : List ModuleTree) (top : Option (List ℕ)) → HoldsOk (λ (d : Design). (i j : ℕ) (p q : Proc) (n k : ℕ)
+One_driver = (ms : Modules) (top : Option (List ℕ)) → HoldsOk (λ (d : Design). (i j : ℕ) (p q : Proc) (n k : ℕ)
     → slice_get d.processes i ≡ Some p → slice_get d.processes j ≡ Some q → p.kind ≡ process_kind.Assign → Gives p n k → Gives q n k → i ≡ j) (flat_design ms top)
 
 -- signal n begins with this digit everywhere
@@ -49,5 +48,5 @@ start_for process_kind.Initial = X
 
 -- continuous assignments give values to nets alone, and procedures to registers and words of memories
 abbrev pub Processes_keep_to_their_kind : Type 0
-Processes_keep_to_their_kind = (ms : List ModuleTree) (top : Option (List ℕ)) → HoldsOk (λ (d : Design). (i : ℕ) (p : Proc) (n k : ℕ)
+Processes_keep_to_their_kind = (ms : Modules) (top : Option (List ℕ)) → HoldsOk (λ (d : Design). (i : ℕ) (p : Proc) (n k : ℕ)
     → slice_get d.processes i ≡ Some p → Gives p n k → Begins d n (start_for p.kind)) (flat_design ms top)

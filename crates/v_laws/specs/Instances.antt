@@ -2,10 +2,9 @@
 use Rattle.std.specs.Prelude.{◌≡◌, ◌+◌, ◌<◌, ℕ, List, Option, Some, None, slice_get}
 use Rattle.gpi.specs.declared.design.Spot.{Spot}
 use Rattle.gpi.specs.declared.design.Spot.TheVariants.{Inner, Sig, Words}
-use Rattle.v_syntax.specs.SourceTrees.{ModuleTree}
 use Rattle.v_flat.specs.Scope.Found.{HoldsOk}
 use Rattle.v_flat.specs.Paths.{NodeAt, Path, SignalAt, below}
-use Rattle.v_flat.specs.Design.{Design, flat_design}
+use Rattle.v_flat.specs.Design.{Design, Modules, flat_design}
 
 -- instance k has this path
 pub record IsNodeAt (d : Design) (k : ℕ) (path : Path) : Type 0 where
@@ -28,10 +27,10 @@ IsAt d path (Words first low count) = (i : ℕ) → i < count → IsSignalAt d (
 
 -- each name of each instance stands for a part of the design at that name
 abbrev pub Names_have_their_paths : Type 0
-Names_have_their_paths = (ms : List ModuleTree) (top : Option (List ℕ)) → HoldsOk (λ (d : Design). (v j : ℕ) (x : NodeAt) (c : List ℕ × Spot)
+Names_have_their_paths = (ms : Modules) (top : Option (List ℕ)) → HoldsOk (λ (d : Design). (v j : ℕ) (x : NodeAt) (c : List ℕ × Spot)
     → slice_get d.nodes v ≡ Some x → slice_get x.children j ≡ Some c → IsAt d (below x.path c.0) c.1) (flat_design ms top)
 
 -- the names of an instance differ
 abbrev pub Names_differ : Type 0
-Names_differ = (ms : List ModuleTree) (top : Option (List ℕ)) → HoldsOk (λ (d : Design). (v i j : ℕ) (x : NodeAt) (b c : List ℕ × Spot)
+Names_differ = (ms : Modules) (top : Option (List ℕ)) → HoldsOk (λ (d : Design). (v i j : ℕ) (x : NodeAt) (b c : List ℕ × Spot)
     → slice_get d.nodes v ≡ Some x → slice_get x.children i ≡ Some b → slice_get x.children j ≡ Some c → b.0 ≡ c.0 → i ≡ j) (flat_design ms top)

@@ -10,6 +10,7 @@ use Rattle.v_flat.specs.Scope.Found.{ended}
 use Rattle.v_flat.specs.Scope.Rules.{number_of}
 use Rattle.v_flat.specs.Scope.Scope.{Scope}
 use Rattle.v_flat.specs.Checks.{checked}
+use Rattle.v_flat.specs.declared.timing.Timing.{Timing}
 use Rattle.v_flat.specs.Design.{State, plain_item}
 
 -- a stands before b in the text, or at one place its rule stands in the table no later than that of b
@@ -86,5 +87,5 @@ IsProcedure a _ = ⊥
 
 -- a rule that is broken in an expression of a procedure ends the walk at that item, with that rule or an earlier one
 abbrev pub First_faults_end_procedures : Type 0
-First_faults_end_procedures = (p : ℕ) (k : KindTree) (a : StatementTree) (s : State) (x : Tree) (b : Broken) → IsProcedure a k → StandsIn x a → fault (checked s.scope x) ≡ Some b
-    → (c : Broken) × (ended (plain_item p k s) ≡ Err c) × IsFirst c b
+First_faults_end_procedures = (timing : Timing) (p : ℕ) (k : KindTree) (a : StatementTree) (s : State) (x : Tree) (b : Broken) → IsProcedure a k → StandsIn x a → fault (checked s.scope x) ≡ Some b
+    → (c : Broken) × (ended (plain_item timing p k s) ≡ Err c) × IsFirst c b

@@ -8,6 +8,7 @@ use Rattle.v_syntax.specs.ExpressionTrees as expression
 use Rattle.v_syntax.specs.StatementTrees.{more_statements, more_cases, view, view_case}
 use Rattle.v_flat.specs.declared.scope.found.Found.{Found}
 use Rattle.v_flat.specs.Scope.Scope.{Scope}
+use Rattle.v_flat.specs.declared.timing.Timing.{Timing}
 use Rattle.v_flat.specs.Statements.{statement_checked, statements_checked}
 use Rattle.v_check.specs.declared.constants.checked.Checked.{Checked}
 use Rattle.v_check.specs.Constants.Checked.{IsChecked}
@@ -27,19 +28,19 @@ more_labels s xs i d x y f h q g k made =
     (subst (λ (z : code_expression.Expression). AreLabels s (expression.view z ∷ map expression.view (drop (i + 1) xs)) f) q
     (made s (expression.view d) (map expression.view (drop (i + 1) xs)) g k))
 
-pub more_found : (s : Scope) (xs : List code.Statement) (i : ℕ) (d : code.Statement) (x : Found Act) (y f : Found BlockParts)
-    → i < length xs → d ≡ get_or xs i d → IsFoundStatement s (view d) x → AreFoundStatements s (statement_list (drop (i + 1) xs)) y → ChecksMoreStatements x y f
-    → AreFoundStatements s (statement_list (drop i xs)) f
-more_found s xs i d x y f h q g k made =
+pub more_found : (timing : Timing) (s : Scope) (xs : List code.Statement) (i : ℕ) (d : code.Statement) (x : Found Act) (y f : Found BlockParts)
+    → i < length xs → d ≡ get_or xs i d → IsFoundStatement timing s (view d) x → AreFoundStatements timing s (statement_list (drop (i + 1) xs)) y → ChecksMoreStatements x y f
+    → AreFoundStatements timing s (statement_list (drop i xs)) f
+more_found timing s xs i d x y f h q g k made =
     let rest = statement_list (drop (i + 1) xs) in
-    subst (λ (ys : List code.Statement). AreFoundStatements s (statement_list ys) f) (sym (drop_more xs i d h))
-    (subst (λ (z : code.Statement). AreFoundStatements s (more_statements (view z) rest) f) q
-    (made s (view d) rest (statement_checked s (view d)) (statements_checked s rest) g k))
+    subst (λ (ys : List code.Statement). AreFoundStatements timing s (statement_list ys) f) (sym (drop_more xs i d h))
+    (subst (λ (z : code.Statement). AreFoundStatements timing s (more_statements (view z) rest) f) q
+    (made timing s (view d) rest (statement_checked timing s (view d)) (statements_checked timing s rest) g k))
 
-pub more_items : (s : Scope) (xs : List code_item.CaseItem) (i : ℕ) (d : code_item.CaseItem) (y f : Found CaseParts)
-    → i < length xs → d ≡ get_or xs i d → AreFoundCases s (case_list (drop (i + 1) xs)) y → IsFoundCase s (view_case d) y f
-    → AreFoundCases s (case_list (drop i xs)) f
-more_items s xs i d y f h q k made =
+pub more_items : (timing : Timing) (s : Scope) (xs : List code_item.CaseItem) (i : ℕ) (d : code_item.CaseItem) (y f : Found CaseParts)
+    → i < length xs → d ≡ get_or xs i d → AreFoundCases timing s (case_list (drop (i + 1) xs)) y → IsFoundCase timing s (view_case d) y f
+    → AreFoundCases timing s (case_list (drop i xs)) f
+more_items timing s xs i d y f h q k made =
     let rest = case_list (drop (i + 1) xs) in
-    subst (λ (ys : List code_item.CaseItem). AreFoundCases s (case_list ys) f) (sym (drop_more xs i d h))
-    (subst (λ (z : code_item.CaseItem). AreFoundCases s (more_cases (view_case z) rest) f) q (made rest k))
+    subst (λ (ys : List code_item.CaseItem). AreFoundCases timing s (case_list ys) f) (sym (drop_more xs i d h))
+    (subst (λ (z : code_item.CaseItem). AreFoundCases timing s (more_cases (view_case z) rest) f) q (made rest k))

@@ -1,5 +1,5 @@
 -- Continuous assignments.
-use Rattle.std.proofs.Common.{◌≡◌, List, None, Result, Ok, Err, IfOk, OnErr}
+use Rattle.std.proofs.Common.{◌≡◌, List, None, Result, Ok, Err, IfOk, OnErr, refl}
 use Rattle.gpi.specs.declared.acts.Act.{Act}
 use Rattle.gpi.specs.declared.design.Kind.TheVariants.{Assign}
 use Rattle.gpi.specs.declared.design.Wake.{Wake}
@@ -19,15 +19,17 @@ use Rattle.v_check.specs.Constants.Checked.{IsChecked}
 use Rattle.v_process.specs.declared.target.checked.CheckedTarget.{CheckedTarget}
 use Rattle.v_process.specs.Assign.Continuous.{IsContinuous, KeepsOrGrows}
 use Rattle.v_process.proofs.AssignLemmas.Grown.{on_err, target_grown}
+use Rattle.v_process.proofs.ActLemmas.Assigning.{at_once_takes}
+use Rattle.v_process.specs.declared.act.moment.Moment.TheVariants.{AtOnce}
 use Rattle.v_process.specs.Act.Statements.{ChecksAssignment}
 use Rattle.v_process.specs.Made.{process, IsAssigning}
-use Rattle.v_process.specs.Processes.{IsDriver}
+use Rattle.v_process.specs.Processes.{IsDriver, untimed}
 use Rattle.v_process.proofs.Run.{found_process}
 
-pub assigning_found : (x : Found CheckedTarget) (y : Found Checked) (ws : List Wake) (z : Found Act) (f : Found Process) → ChecksAssignment Blocking x y z
+pub assigning_found : (x : Found CheckedTarget) (y : Found Checked) (ws : List Wake) (z : Found Act) (f : Found Process) → ChecksAssignment AtOnce x y z
     → f ≡ each (process Assign ws) z → IsAssigning x y ws f
 assigning_found x y ws z f h e = λ s t tree a g k.
-    found_process Assign ws s (Assignment Blocking t tree) (done (both a (checked s tree))) z f e (h s t tree a g k)
+    found_process untimed Assign ws s (Assignment Blocking t tree) (done (both a (checked s tree))) z f e (h untimed s Blocking t tree a (at_once_takes untimed Blocking refl) g k)
 
 driver_found : (s : Scope) (t : TargetTree) (e : Tree) (ws : List Wake) (x y : DrivenDigits) (u : Found CheckedTarget) (v : Found Checked) (f : Found Process)
     → IsContinuous None s t x u y → IsChecked s e v → IsAssigning u v ws f → IsDriver s t e ws x f y

@@ -17,6 +17,7 @@ use Rattle.v_flat.specs.declared.scope.meaning.DataObject.{DataObject}
 use Rattle.v_flat.specs.Scope.Scope.{Scope}
 use Rattle.v_flat.specs.Checks.{checked}
 use Rattle.v_flat.specs.Targets.{Drive, driving}
+use Rattle.v_flat.specs.declared.timing.Timing.{Timing}
 use Rattle.v_flat.specs.Statements.{done, reads, statement_reads, statement_checked}
 use Rattle.v_flat.specs.Design.{Design, State, adding, always, always_item, assigning, beginning, driver, events_of, initial_item, input_joint, net, output_target, register, running, wakes_of, whole_of, with_process}
 use Rattle.v_process.specs.declared.drive.digits.DrivenDigits.{DrivenDigits}
@@ -26,7 +27,7 @@ use Rattle.v_check.specs.Constants.Checked.{StandsFor}
 use Rattle.v_process.specs.declared.target.checked.CheckedTarget.{CheckedTarget}
 use Rattle.v_process.specs.Assign.Targets.{GetsAs}
 use Rattle.v_process.proofs.ActLemmas.Done.{done_each, done_unit}
-use Rattle.v_process.specs.Processes.{Runs, IsFoundProcess, IsDriver, IsAlways}
+use Rattle.v_process.specs.Processes.{Runs, IsFoundProcess, IsDriver, IsAlways, untimed}
 use Rattle.v_process.specs.Ports.{AssignsInput, AssignsOutput}
 use Rattle.v_process.specs.Items.{HasDrives, AddsProcess}
 
@@ -73,7 +74,7 @@ driver_adds t e x y f st h k =
     let d = driving None st.scope t st.driven in
     let g = (h st.driven k).process in
     item_adds (both d.width (checked st.scope e)) (assigning st.scope t e st.design) d.driven st f g.finds
-    (run_is (assigning st.scope t e st.design) (λ (q : Process). Runs Assign (wakes_of (reads st.scope e) st.design) st.scope (Assignment Blocking t e) q) f g.holds
+    (run_is (assigning st.scope t e st.design) (λ (q : Process). Runs untimed Assign (wakes_of (reads st.scope e) st.design) st.scope (Assignment Blocking t e) q) f g.holds
     (λ q r. r.is))
 
 -- `wire name = value`
@@ -84,77 +85,77 @@ net_adds i e x y f st h k = driver_adds (whole_of i) e x y f st h k
 
 -- `reg name = value`
 pub register_adds : (i : Identifier) (e : Tree) (f : Found Process) (st : State)
-    → IsFoundProcess Initial [] st.scope (Assignment Blocking (whole_of i) e) (done (checked st.scope e)) f
+    → IsFoundProcess untimed Initial [] st.scope (Assignment Blocking (whole_of i) e) (done (checked st.scope e)) f
     → AddsProcess st (register (Register i (Some (Initially e))) st) st.driven f
 register_adds i e f st h =
     item_adds (checked st.scope e) (beginning st.scope (whole_of i) e) st.driven st f h.finds
-    (run_is (beginning st.scope (whole_of i) e) (λ (q : Process). Runs Initial [] st.scope (Assignment Blocking (whole_of i) e) q) f h.holds (λ q r. r.is))
+    (run_is (beginning st.scope (whole_of i) e) (λ (q : Process). Runs untimed Initial [] st.scope (Assignment Blocking (whole_of i) e) q) f h.holds (λ q r. r.is))
 
-pub initial_adds : (a : StatementTree) (f : Found Process) (st : State) → IsFoundProcess Initial [] st.scope a (statement_checked st.scope a) f
-    → AddsProcess st (initial_item a st) st.driven f
-initial_adds a f st h =
-    let p : Proc = record { kind = Initial; wakes = []; run = running st.scope a } in
-    item_adds (statement_checked st.scope a) p st.driven st f (h.finds ∙ sym (done_unit (statement_checked st.scope a)))
-    (run_is p (λ (q : Process). Runs Initial [] st.scope a q) f h.holds (λ q r. r.is))
+pub initial_adds : (timing : Timing) (a : StatementTree) (f : Found Process) (st : State) → IsFoundProcess timing Initial [] st.scope a (statement_checked timing st.scope a) f
+    → AddsProcess st (initial_item timing a st) st.driven f
+initial_adds timing a f st h =
+    let p : Proc = record { kind = Initial; wakes = []; run = running timing st.scope a } in
+    item_adds (statement_checked timing st.scope a) p st.driven st f (h.finds ∙ sym (done_unit (statement_checked timing st.scope a)))
+    (run_is p (λ (q : Process). Runs timing Initial [] st.scope a q) f h.holds (λ q r. r.is))
 
 -- ---- `always`
 
-always_done : (w : Found (List Wake)) (b : Found (Unit {0})) (ws : List Wake) (a : StatementTree) (st : State) → w ≡ Sound ws
-    → done (let r : Found (Unit {0}) = Sound tt in r) ≡ done (both w b) → each (λ (x : List Wake × Unit {0}). always x.0 a st) (both w b) ≡ Sound (always ws a st)
-always_done (Sound vs) (Sound u) ws a st h k =
-    let e : vs ≡ ws = cc in ap (λ (x : List Wake). (let r : Found State = Sound (always x a st) in r)) e
-always_done (Sound vs) (Noted c u) ws a st h k = absurd (cc)
-always_done (Sound vs) (Lost c) ws a st h k = absurd (cc)
-always_done (Noted d vs) b ws a st h k = absurd (cc)
-always_done (Lost d) b ws a st h k = absurd (cc)
+always_done : (timing : Timing) (w : Found (List Wake)) (b : Found (Unit {0})) (ws : List Wake) (a : StatementTree) (st : State) → w ≡ Sound ws
+    → done (let r : Found (Unit {0}) = Sound tt in r) ≡ done (both w b) → each (λ (x : List Wake × Unit {0}). always timing x.0 a st) (both w b) ≡ Sound (always timing ws a st)
+always_done timing (Sound vs) (Sound u) ws a st h k =
+    let e : vs ≡ ws = cc in ap (λ (x : List Wake). (let r : Found State = Sound (always timing x a st) in r)) e
+always_done timing (Sound vs) (Noted c u) ws a st h k = absurd (cc)
+always_done timing (Sound vs) (Lost c) ws a st h k = absurd (cc)
+always_done timing (Noted d vs) b ws a st h k = absurd (cc)
+always_done timing (Lost d) b ws a st h k = absurd (cc)
 
-always_goes : (w : Found (List Wake)) (b : Found (Unit {0})) (a : StatementTree) (st : State)
-    → ForValue (λ (v : State). HasDrives st st.driven v) (each (λ (x : List Wake × Unit {0}). always x.0 a st) (both w b))
-always_goes (Sound vs) (Sound u) a st = record { scope = refl; driven = refl; children = refl }
-always_goes (Sound vs) (Noted c u) a st = record { scope = refl; driven = refl; children = refl }
-always_goes (Sound vs) (Lost c) a st = tt
-always_goes (Noted d vs) (Sound u) a st = record { scope = refl; driven = refl; children = refl }
-always_goes (Noted d vs) (Noted c u) a st = record { scope = refl; driven = refl; children = refl }
-always_goes (Noted d vs) (Lost c) a st = tt
-always_goes (Lost d) (Sound u) a st = tt
-always_goes (Lost d) (Noted c u) a st = tt
-always_goes (Lost d) (Lost c) a st = tt
+always_goes : (timing : Timing) (w : Found (List Wake)) (b : Found (Unit {0})) (a : StatementTree) (st : State)
+    → ForValue (λ (v : State). HasDrives st st.driven v) (each (λ (x : List Wake × Unit {0}). always timing x.0 a st) (both w b))
+always_goes timing (Sound vs) (Sound u) a st = record { scope = refl; driven = refl; children = refl }
+always_goes timing (Sound vs) (Noted c u) a st = record { scope = refl; driven = refl; children = refl }
+always_goes timing (Sound vs) (Lost c) a st = tt
+always_goes timing (Noted d vs) (Sound u) a st = record { scope = refl; driven = refl; children = refl }
+always_goes timing (Noted d vs) (Noted c u) a st = record { scope = refl; driven = refl; children = refl }
+always_goes timing (Noted d vs) (Lost c) a st = tt
+always_goes timing (Lost d) (Sound u) a st = tt
+always_goes timing (Lost d) (Noted c u) a st = tt
+always_goes timing (Lost d) (Lost c) a st = tt
 
-always_adds_one : (w : Found (List Wake)) (b : Found (Unit {0})) (a : StatementTree) (f : Found Process) (st : State) → done f ≡ done (both w b)
-    → Holds (λ (p : Process). w ≡ Sound p.wakes) f → Holds (λ (p : Process). Runs Always p.wakes st.scope a p) f
-    → Holds (λ (p : Process). each (λ (x : List Wake × Unit {0}). always x.0 a st) (both w b) ≡ Sound (adding (proc_of p) st.driven st)) f
-always_adds_one w b a (Sound p) st h k l =
-    always_done w b p.wakes a st k h ∙ ap (λ (x : Proc). (let r : Found State = Sound (adding x st.driven st) in r)) (sym l.is)
-always_adds_one w b a (Noted c p) st h k l = tt
-always_adds_one w b a (Lost c) st h k l = tt
+always_adds_one : (timing : Timing) (w : Found (List Wake)) (b : Found (Unit {0})) (a : StatementTree) (f : Found Process) (st : State) → done f ≡ done (both w b)
+    → Holds (λ (p : Process). w ≡ Sound p.wakes) f → Holds (λ (p : Process). Runs timing Always p.wakes st.scope a p) f
+    → Holds (λ (p : Process). each (λ (x : List Wake × Unit {0}). always timing x.0 a st) (both w b) ≡ Sound (adding (proc_of p) st.driven st)) f
+always_adds_one timing w b a (Sound p) st h k l =
+    always_done timing w b p.wakes a st k h ∙ ap (λ (x : Proc). (let r : Found State = Sound (adding x st.driven st) in r)) (sym l.is)
+always_adds_one timing w b a (Noted c p) st h k l = tt
+always_adds_one timing w b a (Lost c) st h k l = tt
 
 -- `always @( .. )`
-pub events_add : (es : List Event) (a : StatementTree) (f : Found Process) (st : State) → IsAlways (events_of st.scope es) st.scope a f
-    → AddsProcess st (always_item (Events es) a st) st.driven f
-events_add es a f st h =
+pub events_add : (timing : Timing) (es : List Event) (a : StatementTree) (f : Found Process) (st : State) → IsAlways timing (events_of st.scope es) st.scope a f
+    → AddsProcess st (always_item timing (Events es) a st) st.driven f
+events_add timing es a f st h =
     let w = events_of st.scope es in
-    let b = statement_checked st.scope a in record {
-      finds = h.finds ∙ sym (done_each (λ (x : List Wake × Unit {0}). always x.0 a st) (both w b));
-      adds = always_adds_one w b a f st h.finds h.waits h.holds;
-      goes_on = always_goes w b a st;
+    let b = statement_checked timing st.scope a in record {
+      finds = h.finds ∙ sym (done_each (λ (x : List Wake × Unit {0}). always timing x.0 a st) (both w b));
+      adds = always_adds_one timing w b a f st h.finds h.waits h.holds;
+      goes_on = always_goes timing w b a st;
     }
 
-implicit_is : (ws : List Wake) (a : StatementTree) (f : Found Process) (st : State) → Holds (λ (p : Process). (let r : Found (List Wake) = Sound ws in r) ≡ Sound p.wakes) f
-    → Holds (λ (p : Process). Runs Always p.wakes st.scope a p) f
-    → Holds (λ (p : Process). proc_of p ≡ record { kind = Always; wakes = ws; run = running st.scope a }) f
-implicit_is ws a (Sound p) st h k =
-    let e : p.wakes ≡ ws = cc in k.is ∙ ap (λ (x : List Wake). (let r : Proc = record { kind = Always; wakes = x; run = running st.scope a } in r)) e
-implicit_is ws a (Noted c p) st h k = tt
-implicit_is ws a (Lost c) st h k = tt
+implicit_is : (timing : Timing) (ws : List Wake) (a : StatementTree) (f : Found Process) (st : State) → Holds (λ (p : Process). (let r : Found (List Wake) = Sound ws in r) ≡ Sound p.wakes) f
+    → Holds (λ (p : Process). Runs timing Always p.wakes st.scope a p) f
+    → Holds (λ (p : Process). proc_of p ≡ record { kind = Always; wakes = ws; run = running timing st.scope a }) f
+implicit_is timing ws a (Sound p) st h k =
+    let e : p.wakes ≡ ws = cc in k.is ∙ ap (λ (x : List Wake). (let r : Proc = record { kind = Always; wakes = x; run = running timing st.scope a } in r)) e
+implicit_is timing ws a (Noted c p) st h k = tt
+implicit_is timing ws a (Lost c) st h k = tt
 
 -- `always @*`
-pub implicit_adds : (a : StatementTree) (f : Found Process) (st : State)
-    → IsAlways (Sound (wakes_of (statement_reads st.scope a) st.design)) st.scope a f → AddsProcess st (always_item Implicit a st) st.driven f
-implicit_adds a f st h =
+pub implicit_adds : (timing : Timing) (a : StatementTree) (f : Found Process) (st : State)
+    → IsAlways timing (Sound (wakes_of (statement_reads st.scope a) st.design)) st.scope a f → AddsProcess st (always_item timing Implicit a st) st.driven f
+implicit_adds timing a f st h =
     let ws = wakes_of (statement_reads st.scope a) st.design in
-    let b = statement_checked st.scope a in
-    item_adds b (record { kind = Always; wakes = ws; run = running st.scope a }) st.driven st f
-    (h.finds ∙ done_each {B = List Wake × Unit {0}} (λ (u : Unit {0}). (ws, u)) b) (implicit_is ws a f st h.waits h.holds)
+    let b = statement_checked timing st.scope a in
+    item_adds b (record { kind = Always; wakes = ws; run = running timing st.scope a }) st.driven st f
+    (h.finds ∙ done_each {B = List Wake × Unit {0}} (λ (u : Unit {0}). (ws, u)) b) (implicit_is timing ws a f st h.waits h.holds)
 
 -- ---- connected ports
 

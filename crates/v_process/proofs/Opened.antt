@@ -29,6 +29,7 @@ use Rattle.v_check.specs.Names.Proper.{IsProper}
 use Rattle.v_process.specs.Assign.Targets.{GetsAs, IsTarget}
 use Rattle.v_process.specs.Act.Statements.{DoesAs, IsStatement}
 use Rattle.v_process.proofs.ActLemmas.Done.{done_each, done_as}
+use Rattle.v_process.specs.Processes.{untimed}
 use Rattle.v_process.specs.Made.{whole_object, whole_in, whole_target, OpensWith}
 
 done_value : {A : Type 0} (n : ℕ) (x : Found A) → done (both (let r : Found ℕ = Sound n in r) x) ≡ done x
@@ -42,7 +43,7 @@ no_updates : (r : Run) → r ≡ blocking [] r
 no_updates r = refl
 
 nothing_does : (s : Scope) (i : Identifier) (e : Tree) → ((m : Values) (ds : List Digit) → name_update (find i.name s) s Whole m ds ≡ [])
-    → DoesAs s (Assignment Blocking (whole_of i) e) Empty
+    → DoesAs untimed s (Assignment Blocking (whole_of i) e) Empty
 nothing_does s i e h = record {
   runs = λ r. no_updates r
       ∙ sym (ap (λ (us : List Update). blocking us r) (h (values_of r) (assigned_value (target_width s (whole_of i)) s e (values_of r))));
@@ -56,11 +57,11 @@ empty_holds P (Lost b) h = tt
 
 opens_nothing : (s : Scope) (i : Identifier) (e : Tree) (y : Found Checked) (z : Found Act)
     → ((m : Values) (ds : List Digit) → name_update (find i.name s) s Whole m ds ≡ []) → IsChecked s e y → z ≡ each (λ (v : Checked). Empty) y
-    → IsStatement s (Assignment Blocking (whole_of i) e) (done (checked s e)) z
+    → IsStatement untimed s (Assignment Blocking (whole_of i) e) (done (checked s e)) z
 opens_nothing s i e y z none h made =
-    subst (λ (a : Found Act). IsStatement s (Assignment Blocking (whole_of i) e) (done (checked s e)) a) (sym made) (record {
+    subst (λ (a : Found Act). IsStatement untimed s (Assignment Blocking (whole_of i) e) (done (checked s e)) a) (sym made) (record {
       finds = done_each (λ (v : Checked). Empty) y ∙ done_as (λ (c : Checked). c.width) counted_width y (checked s e) h.finds;
-      holds = empty_holds (λ (a : Act). DoesAs s (Assignment Blocking (whole_of i) e) a) y (nothing_does s i e none);
+      holds = empty_holds (λ (a : Act). DoesAs untimed s (Assignment Blocking (whole_of i) e) a) y (nothing_does s i e none);
     })
 
 -- ---- a vector
@@ -89,16 +90,16 @@ whole_is s i o e f w = record {
 
 opened_in : (s : Scope) (i : Identifier) (e : Tree) (o : DataObject) (b : Option Bounds) → find i.name s ≡ Some (Object o) → o.words ≡ b → IsWidth (width_of o.bounds)
     → (y : Found Checked) (z : Found Act) → OpensWith (whole_in o b) y z → IsChecked s e y
-    → IsStatement s (Assignment Blocking (whole_of i) e) (done (checked s e)) z
+    → IsStatement untimed s (Assignment Blocking (whole_of i) e) (done (checked s e)) z
 opened_in s i e o None h f w y z made k =
-    subst (λ (b : Found (Unit {0})). IsStatement s (Assignment Blocking (whole_of i) e) b z) (done_value (width_of o.bounds) (checked s e))
-    (made s (whole_of i) e (Sound (width_of o.bounds)) (whole_is s i o h f w) k)
+    subst (λ (b : Found (Unit {0})). IsStatement untimed s (Assignment Blocking (whole_of i) e) b z) (done_value (width_of o.bounds) (checked s e))
+    (made untimed s Blocking (whole_of i) e (Sound (width_of o.bounds)) (λ us r. refl) (whole_is s i o h f w) k)
 opened_in s i e o (Some r) h f w y z made k =
     opens_nothing s i e y z
     (λ m ds. ap (λ (x : Option Meaning). name_update x s Whole m ds) h ∙ ap (λ (b : Option Bounds). object_update o b s Whole m ds) f) k made
 
 pub opened : (s : Scope) (i : Identifier) (e : Tree) (x : Option Meaning) → find i.name s ≡ x → IsProper x → (y : Found Checked) (z : Found Act)
-    → OpensWith (whole_target x) y z → IsChecked s e y → IsStatement s (Assignment Blocking (whole_of i) e) (done (checked s e)) z
+    → OpensWith (whole_target x) y z → IsChecked s e y → IsStatement untimed s (Assignment Blocking (whole_of i) e) (done (checked s e)) z
 opened s i e (Some (Object o)) h p y z made k = opened_in s i e o o.words h refl p.0 y z made k
 opened s i e (Some (Constant ds b)) h p y z made k = opens_nothing s i e y z (λ m us. ap (λ (x : Option Meaning). name_update x s Whole m us) h) k made
 opened s i e (Some Later) h p y z made k = opens_nothing s i e y z (λ m us. ap (λ (x : Option Meaning). name_update x s Whole m us) h) k made

@@ -10,6 +10,7 @@ use Rattle.v_flat.specs.declared.scope.found.Found.{Found}
 use Rattle.v_flat.specs.declared.scope.found.Found.TheVariants.{Sound, Noted, Lost}
 use Rattle.v_flat.specs.Scope.Found.{each, both, Holds}
 use Rattle.v_flat.specs.Scope.Scope.{Scope}
+use Rattle.v_flat.specs.declared.timing.Timing.{Timing}
 use Rattle.v_flat.specs.Statements.{statement_checked}
 use Rattle.v_flat.specs.Design.{from}
 use Rattle.v_process.specs.Act.Statements.{DoesAs, IsStatement, IsFoundStatement}
@@ -17,25 +18,25 @@ use Rattle.v_process.proofs.ActLemmas.Done.{done_unit, done_each, two_done}
 use Rattle.v_process.specs.Made.{process, waiting}
 use Rattle.v_process.specs.Processes.{Runs, IsFoundProcess, IsAlways}
 
-pub runs : (k : Kind) (ws : List Wake) (s : Scope) (st : StatementTree) (a : Act) → DoesAs s st a → Runs k ws s st (process k ws a)
-runs k ws s st a h = record {
-  is = λ i. record { kind = k; wakes = ws; run = λ m. h.runs (from m) i };
+pub runs : (timing : Timing) (k : Kind) (ws : List Wake) (s : Scope) (st : StatementTree) (a : Act) → DoesAs timing s st a → Runs timing k ws s st (process k ws a)
+runs timing k ws s st a h = record {
+  is = λ i. record { kind = k; wakes = ws; run = λ m g. h.runs (from m g) i };
   sound = h.sound;
 }
 
 -- ---- with what it waits for
 
-each_runs : (k : Kind) (ws : List Wake) (s : Scope) (st : StatementTree) (x : Found Act) → Holds (λ (a : Act). DoesAs s st a) x
-    → Holds (λ (p : Process). Runs k ws s st p) (each (process k ws) x)
-each_runs k ws s st (Sound a) h = runs k ws s st a h
-each_runs k ws s st (Noted b a) h = tt
-each_runs k ws s st (Lost b) h = tt
+each_runs : (timing : Timing) (k : Kind) (ws : List Wake) (s : Scope) (st : StatementTree) (x : Found Act) → Holds (λ (a : Act). DoesAs timing s st a) x
+    → Holds (λ (p : Process). Runs timing k ws s st p) (each (process k ws) x)
+each_runs timing k ws s st (Sound a) h = runs timing k ws s st a h
+each_runs timing k ws s st (Noted b a) h = tt
+each_runs timing k ws s st (Lost b) h = tt
 
-pub found_process : (k : Kind) (ws : List Wake) (s : Scope) (st : StatementTree) (b : Found (Unit {0})) (x : Found Act) (f : Found Process)
-    → f ≡ each (process k ws) x → IsStatement s st b x → IsFoundProcess k ws s st b f
-found_process k ws s st b x f e h = subst (λ (g : Found Process). IsFoundProcess k ws s st b g) (sym e) (record {
+pub found_process : (timing : Timing) (k : Kind) (ws : List Wake) (s : Scope) (st : StatementTree) (b : Found (Unit {0})) (x : Found Act) (f : Found Process)
+    → f ≡ each (process k ws) x → IsStatement timing s st b x → IsFoundProcess timing k ws s st b f
+found_process timing k ws s st b x f e h = subst (λ (g : Found Process). IsFoundProcess timing k ws s st b g) (sym e) (record {
   finds = done_each (process k ws) x ∙ h.finds;
-  holds = each_runs k ws s st x h.holds;
+  holds = each_runs timing k ws s st x h.holds;
 })
 
 -- ---- with what was found in its events
@@ -51,23 +52,23 @@ events_wait (Lost c) (Sound a) = tt
 events_wait (Lost c) (Noted b a) = tt
 events_wait (Lost c) (Lost b) = tt
 
-events_run : (w : Found (List Wake)) (s : Scope) (st : StatementTree) (x : Found Act) → Holds (λ (a : Act). DoesAs s st a) x
-    → Holds (λ (p : Process). Runs Always p.wakes s st p) (each waiting (both w x))
-events_run (Sound ws) s st (Sound a) h = runs Always ws s st a h
-events_run (Sound ws) s st (Noted b a) h = tt
-events_run (Sound ws) s st (Lost b) h = tt
-events_run (Noted c ws) s st (Sound a) h = tt
-events_run (Noted c ws) s st (Noted b a) h = tt
-events_run (Noted c ws) s st (Lost b) h = tt
-events_run (Lost c) s st (Sound a) h = tt
-events_run (Lost c) s st (Noted b a) h = tt
-events_run (Lost c) s st (Lost b) h = tt
+events_run : (timing : Timing) (w : Found (List Wake)) (s : Scope) (st : StatementTree) (x : Found Act) → Holds (λ (a : Act). DoesAs timing s st a) x
+    → Holds (λ (p : Process). Runs timing Always p.wakes s st p) (each waiting (both w x))
+events_run timing (Sound ws) s st (Sound a) h = runs timing Always ws s st a h
+events_run timing (Sound ws) s st (Noted b a) h = tt
+events_run timing (Sound ws) s st (Lost b) h = tt
+events_run timing (Noted c ws) s st (Sound a) h = tt
+events_run timing (Noted c ws) s st (Noted b a) h = tt
+events_run timing (Noted c ws) s st (Lost b) h = tt
+events_run timing (Lost c) s st (Sound a) h = tt
+events_run timing (Lost c) s st (Noted b a) h = tt
+events_run timing (Lost c) s st (Lost b) h = tt
 
-pub found_always : (w : Found (List Wake)) (s : Scope) (st : StatementTree) (x : Found Act) (f : Found Process) → f ≡ each waiting (both w x)
-    → IsFoundStatement s st x → IsAlways w s st f
-found_always w s st x f e h = subst (λ (g : Found Process). IsAlways w s st g) (sym e) (record {
+pub found_always : (timing : Timing) (w : Found (List Wake)) (s : Scope) (st : StatementTree) (x : Found Act) (f : Found Process) → f ≡ each waiting (both w x)
+    → IsFoundStatement timing s st x → IsAlways timing w s st f
+found_always timing w s st x f e h = subst (λ (g : Found Process). IsAlways timing w s st g) (sym e) (record {
   finds = done_each waiting (both w x)
-      ∙ two_done w x w (statement_checked s st) refl (h.finds ∙ sym (done_unit (statement_checked s st)));
+      ∙ two_done w x w (statement_checked timing s st) refl (h.finds ∙ sym (done_unit (statement_checked timing s st)));
   waits = events_wait w x;
-  holds = events_run w s st x h.holds;
+  holds = events_run timing w s st x h.holds;
 })

@@ -6,6 +6,7 @@ use Rattle.v_syntax.specs.declared.statement.CaseItem as code_item
 use Rattle.v_syntax.specs.StatementTrees.{StatementTrees, CaseTree, CaseTrees, more_cases, statement_trees, case_trees, view, view_case}
 use Rattle.v_flat.specs.declared.scope.found.Found.{Found}
 use Rattle.v_flat.specs.Scope.Scope.{Scope}
+use Rattle.v_flat.specs.declared.timing.Timing.{Timing}
 use Rattle.v_flat.specs.Statements.{statements_checked, cases_checked}
 use Rattle.v_process.specs.declared.act.sequences.BlockParts.{BlockParts}
 use Rattle.v_process.specs.declared.act.cases.CaseParts.{CaseParts}
@@ -20,13 +21,13 @@ abbrev pub case_list : List code_item.CaseItem → CaseTrees
 case_list xs = case_trees (map view_case xs)
 
 -- statements of a block, with the rule that the definition finds
-abbrev pub AreFoundStatements : Scope → StatementTrees → Found BlockParts → Type 0
-AreFoundStatements s ss f = AreStatements s ss (statements_checked s ss) f
+abbrev pub AreFoundStatements : Timing → Scope → StatementTrees → Found BlockParts → Type 0
+AreFoundStatements timing s ss f = AreStatements timing s ss (statements_checked timing s ss) f
 
 -- items of a case statement, with the rule that the definition finds
-abbrev pub AreFoundCases : Scope → CaseTrees → Found CaseParts → Type 0
-AreFoundCases s cs f = AreCases s cs (cases_checked s cs) f
+abbrev pub AreFoundCases : Timing → Scope → CaseTrees → Found CaseParts → Type 0
+AreFoundCases timing s cs f = AreCases timing s cs (cases_checked timing s cs) f
 
 -- an item before others, of which rest was found
-abbrev pub IsFoundCase : Scope → CaseTree → Found CaseParts → Found CaseParts → Type 0
-IsFoundCase s c rest f = (cs : CaseTrees) → AreFoundCases s cs rest → AreFoundCases s (more_cases c cs) f
+abbrev pub IsFoundCase : Timing → Scope → CaseTree → Found CaseParts → Found CaseParts → Type 0
+IsFoundCase timing s c rest f = (cs : CaseTrees) → AreFoundCases timing s cs rest → AreFoundCases timing s (more_cases c cs) f

@@ -22,10 +22,11 @@ use Rattle.v_flat.specs.Checks.{checked}
 use Rattle.v_flat.specs.Statements.{done}
 use Rattle.v_check.specs.declared.constants.checked.Checked.{Checked}
 use Rattle.v_check.specs.Constants.Checked.{IsChecked}
+use Rattle.v_process.specs.declared.act.moment.Moment.TheVariants.{AtOnce}
 use Rattle.v_process.specs.declared.target.checked.CheckedTarget.{CheckedTarget}
 use Rattle.v_process.specs.Assign.Targets.{IsTarget}
 use Rattle.v_process.specs.Act.Statements.{ChecksAssignment}
-use Rattle.v_process.specs.Processes.{IsFoundProcess}
+use Rattle.v_process.specs.Processes.{IsFoundProcess, untimed}
 
 abbrev pub process : Kind → List Wake → Act → Process
 process k ws a = record { kind = k; wakes = ws; body = a }
@@ -52,9 +53,9 @@ whole_target None = None
 abbrev pub IsAssigning : Found CheckedTarget → Found Checked → List Wake → Found Process → Type 0
 IsAssigning x y ws f =
     (s : Scope) (t : TargetTree) (e : Tree) (a : Found ℕ) → IsTarget s t a x → IsChecked s e y
-    → IsFoundProcess Assign ws s (Assignment Blocking t e) (done (both a (checked s e))) f
+    → IsFoundProcess untimed Assign ws s (Assignment Blocking t e) (done (both a (checked s e))) f
 
 -- the value is assigned to the target; and where there is none, nothing is done with what was found in the value
 abbrev pub OpensWith : Option CheckedTarget → Found Checked → Found Act → Type 0
-OpensWith (Some t) y f = ChecksAssignment Blocking (Sound t) y f
+OpensWith (Some t) y f = ChecksAssignment AtOnce (Sound t) y f
 OpensWith None y f = f ≡ each (λ (v : Checked). Empty) y

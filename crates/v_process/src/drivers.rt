@@ -10,7 +10,7 @@ ghost use Rattle.v_process.specs.Assign.Continuous.{KeepsOrGrows};
 ghost use Rattle.v_process.specs.Made.{IsAssigning, process};
 ghost use Rattle.v_process.specs.Processes.{IsDriver};
 
-use crate::act::assigned;
+use crate::act::{Moment, assigned};
 use crate::assign::{net_name, net_target};
 use crate::drive::DrivenDigits;
 use crate::target::CheckedTarget;
@@ -20,7 +20,7 @@ use std::alloc::Global;
 use v_check::check;
 use v_check::constants::Checked;
 use v_flat::scope::{Found, Scope};
-use v_syntax::{AssignmentKind, Expression, Identifier, Operand, Selects, Target};
+use v_syntax::{Expression, Identifier, Operand, Selects, Target};
 
 /// A process of that kind, from what was found in its statement.
 pub(crate) fn of_kind(kind: Kind, wakes: Sequence<Wake>, body: Found<Act>) -> Found<Process>
@@ -38,7 +38,7 @@ fn assigning(
 ) -> Result<Found<Process>, NoMemory>
     ensures { IfOk result (IsAssigning target value wakes) }
 {
-    let body = assigned(alloc, AssignmentKind::Blocking, target, value)?;
+    let body = assigned(alloc, Moment::AtOnce, target, value)?;
     Ok(of_kind(Kind::Assign, wakes, body))
 }
 

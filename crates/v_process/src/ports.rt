@@ -6,7 +6,7 @@ ghost use Rattle.v_flat.specs.Scope.Scope.{width_of};
 ghost use Rattle.v_flat.specs.Design.{any_change};
 ghost use Rattle.v_process.specs.Ports.{AssignsInput, AssignsOutput};
 
-use crate::act::assign;
+use crate::act::{Moment, assign};
 use crate::registers::all_digits;
 use crate::target::CheckedTarget;
 use gpi::{Act, Kind, Process, SigId, Term, Wake, WakeEdge};
@@ -15,7 +15,6 @@ use std::alloc::Global;
 use v_check::constants::Checked;
 use v_check::names::width;
 use v_flat::scope::DataObject;
-use v_syntax::AssignmentKind;
 
 /// The continuous assignment of its connection's value to an input (IEEE 1364-2005, clause 12.3.9.2), which waits for `wakes`, the changes
 /// of the signals that the value reads. Only want of memory is an error.
@@ -28,7 +27,7 @@ pub fn input(
     requires { IsWidth (width_of port.bounds) }
     ensures { IfOk result (AssignsInput port value wakes) }
 {
-    let body = assign(alloc, AssignmentKind::Blocking, all_digits(port), value)?;
+    let body = assign(alloc, Moment::AtOnce, all_digits(port), value)?;
     Ok(Process {
         kind: Kind::Assign,
         wakes,

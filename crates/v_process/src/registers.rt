@@ -12,9 +12,9 @@ ghost use Rattle.v_flat.specs.Design.{whole_of};
 ghost use Rattle.v_flat.specs.Statements.{done};
 ghost use Rattle.v_check.specs.Names.Proper.{AreProper};
 ghost use Rattle.v_process.specs.Made.{OpensWith, whole_object, whole_target};
-ghost use Rattle.v_process.specs.Processes.{IsFoundProcess};
+ghost use Rattle.v_process.specs.Processes.{IsFoundProcess, untimed};
 
-use crate::act::assigned;
+use crate::act::{Moment, assigned};
 use crate::drivers::of_kind;
 use crate::target::CheckedTarget;
 use gpi::{Act, Kind, Object, Process, SigId, Target};
@@ -24,7 +24,7 @@ use v_check::check;
 use v_check::constants::Checked;
 use v_check::names::width;
 use v_flat::scope::{DataObject, Found, Meaning, Scope};
-use v_syntax::{AssignmentKind, Expression, Identifier};
+use v_syntax::{Expression, Identifier};
 
 /// All digits of a net or a register that is no memory.
 pub(crate) fn all_digits(object: DataObject) -> CheckedTarget
@@ -61,7 +61,7 @@ fn opening(
     ensures { IfOk result (OpensWith target value) }
 {
     match target {
-        Some(target) => assigned(alloc, AssignmentKind::Blocking, Found::Sound(target), value),
+        Some(target) => assigned(alloc, Moment::AtOnce, Found::Sound(target), value),
         None => Ok(value.each(|_value| Act::Empty)),
     }
 }
@@ -75,7 +75,7 @@ pub fn register(
     value: &Expression,
 ) -> Result<Found<Process>, NoMemory>
     requires { AreProper (means scope.now) }
-    ensures { IfOk result (IsFoundProcess Initial [] (means scope.now)
+    ensures { IfOk result (IsFoundProcess untimed Initial [] (means scope.now)
         (Assignment Blocking (whole_of name.now) (view value.now)) (done (checked (means scope.now) (view value.now)))) }
 {
     let value = check(alloc, scope, value)?;

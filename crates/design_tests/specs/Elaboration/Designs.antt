@@ -15,12 +15,13 @@ use Rattle.v_elab.specs.declared.fault.ElabFault.TheVariants.{Rule}
 use Rattle.design_tests.specs.declared.elaboration.designs.Refusal.{Refusal}
 use Rattle.design_tests.specs.declared.elaboration.designs.Refusal.TheVariants.{TooLong, NoTokens, NoModules, Breaks}
 
--- The modules that a text spells, with the bytes of its tokens and its step.
+-- The modules that a text spells, with the bytes of its tokens, the units of the modules, and its step.
 pub record Spells (text : List ℕ) (source : SourceText) : Type 0 where
   pub lexed : Lexed
   pub reads : Reads text lexed
   pub modules : IsSource height_limit lexed.tokens source.modules
   pub places : source.places ≡ lexed.places
+  pub units : source.units ≡ lexed.units
   pub step : source.step_fs ≡ lexed.step
 
 -- No modules spell the tokens of a text.

@@ -66,17 +66,30 @@ fn block<'a>(
     Ok(())
 }
 
+/// The sign of an assignment, and the delay behind it where there is one.
+fn assignment_sign<'a>(
+    pieces: &mut Pieces<'a>,
+    kind: &'a AssignmentKind,
+) -> Result<(), AllocError> {
+    match kind {
+        AssignmentKind::Blocking => pieces.mark("(="),
+        AssignmentKind::Nonblocking => pieces.mark("(<="),
+        AssignmentKind::Delayed { delay, .. } => {
+            pieces.mark("(<= (delay")?;
+            pieces.node(Piece::Bits(delay))?;
+            pieces.mark(")")
+        }
+    }
+}
+
 /// A target and its value.
 fn assignment<'a>(
     pieces: &mut Pieces<'a>,
-    kind: AssignmentKind,
+    kind: &'a AssignmentKind,
     target: &'a Target,
     value: &'a Expression,
 ) -> Result<(), AllocError> {
-    pieces.mark(match kind {
-        AssignmentKind::Blocking => "(=",
-        AssignmentKind::Nonblocking => "(<=",
-    })?;
+    assignment_sign(pieces, kind)?;
     pieces.node(Piece::Target(target))?;
     pieces.expression(value)
 }
@@ -125,7 +138,7 @@ pub fn open_statement<'a>(
             kind,
             target,
             value,
-        } => assignment(pieces, *kind, target, value)?,
+        } => assignment(pieces, kind, target, value)?,
         Statement::If { condition, branch } => conditional(pieces, condition, branch)?,
         Statement::IfElse {
             condition,

@@ -31,7 +31,7 @@ fn push_token(out: &mut String, token: &Token) -> Result<(), AllocError> {
     }
 }
 
-/// All tokens with their places, and what is told of the text's end.
+/// All tokens with their places, what is told of the text's end, and the unit of time at each `module`.
 fn all_text(alloc: Global, tokens: &Tokens) -> Result<String, AllocError> {
     let mut out = String::new(alloc);
     for i in 0..tokens.len() {
@@ -43,6 +43,9 @@ fn all_text(alloc: Global, tokens: &Tokens) -> Result<String, AllocError> {
     let unit = tokens.unit();
     let step = tokens.step();
     write!(out, "end@{end} unit={unit} step={step}")?;
+    for unit in tokens.units() {
+        write!(out, " module={unit}")?;
+    }
     Ok(out)
 }
 

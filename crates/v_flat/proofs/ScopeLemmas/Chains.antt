@@ -11,7 +11,7 @@ use Rattle.v_flat.specs.Scope.Found.{noted, lost, each, and_then}
 
 -- ---- the rule that counts has the least key
 
-few_rules : (r : ElabRule) → number_of r ≤ 13
+few_rules : (r : ElabRule) → number_of r ≤ 14
 few_rules rule.NoTop = omega arith
 few_rules rule.UnknownModule = omega arith
 few_rules rule.RecursiveInstance = omega arith
@@ -25,11 +25,12 @@ few_rules rule.TwoDrivers = omega arith
 few_rules rule.BadTarget = omega arith
 few_rules rule.LoopTooLong = omega arith
 few_rules rule.TooMany = omega arith
+few_rules rule.BadDelay = omega arith
 
 unfoldable key : Broken → ℕ
-key b = b.place * 14 + number_of b.rule
+key b = b.place * 15 + number_of b.rule
 
-keyed : (a b : Broken) (p q m n : ℕ) (x y z t : Bool) → nat_lt q p ≡ x → nat_lt p q ≡ y → nat_lt n m ≡ z → nat_lt (q * 14 + n) (p * 14 + m) ≡ t → m ≤ 13 → n ≤ 13
+keyed : (a b : Broken) (p q m n : ℕ) (x y z t : Bool) → nat_lt q p ≡ x → nat_lt p q ≡ y → nat_lt n m ≡ z → nat_lt (q * 15 + n) (p * 15 + m) ≡ t → m ≤ 14 → n ≤ 14
     → (if x then b else (if y then a else (if z then b else a))) ≡ (if t then b else a)
 keyed a b p q m n true y z true h i j k f g = refl
 keyed a b p q m n true y z false h i j k f g = absurd (grind (arith, nat_tests))
@@ -43,7 +44,7 @@ keyed a b p q m n false false false true h i j k f g = absurd (grind (arith, nat
 by_key : (a b : Broken) → earlier a b ≡ (if nat_lt (key b) (key a) then b else a)
 unfolding key
 by_key a b = keyed a b a.place b.place (number_of a.rule) (number_of b.rule) (nat_lt b.place a.place) (nat_lt a.place b.place) (nat_lt (number_of b.rule) (number_of a.rule))
-    (nat_lt (b.place * 14 + number_of b.rule) (a.place * 14 + number_of a.rule)) refl refl refl refl (few_rules a.rule) (few_rules b.rule)
+    (nat_lt (b.place * 15 + number_of b.rule) (a.place * 15 + number_of a.rule)) refl refl refl refl (few_rules a.rule) (few_rules b.rule)
 
 -- a by b, c by b, and c by a
 three_by : (a b c : Broken) (k l m : ℕ) (x y z : Bool) → nat_lt l k ≡ x → nat_lt m l ≡ y → nat_lt m k ≡ z

@@ -18,6 +18,7 @@ use Rattle.v_flat.specs.Scope.Limits.{most_parts}
 use Rattle.v_flat.specs.Scope.Scope.{Scope, find}
 use Rattle.v_flat.specs.Checks.{checked}
 use Rattle.v_flat.specs.Targets.{as_target, driving}
+use Rattle.v_flat.specs.declared.timing.Timing.{Timing}
 use Rattle.v_flat.specs.Statements.{statement_checked, statement_reads}
 use Rattle.v_flat.specs.Headers.{Port}
 use Rattle.v_flat.specs.Design.{Design, Joint, State, adding, always, always_item, assigning, beginning, driver, events_of, find_joint, in_turn, initial_item, net, net_count, output_target, plain_item, port_joint, port_joints, register, register_count, running, wakes_of, whole_of}
@@ -64,36 +65,36 @@ in_turn_keeps f (x ∷ rest) s h =
     holds_then (Keeps s) (Keeps s) (f x s) (in_turn f rest) (h x s)
     (λ t k. holds_weaker (Keeps t) (Keeps s) (in_turn f rest t) (in_turn_keeps f rest t h) (λ u l. keeps_on s t u k l))
 
-always_keeps : (c : ControlTree) (b : StatementTree) (s : State) → Holds (Keeps s) (always_item c b s)
-always_keeps Implicit b s =
-    holds_each (λ (u : Unit {0}). Unit {0}) (Keeps s) (λ u. always (wakes_of (statement_reads s.scope b) s.design) b s) (statement_checked s.scope b) (holds_any (statement_checked s.scope b))
+always_keeps : (q : Timing) (c : ControlTree) (b : StatementTree) (s : State) → Holds (Keeps s) (always_item q c b s)
+always_keeps q Implicit b s =
+    holds_each (λ (u : Unit {0}). Unit {0}) (Keeps s) (λ u. always q (wakes_of (statement_reads s.scope b) s.design) b s) (statement_checked q s.scope b) (holds_any (statement_checked q s.scope b))
     (λ x u. record { nodes = refl; signals = refl; children = refl; scope = refl })
-always_keeps (Events es) b s =
-    holds_each (λ (x : List Wake × Unit {0}). Unit {0}) (Keeps s) (λ x. always x.0 b s) (both (events_of s.scope es) (statement_checked s.scope b)) (holds_any (both (events_of s.scope es) (statement_checked s.scope b)))
+always_keeps q (Events es) b s =
+    holds_each (λ (x : List Wake × Unit {0}). Unit {0}) (Keeps s) (λ x. always q x.0 b s) (both (events_of s.scope es) (statement_checked q s.scope b)) (holds_any (both (events_of s.scope es) (statement_checked q s.scope b)))
     (λ x u. record { nodes = refl; signals = refl; children = refl; scope = refl })
 
-initial_keeps : (b : StatementTree) (s : State) → Holds (Keeps s) (initial_item b s)
-initial_keeps b s =
-    holds_each (λ (u : Unit {0}). Unit {0}) (Keeps s) (λ u. adding (record { kind = process_kind.Initial; wakes = []; run = running s.scope b }) s.driven s) (statement_checked s.scope b) (holds_any (statement_checked s.scope b))
+initial_keeps : (q : Timing) (b : StatementTree) (s : State) → Holds (Keeps s) (initial_item q b s)
+initial_keeps q b s =
+    holds_each (λ (u : Unit {0}). Unit {0}) (Keeps s) (λ u. adding (record { kind = process_kind.Initial; wakes = []; run = running q s.scope b }) s.driven s) (statement_checked q s.scope b) (holds_any (statement_checked q s.scope b))
     (λ x u. record { nodes = refl; signals = refl; children = refl; scope = refl })
 
 room_keeps : (p n : ℕ) (s : State) (x : Found State) → Holds (Keeps s) x → Holds (Keeps s) (wants (nat_le (length s.design.processes + n) most_parts) rule.TooMany p x)
 room_keeps p n s x h = holds_wants (Keeps s) (nat_le (length s.design.processes + n) most_parts) rule.TooMany p x (λ u. h)
 
-pub plain_keeps : (p : ℕ) (k : KindTree) (s : State) → Holds (Keeps s) (plain_item p k s)
-plain_keeps p (Nets r ns) s = room_keeps p (net_count ns) s (in_turn net ns s) (in_turn_keeps net ns s net_keeps)
-plain_keeps p (Registers r rs) s = room_keeps p (register_count rs) s (in_turn register rs s) (in_turn_keeps register rs s register_keeps)
-plain_keeps p (Drivers ds) s = room_keeps p (length ds) s (in_turn driver ds s) (in_turn_keeps driver ds s driver_keeps)
-plain_keeps p (Always c b) s = room_keeps p 1 s (always_item c b s) (always_keeps c b s)
-plain_keeps p (Initial b) s = room_keeps p 1 s (initial_item b s) (initial_keeps b s)
-plain_keeps p (Ports h is) s = keeps_itself s
-plain_keeps p (Integers is) s = keeps_itself s
-plain_keeps p (Parameters k r ps) s = keeps_itself s
-plain_keeps p (Instance m v i ps) s = keeps_itself s
+pub plain_keeps : (q : Timing) (p : ℕ) (k : KindTree) (s : State) → Holds (Keeps s) (plain_item q p k s)
+plain_keeps q p (Nets r ns) s = room_keeps p (net_count ns) s (in_turn net ns s) (in_turn_keeps net ns s net_keeps)
+plain_keeps q p (Registers r rs) s = room_keeps p (register_count rs) s (in_turn register rs s) (in_turn_keeps register rs s register_keeps)
+plain_keeps q p (Drivers ds) s = room_keeps p (length ds) s (in_turn driver ds s) (in_turn_keeps driver ds s driver_keeps)
+plain_keeps q p (Always c b) s = room_keeps p 1 s (always_item q c b s) (always_keeps q c b s)
+plain_keeps q p (Initial b) s = room_keeps p 1 s (initial_item q b s) (initial_keeps q b s)
+plain_keeps q p (Ports h is) s = keeps_itself s
+plain_keeps q p (Integers is) s = keeps_itself s
+plain_keeps q p (Parameters k r ps) s = keeps_itself s
+plain_keeps q p (Instance m v i ps) s = keeps_itself s
 
 -- what follows of the kept parts
-pub plain_holds : (P : State → Type 0) (p : ℕ) (k : KindTree) (s : State) → ((t : State) → Keeps s t → P t) → Holds P (plain_item p k s)
-plain_holds P p k s f = holds_weaker (Keeps s) P (plain_item p k s) (plain_keeps p k s) f
+pub plain_holds : (P : State → Type 0) (q : Timing) (p : ℕ) (k : KindTree) (s : State) → ((t : State) → Keeps s t → P t) → Holds P (plain_item q p k s)
+plain_holds P q p k s f = holds_weaker (Keeps s) P (plain_item q p k s) (plain_keeps q p k s) f
 
 -- ---- the assignments of connected ports
 

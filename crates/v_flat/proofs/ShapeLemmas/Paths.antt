@@ -17,7 +17,7 @@ use Rattle.v_flat.specs.Headers.{ports_of}
 use Rattle.v_flat.specs.Targets.{Drive}
 use Rattle.v_flat.specs.Declarations.{Declared, Entries, in_order}
 use Rattle.v_flat.specs.Paths.{Path, SignalAt, below}
-use Rattle.v_flat.specs.Design.{all_signals, child_name, children, Design, flat_design, is_fresh, object_of, opened, Outside, place_of, signals_of, start_of, State, with_child, word_signals}
+use Rattle.v_flat.specs.Design.{Modules, all_signals, child_name, children, Design, flat_design, is_fresh, object_of, opened, Outside, place_of, signals_of, start_of, State, with_child, word_signals}
 use Rattle.v_flat.proofs.ShapeLemmas.Kept.{Keeps, joints_keep, plain_holds}
 use Rattle.v_flat.proofs.ShapeLemmas.Names.{Among, Differ, among_first, among_later, among_left, among_right, one_of_more}
 use Rattle.v_flat.proofs.ShapeLemmas.Nodes.{Children}
@@ -232,7 +232,7 @@ inner_amid path d ds i driven s e h fresh b = record {
 path_steps : Steps Starts Behind Amid
 path_steps = record {
   opens = λ m path out d constants ds h e. opens_amid m path out d constants (in_order (ports_of m) ds) (good_in_order (place_of m constants d) m ds h e);
-  plain = λ path d ds p k s h. plain_holds (Amid path d ds) p k s (λ t keeps. kept_amid path d ds s t h keeps);
+  plain = λ q path d ds p k s h. plain_holds (Amid path d ds) q p k s (λ t keeps. kept_amid path d ds s t h keeps);
   given = λ path d ds p v i c s m x h few e. h.short;
   inner = λ path d ds i driven s e h few is b. inner_amid path d ds i driven s e h is b;
   closes = λ path d ds t h. record { more = h.more; signals = h.signals; apart = h.apart; under = begin_under path (child_names t.children) h.more h.begin; short = h.short };
@@ -252,7 +252,7 @@ own_paths (s ∷ ss) h zero (suc j) x y e f p w = let g : s ≡ x = cc in absurd
 own_paths (s ∷ ss) h (suc i) zero x y e f p w = let g : s ≡ y = cc in absurd (not_like s x ss i h.0 e (subst (λ (u : SignalAt). Same u x) (sym g) (sym p, sym w)))
 own_paths (s ∷ ss) h (suc i) (suc j) x y e f p w = ap suc (own_paths ss h.1 i j x y e f p w)
 
-pub paths_differ : (ms : List ModuleTree) (top : Option (List ℕ)) → HoldsOk (λ (d : Design). HaveOwnPaths d.signals) (flat_design ms top)
+pub paths_differ : (ms : Modules) (top : Option (List ℕ)) → HoldsOk (λ (d : Design). HaveOwnPaths d.signals) (flat_design ms top)
 paths_differ ms top =
     design_holds Starts Behind Amid path_steps (λ (d : Design). HaveOwnPaths d.signals) (λ m. omega arith)
     (λ path e b. subst HaveOwnPaths (sym b.signals) (own_paths b.more b.apart)) ms top

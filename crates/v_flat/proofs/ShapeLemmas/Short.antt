@@ -16,11 +16,12 @@ use Rattle.v_flat.specs.Scope.Limits.{most_parts}
 use Rattle.v_flat.specs.Scope.Scope.{Scope}
 use Rattle.v_flat.specs.Checks.{checked}
 use Rattle.v_flat.specs.Targets.{Drive, driving}
+use Rattle.v_flat.specs.declared.timing.Timing.{Timing}
 use Rattle.v_flat.specs.Statements.{statement_checked, statement_reads}
 use Rattle.v_flat.specs.Headers.{open_parameters, parameters_of, port_name, ports_of}
 use Rattle.v_flat.specs.Declarations.{Declared, Given, in_order}
 use Rattle.v_flat.specs.Paths.{Path}
-use Rattle.v_flat.specs.Design.{adding, always, always_item, assigning, beginning, Design, driver, events_of, flat_design, given_of, in_turn, initial_item, instance_checked, is_fresh, joint_count, Joints, joints_of, net, net_count, opened, Outside, place_of, plain_item, register, register_count, running, State, wakes_of, whole_of}
+use Rattle.v_flat.specs.Design.{Modules, adding, always, always_item, assigning, beginning, Design, driver, events_of, flat_design, given_of, in_turn, initial_item, instance_checked, is_fresh, joint_count, Joints, joints_of, net, net_count, opened, Outside, place_of, plain_item, register, register_count, running, State, wakes_of, whole_of}
 use Rattle.v_flat.proofs.Holds.{holds_any, holds_each, holds_then, holds_wants}
 use Rattle.v_flat.proofs.ShapeLemmas.Ends.{sound_both, wants_sound}
 use Rattle.v_flat.proofs.ShapeLemmas.Joints.{as_many, few_added}
@@ -95,18 +96,18 @@ drivers_counted : (ds : List DriverTree) → all_of (λ d. 1) ds ≡ length ds
 drivers_counted [] = refl
 drivers_counted (d ∷ ds) = let h = drivers_counted ds in omega (arith, h)
 
-always_adds : (c : ControlTree) (b : StatementTree) (s : State) → Holds (Adds 1 s) (always_item c b s)
-always_adds Implicit b s =
-    holds_each (λ (u : Unit {0}). Unit {0}) (Adds 1 s) (λ u. always (wakes_of (statement_reads s.scope b) s.design) b s) (statement_checked s.scope b) (holds_any (statement_checked s.scope b))
-    (λ x u. adds_one (record { kind = process_kind.Always; wakes = wakes_of (statement_reads s.scope b) s.design; run = running s.scope b }) s.driven s)
-always_adds (Events es) b s =
-    holds_each (λ (x : List Wake × Unit {0}). Unit {0}) (Adds 1 s) (λ x. always x.0 b s) (both (events_of s.scope es) (statement_checked s.scope b)) (holds_any (both (events_of s.scope es) (statement_checked s.scope b)))
-    (λ x u. adds_one (record { kind = process_kind.Always; wakes = x.0; run = running s.scope b }) s.driven s)
+always_adds : (q : Timing) (c : ControlTree) (b : StatementTree) (s : State) → Holds (Adds 1 s) (always_item q c b s)
+always_adds q Implicit b s =
+    holds_each (λ (u : Unit {0}). Unit {0}) (Adds 1 s) (λ u. always q (wakes_of (statement_reads s.scope b) s.design) b s) (statement_checked q s.scope b) (holds_any (statement_checked q s.scope b))
+    (λ x u. adds_one (record { kind = process_kind.Always; wakes = wakes_of (statement_reads s.scope b) s.design; run = running q s.scope b }) s.driven s)
+always_adds q (Events es) b s =
+    holds_each (λ (x : List Wake × Unit {0}). Unit {0}) (Adds 1 s) (λ x. always q x.0 b s) (both (events_of s.scope es) (statement_checked q s.scope b)) (holds_any (both (events_of s.scope es) (statement_checked q s.scope b)))
+    (λ x u. adds_one (record { kind = process_kind.Always; wakes = x.0; run = running q s.scope b }) s.driven s)
 
-initial_adds : (b : StatementTree) (s : State) → Holds (Adds 1 s) (initial_item b s)
-initial_adds b s =
-    holds_each (λ (u : Unit {0}). Unit {0}) (Adds 1 s) (λ u. adding (record { kind = process_kind.Initial; wakes = []; run = running s.scope b }) s.driven s) (statement_checked s.scope b) (holds_any (statement_checked s.scope b))
-    (λ x u. adds_one (record { kind = process_kind.Initial; wakes = []; run = running s.scope b }) s.driven s)
+initial_adds : (q : Timing) (b : StatementTree) (s : State) → Holds (Adds 1 s) (initial_item q b s)
+initial_adds q b s =
+    holds_each (λ (u : Unit {0}). Unit {0}) (Adds 1 s) (λ u. adding (record { kind = process_kind.Initial; wakes = []; run = running q s.scope b }) s.driven s) (statement_checked q s.scope b) (holds_any (statement_checked q s.scope b))
+    (λ x u. adds_one (record { kind = process_kind.Initial; wakes = []; run = running q s.scope b }) s.driven s)
 
 -- ---- few
 
@@ -121,16 +122,16 @@ with_room_few p n m s x e h = holds_wants AreFew (nat_le (length s.design.proces
     fits (found.Noted b u) g t = tt
     fits (found.Lost b) g t = tt
 
-plain_few : (p : ℕ) (k : KindTree) (s : State) → AreFew s → Holds AreFew (plain_item p k s)
-plain_few p (Nets r ns) s h = with_room_few p (net_count ns) (all_of net_adds_count ns) s (in_turn net ns s) (nets_counted ns) (in_turn_adds net net_adds_count ns s net_adds)
-plain_few p (Registers r rs) s h = with_room_few p (register_count rs) (all_of register_adds_count rs) s (in_turn register rs s) (registers_counted rs) (in_turn_adds register register_adds_count rs s register_adds)
-plain_few p (Drivers ds) s h = with_room_few p (length ds) (all_of (λ d. 1) ds) s (in_turn driver ds s) (drivers_counted ds) (in_turn_adds driver (λ d. 1) ds s driver_adds)
-plain_few p (Always c b) s h = with_room_few p 1 1 s (always_item c b s) refl (always_adds c b s)
-plain_few p (Initial b) s h = with_room_few p 1 1 s (initial_item b s) refl (initial_adds b s)
-plain_few p (Ports q is) s h = h
-plain_few p (Integers is) s h = h
-plain_few p (Parameters k r ps) s h = h
-plain_few p (Instance m v i ps) s h = h
+plain_few : (q : Timing) (p : ℕ) (k : KindTree) (s : State) → AreFew s → Holds AreFew (plain_item q p k s)
+plain_few q p (Nets r ns) s h = with_room_few p (net_count ns) (all_of net_adds_count ns) s (in_turn net ns s) (nets_counted ns) (in_turn_adds net net_adds_count ns s net_adds)
+plain_few q p (Registers r rs) s h = with_room_few p (register_count rs) (all_of register_adds_count rs) s (in_turn register rs s) (registers_counted rs) (in_turn_adds register register_adds_count rs s register_adds)
+plain_few q p (Drivers ds) s h = with_room_few p (length ds) (all_of (λ d. 1) ds) s (in_turn driver ds s) (drivers_counted ds) (in_turn_adds driver (λ d. 1) ds s driver_adds)
+plain_few q p (Always c b) s h = with_room_few p 1 1 s (always_item q c b s) refl (always_adds q c b s)
+plain_few q p (Initial b) s h = with_room_few p 1 1 s (initial_item q b s) refl (initial_adds q b s)
+plain_few q p (Ports r is) s h = h
+plain_few q p (Integers is) s h = h
+plain_few q p (Parameters k r ps) s h = h
+plain_few q p (Instance m v i ps) s h = h
 
 -- ---- along the walk
 
@@ -159,8 +160,8 @@ opens_short m path out d s ds apart h = record {
   processes = let n = h.processes in let k = few_added (ports_of m) out.scope out.joints s (opened path ds d) apart in omega (arith, n, k);
 }
 
-plain_short : (p : ℕ) (k : KindTree) (s : State) → IsShort s.design → Holds (λ (t : State). IsShort t.design) (plain_item p k s)
-plain_short p k s h = join (plain_item p k s) (plain_keeps p k s) (plain_few p k s h.processes)
+plain_short : (q : Timing) (p : ℕ) (k : KindTree) (s : State) → IsShort s.design → Holds (λ (t : State). IsShort t.design) (plain_item q p k s)
+plain_short q p k s h = join (plain_item q p k s) (plain_keeps q p k s) (plain_few q p k s h.processes)
   where
     join : (x : Found State) → Holds (Keeps s) x → Holds AreFew x → Holds (λ (t : State). IsShort t.design) x
     join (found.Sound t) a b = record { nodes = let n = h.nodes in let e = ap length a.nodes in omega (arith, n, e); processes = b }
@@ -190,7 +191,7 @@ given_room p v i c s m x few e = record { nodes = grind (arith, nat_tests); proc
 short_steps : Steps HasRoom Behind Amid
 short_steps = record {
   opens = λ m path out d constants ds h e. opens_short m path out d (scope_of constants d (in_order (ports_of m) ds)) (in_order (ports_of m) ds) (ports_apart (place_of m constants d) m ds e) h;
-  plain = λ path d ds p k s h. plain_short p k s h;
+  plain = λ q path d ds p k s h. plain_short q p k s h;
   given = λ path d ds p v i c s m x h few e. given_room p v i c s m x few e;
   inner = λ path d ds i driven s e h few is g. g;
   closes = λ path d ds t h. record {
@@ -199,7 +200,7 @@ short_steps = record {
   };
 }
 
-pub lists_short : (ms : List ModuleTree) (top : Option (List ℕ)) → HoldsOk (λ (d : Design). (length d.nodes ≤ most_parts) × (length d.processes ≤ most_parts)) (flat_design ms top)
+pub lists_short : (ms : Modules) (top : Option (List ℕ)) → HoldsOk (λ (d : Design). (length d.nodes ≤ most_parts) × (length d.processes ≤ most_parts)) (flat_design ms top)
 lists_short ms top =
     design_holds HasRoom Behind Amid short_steps (λ (d : Design). (length d.nodes ≤ most_parts) × (length d.processes ≤ most_parts))
     (λ m. record { nodes = omega arith; processes = omega arith }) (λ path e g. (g.nodes, g.processes)) ms top

@@ -19,7 +19,7 @@ use Rattle.v_flat.specs.Headers.{ports_of}
 use Rattle.v_flat.specs.Targets.{Drive}
 use Rattle.v_flat.specs.Declarations.{Declared, Entries, in_order, signals_in}
 use Rattle.v_flat.specs.Paths.{NodeAt, Path, SignalAt, below, node_of, signal_of}
-use Rattle.v_flat.specs.Design.{all_signals, children, closed, Design, flat_design, object_of, opened, Outside, place_of, signals_of, spot_of, start_of, State, with_child, word_signals}
+use Rattle.v_flat.specs.Design.{Modules, all_signals, children, closed, Design, flat_design, object_of, opened, Outside, place_of, signals_of, spot_of, start_of, State, with_child, word_signals}
 use Rattle.v_flat.proofs.ShapeLemmas.Declared.{span_some}
 use Rattle.v_flat.proofs.ShapeLemmas.Kept.{Keeps, KeepsParts, joints_keep, plain_holds}
 use Rattle.v_flat.proofs.ShapeLemmas.Nodes.{Children}
@@ -219,7 +219,7 @@ closes_behind path d ds t h = record {
 fit_steps : Steps Starts Behind Amid
 fit_steps = record {
   opens = λ m path out d constants ds h e. opens_amid m path out d constants (in_order (ports_of m) ds) h (good_in_order (place_of m constants d) m ds h.short e);
-  plain = λ path d ds p k s h. plain_holds (Amid path d ds) p k s (λ t keeps. kept_amid path d ds s t h keeps);
+  plain = λ q path d ds p k s h. plain_holds (Amid path d ds) q p k s (λ t keeps. kept_amid path d ds s t h keeps);
   given = λ path d ds p v i c s m x h few e. h.fit;
   inner = λ path d ds i driven s e h few is b. inner_amid path d ds i driven s e h b;
   closes = closes_behind;
@@ -248,7 +248,7 @@ all_are : (n s : ℕ) (xs : List NodeAt) → AllSpots n s xs → are_nodes n s (
 all_are n s [] h = refl
 all_are n s (x ∷ xs) h = both_so (are_spots n s x.children) (are_nodes n s (map node_of xs)) (spots_are n s x.children h.0) (all_are n s xs h.1)
 
-pub signals_fit : (ms : List ModuleTree) (top : Option (List ℕ)) → HoldsOk (λ (d : Design). (length d.signals ≤ most_parts) × IsTrue (are_wide (map signal_of d.signals)) × IsTrue (are_nodes (length d.nodes) (length d.signals) (map node_of d.nodes))) (flat_design ms top)
+pub signals_fit : (ms : Modules) (top : Option (List ℕ)) → HoldsOk (λ (d : Design). (length d.signals ≤ most_parts) × IsTrue (are_wide (map signal_of d.signals)) × IsTrue (are_nodes (length d.nodes) (length d.signals) (map node_of d.nodes))) (flat_design ms top)
 signals_fit ms top =
     design_holds Starts Behind Amid fit_steps (λ (d : Design). (length d.signals ≤ most_parts) × IsTrue (are_wide (map signal_of d.signals)) × IsTrue (are_nodes (length d.nodes) (length d.signals) (map node_of d.nodes)))
     (λ m. record { short = omega arith; wide = tt; spots = tt })

@@ -12,7 +12,7 @@ use Rattle.v_flat.specs.Targets.{Drive}
 use Rattle.v_flat.specs.Headers.{ports_of}
 use Rattle.v_flat.specs.Declarations.{Declared, Entries, in_order}
 use Rattle.v_flat.specs.Paths.{NodeAt, Path, below, node_of}
-use Rattle.v_flat.specs.Design.{closed, Design, flat_design, opened, Outside, State, with_child}
+use Rattle.v_flat.specs.Design.{Modules, closed, Design, flat_design, opened, Outside, State, with_child}
 use Rattle.v_flat.proofs.ShapeLemmas.Nodes.{AreAbove, Children, EachAbove, IsAbove, above_more, count, count_more, declared_above, each_above_more, is_behind, none_declared, one_if, set_behind, total, total_more}
 use Rattle.v_flat.proofs.ShapeLemmas.Kept.{Keeps, joints_keep, plain_holds}
 use Rattle.v_flat.proofs.ShapeLemmas.Walk.{Steps, design_holds, opening, scope_of}
@@ -122,7 +122,7 @@ Anything m out d = Unit {0}
 tree_steps : Steps Anything Grows Between
 tree_steps = record {
   opens = λ m path out d constants ds h e. opens_between m path out d constants (in_order (ports_of m) ds);
-  plain = λ path d ds p k s h. plain_holds (Between path d ds) p k s (λ t keeps. kept_between path d ds s t h keeps);
+  plain = λ q path d ds p k s h. plain_holds (Between path d ds) q p k s (λ t keeps. kept_between path d ds s t h keeps);
   given = λ path d ds p v i c s m x h few e. tt;
   inner = λ path d ds i driven s e h few is g. inner_between path d ds i driven s e h g;
   closes = closes_grows;
@@ -206,7 +206,7 @@ is_tree ns l h k = record {
   each = λ v u. is_placed ns h k v (let e = length-map ns node_of in omega (arith, e, u));
 }
 
-pub trees : (ms : List ModuleTree) (top : Option (List ℕ)) → HoldsOk (λ (d : Design). IsTree (map node_of d.nodes)) (flat_design ms top)
+pub trees : (ms : Modules) (top : Option (List ℕ)) → HoldsOk (λ (d : Design). IsTree (map node_of d.nodes)) (flat_design ms top)
 trees ms top =
     design_holds Anything Grows Between tree_steps (λ (d : Design). IsTree (map node_of d.nodes)) (λ m. tt)
     (λ path e g. subst (λ ns. IsTree (map node_of ns)) (sym g.nodes) (is_tree g.news g.some g.counts g.above)) ms top

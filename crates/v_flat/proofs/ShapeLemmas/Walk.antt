@@ -15,7 +15,8 @@ use Rattle.v_flat.specs.Targets.{Drive}
 use Rattle.v_flat.specs.Headers.{all_names, items_in, later, module_name, open_parameters, parameters_of, ports_of}
 use Rattle.v_flat.specs.Declarations.{Declared, Entries, Given, declarations, in_order, parameters}
 use Rattle.v_flat.specs.Paths.{Path, below}
-use Rattle.v_flat.specs.Design.{Design, Joints, Outside, State, Sub, children, closed, entries, find_module, flat_design, from_top, given_of, instance, instance_checked, instance_item, is_fresh, item, items, joint_count, joints_of, module_there, modules_checked, no_design, opened, place_of, plain_item, port_joints, top_of, walk, walk_items, with_child}
+use Rattle.v_flat.specs.declared.timing.Timing.{Timing}
+use Rattle.v_flat.specs.Design.{Design, Joints, Modules, Outside, State, Sub, children, closed, entries, find_module, flat_design, from_top, given_of, instance, instance_checked, instance_item, is_fresh, item, items, joint_count, joints_of, module_there, modules_checked, no_design, opened, place_of, plain_item, port_joints, timing_of, top_of, walk, walk_items, with_child}
 use Rattle.v_flat.proofs.Holds.{holds_ended, holds_next}
 use Rattle.v_flat.proofs.ShapeLemmas.Ends.{ended_sound, holds_next_so, needs_sound, wants_sound}
 
@@ -37,7 +38,7 @@ pub record Steps (P : ModuleTree → Outside → Design → Type 0) (I : Path �
   pub opens : (m : ModuleTree) (path : Path) (out : Outside) (d : Design) (constants : Entries) (ds : List Declared) → P m out d
       → declarations (place_of m constants d) m ≡ Ok ds
       → J path d (in_order (ports_of m) ds) (opening m path out d (scope_of constants d (in_order (ports_of m) ds)) (in_order (ports_of m) ds))
-  pub plain : (path : Path) (d : Design) (ds : List Declared) (p : ℕ) (k : KindTree) (s : State) → J path d ds s → Holds (J path d ds) (plain_item p k s)
+  pub plain : (q : Timing) (path : Path) (d : Design) (ds : List Declared) (p : ℕ) (k : KindTree) (s : State) → J path d ds s → Holds (J path d ds) (plain_item q p k s)
   pub given : (path : Path) (d : Design) (ds : List Declared) (p : ℕ) (v : Option ConnectionsTree) (i : Identifier) (c : Option ConnectionsTree) (s : State)
       (m : ModuleTree) (x : List Given × Joints) → J path d ds s → nat_lt (length s.design.nodes) most_parts ≡ true → instance_checked p v i c s m ≡ Sound x
       → P m (record { given = x.0; scope = s.scope; joints = x.1.list }) s.design
@@ -73,11 +74,11 @@ module _ (P : ModuleTree → Outside → Design → Type 0) (I : Path → Design
   abbrev Good : Sub → ℕ → Type 0
   Good sub room = nat_lt 0 room ≡ true → (above : List (List ℕ)) (m : ModuleTree) (path : Path) (out : Outside) (d : Design) → P m out d → HoldsOk (I path d) (sub above m path out d)
 
-  module _ (sub : Sub) (room : ℕ) (good : Good sub room) (ms : List ModuleTree) (above : List (List ℕ)) (path : Path) (d : Design) (ds : List Declared) where
+  module _ (q : Timing) (sub : Sub) (room : ℕ) (good : Good sub room) (ms : Modules) (above : List (List ℕ)) (path : Path) (d : Design) (ds : List Declared) where
     instance_holds : (p : ℕ) (m : Identifier) (v : Option ConnectionsTree) (i : Identifier) (c : Option ConnectionsTree) (s : State) → J path d ds s
         → HoldsOk (J path d ds) (instance_item sub room ms above path p m v i c s)
     instance_holds p m v i c s h =
-        holds_next_so (J path d ds) (ended (module_there m room above s.design (find_module m.name ms))) (λ inner.
+        holds_next_so (J path d ds) (ended (module_there m room above s.design (find_module m.name ms.list))) (λ inner.
         next (ended (instance_checked p v i c s inner)) (λ x.
         next (sub (m.name ∷ above) inner (below path i.name) (record { given = x.0; scope = s.scope; joints = x.1.list }) s.design) (λ e.
         Ok (with_child i.name (length s.design.nodes) x.1.driven s e))))
@@ -87,15 +88,15 @@ module _ (P : ModuleTree → Outside → Design → Type 0) (I : Path → Design
         (λ x checks. holds_next (I (below path i.name) s.design) (J path d ds)
         (sub (m.name ∷ above) inner (below path i.name) (record { given = x.0; scope = s.scope; joints = x.1.list }) s.design)
         (λ e. Ok (with_child i.name (length s.design.nodes) x.1.driven s e))
-        (good (there m room above s.design (find_module m.name ms) inner is).0 (m.name ∷ above) inner (below path i.name) (record { given = x.0; scope = s.scope; joints = x.1.list }) s.design
-        (steps.given path d ds p v i c s inner x h (there m room above s.design (find_module m.name ms) inner is).1 (ended_sound (instance_checked p v i c s inner) x checks)))
-        (λ e k. steps.inner path d ds i x.1.driven s e h (there m room above s.design (find_module m.name ms) inner is).1
+        (good (there m room above s.design (find_module m.name ms.list) inner is).0 (m.name ∷ above) inner (below path i.name) (record { given = x.0; scope = s.scope; joints = x.1.list }) s.design
+        (steps.given path d ds p v i c s inner x h (there m room above s.design (find_module m.name ms.list) inner is).1 (ended_sound (instance_checked p v i c s inner) x checks)))
+        (λ e k. steps.inner path d ds i x.1.driven s e h (there m room above s.design (find_module m.name ms.list) inner is).1
         (fresh p v i c s inner x (ended_sound (instance_checked p v i c s inner) x checks)) k)))
 
-    plain_holds : (p : ℕ) (k : KindTree) (s : State) → J path d ds s → HoldsOk (J path d ds) (ended (plain_item p k s))
-    plain_holds p k s h = holds_ended (J path d ds) (plain_item p k s) (steps.plain path d ds p k s h)
+    plain_holds : (p : ℕ) (k : KindTree) (s : State) → J path d ds s → HoldsOk (J path d ds) (ended (plain_item q p k s))
+    plain_holds p k s h = holds_ended (J path d ds) (plain_item q p k s) (steps.plain q path d ds p k s h)
 
-    item_holds : (i : ItemTree) (s : State) → J path d ds s → HoldsOk (J path d ds) (item sub room ms above path i s)
+    item_holds : (i : ItemTree) (s : State) → J path d ds s → HoldsOk (J path d ds) (item q sub room ms above path i s)
     item_holds (ItemAt p (Instance m v i c)) s h = instance_holds p m v i c s h
     item_holds (ItemAt p (Nets r ns)) s h = plain_holds p (Nets r ns) s h
     item_holds (ItemAt p (Registers r rs)) s h = plain_holds p (Registers r rs) s h
@@ -106,12 +107,12 @@ module _ (P : ModuleTree → Outside → Design → Type 0) (I : Path → Design
     item_holds (ItemAt p (Integers is)) s h = plain_holds p (Integers is) s h
     item_holds (ItemAt p (Parameters k r ps)) s h = plain_holds p (Parameters k r ps) s h
 
-    items_hold : (is : List ItemTree) (s : State) → J path d ds s → HoldsOk (J path d ds) (items sub room ms above path is s)
+    items_hold : (is : List ItemTree) (s : State) → J path d ds s → HoldsOk (J path d ds) (items q sub room ms above path is s)
     items_hold [] s h = h
     items_hold (i ∷ is) s h =
-        holds_next (J path d ds) (J path d ds) (item sub room ms above path i s) (items sub room ms above path is) (item_holds i s h) (λ t k. items_hold is t k)
+        holds_next (J path d ds) (J path d ds) (item q sub room ms above path i s) (items q sub room ms above path is) (item_holds i s h) (λ t k. items_hold is t k)
 
-  instance_walk : (sub : Sub) (room : ℕ) → Good sub room → (ms : List ModuleTree) (above : List (List ℕ)) (m : ModuleTree) (path : Path) (out : Outside) (d : Design) → P m out d
+  instance_walk : (sub : Sub) (room : ℕ) → Good sub room → (ms : Modules) (above : List (List ℕ)) (m : ModuleTree) (path : Path) (out : Outside) (d : Design) → P m out d
       → HoldsOk (I path d) (instance sub room ms above m path out d)
   instance_walk sub room good ms above m path out d h =
       holds_next_so (I path d) (parameters (parameters_of m) out.given (later (all_names m)) []) (λ constants.
@@ -120,13 +121,13 @@ module _ (P : ModuleTree → Outside → Design → Type 0) (I : Path → Design
       (λ constants e. holds_next_so (I path d) (declarations (place_of m constants d) m) (λ ds.
       walk_items sub room ms above m path out d (scope_of constants d (in_order (ports_of m) ds)) (in_order (ports_of m) ds))
       (λ ds is. holds_next (J path d (in_order (ports_of m) ds)) (I path d)
-      (items sub room ms above path (items_in m) (opening m path out d (scope_of constants d (in_order (ports_of m) ds)) (in_order (ports_of m) ds)))
+      (items (timing_of ms (module_name m).name) sub room ms above path (items_in m) (opening m path out d (scope_of constants d (in_order (ports_of m) ds)) (in_order (ports_of m) ds)))
       (λ t. Ok (closed path (length d.nodes) t))
-      (items_hold sub room good ms above path d (in_order (ports_of m) ds) (items_in m) (opening m path out d (scope_of constants d (in_order (ports_of m) ds)) (in_order (ports_of m) ds))
+      (items_hold (timing_of ms (module_name m).name) sub room good ms above path d (in_order (ports_of m) ds) (items_in m) (opening m path out d (scope_of constants d (in_order (ports_of m) ds)) (in_order (ports_of m) ds))
       (steps.opens m path out d constants ds h is))
       (λ t k. steps.closes path d (in_order (ports_of m) ds) t k)))
 
-  walk_holds : (ms : List ModuleTree) (room : ℕ) (above : List (List ℕ)) (m : ModuleTree) (path : Path) (out : Outside) (d : Design) → P m out d
+  walk_holds : (ms : Modules) (room : ℕ) (above : List (List ℕ)) (m : ModuleTree) (path : Path) (out : Outside) (d : Design) → P m out d
       → HoldsOk (I path d) (walk ms room above m path out d)
   unfolding walk
   walk_holds ms zero above m path out d h = instance_walk (λ a n q o e. Ok e) 0 (λ t. cc) ms above m path out d h
@@ -134,7 +135,7 @@ module _ (P : ModuleTree → Outside → Design → Type 0) (I : Path → Design
       instance_walk (walk ms room) (suc room) (λ t a n q o e k. walk_holds ms room a n q o e k) ms above m path out d h
 
   top_holds : (Q : Design → Type 0) → ((m : ModuleTree) → P m (record { given = []; scope = nothing; joints = [] }) no_design)
-      → ((path : Path) (e : Design) → I path no_design e → Q e) → (ms : List ModuleTree) (top : Option ModuleTree) → HoldsOk Q (from_top ms top)
+      → ((path : Path) (e : Design) → I path no_design e → Q e) → (ms : Modules) (top : Option ModuleTree) → HoldsOk Q (from_top ms top)
   top_holds Q begins ends ms None = tt
   top_holds Q begins ends ms (Some m) =
       holds_ok_of (I ((module_name m).name ∷ []) no_design) Q (walk ms 64 ((module_name m).name ∷ []) m ((module_name m).name ∷ []) (record { given = []; scope = nothing; joints = [] }) no_design)
@@ -146,6 +147,6 @@ module _ (P : ModuleTree → Outside → Design → Type 0) (I : Path → Design
 
   -- what follows of the design behind the top follows of the design of a text
   pub design_holds : (Q : Design → Type 0) → ((m : ModuleTree) → P m (record { given = []; scope = nothing; joints = [] }) no_design)
-      → ((path : Path) (e : Design) → I path no_design e → Q e) → (ms : List ModuleTree) (top : Option (List ℕ)) → HoldsOk Q (flat_design ms top)
+      → ((path : Path) (e : Design) → I path no_design e → Q e) → (ms : Modules) (top : Option (List ℕ)) → HoldsOk Q (flat_design ms top)
   design_holds Q begins ends ms top =
-      holds_next_so Q (modules_checked [] ms) (λ u. from_top ms (top_of ms top)) (λ u e. top_holds Q begins ends ms (top_of ms top))
+      holds_next_so Q (modules_checked [] ms.list) (λ u. from_top ms (top_of ms.list top)) (λ u e. top_holds Q begins ends ms (top_of ms.list top))

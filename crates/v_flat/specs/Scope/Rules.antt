@@ -19,6 +19,7 @@ number_of rule.TwoDrivers = 10
 number_of rule.BadTarget = 11
 number_of rule.LoopTooLong = 12
 number_of rule.TooMany = 13
+number_of rule.BadDelay = 14
 
 -- the earlier one by place; at one place the one that stands first in the table
 abbrev pub earlier : Broken → Broken → Broken

@@ -35,6 +35,9 @@ pub enum ElabRule {
     LoopTooLong,
     /// Too many signals, processes, instances or levels of instances.
     TooMany,
+    /// A delay of an assignment whose number is 0 or has an x or z digit, or that is no whole number of steps or too long (clauses 9.2.2 and
+    /// 19.8).
+    BadDelay,
 }
 
 /// A broken rule, and where.
@@ -63,6 +66,7 @@ fn number_of(rule: ElabRule) -> u8
         ElabRule::BadTarget => 11,
         ElabRule::LoopTooLong => 12,
         ElabRule::TooMany => 13,
+        ElabRule::BadDelay => 14,
     }
 }
 

@@ -1,7 +1,7 @@
 -- The modules before one, their names and their numbers.
 use Rattle.std.proofs.Common.{◌≡◌, ℕ, suc, ◌+◌, ◌<◌, ◌≤◌, Bool, true, false, not, ◌||◌, List, [], ◌∷◌, ◌++◌, length, map, take, drop, get_or, Option, None, Some, option_map, Ok, Err, is_some, bytes_eq, if◌then◌else◌, refl, sym, subst, ap, ◌∙◌, arith}
 use Rattle.std.specs.Borrow.{Bor}
-use Rattle.std.specs.Prelude.{slice_get, option_and_then, option_copied}
+use Rattle.std.specs.Prelude.{slice_get, slice_index_or, unwrap_or, option_and_then, option_copied}
 use Rattle.std.specs.Slice.{IsItemAt}
 use Rattle.std.proofs.lemmas.Bool.{ltb-true, ltb-false}
 use Rattle.std.proofs.lemmas.Option.{slice_get-map, slice_get_past, slice_get_read}
@@ -16,7 +16,8 @@ use Rattle.v_flat.specs.declared.scope.rule.ElabRule.TheVariants as rule
 use Rattle.v_flat.specs.Scope.Rules.{at}
 use Rattle.v_flat.specs.Scope.Found.{fine, needs, ended, next}
 use Rattle.v_flat.specs.Headers.{module_name}
-use Rattle.v_flat.specs.Design.{find_module, modules_checked}
+use Rattle.v_flat.specs.Delays.{nanosecond}
+use Rattle.v_flat.specs.Design.{find_module, modules_checked, unit_of}
 use Rattle.v_header.specs.Top.Found.{module_in}
 use Rattle.v_header.specs.Top.Modules.{AreNumbers, ChecksModules, number_of}
 
@@ -165,13 +166,63 @@ found_by_number n (m ∷ ms) =
     ap (λ (o : Option ModuleTree). if bytes_eq (module_name m).name n then Some m else o) (found_by_number n ms)
     ∙ found_if (bytes_eq (module_name m).name n) m ms (number_of n ms)
 
+-- ---- what stands at a number
+
+item_at : {A : Type 0} (xs : List A) (i : ℕ) (o : Option (Bor A)) → IsItemAt xs i o → option_copied o ≡ slice_get xs i
+item_at xs i None h = sym (slice_get_past xs i (ltb-false i (length xs) (sym h.0)))
+item_at xs i (Some x) h = sym (slice_get_read xs (length xs) i x.now refl (ltb-true i (length xs) (sym h.0)) h.1)
+
+-- ---- its unit
+
+dropped : (us : List ℕ) (k d : ℕ) → slice_get (drop 1 us) k ≡ slice_get us (suc k)
+dropped [] k d = refl
+dropped (u ∷ us) k d = refl
+
+first_of : (us : List ℕ) (d : ℕ) → slice_index_or us 0 d ≡ unwrap_or (slice_get us 0) d
+first_of [] d = refl
+first_of (u ∷ us) d = refl
+
+unit_if : (c : Bool) (us : List ℕ) (d : ℕ) (o : Option ℕ)
+    → (if c then slice_index_or us 0 d else unwrap_or (option_and_then (λ i. slice_get (drop 1 us) i) o) d)
+    ≡ unwrap_or (option_and_then (λ i. slice_get us i) (if c then Some 0 else option_map suc o)) d
+unit_if true us d o = first_of us d
+unit_if false us d None = refl
+unit_if false us d (Some k) = ap (λ (x : Option ℕ). unwrap_or x d) (dropped us k d)
+
+unit_by_number : (n : List ℕ) (ms : List ModuleTree) (us : List ℕ)
+    → unit_of n ms us ≡ unwrap_or (option_and_then (λ i. slice_get us i) (number_of n ms)) nanosecond
+unit_by_number n [] us = refl
+unit_by_number n (m ∷ ms) us =
+    ap (λ (u : ℕ). if bytes_eq (module_name m).name n then slice_index_or us 0 nanosecond else u) (unit_by_number n ms (drop 1 us))
+    ∙ unit_if (bytes_eq (module_name m).name n) us nanosecond (number_of n ms)
+
+unit_by : (n : List ℕ) (xs : List Module) (us : List ℕ) (numbers : List (List ℕ × ℕ)) (r x y : Option ℕ) → AreNumbers (map view_module xs) numbers
+    → r ≡ first_place numbers n → r ≡ x → option_and_then (λ i. slice_get us i) x ≡ y → unwrap_or y nanosecond ≡ unit_of n (map view_module xs) us
+unit_by n xs us numbers r x y are found is there =
+    let ms = map view_module xs in
+    sym (unit_by_number n ms us
+    ∙ ap (λ (o : Option ℕ). unwrap_or (option_and_then (λ i. slice_get us i) o) nanosecond) (sym (sym is ∙ found ∙ are n))
+    ∙ ap (λ (o : Option ℕ). unwrap_or o nanosecond) there)
+
+pub unit_there : (n : List ℕ) (xs : List Module) (us : List ℕ) (numbers : List (List ℕ × ℕ)) (r : Option ℕ) (k : ℕ) (o : Option (Bor ℕ)) (u : Bor ℕ)
+    → AreNumbers (map view_module xs) numbers → r ≡ first_place numbers n → r ≡ Some k → IsItemAt us k o → o ≡ Some u → u.now ≡ unit_of n (map view_module xs) us
+unit_there n xs us numbers r k o u are found is there e =
+    unit_by n xs us numbers r (Some k) (Some u.now) are found is (sym (item_at us k o there) ∙ ap (λ (x : Option (Bor ℕ)). option_copied x) e)
+
+pub unit_past : (n : List ℕ) (xs : List Module) (us : List ℕ) (numbers : List (List ℕ × ℕ)) (r : Option ℕ) (k : ℕ) (o : Option (Bor ℕ))
+    → AreNumbers (map view_module xs) numbers → r ≡ first_place numbers n → r ≡ Some k → IsItemAt us k o → o ≡ None → nanosecond ≡ unit_of n (map view_module xs) us
+unit_past n xs us numbers r k o are found is there e =
+    unit_by n xs us numbers r (Some k) None are found is (sym (item_at us k o there) ∙ ap (λ (x : Option (Bor ℕ)). option_copied x) e)
+
+pub unit_nowhere : (n : List ℕ) (xs : List Module) (us : List ℕ) (numbers : List (List ℕ × ℕ)) (r : Option ℕ)
+    → AreNumbers (map view_module xs) numbers → r ≡ first_place numbers n → r ≡ None → nanosecond ≡ unit_of n (map view_module xs) us
+unit_nowhere n xs us numbers r are found is = unit_by n xs us numbers r None None are found is refl
+
+-- ---- the module itself
+
 copied : (o : Option (Bor Module)) → module_in o ≡ option_map view_module (option_copied o)
 copied None = refl
 copied (Some x) = refl
-
-item_at : (xs : List Module) (i : ℕ) (o : Option (Bor Module)) → IsItemAt xs i o → option_copied o ≡ slice_get xs i
-item_at xs i None h = sym (slice_get_past xs i (ltb-false i (length xs) (sym h.0)))
-item_at xs i (Some x) h = sym (slice_get_read xs (length xs) i x.now refl (ltb-true i (length xs) (sym h.0)) h.1)
 
 pub found_there : (n : List ℕ) (xs : List Module) (numbers : List (List ℕ × ℕ)) (o : Option (Bor Module)) (r : Option ℕ) (k : ℕ) → AreNumbers (map view_module xs) numbers
     → r ≡ first_place numbers n → r ≡ Some k → IsItemAt xs k o → module_in o ≡ find_module n (map view_module xs)

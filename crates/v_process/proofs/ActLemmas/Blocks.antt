@@ -8,6 +8,7 @@ use Rattle.v_syntax.specs.StatementTrees.{StatementTree, Block, StatementTrees, 
 use Rattle.v_flat.specs.declared.scope.found.Found.{Found}
 use Rattle.v_flat.specs.Scope.Found.{both}
 use Rattle.v_flat.specs.Scope.Scope.{Scope}
+use Rattle.v_flat.specs.declared.timing.Timing.{Timing}
 use Rattle.v_flat.specs.Statements.{done, activation}
 use Rattle.v_flat.proofs.Holds.{holds_both}
 use Rattle.v_check.proofs.ConstantsLemmas.Combined.{made_holds}
@@ -35,23 +36,23 @@ sound_split (x ∷ xs) a ws h = let k = sound_split xs a ws h.1 in ((h.0, k.0), 
 
 -- ---- a statement before others
 
-more_do : (s : Scope) (t : StatementTree) (ss : StatementTrees) (a : Act) (x y : BlockParts) → HasFirst a x y → DoesAs s t a → DoAsAll s ss x
-    → DoAsAll s (more_statements t ss) y
-more_do s t ss a x y made h k = record {
+more_do : (timing : Timing) (s : Scope) (t : StatementTree) (ss : StatementTrees) (a : Act) (x y : BlockParts) → HasFirst a x y → DoesAs timing s t a → DoAsAll timing s ss x
+    → DoAsAll timing s (more_statements t ss) y
+more_do timing s t ss a x y made h k = record {
   runs = λ r. ap (λ (xs : List Act). run_back xs r) made ∙ back_first x.acts.items a r ∙ ap (λ (q : Run). run_back x.acts.items q) (h.runs r)
-      ∙ k.runs (activation s t r);
+      ∙ k.runs (activation timing s t r);
   sound = λ ws names. subst (λ (xs : List Act). SoundList xs ws) (sym made)
       (sound_first x.acts.items a ws (k.sound ws names.1) (h.sound ws names.0));
 }
 
 more_are : (x : Found Act) (y f : Found BlockParts) → AreMoreStatements (both x y) f → ChecksMoreStatements x y f
-more_are x y f made = λ s t ss b c h k. record {
+more_are x y f made = λ timing s t ss b c h k. record {
   finds = done_made (λ (p : Act × BlockParts) (z : BlockParts). HasFirst p.0 p.1 z) (both x y) f made
       ∙ two_done x y b c (h.finds ∙ sym (done_unit b)) (k.finds ∙ sym (done_unit c));
-  holds = made_holds (λ (p : Act × BlockParts) (z : BlockParts). HasFirst p.0 p.1 z) (λ (p : Act × BlockParts). DoesAs s t p.0 × DoAsAll s ss p.1)
-      (λ (z : BlockParts). DoAsAll s (more_statements t ss) z) (both x y) f made
-      (holds_both (λ (a : Act). DoesAs s t a) (λ (z : BlockParts). DoAsAll s ss z) x y h.holds k.holds)
-      (λ p z q st. more_do s t ss p.0 p.1 z q st.0 st.1);
+  holds = made_holds (λ (p : Act × BlockParts) (z : BlockParts). HasFirst p.0 p.1 z) (λ (p : Act × BlockParts). DoesAs timing s t p.0 × DoAsAll timing s ss p.1)
+      (λ (z : BlockParts). DoAsAll timing s (more_statements t ss) z) (both x y) f made
+      (holds_both (λ (a : Act). DoesAs timing s t a) (λ (z : BlockParts). DoAsAll timing s ss z) x y h.holds k.holds)
+      (λ p z q st. more_do timing s t ss p.0 p.1 z q st.0 st.1);
 }
 
 pub more_result : {E : Type 0} (x : Found Act) (y : Found BlockParts) (r : Result (Found BlockParts) E) → IfOk r (AreMoreStatements (both x y))
@@ -97,17 +98,17 @@ whole_made x all a order made = record {
   sound = λ ws h. made.sound ws (order.sound ws h);
 }
 
-block_does : (s : Scope) (l : Option (List ℕ)) (ss : StatementTrees) (x : BlockParts) (a : Act) → MakesWhole x a → DoAsAll s ss x → DoesAs s (Block l ss) a
-block_does s l ss x a made h = record {
+block_does : (timing : Timing) (s : Scope) (l : Option (List ℕ)) (ss : StatementTrees) (x : BlockParts) (a : Act) → MakesWhole x a → DoAsAll timing s ss x → DoesAs timing s (Block l ss) a
+block_does timing s l ss x a made h = record {
   runs = λ r. made.runs r ∙ h.runs r;
   sound = λ ws names. made.sound ws (h.sound ws names);
 }
 
 block_is : (x : Found BlockParts) (f : Found Act) → AreBlocks x f → ChecksBlock x f
-block_is x f made = λ s l ss b h. record {
+block_is x f made = λ timing s l ss b h. record {
   finds = done_made (λ (y : BlockParts) (a : Act). MakesWhole y a) x f made ∙ h.finds;
-  holds = made_holds (λ (y : BlockParts) (a : Act). MakesWhole y a) (λ (y : BlockParts). DoAsAll s ss y) (λ (a : Act). DoesAs s (Block l ss) a) x f made h.holds
-      (λ y a q st. block_does s l ss y a q st);
+  holds = made_holds (λ (y : BlockParts) (a : Act). MakesWhole y a) (λ (y : BlockParts). DoAsAll timing s ss y) (λ (a : Act). DoesAs timing s (Block l ss) a) x f made h.holds
+      (λ y a q st. block_does timing s l ss y a q st);
 }
 
 pub block_result : {E : Type 0} (x : Found BlockParts) (r : Result (Found Act) E) → IfOk r (AreBlocks x) → IfOk r (ChecksBlock x)

@@ -18,6 +18,7 @@ use Rattle.v_check.specs.Contextual.Contexts.{value_in}
 use Rattle.v_check.specs.Contextual.Contexts as context
 use Rattle.v_flat.specs.Checks.{checked}
 use Rattle.v_flat.specs.Expressions.{Values, width, meaning}
+use Rattle.v_flat.specs.declared.timing.Timing.{Timing}
 use Rattle.v_flat.specs.Statements.{done, labels_checked, any_agrees, widest, case_width, values_of, either_run, chosen, activation}
 use Rattle.v_flat.proofs.Holds.{holds_both}
 use Rattle.v_check.specs.declared.constants.checked.Checked.{Checked}
@@ -103,22 +104,22 @@ pub items_split : (xs : List LabeledItem) (x : LabeledItem) (ws : List ℕ) → 
 items_split [] x ws h = (tt, h.0)
 items_split (y ∷ xs) x ws h = let k = items_split xs x ws h.1 in ((h.0, k.0), k.1)
 
-item_runs : (s : Scope) (es : List Tree) (a : StatementTree) (cs : CaseTrees) (l : CaseLabels) (t : Act) (x y : CaseParts) → HasItem l t x y
-    → DoAsLabels s es l → DoesAs s a t → DoAsCases s cs x → (k : Agreement) (v : List Digit) (w : ℕ) (r other : Run)
-    → choose_back k v w y.items.items r other ≡ chosen k v w s (more_cases (Match es a) cs) r other
-item_runs s es a cs l t x y made h g c k v w r other =
+item_runs : (timing : Timing) (s : Scope) (es : List Tree) (a : StatementTree) (cs : CaseTrees) (l : CaseLabels) (t : Act) (x y : CaseParts) → HasItem l t x y
+    → DoAsLabels s es l → DoesAs timing s a t → DoAsCases timing s cs x → (k : Agreement) (v : List Digit) (w : ℕ) (r other : Run)
+    → choose_back k v w y.items.items r other ≡ chosen timing k v w s (more_cases (Match es a) cs) r other
+item_runs timing s es a cs l t x y made h g c k v w r other =
     ap (λ (xs : List LabeledItem). choose_back k v w xs r other) made.items
     ∙ choose_last k v w x.items.items (record { labels = l; statement = t }) r other
     ∙ ap (λ (b : Bool). either_run b (act.activation t r) (choose_back k v w x.items.items r other)) (h.agree k v w (values_of r))
     ∙ ap (λ (q : Run). either_run (any_agrees k v w s es (values_of r)) q (choose_back k v w x.items.items r other)) (g.runs r)
-    ∙ ap (λ (q : Run). either_run (any_agrees k v w s es (values_of r)) (activation s a r) q) (c.runs k v w r other)
+    ∙ ap (λ (q : Run). either_run (any_agrees k v w s es (values_of r)) (activation timing s a r) q) (c.runs k v w r other)
 
-item_do : (s : Scope) (es : List Tree) (a : StatementTree) (cs : CaseTrees) (l : CaseLabels) (t : Act) (x y : CaseParts) → HasItem l t x y
-    → DoAsLabels s es l → DoesAs s a t → DoAsCases s cs x → DoAsCases s (more_cases (Match es a) cs) y
-item_do s es a cs l t x y made h g c = record {
+item_do : (timing : Timing) (s : Scope) (es : List Tree) (a : StatementTree) (cs : CaseTrees) (l : CaseLabels) (t : Act) (x y : CaseParts) → HasItem l t x y
+    → DoAsLabels s es l → DoesAs timing s a t → DoAsCases timing s cs x → DoAsCases timing s (more_cases (Match es a) cs) y
+item_do timing s es a cs l t x y made h g c = record {
   width = ap (λ (n : ℕ). max n (case_width s cs)) h.width ∙ ap (λ (n : ℕ). max l.width n) c.width ∙ sym made.width;
   proper = subst (λ (n : ℕ). n ≤ most_digits) (sym made.width) (both_narrow l.width x.width h.proper c.proper);
-  runs = λ k v w r other. item_runs s es a cs l t x y made h g c k v w r other;
+  runs = λ k v w r other. item_runs timing s es a cs l t x y made h g c k v w r other;
   otherwise = λ r. ap (λ (o : Option Act). run_some o r) made.other ∙ c.otherwise r;
   sound = λ ws names. (
     subst (λ (xs : List LabeledItem). SoundItems xs ws) (sym made.items)
@@ -128,18 +129,18 @@ item_do s es a cs l t x y made h g c = record {
 }
 
 items_are : (x : Found CaseLabels) (y : Found Act) (z f : Found CaseParts) → AreMoreItems (both (both x y) z) f → ChecksItem x y z f
-items_are x y z f made = λ s es a cs b c h g k. record {
+items_are x y z f made = λ timing s es a cs b c h g k. record {
   finds = done_made (λ (p : (CaseLabels × Act) × CaseParts) (q : CaseParts). HasItem p.0.0 p.0.1 p.1 q) (both (both x y) z) f made
       ∙ two_done (both x y) z (both (labels_checked s es) b) c
       (two_done x y (labels_checked s es) b (h.finds ∙ sym (done_unit (labels_checked s es))) (g.finds ∙ sym (done_unit b)))
       (k.finds ∙ sym (done_unit c))
       ∙ two_done (both (labels_checked s es) b) c (done (both (labels_checked s es) b)) c (sym (done_unit (done (both (labels_checked s es) b)))) refl;
   holds = made_holds (λ (p : (CaseLabels × Act) × CaseParts) (q : CaseParts). HasItem p.0.0 p.0.1 p.1 q)
-      (λ (p : (CaseLabels × Act) × CaseParts). (DoAsLabels s es p.0.0 × DoesAs s a p.0.1) × DoAsCases s cs p.1)
-      (λ (q : CaseParts). DoAsCases s (more_cases (Match es a) cs) q) (both (both x y) z) f made
-      (holds_both (λ (p : CaseLabels × Act). DoAsLabels s es p.0 × DoesAs s a p.1) (λ (q : CaseParts). DoAsCases s cs q) (both x y) z
-      (holds_both (λ (l : CaseLabels). DoAsLabels s es l) (λ (t : Act). DoesAs s a t) x y h.holds g.holds) k.holds)
-      (λ p q made' st. item_do s es a cs p.0.0 p.0.1 p.1 q made' st.0.0 st.0.1 st.1);
+      (λ (p : (CaseLabels × Act) × CaseParts). (DoAsLabels s es p.0.0 × DoesAs timing s a p.0.1) × DoAsCases timing s cs p.1)
+      (λ (q : CaseParts). DoAsCases timing s (more_cases (Match es a) cs) q) (both (both x y) z) f made
+      (holds_both (λ (p : CaseLabels × Act). DoAsLabels s es p.0 × DoesAs timing s a p.1) (λ (q : CaseParts). DoAsCases timing s cs q) (both x y) z
+      (holds_both (λ (l : CaseLabels). DoAsLabels s es l) (λ (t : Act). DoesAs timing s a t) x y h.holds g.holds) k.holds)
+      (λ p q made' st. item_do timing s es a cs p.0.0 p.0.1 p.1 q made' st.0.0 st.0.1 st.1);
 }
 
 pub items_result : {E : Type 0} (x : Found CaseLabels) (y : Found Act) (z : Found CaseParts) (r : Result (Found CaseParts) E)
@@ -149,9 +150,9 @@ items_result x y z (Err e) made = tt
 
 -- ---- defaults
 
-default_do : (s : Scope) (a : StatementTree) (cs : CaseTrees) (t : Act) (x y : CaseParts) → HasDefault t x y → DoesAs s a t → DoAsCases s cs x
-    → DoAsCases s (more_cases (Default a) cs) y
-default_do s a cs t x y made g c = record {
+default_do : (timing : Timing) (s : Scope) (a : StatementTree) (cs : CaseTrees) (t : Act) (x y : CaseParts) → HasDefault t x y → DoesAs timing s a t → DoAsCases timing s cs x
+    → DoAsCases timing s (more_cases (Default a) cs) y
+default_do timing s a cs t x y made g c = record {
   width = c.width ∙ sym made.width;
   proper = subst (λ (n : ℕ). n ≤ most_digits) (sym made.width) c.proper;
   runs = λ k v w r other. ap (λ (xs : List LabeledItem). choose_back k v w xs r other) made.items ∙ c.runs k v w r other;
@@ -163,11 +164,11 @@ default_do s a cs t x y made g c = record {
 }
 
 pub defaults_are : (y : Found Act) (z f : Found CaseParts) → AreMoreDefaults (both y z) f → ChecksDefault y z f
-defaults_are y z f made = λ s a cs b c g k. record {
+defaults_are y z f made = λ timing s a cs b c g k. record {
   finds = done_made (λ (p : Act × CaseParts) (q : CaseParts). HasDefault p.0 p.1 q) (both y z) f made
       ∙ two_done y z b c (g.finds ∙ sym (done_unit b)) (k.finds ∙ sym (done_unit c));
-  holds = made_holds (λ (p : Act × CaseParts) (q : CaseParts). HasDefault p.0 p.1 q) (λ (p : Act × CaseParts). DoesAs s a p.0 × DoAsCases s cs p.1)
-      (λ (q : CaseParts). DoAsCases s (more_cases (Default a) cs) q) (both y z) f made
-      (holds_both (λ (t : Act). DoesAs s a t) (λ (q : CaseParts). DoAsCases s cs q) y z g.holds k.holds)
-      (λ p q made' st. default_do s a cs p.0 p.1 q made' st.0 st.1);
+  holds = made_holds (λ (p : Act × CaseParts) (q : CaseParts). HasDefault p.0 p.1 q) (λ (p : Act × CaseParts). DoesAs timing s a p.0 × DoAsCases timing s cs p.1)
+      (λ (q : CaseParts). DoAsCases timing s (more_cases (Default a) cs) q) (both y z) f made
+      (holds_both (λ (t : Act). DoesAs timing s a t) (λ (q : CaseParts). DoAsCases timing s cs q) y z g.holds k.holds)
+      (λ p q made' st. default_do timing s a cs p.0 p.1 q made' st.0 st.1);
 }

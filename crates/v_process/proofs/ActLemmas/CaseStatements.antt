@@ -26,6 +26,7 @@ use Rattle.v_check.specs.Contextual.Contexts.{value_in, IsLowered}
 use Rattle.v_check.specs.Contextual.Contexts as context
 use Rattle.v_flat.specs.Checks.{checked}
 use Rattle.v_flat.specs.Expressions.{Values, width, meaning}
+use Rattle.v_flat.specs.declared.timing.Timing.{Timing}
 use Rattle.v_flat.specs.Statements.{agreement_of, case_width, values_of, either_run, chosen, default_run}
 use Rattle.v_flat.proofs.Holds.{holds_both}
 use Rattle.v_check.specs.declared.constants.checked.Checked.{Checked}
@@ -252,33 +253,33 @@ statement_result kind c x k w t ls all b (Ok a) d e low numbers f made =
     (subst (λ (q : Act). Stands x.other q) (sym f) (stands_or x.other)) (subst (λ (q : Agreement). MakesCase q t ls all b a) d made)
 statement_result kind c x k w t ls all b (Err e) d g low numbers f made = tt
 
-case_runs : (s : Scope) (kind : CaseKind) (e : Tree) (cs : CaseTrees) (v : Checked) (x : CaseParts) → StandsFor s e v → DoAsCases s cs x → (r : Run)
+case_runs : (timing : Timing) (s : Scope) (kind : CaseKind) (e : Tree) (cs : CaseTrees) (v : Checked) (x : CaseParts) → StandsFor s e v → DoAsCases timing s cs x → (r : Run)
     → choose_back (agreement_of kind) (value_in v.form (max v.width x.width) (values_of r)) (max v.width x.width) x.items.items r (run_some x.other r)
-    ≡ chosen (agreement_of kind) (meaning s e (max (width s e) (case_width s cs)) (values_of r)) (max (width s e) (case_width s cs)) s cs r (default_run s cs r)
-case_runs s kind e cs v x h k r =
+    ≡ chosen timing (agreement_of kind) (meaning s e (max (width s e) (case_width s cs)) (values_of r)) (max (width s e) (case_width s cs)) s cs r (default_run timing s cs r)
+case_runs timing s kind e cs v x h k r =
     k.runs (agreement_of kind) (value_in v.form (max v.width x.width) (values_of r)) (max v.width x.width) r (run_some x.other r)
-    ∙ ap (λ (ds : List Digit). chosen (agreement_of kind) ds (max v.width x.width) s cs r (run_some x.other r)) (h.means (max v.width x.width) (values_of r))
-    ∙ ap (λ (q : Run). chosen (agreement_of kind) (meaning s e (max v.width x.width) (values_of r)) (max v.width x.width) s cs r q) (k.otherwise r)
-    ∙ ap (λ (n : ℕ). chosen (agreement_of kind) (meaning s e (max n x.width) (values_of r)) (max n x.width) s cs r (default_run s cs r)) (sym h.own)
-    ∙ ap (λ (n : ℕ). chosen (agreement_of kind) (meaning s e (max (width s e) n) (values_of r)) (max (width s e) n) s cs r (default_run s cs r)) (sym k.width)
+    ∙ ap (λ (ds : List Digit). chosen timing (agreement_of kind) ds (max v.width x.width) s cs r (run_some x.other r)) (h.means (max v.width x.width) (values_of r))
+    ∙ ap (λ (q : Run). chosen timing (agreement_of kind) (meaning s e (max v.width x.width) (values_of r)) (max v.width x.width) s cs r q) (k.otherwise r)
+    ∙ ap (λ (n : ℕ). chosen timing (agreement_of kind) (meaning s e (max n x.width) (values_of r)) (max n x.width) s cs r (default_run timing s cs r)) (sym h.own)
+    ∙ ap (λ (n : ℕ). chosen timing (agreement_of kind) (meaning s e (max (width s e) n) (values_of r)) (max (width s e) n) s cs r (default_run timing s cs r)) (sym k.width)
 
-case_does : (s : Scope) (kind : CaseKind) (e : Tree) (cs : CaseTrees) (v : Checked) (x : CaseParts) (a : Act) → MakesCaseStatement kind v x a
-    → StandsFor s e v → DoAsCases s cs x → DoesAs s (Case kind e cs) a
-case_does s kind e cs v x a made h k = record {
-  runs = λ r. made.runs r ∙ case_runs s kind e cs v x h k r;
+case_does : (timing : Timing) (s : Scope) (kind : CaseKind) (e : Tree) (cs : CaseTrees) (v : Checked) (x : CaseParts) (a : Act) → MakesCaseStatement kind v x a
+    → StandsFor s e v → DoAsCases timing s cs x → DoesAs timing s (Case kind e cs) a
+case_does timing s kind e cs v x a made h k = record {
+  runs = λ r. made.runs r ∙ case_runs timing s kind e cs v x h k r;
   sound = λ ws names.
       let p = k.sound ws names.1 in
       made.sound ws (record { value = h.sound ws names.0; value_width = h.proper; width = k.proper; items = p.0; other = p.1 });
 }
 
 case_is : (kind : CaseKind) (x : Found Checked) (y : Found CaseParts) (f : Found Act) → AreCaseStatements kind (both x y) f → ChecksCase kind x y f
-case_is kind x y f made = λ s e cs b h k. record {
+case_is kind x y f made = λ timing s e cs b h k. record {
   finds = done_made (λ (p : Checked × CaseParts) (a : Act). MakesCaseStatement kind p.0 p.1 a) (both x y) f made
       ∙ two_done x y (checked s e) b (done_as (λ (c : Checked). c.width) counted_width x (checked s e) h.finds) (k.finds ∙ sym (done_unit b));
   holds = made_holds (λ (p : Checked × CaseParts) (a : Act). MakesCaseStatement kind p.0 p.1 a)
-      (λ (p : Checked × CaseParts). StandsFor s e p.0 × DoAsCases s cs p.1) (λ (a : Act). DoesAs s (Case kind e cs) a) (both x y) f made
-      (holds_both (λ (c : Checked). StandsFor s e c) (λ (z : CaseParts). DoAsCases s cs z) x y h.holds k.holds)
-      (λ p a q st. case_does s kind e cs p.0 p.1 a q st.0 st.1);
+      (λ (p : Checked × CaseParts). StandsFor s e p.0 × DoAsCases timing s cs p.1) (λ (a : Act). DoesAs timing s (Case kind e cs) a) (both x y) f made
+      (holds_both (λ (c : Checked). StandsFor s e c) (λ (z : CaseParts). DoAsCases timing s cs z) x y h.holds k.holds)
+      (λ p a q st. case_does timing s kind e cs p.0 p.1 a q st.0 st.1);
 }
 
 pub case_result : {E : Type 0} (kind : CaseKind) (x : Found Checked) (y : Found CaseParts) (r : Result (Found Act) E)

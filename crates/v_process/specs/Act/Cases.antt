@@ -19,6 +19,7 @@ use Rattle.v_check.specs.Contextual.Contexts.{value_in}
 use Rattle.v_check.specs.Contextual.Contexts as context
 use Rattle.v_flat.specs.Expressions.{Values}
 use Rattle.v_flat.specs.Checks.{checked}
+use Rattle.v_flat.specs.declared.timing.Timing.{Timing}
 use Rattle.v_flat.specs.Statements.{done, labels_checked, any_agrees, widest, case_width, values_of, either_run, chosen, default_run}
 use Rattle.v_check.specs.declared.constants.checked.Checked.{Checked}
 use Rattle.v_check.specs.Constants.Checked.{IsChecked}
@@ -74,17 +75,17 @@ SoundSome None ws = Unit {0}
 
 -- the greatest width of the labels; the same item runs for each value in each context, and the same default; and all is sound wherever
 -- the names are signals of the design
-pub record DoAsCases (s : Scope) (cs : CaseTrees) (x : CaseParts) : Type 0 where
+pub record DoAsCases (timing : Timing) (s : Scope) (cs : CaseTrees) (x : CaseParts) : Type 0 where
   pub width : case_width s cs ≡ x.width
   pub proper : x.width ≤ most_digits
-  pub runs : (k : Agreement) (v : List Digit) (w : ℕ) (r other : Run) → choose_back k v w x.items.items r other ≡ chosen k v w s cs r other
-  pub otherwise : (r : Run) → run_some x.other r ≡ default_run s cs r
+  pub runs : (k : Agreement) (v : List Digit) (w : ℕ) (r other : Run) → choose_back k v w x.items.items r other ≡ chosen timing k v w s cs r other
+  pub otherwise : (r : Run) → run_some x.other r ≡ default_run timing s cs r
   pub sound : (ws : List ℕ) → CasesNamesOf s cs ws → SoundItems x.items.items ws × SoundSome x.other ws
 
 -- the same rule is broken first as in what the definition finds, which is b; and where none is, they do what the items do
-pub record AreCases (s : Scope) (cs : CaseTrees) (b : Found (Unit {0})) (f : Found CaseParts) : Type 0 where
+pub record AreCases (timing : Timing) (s : Scope) (cs : CaseTrees) (b : Found (Unit {0})) (f : Found CaseParts) : Type 0 where
   pub finds : done f ≡ b
-  pub holds : Holds (λ (x : CaseParts). DoAsCases s cs x) f
+  pub holds : Holds (λ (x : CaseParts). DoAsCases timing s cs x) f
 
 -- ---- what is found in the whole, from what was found in the parts
 
@@ -95,19 +96,19 @@ abbrev pub ChecksMoreLabels : Found Checked → Found CaseLabels → Found CaseL
 ChecksMoreLabels x y f = (s : Scope) (e : Tree) (es : List Tree) → IsChecked s e x → AreLabels s es y → AreLabels s (e ∷ es) f
 
 abbrev pub ChecksNoCase : Found CaseParts → Type 0
-ChecksNoCase f = (s : Scope) → AreCases s no_case fine f
+ChecksNoCase f = (timing : Timing) (s : Scope) → AreCases timing s no_case fine f
 
 abbrev pub ChecksItem : Found CaseLabels → Found Act → Found CaseParts → Found CaseParts → Type 0
 ChecksItem x y z f =
-    (s : Scope) (es : List Tree) (a : StatementTree) (cs : CaseTrees) (b c : Found (Unit {0})) → AreLabels s es x → IsStatement s a b y
-    → AreCases s cs c z → AreCases s (more_cases (Match es a) cs) (done (both (done (both (labels_checked s es) b)) c)) f
+    (timing : Timing) (s : Scope) (es : List Tree) (a : StatementTree) (cs : CaseTrees) (b c : Found (Unit {0})) → AreLabels s es x → IsStatement timing s a b y
+    → AreCases timing s cs c z → AreCases timing s (more_cases (Match es a) cs) (done (both (done (both (labels_checked s es) b)) c)) f
 
 abbrev pub ChecksDefault : Found Act → Found CaseParts → Found CaseParts → Type 0
 ChecksDefault y z f =
-    (s : Scope) (a : StatementTree) (cs : CaseTrees) (b c : Found (Unit {0})) → IsStatement s a b y → AreCases s cs c z
-    → AreCases s (more_cases (Default a) cs) (done (both b c)) f
+    (timing : Timing) (s : Scope) (a : StatementTree) (cs : CaseTrees) (b c : Found (Unit {0})) → IsStatement timing s a b y → AreCases timing s cs c z
+    → AreCases timing s (more_cases (Default a) cs) (done (both b c)) f
 
 abbrev pub ChecksCase : CaseKind → Found Checked → Found CaseParts → Found Act → Type 0
 ChecksCase kind x y f =
-    (s : Scope) (e : Tree) (cs : CaseTrees) (b : Found (Unit {0})) → IsChecked s e x → AreCases s cs b y
-    → IsStatement s (Case kind e cs) (done (both (checked s e) b)) f
+    (timing : Timing) (s : Scope) (e : Tree) (cs : CaseTrees) (b : Found (Unit {0})) → IsChecked s e x → AreCases timing s cs b y
+    → IsStatement timing s (Case kind e cs) (done (both (checked s e) b)) f

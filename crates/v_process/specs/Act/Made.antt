@@ -7,11 +7,11 @@ use Rattle.gpi.specs.declared.terms.Term.{Term}
 use Rattle.gpi.specs.Terms.{IsWidth}
 use Rattle.gpi.specs.Made.{Makes}
 use Rattle.gpi.specs.Activation.{Run, MakesIf, SoundList, acts_of, run_list}
-use Rattle.v_syntax.specs.declared.statement.AssignmentKind.{AssignmentKind}
 use Rattle.v_flat.specs.declared.scope.found.Found.{Found}
 use Rattle.v_flat.specs.Scope.Found.{EachIs}
 use Rattle.v_check.specs.Contextual.Contexts.{value_in, IsSound}
 use Rattle.v_check.specs.declared.constants.checked.Checked.{Checked}
+use Rattle.v_process.specs.declared.act.moment.Moment.{Moment}
 use Rattle.v_process.specs.declared.target.checked.CheckedTarget.{CheckedTarget}
 use Rattle.v_process.specs.Act.Assignments.{MakesAssignment}
 use Rattle.v_process.specs.Act.Statements.{run_back}
@@ -20,8 +20,8 @@ use Rattle.v_process.specs.Act.Statements.{run_back}
 abbrev pub IsCut : Checked → ℕ → Term → Type 0
 IsCut v w t = Makes t (λ m. resize (value_in v.form (max w v.width) m) w) w (λ ws. IsSound v.form ws × (IsWidth (max w v.width) × IsWidth w))
 
-abbrev pub AreAssignments : AssignmentKind → Found (CheckedTarget × Checked) → Found Act → Type 0
-AreAssignments k x f = EachIs (λ (p : CheckedTarget × Checked) (a : Act). MakesAssignment k p.0 p.1 a) x f
+abbrev pub AreAssignments : Moment → Found (CheckedTarget × Checked) → Found Act → Type 0
+AreAssignments m x f = EachIs (λ (p : CheckedTarget × Checked) (a : Act). MakesAssignment m p.0 p.1 a) x f
 
 abbrev pub AreChoices : Found (Term × (Act × Act)) → Found Act → Type 0
 AreChoices x f = EachIs (λ (p : Term × (Act × Act)) (a : Act). MakesIf p.0 p.1.0 p.1.1 a) x f

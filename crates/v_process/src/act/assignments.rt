@@ -9,6 +9,7 @@ ghost use Rattle.v_process.specs.Act.Assignments.{MakesAssignment};
 ghost use Rattle.v_process.specs.Act.Made.{AreAssignments, IsCut};
 ghost use Rattle.v_process.specs.Act.Statements.{ChecksAssignment, IsFoundStatement};
 
+use crate::act::moment::{Moment, delayed, moment_of};
 use crate::act::waiting::beside;
 use crate::assign::target as checked_target;
 use crate::target::CheckedTarget;
@@ -17,6 +18,7 @@ use port_io::NoMemory;
 use std::alloc::Global;
 use v_check::check;
 use v_check::constants::Checked;
+use v_flat::Timing;
 use v_flat::scope::{Found, Scope};
 use v_syntax::{AssignmentKind, Expression, Target};
 
@@ -33,31 +35,31 @@ fn cut(alloc: Global, value: Checked, width: u8) -> Result<Term, NoMemory>
 /// error.
 pub fn assign(
     alloc: Global,
-    kind: AssignmentKind,
+    moment: Moment,
     target: CheckedTarget,
     value: Checked,
 ) -> Result<Act, NoMemory>
-    ensures { IfOk result (MakesAssignment kind target value) }
+    ensures { IfOk result (MakesAssignment moment target value) }
 {
     let (term, target) = beside(cut(alloc, value, target.width), target.target)?;
-    match kind {
-        AssignmentKind::Blocking => Ok(Act::Blocking(target, term)),
-        AssignmentKind::Nonblocking => Ok(Act::Nonblocking(target, term)),
+    match moment {
+        Moment::AtOnce => Ok(Act::Blocking(target, term)),
+        Moment::Later(delay) => Ok(Act::Nonblocking(target, term, delay)),
     }
 }
 
 /// What is made of a target and a value. Only want of memory is an error.
 fn of_both(
     alloc: Global,
-    kind: AssignmentKind,
+    moment: Moment,
     found: Found<(CheckedTarget, Checked)>,
 ) -> Result<Found<Act>, NoMemory>
-    ensures { IfOk result (AreAssignments kind found) }
+    ensures { IfOk result (AreAssignments moment found) }
 {
     match found {
-        Found::Sound((target, value)) => Ok(Found::Sound(assign(alloc, kind, target, value)?)),
+        Found::Sound((target, value)) => Ok(Found::Sound(assign(alloc, moment, target, value)?)),
         Found::Noted(fault, (target, value)) => {
-            Ok(Found::Noted(fault, assign(alloc, kind, target, value)?))
+            Ok(Found::Noted(fault, assign(alloc, moment, target, value)?))
         }
         Found::Lost(fault) => Ok(Found::Lost(fault)),
     }
@@ -66,28 +68,30 @@ fn of_both(
 /// `target = value` or `target <= value` (IEEE 1364-2005, clause 9.2), from what was found in both. Only want of memory is an error.
 pub fn assigned(
     alloc: Global,
-    kind: AssignmentKind,
+    moment: Moment,
     target: Found<CheckedTarget>,
     value: Found<Checked>,
 ) -> Result<Found<Act>, NoMemory>
-    ensures { IfOk result (ChecksAssignment kind target value) }
+    ensures { IfOk result (ChecksAssignment moment target value) }
 {
-    of_both(alloc, kind, target.both(value))
+    of_both(alloc, moment, target.both(value))
 }
 
-/// What is found in an assignment of a procedure: what is broken first, or else the statement that it is (IEEE 1364-2005, clause 9.2).
-/// Only want of memory is an error.
+/// What is found in an assignment of a procedure in a module of this timing: what is broken first, or else the statement that it is (IEEE
+/// 1364-2005, clause 9.2). Only want of memory is an error.
 pub fn assignment(
     alloc: Global,
     scope: &Scope,
-    kind: AssignmentKind,
+    timing: Timing,
+    kind: &AssignmentKind,
     target: &Target,
     value: &Expression,
 ) -> Result<Found<Act>, NoMemory>
     requires { AreProper (means scope.now) }
-    ensures { IfOk result (IsFoundStatement (means scope.now) (Assignment kind (view_target target.now) (view value.now))) }
+    ensures { IfOk result (IsFoundStatement timing (means scope.now) (Assignment kind.now (view_target target.now) (view value.now))) }
 {
     let target = checked_target(alloc, scope, target)?;
     let (value, target) = beside(check(alloc, scope, value), target)?;
-    assigned(alloc, kind, target, value)
+    let found = assigned(alloc, moment_of(timing, *kind), target, value)?;
+    Ok(delayed(timing, *kind, found))
 }

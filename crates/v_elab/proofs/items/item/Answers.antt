@@ -8,5 +8,5 @@ use Rattle.v_elab.proofs.items.item.Goals as goal
 pub returns : goal.returns
 returns c =
     let k = view_kind c.args.item.now.kind in
-    item_ends c.args.item.now.at k c.args.state c.has_room-has_room.result c.in_ok-found.found c.wants.result c.ended.result
+    item_ends c.args.timing c.args.item.now.at k c.args.state c.has_room-has_room.result c.in_ok-found.found c.wants.result c.ended.result
     (c.has_room-has_room.ensures ∙ ap (λ n. leaves_room k n) c.len.ensures) c.in_ok-found.ensures c.wants.ensures c.ended.ensures

@@ -16,6 +16,6 @@ pub returns : goal.returns
 returns c =
     let w : code.State = record { scope = c.always.new.scope; parts = c.args.state.parts; driven = c.args.state.driven; children = c.args.state.children } in
     let amid : Amid c.args.state w = record { scope = c.in_ok-found.ensures.scope ∙ c.in_ok-wakes.ensures.scope; parts = refl; children = refl } in
-    IfOk-weaker c.with_found.result (AddsFound w c.in_ok-found.found) (IsStep (always_item (view_control c.args.control.now) (view c.args.statement.now)) c.args.state)
-    (λ (g : Found code.State) added. always_step (view_control c.args.control.now) (view c.args.statement.now) c.signal_count-signals.result c.in_ok-wakes.wakes c.args.state w c.in_ok-found.found g c.requires c.in_ok-wakes.ensures.waits c.signal_count-signals.ensures (subst (λ s. IsAlways c.in_ok-wakes.wakes s (view c.args.statement.now) c.in_ok-found.found) c.in_ok-wakes.ensures.scope c.in_ok-found.ensures.found) amid refl added)
+    IfOk-weaker c.with_found.result (AddsFound w c.in_ok-found.found) (IsStep (always_item c.args.timing (view_control c.args.control.now) (view c.args.statement.now)) c.args.state)
+    (λ (g : Found code.State) added. always_step c.args.timing (view_control c.args.control.now) (view c.args.statement.now) c.signal_count-signals.result c.in_ok-wakes.wakes c.args.state w c.in_ok-found.found g c.requires c.in_ok-wakes.ensures.waits c.signal_count-signals.ensures (subst (λ s. IsAlways c.args.timing c.in_ok-wakes.wakes s (view c.args.statement.now) c.in_ok-found.found) c.in_ok-wakes.ensures.scope c.in_ok-found.ensures.found) amid refl added)
     c.with_found.ensures

@@ -51,14 +51,14 @@ items-returns t c = items_passed c.args.level.now c.args.items.now c.loop-item.i
 pub one_item-returns-in-Ok-2 : goal.one_item-returns-in-Ok-2
 one_item-returns-in-Ok-2 t c =
     inner_passed c.args.level.now _ c.in-Some.inner c.args.walked c.in_ok-entered-in-Some.field-0 c.in-Ok.entered c.in_ok-parts-in-Ok.field-0 c.requires c.in_ok-entered-in-Some.ensures c.in-Ok.is
-    (record { modules = refl; above = ap texts c.deref.ensures.value; room = refl; path = c.deref-in-Ok.ensures.value }) c.in_ok-parts-in-Ok.ensures (view_item c.args.item.now)
+    (record { modules = refl; above = ap texts c.deref.ensures.value; room = refl; path = c.deref-in-Ok.ensures.value; timing = c.timing_in-timing.ensures }) c.in_ok-parts-in-Ok.ensures (view_item c.args.item.now)
     c.in-Ok-2.parts c.in_ok-leave-in-Ok-2.field-0 c.in-Some.ensures c.in-Ok-2.is
     (subst (λ n. Leaves n c.in-Ok.entered.waiting c.in-Ok-2.parts c.in_ok-leave-in-Ok-2.field-0) c.bytes.ensures c.in_ok-leave-in-Ok-2.ensures)
 
 pub one_item-returns-in-Ok : goal.one_item-returns-in-Ok
 one_item-returns-in-Ok t c =
     inner_broken c.args.level.now _ c.in-Some.inner c.args.walked c.in_ok-entered-in-Some.field-0 c.in-Ok.entered c.in_ok-parts-in-Ok.field-0 c.requires c.in_ok-entered-in-Some.ensures c.in-Ok.is
-    (record { modules = refl; above = ap texts c.deref.ensures.value; room = refl; path = c.deref-in-Ok.ensures.value }) c.in_ok-parts-in-Ok.ensures (view_item c.args.item.now)
+    (record { modules = refl; above = ap texts c.deref.ensures.value; room = refl; path = c.deref-in-Ok.ensures.value; timing = c.timing_in-timing.ensures }) c.in_ok-parts-in-Ok.ensures (view_item c.args.item.now)
     c.in-Err-2.fault c.in-Some.ensures c.in-Err-2.is
 
 pub one_item-returns-in-Some : goal.one_item-returns-in-Some

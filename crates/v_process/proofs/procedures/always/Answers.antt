@@ -6,4 +6,4 @@ use Rattle.v_process.proofs.procedures.always.Goals as goal
 
 pub returns-clause-found : goal.returns-clause-found
 returns-clause-found c =
-    found_always c.args.wakes (means c.args.scope.now) (view c.args.statement.now) c.in_ok-body.body c.waiting.result c.waiting.ensures c.in_ok-body.ensures.found
+    found_always c.args.timing c.args.wakes (means c.args.scope.now) (view c.args.statement.now) c.in_ok-body.body c.waiting.result c.waiting.ensures c.in_ok-body.ensures.found

@@ -14,5 +14,5 @@ pub returns-clause-found : goal.returns-clause-found
 returns-clause-found c =
     let s = means c.args.scope.now in
     let a = view c.args.statement.now in
-    found_process Initial [] s a (statement_checked s a) c.in_ok-body.body c.of_kind.result
+    found_process c.args.timing Initial [] s a (statement_checked c.args.timing s a) c.in_ok-body.body c.of_kind.result
     (c.of_kind.ensures ∙ ap (λ (ws : List Wake). each (process Initial ws) c.in_ok-body.body) c.new.ensures) c.in_ok-body.ensures.found

@@ -11,6 +11,7 @@ use Rattle.v_flat.specs.Checks.{checked}
 use Rattle.v_flat.specs.Statements.{done}
 use Rattle.v_flat.specs.Design.{whole_of}
 use Rattle.v_process.specs.declared.target.checked.CheckedTarget.{CheckedTarget}
+use Rattle.v_process.specs.Processes.{untimed}
 use Rattle.v_process.specs.Made.{process, whole_target, OpensWith}
 use Rattle.v_process.proofs.Run.{found_process}
 use Rattle.v_process.proofs.Opened.{opened}
@@ -22,7 +23,7 @@ returns c =
     let i = c.args.name.now in
     let e = view c.args.value.now in
     let t : c.whole-target.result ≡ whole_target (find i.name s) = c.whole-target.ensures ∙ ap (λ (n : List ℕ). whole_target (find n s)) c.bytes.ensures in
-    found_process Initial [] s (Assignment Blocking (whole_of i) e) (done (checked s e)) c.in_ok-body.body c.of_kind.result
+    found_process untimed Initial [] s (Assignment Blocking (whole_of i) e) (done (checked s e)) c.in_ok-body.body c.of_kind.result
     (c.of_kind.ensures ∙ ap (λ (ws : List Wake). each (process Initial ws) c.in_ok-body.body) c.new.ensures)
     (opened s i e (find i.name s) refl (c.requires i.name) c.in_ok-value.value c.in_ok-body.body
     (subst (λ (x : Option CheckedTarget). OpensWith x c.in_ok-value.value c.in_ok-body.body) t c.in_ok-body.ensures) c.in_ok-value.ensures)

@@ -29,11 +29,11 @@ decreases-for_loop l = 4 * goal.size-for_loop l + 3
 
 abbrev pub invariant-all-loop-at : goal.invariant-all-loop-at
 invariant-all-loop-at l =
-    AreFoundStatements (means l.initial.scope) (statement_list (drop l.at l.statements)) l.found × (means l.scope ≡ means l.initial.scope)
+    AreFoundStatements l.timing (means l.initial.scope) (statement_list (drop l.at l.statements)) l.found × (means l.scope ≡ means l.initial.scope)
 
 abbrev pub invariant-case_items-loop-at : goal.invariant-case_items-loop-at
-invariant-case_items-loop-at l = AreFoundCases (means l.initial.scope) (case_list (drop l.at l.items)) l.found × (means l.scope ≡ means l.initial.scope)
+invariant-case_items-loop-at l = AreFoundCases l.timing (means l.initial.scope) (case_list (drop l.at l.items)) l.found × (means l.scope ≡ means l.initial.scope)
 
 abbrev pub invariant-all_turns-loop-at : goal.invariant-all_turns-loop-at
 invariant-all_turns-loop-at l =
-    AreTurns (means l.initial.scope) l.name l.object (view l.body) (drop l.at l.values, l.turns.1) l.found × (means l.scope ≡ means l.initial.scope)
+    AreTurns l.timing (means l.initial.scope) l.name l.object (view l.body) (drop l.at l.values, l.turns.1) l.found × (means l.scope ≡ means l.initial.scope)

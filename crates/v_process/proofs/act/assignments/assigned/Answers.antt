@@ -9,5 +9,5 @@ use Rattle.v_process.proofs.act.assignments.assigned.Goals as goal
 
 pub returns : goal.returns
 returns c =
-    assignment_result c.args.kind c.args.target c.args.value c.of_both.result
-    (subst (λ (x : Found (CheckedTarget × Checked)). IfOk c.of_both.result (AreAssignments c.args.kind x)) c.both.ensures c.of_both.ensures)
+    assignment_result c.args.moment c.args.target c.args.value c.of_both.result
+    (subst (λ (x : Found (CheckedTarget × Checked)). IfOk c.of_both.result (AreAssignments c.args.moment x)) c.both.ensures c.of_both.ensures)

@@ -7,7 +7,7 @@ use Rattle.v_check.specs.declared.constants.checked.Checked.{Checked}
 use Rattle.v_check.specs.Constants.Checked.{IsChecked}
 use Rattle.v_process.specs.declared.target.checked.CheckedTarget.{CheckedTarget}
 use Rattle.v_process.specs.Assign.Targets.{IsProcedural}
-use Rattle.v_process.proofs.ActLemmas.Assigning.{found_result}
+use Rattle.v_process.proofs.ActLemmas.Assigning.{delay_found}
 use Rattle.v_process.proofs.ActLemmas.Done.{was_made}
 use Rattle.v_process.proofs.act.assignments.assignment.Goals as goal
 
@@ -17,6 +17,6 @@ returns c =
     let t = view_target c.args.target.now in
     let e = view c.args.value.now in
     let made = c.in_ok-value.ensures.made in
-    found_result s c.args.kind t e c.in_ok-value.target c.in_ok-value.value c.assigned.result
+    delay_found c.args.timing s c.moment_of.result c.args.kind.now t e c.in_ok-value.target c.in_ok-value.value c.in_ok-found.found c.delayed.result c.moment_of.ensures
     (subst (λ (x : Found CheckedTarget). IsProcedural s t x) (sym made.1) c.in_ok-target.ensures)
-    (was_made c.check.result c.in_ok-value.value (λ (x : Found Checked). IsChecked s e x) made.0 c.check.ensures) c.assigned.ensures
+    (was_made c.check.result c.in_ok-value.value (λ (x : Found Checked). IsChecked s e x) made.0 c.check.ensures) c.in_ok-found.ensures c.delayed.ensures
