@@ -1,5 +1,5 @@
 -- A means of proof: laws of trees, for the proofs of the keepers of waiting tasks.
-use Rattle.std.specs.Prelude.{◌≡◌, ℕ, ◌≤◌, true, false, List, [], length}
+use Rattle.std.specs.Prelude.{◌≡◌, ◌⊎◌, ℕ, ◌≤◌, true, false, List, [], ◌∷◌, length}
 use Rattle.py_value.specs.Trigger as trigger
 use Rattle.py_value.specs.Trigger.{Trig, IsSound}
 use Rattle.py_value.specs.declared.trigger.LockNo.{LockNo}
@@ -39,3 +39,15 @@ pub record LeavesOnlyGo : Type 0 where
   pub begins : (t : Tree) → (f : Facts) → IsWithin (leaves (begin t f).tree) (leaves t)
   pub fires : (c : Cause) → (t : Tree) → IsWithin (leaves (fire c t)) (leaves t)
   pub grants : (l : LockNo) → (t : Tree) → IsWithin (leaves (grant l t)) (leaves t)
+
+-- the first list is the second without some of its members, in the same order
+abbrev pub IsSubsequence : List Awaited → List Awaited → Type 0
+IsSubsequence [] ys = Unit {0}
+IsSubsequence (x ∷ xs) [] = ⊥
+IsSubsequence (x ∷ xs) (y ∷ ys) = ((x ≡ y) × IsSubsequence xs ys) ⊎ IsSubsequence (x ∷ xs) ys
+
+-- what is waited for after a call was waited for before, in the same order
+pub record LeavesKeepOrder : Type 0 where
+  pub begins : (t : Tree) → (f : Facts) → IsSubsequence (leaves (begin t f).tree) (leaves t)
+  pub fires : (c : Cause) → (t : Tree) → IsSubsequence (leaves (fire c t)) (leaves t)
+  pub grants : (l : LockNo) → (t : Tree) → IsSubsequence (leaves (grant l t)) (leaves t)

@@ -1,6 +1,6 @@
 //! Worked trees, and laws of trees.
 ghost use Rattle.await_tree.specs.Rows.{TreesWork};
-ghost use Rattle.await_tree.specs.Laws.{DoneIsBare, LeavesAreFew, LeavesOnlyGo, StaysSettled, UnawaitedIsStill};
+ghost use Rattle.await_tree.specs.Laws.{DoneIsBare, LeavesAreFew, LeavesKeepOrder, LeavesOnlyGo, StaysSettled, UnawaitedIsStill};
 
 /// The worked trees of `specs/Rows.antt` begin, are fired and are granted as it says.
 #[tactic(auto, using(crate::proofs::Rows::trees_work))]
@@ -36,4 +36,10 @@ pub fn unawaited_is_still()
 #[tactic(auto, using(crate::proofs::Within::leaves_only_go))]
 pub fn leaves_only_go()
     ensures { LeavesOnlyGo }
+{}
+
+/// What a tree waits for after a call it waited for before, in the same order.
+#[tactic(auto, using(crate::proofs::Within::leaves_keep_order))]
+pub fn leaves_keep_order()
+    ensures { LeavesKeepOrder }
 {}

@@ -29,7 +29,8 @@ pub mod wait_list;
 pub use begin::Facts;
 pub use cause::{Awaited, Cause, Given, Step, TreeFault};
 pub use laws::{
-    done_is_bare, leaves_are_few, leaves_only_go, stays_settled, trees_work, unawaited_is_still,
+    done_is_bare, leaves_are_few, leaves_keep_order, leaves_only_go, stays_settled, trees_work,
+    unawaited_is_still,
 };
 pub use leaves::Leaves;
 pub use tree::Tree;

@@ -14,17 +14,18 @@ use Rattle.await_tree.specs.declared.cause.Cause.TheVariants as cause
 use Rattle.await_tree.specs.declared.tree.Tree.{Tree}
 use Rattle.std.specs.Prelude.{Result, Ok, Err, OnOk, OnErr}
 use Rattle.await_tree.specs.WaitList.Keys.{AreAlike, AreFired, AreKeysBut, KeepsKeys, Rekeyed, without, without_all}
-use Rattle.plain_waits.proofs.Awaited.{fits_out, narrows_out}
+use Rattle.await_tree.proofs.WaitListLemmas.Awaited.{fits_out, narrows_out}
 use Rattle.await_tree.specs.WaitList.Waiting.{Waiting, all_waiting, all_woken, keys_among, keys_of, named, still_waiting, tree_keys, woken}
 use Rattle.await_tree.specs.declared.wait_list.ready.Entry.{Entry}
-use Rattle.plain_waits.specs.Edges.{is_edge}
+use Rattle.await_tree.specs.WaitList.Edges.{is_edge}
 use Rattle.plain_waits.specs.Kept.{names_of, waiting_in, waiting_of}
-use Rattle.plain_waits.specs.Parts.{Fits, Narrows, left_after}
+use Rattle.await_tree.specs.WaitList.Parts.{Fits, Narrows}
+use Rattle.plain_waits.specs.Parts.{left_after}
 use Rattle.plain_waits.specs.declared.keeper.WaitList.{WaitList}
 use Rattle.plain_waits.specs.declared.waiter.Waiter.{Waiter}
-use Rattle.plain_waits.proofs.Edges.{all_on, items_edged}
-use Rattle.plain_waits.proofs.Members.{among_append, keys_of_append}
-use Rattle.plain_waits.proofs.Rekeys.{fits_after, fits_alike, narrows_alike, rekeyed_alike}
+use Rattle.await_tree.proofs.WaitListLemmas.Edges.{AreEdged, all_on, shown}
+use Rattle.await_tree.proofs.WaitListLemmas.Members.{among_append, keys_of_append}
+use Rattle.await_tree.proofs.WaitListLemmas.Rekeys.{fits_after, fits_alike, narrows_alike, rekeyed_alike}
 use Rattle.plain_waits.proofs.Walks.{after_within, item_one, item_split, left_alike}
 
 -- ---- held keys
@@ -112,40 +113,11 @@ begun_few items mids after x n e m h =
     push [] = omega arith
     push (y ∷ ys) = let l : length (ys ++ x ∷ []) ≡ length ys + 1 = push ys in omega arith
 
-pub begun_rekeyed : (a b : Content) (on : List Awaited) (waiting after : List Waiting) (w : Waiting) (held now : List Key) → on ≡ leaves w.tree → after ≡ waiting ++ w ∷ [] → now ≡ held
-    → Rekeyed a b (keys_among on) (named waiting held) (keys_among on ++ named waiting held) → Rekeyed a b (tree_keys w.tree) (named waiting held) (named after now)
-begun_rekeyed a b on waiting after w held now o e n h =
-    rekeyed_alike a b (keys_among on) (tree_keys w.tree) (named waiting held) (named waiting held) (keys_among on ++ named waiting held) (named after now)
-    (λ k. ap (λ (xs : List Awaited). among k (keys_among xs)) o) (λ k. refl) more h
-  where
-    mixed : (t w h : Bool) → (t || (w || h)) ≡ ((w || (t || false)) || h)
-    mixed true true h = refl
-    mixed true false h = refl
-    mixed false true h = refl
-    mixed false false h = refl
-
-    more : AreAlike (keys_among on ++ named waiting held) (named after now)
-    more k =
-        among_append k (keys_among on) (named waiting held)
-        ∙ ap (λ (x : Bool). among k (keys_among on) || x) (among_append k (keys_of waiting) held)
-        ∙ mixed (among k (keys_among on)) (among k (keys_of waiting)) (among k held)
-        ∙ ap (λ (x : Bool). (among k (keys_of waiting) || (x || false)) || among k held) (ap (λ (xs : List Awaited). among k (keys_among xs)) o)
-        ∙ ap (λ (x : Bool). (among k (keys_of waiting) || x) || among k held) (sym (among_append k (tree_keys w.tree) []))
-        ∙ ap (λ (x : Bool). x || among k held) (sym (ap (λ (ws : List Waiting). among k (keys_of ws)) e ∙ ap (among k) (keys_of_append waiting (w ∷ [])) ∙ among_append k (keys_of waiting) (tree_keys w.tree ++ [])))
-        ∙ sym (among_append k (keys_of after) held)
-        ∙ ap (λ (hs : List Key). among k (named after hs)) (sym n)
-
 -- ---- keys are served one after the other
 
-pub all_both : (xs ys : List Key) (waiting : List Waiting) → all_waiting (xs ++ ys) waiting ≡ all_waiting ys (all_waiting xs waiting)
-all_both [] ys waiting = refl
-all_both (x ∷ xs) ys waiting = all_both xs ys (still_waiting (cause.Key x) waiting)
-
-pub woken_both : (xs ys : List Key) (waiting : List Waiting) → all_woken (xs ++ ys) waiting ≡ all_woken xs waiting ++ all_woken ys (all_waiting xs waiting)
-woken_both [] ys waiting = refl
-woken_both (x ∷ xs) ys waiting =
-    ap (λ (es : List Entry). woken (cause.Key x) waiting ++ es) (woken_both xs ys (still_waiting (cause.Key x) waiting))
-    ∙ sym (append_assoc (woken (cause.Key x) waiting) (all_woken xs (still_waiting (cause.Key x) waiting)) (all_woken ys (all_waiting xs (still_waiting (cause.Key x) waiting))))
+pub items_edged : (ws : List Waiter) → AreEdged (map waiting_of ws)
+items_edged [] = tt
+items_edged (w ∷ ws) = (shown (tree_in w.tree) w.edges, items_edged ws)
 
 pub served_edges : (old new : WaitList) (fired : List Key) → waiting_in new ≡ all_waiting fired (waiting_in old) → (k : Key) → among k fired ≡ true → among k new.held.items ≡ false
     → among k (names_of new) ≡ true → is_edge k ≡ true
@@ -162,10 +134,6 @@ served_edges old new fired e k m n h =
 pub waiting_same : (a b : WaitList) → a.waiting ≡ b.waiting → waiting_in a ≡ waiting_in b
 waiting_same a b e = rw e refl
 
-pub without_both : (xs ys held : List Key) → without_all (xs ++ ys) held ≡ without_all ys (without_all xs held)
-without_both [] ys held = refl
-without_both (x ∷ xs) ys held = without_both xs ys (without x held)
-
 pub names_taken : (fired : List Key) (old now : WaitList) → now.held.items ≡ without_all fired old.held.items → now.waiting ≡ old.waiting
     → names_of now ≡ named (waiting_in old) (without_all fired old.held.items)
 names_taken fired old now h e =
@@ -181,16 +149,3 @@ pub narrows_taken : (a b : Content) (fired : List Key) (old now : WaitList) (new
     → AreFired a fired → AreKeysBut a.keys (fired ++ old.held.items) (names_of old) → Narrows a b (names_of now) new → Narrows a b (names_of old) new
 narrows_taken a b fired old now new h e f k n =
     narrows_out a b fired old.held.items (waiting_in old) new f k (subst (λ (ns : List Key). Narrows a b ns new) (names_taken fired old now h e) n)
-
--- ---- results
-
-pub always_ok : {T E P : Type 0} (r : Result T E) → P → OnOk r P
-always_ok (Ok x) p = p
-always_ok (Err e) p = tt
-
-pub always_err : {T E P : Type 0} (r : Result T E) → P → OnErr r P
-always_err (Ok x) p = tt
-always_err (Err e) p = p
-
-pub kept_same : (c : Content) → KeepsKeys c c
-kept_same c = record { procs = refl; state = refl; keys = λ k. refl; fired = refl }

@@ -23,10 +23,11 @@ use Rattle.await_tree.specs.WaitList.Keys.{AreAlike}
 use Rattle.await_tree.specs.WaitList.Waiting.{Granted, Waiting, all_waiting, all_woken, entry_of, key_list, granted, is_of, keys_among, keys_of, left_of, named, still_waiting, tree_keys, wants, without_task, woken}
 use Rattle.await_tree.specs.declared.wait_list.ready.Entry.{Entry}
 use Rattle.plain_waits.specs.Kept.{waiting_of}
-use Rattle.plain_waits.specs.Parts.{AreWithin, Passes, left_after, left_by, woken_after, woken_by}
+use Rattle.await_tree.specs.WaitList.Parts.{AreWithin}
+use Rattle.plain_waits.specs.Parts.{Passes, left_after, left_by, woken_after, woken_by}
 use Rattle.plain_waits.specs.declared.waiter.Waiter.{Waiter}
-use Rattle.plain_waits.proofs.Edges.{left_within}
-use Rattle.plain_waits.proofs.Members.{among_append, among_right, keys_of_append, or_false_left, or_left, or_no, or_right}
+use Rattle.await_tree.proofs.WaitListLemmas.Edges.{left_within}
+use Rattle.await_tree.proofs.WaitListLemmas.Members.{among_append, among_right, keys_of_append, or_false_left, or_left, or_no, or_right}
 
 -- ---- one task of the list
 

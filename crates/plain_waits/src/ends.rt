@@ -3,7 +3,8 @@ ghost use Rattle.std.specs.Prelude.{◌≡◌, ◌<◌, ◌+◌, ◌++◌, [], d
 ghost use Rattle.await_tree.specs.WaitList.Keys.{without, without_all};
 ghost use Rattle.await_tree.specs.WaitList.Waiting.{fired_keys, key_list, without_task};
 ghost use Rattle.plain_waits.specs.Kept.{names_of, waiting_in};
-ghost use Rattle.plain_waits.specs.Parts.{Fits, Narrows, Passes};
+ghost use Rattle.await_tree.specs.WaitList.Parts.{Fits, Narrows};
+ghost use Rattle.plain_waits.specs.Parts.{Passes};
 
 use crate::keeper::WaitList;
 use crate::named::is_same;

@@ -5,9 +5,9 @@ ghost use Rattle.gpi.specs.Keys.{among, has};
 ghost use Rattle.gpi.specs.declared.types.Key.{Key};
 ghost use Rattle.await_tree.specs.WaitList.Keys.{AreAsked, AreFired, AreKeys, AreOut, IsOfDesign, KeepsKeys, Rekeyed};
 ghost use Rattle.await_tree.specs.WaitList.Waiting.{fired_keys, key_list, keys_among};
-ghost use Rattle.plain_waits.specs.Edges.{is_edge};
+ghost use Rattle.await_tree.specs.WaitList.Edges.{is_edge};
 ghost use Rattle.plain_waits.specs.Kept.{names_of};
-ghost use Rattle.plain_waits.specs.Parts.{Fits, Joins, Narrows};
+ghost use Rattle.await_tree.specs.WaitList.Parts.{Fits, Joins, Narrows};
 
 use crate::keeper::WaitList;
 use crate::named::{has_key, is_fired};
@@ -16,7 +16,7 @@ use gpi::{Fired, Gpi, Key};
 use port_io::NoMemory;
 
 /// Registers a key, unless it is registered already. Its one error is the want of memory, and then nothing has changed.
-#[tactic(auto, using(crate::proofs::Rekeys::joins_registered, crate::proofs::Rekeys::joins_there))]
+#[tactic(auto, using(await_tree::proofs::WaitListLemmas::Rekeys::joins_registered, await_tree::proofs::WaitListLemmas::Rekeys::joins_there))]
 pub(crate) fn register_unless<K: Gpi>(kernel: &mut K, there: bool, key: Key) -> Result<(), NoMemory>
     requires loaded { K.is_loaded kernel.old }
     requires there { has key (K.content kernel.old).keys ≡ there }

@@ -17,7 +17,7 @@ pub(crate) fn is_same(key: Key, other: Key) -> bool
 }
 
 /// Whether what is awaited is this key.
-#[tactic(auto, using(crate::proofs::Members::or_none))]
+#[tactic(auto, using(await_tree::proofs::WaitListLemmas::Members::or_none))]
 fn is_on(on: Awaited, key: Key) -> bool
     ensures { result ≡ among key (keys_among (on ∷ [])) }
 {
@@ -28,7 +28,7 @@ fn is_on(on: Awaited, key: Key) -> bool
 }
 
 /// Whether the key is among what is awaited.
-#[tactic(auto, using(crate::proofs::Members::key_on))]
+#[tactic(auto, using(await_tree::proofs::WaitListLemmas::Members::key_on))]
 pub(crate) fn has_key(awaited: &[Awaited], key: Key) -> bool
     ensures { result ≡ among key (keys_among awaited.now) }
 {
@@ -55,7 +55,7 @@ pub(crate) fn has_leaf(awaited: &[Awaited], on: Awaited) -> bool
 }
 
 /// Whether the key is the fired one, if there is one.
-#[tactic(auto, using(crate::proofs::Members::or_none))]
+#[tactic(auto, using(await_tree::proofs::WaitListLemmas::Members::or_none))]
 fn is_one(fired: Option<Key>, key: Key) -> bool
     ensures { result ≡ among key (key_list fired) }
 {

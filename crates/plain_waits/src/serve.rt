@@ -4,7 +4,8 @@ ghost use Rattle.std.specs.List.{list_any};
 ghost use Rattle.await_tree.specs.Fire.{awaits, fire, grant};
 ghost use Rattle.await_tree.specs.WaitList.Waiting.{Waiting, all_waiting, all_woken, fired_keys, key_list, still_waiting, woken};
 ghost use Rattle.plain_waits.specs.Kept.{names_of, waiting_in};
-ghost use Rattle.plain_waits.specs.Parts.{Fits, Narrows, Passes, left_after, left_by, woken_after, woken_by};
+ghost use Rattle.await_tree.specs.WaitList.Parts.{Fits, Narrows};
+ghost use Rattle.plain_waits.specs.Parts.{Passes, left_after, left_by, woken_after, woken_by};
 
 use crate::keeper::WaitList;
 use crate::named::has_leaf;

@@ -4,7 +4,7 @@ ghost use Rattle.await_tree.specs.Fire as fire;
 ghost use Rattle.await_tree.specs.Steps.{rest_of, step_of};
 ghost use Rattle.await_tree.specs.Whole.{tree_in};
 ghost use Rattle.await_tree.specs.WaitList.Begun.{IsBegun};
-ghost use Rattle.plain_waits.specs.Edges.{has_edges};
+ghost use Rattle.await_tree.specs.WaitList.Edges.{has_edges};
 
 use await_tree::{Cause, Step, Tree};
 use py_value::{LockNo, TaskNo};
@@ -30,7 +30,7 @@ pub(crate) fn let_fall<T: Drop>(_value: T) {}
 
 impl Waiter {
     /// A task that begins to wait.
-    #[tactic(auto, using(crate::proofs::Edges::begun_edges))]
+    #[tactic(auto, using(await_tree::proofs::WaitListLemmas::Edges::begun_edges))]
     pub(crate) fn new(task: TaskNo, tree: Tree) -> Waiter
         requires { IsBegun (tree_in tree) }
         ensures task { result.task ≡ task }
@@ -40,7 +40,7 @@ impl Waiter {
     }
 
     /// All waiting leaves of its tree on the cause are reached at once. It takes no memory.
-    #[tactic(auto, using(crate::proofs::Edges::fired_edges))]
+    #[tactic(auto, using(await_tree::proofs::WaitListLemmas::Edges::fired_edges))]
     pub(crate) fn fire(&mut self, cause: Cause) -> Step
         ensures task { self.new.task ≡ self.old.task }
         ensures answer { result ≡ step_of (fire.fire cause (tree_in self.old.tree)) }
@@ -50,7 +50,7 @@ impl Waiter {
     }
 
     /// The leftmost waiting leaf of its tree on the lock gets it. It takes no memory.
-    #[tactic(auto, using(crate::proofs::Edges::granted_edges))]
+    #[tactic(auto, using(await_tree::proofs::WaitListLemmas::Edges::granted_edges))]
     pub(crate) fn grant(&mut self, lock: LockNo) -> Step
         ensures task { self.new.task ≡ self.old.task }
         ensures answer { result ≡ step_of (fire.grant lock (tree_in self.old.tree)) }

@@ -1,5 +1,5 @@
 -- What is kept of a task: who has a record, and how the rows change where a tree is told something.
-use Rattle.std.proofs.Common.{IfSome, IfNone, ◌≡◌, ◌≢◌, ◌⊎◌, ℕ, List, [], ◌∷◌, map, Bool, true, false, cond, Option, Some, None, IsSome, get_or, refl, sym, ap, ◌∙◌, subst, inl, inr, ◌==◌, eq-eqb, ne_eqb}
+use Rattle.std.proofs.Common.{IfSome, IfNone, ◌≡◌, ◌≢◌, ℕ, List, [], ◌∷◌, map, true, false, Option, Some, None, IsSome, get_or, refl, sym, ap, ◌∙◌, subst, inl, inr, ◌==◌, eq-eqb, ne_eqb}
 use Rattle.std.proofs.lemmas.Bool.{cases_eq, cond-true, cond-false}
 use Rattle.std.proofs.lemmas.Option.{none-some, same_Some}
 use Rattle.await_tree.specs.Steps.{rest_of, step_of}
@@ -9,20 +9,23 @@ use Rattle.await_tree.specs.Tree as tree
 use Rattle.await_tree.specs.declared.cause.Awaited.{Awaited}
 use Rattle.await_tree.specs.Whole.{tree_in}
 use Rattle.await_tree.specs.declared.cause.Step.{Step}
-use Rattle.trigger_table.specs.Entries.{HasTask, Told}
+use Rattle.trigger_table.specs.Entries.{HasCause, HasTask, Told}
 use Rattle.trigger_table.specs.Indexed.{Sets}
 use Rattle.trigger_table.specs.Kept.{link_of, row_of, rows_of, kept_as, IsSound}
 use Rattle.trigger_table.specs.Links.{IsIn, IsApart}
-use Rattle.trigger_table.specs.Records.{rows_in}
+use Rattle.trigger_table.specs.Records.{causes_in, rows_in}
+use Rattle.trigger_table.specs.Tied.{Shrinks}
 use Rattle.trigger_table.specs.declared.records.Records.{Records}
 use Rattle.trigger_table.proofs.RingLemmas.{tidy}
-use Rattle.trigger_table.specs.Rings.{items, list_of, IsTidy}
-use Rattle.trigger_table.specs.State.{Link, Row, HasRow, IsAbsent, entry_at, numbers_of, with_entry}
+use Rattle.trigger_table.specs.Rings.{items, IsTidy}
+use Rattle.trigger_table.specs.State.{Link, Row, HasRow, IsAbsent, entry_at, numbers_of, waiters_on, with_entry}
 use Rattle.trigger_table.specs.declared.entries.CauseRecord.{CauseRecord}
 use Rattle.trigger_table.specs.declared.entries.TaskRecord.{TaskRecord}
 use Rattle.trigger_table.specs.declared.rings.Rings.{Rings}
 use Rattle.trigger_table.proofs.ListLemmas.{map_on, map_map}
-use Rattle.trigger_table.proofs.KeptLemmas.{not_some, listed_row, entry_at_row, numbers_are}
+use Rattle.trigger_table.proofs.KeptLemmas.{not_some, listed_row, entry_at_row, numbers_are, some_is, waiters_on_chain}
+use Rattle.trigger_table.proofs.NameLemmas.{one_cause}
+use Rattle.trigger_table.proofs.TaskLemmas.{one_task}
 
 abbrev Slots : Type 0 → Type 0
 Slots T = List (Option T)
@@ -106,7 +109,7 @@ module _ (causes : Slots CauseRecord) (tasks : Slots TaskRecord) (waiters : Slot
   no_entry r (x ∷ xs) off = cond-false (x == r) _ _ (ne_eqb x r (λ same. off (inl same))) ∙ no_entry r xs (λ there. off (inr there))
 
   -- who waits has a record
-  entry_kept : (r : ℕ) (w : Waiting) → entry_at r (rows_of tasks bc bt o) ≡ Some w → (kept : TaskRecord) × (get_or tasks r None ≡ Some kept) × (kept_as (Some kept) ≡ Some w)
+  pub entry_kept : (r : ℕ) (w : Waiting) → entry_at r (rows_of tasks bc bt o) ≡ Some w → (kept : TaskRecord) × (get_or tasks r None ≡ Some kept) × (kept_as (Some kept) ≡ Some w)
   entry_kept r w is = go (get_or tasks r None) refl
     where
       go : (slot : Option TaskRecord) → get_or tasks r None ≡ slot → (kept : TaskRecord) × (get_or tasks r None ≡ Some kept) × (kept_as (Some kept) ≡ Some w)
@@ -173,3 +176,39 @@ pub rows_apart : (records : Records) → IsApart (numbers_of (rows_in records))
 unfolding rows_in
 rows_apart records =
     subst IsApart (sym (numbers_are records.causes.slab.slots records.tasks.slab.slots records.waiters.slots records.by_cause records.by_task records.order records.sound (tidy records.by_task))) ((tidy records.order).apart 0)
+
+-- what a waiter is on has a record
+pub waited_known : (records : Records) (n : ℕ) → waiters_on n (rows_in records) ≢ [] → (kept : CauseRecord) × (get_or (causes_in records) n None ≡ Some kept)
+unfolding rows_in
+waited_known records n some =
+    some_cause records.causes.slab.slots n (some_is (get_or records.causes.slab.slots n None) (there (items records.by_cause n) refl))
+  where
+    chain : map (λ (link : Link). link.waiter) (waiters_on n (rows_in records)) ≡ items records.by_cause n
+    chain = waiters_on_chain records.causes.slab.slots records.tasks.slab.slots records.waiters.slots records.by_cause records.by_task records.order records.sound (tidy records.by_task) n
+
+    bare : (links : List Link) → map (λ (link : Link). link.waiter) links ≡ [] → links ≡ []
+    bare [] h = refl
+    bare (link ∷ links) h = absurd (cc)
+
+    there : (xs : List ℕ) → items records.by_cause n ≡ xs → IsSome (get_or records.causes.slab.slots n None)
+    there [] is = absurd (some (bare (waiters_on n (rows_in records)) (chain ∙ is)))
+    there (w ∷ ws) is = (records.sound.of_cause w n ((tidy records.by_cause).owned w n (subst (IsIn w) (sym is) (inl refl)))).0
+
+-- where records only went, those stayed that a waiter is on
+pub waited_stay : (old : Slots CauseRecord) (records : Records) → Shrinks old (causes_in records) → (n : ℕ) → waiters_on n (rows_in records) ≢ [] → get_or (causes_in records) n None ≡ get_or old n None
+waited_stay old records shrinks n some = let one = waited_known records n some in one.1 ∙ sym (shrinks n one.0 one.1)
+
+-- no two tasks that wait are one
+pub tasks_apart : (records : Records) (m n : ℕ) (v w : Waiting) → entry_at m (rows_in records) ≡ Some v → entry_at n (rows_in records) ≡ Some w → v.task ≡ w.task → m ≡ n
+unfolding rows_in
+tasks_apart records m n v w is at same =
+    let s = records.sound in
+    let one = entry_kept _ _ _ _ _ _ s (tidy records.by_task) (tidy records.order) m v is in
+    let two = entry_kept _ _ _ _ _ _ s (tidy records.by_task) (tidy records.order) n w at in
+    one_task records.tasks.slab.slots records.tasks.index records.tasks.indexed v.task m n
+    (one.0, one.1, ap (λ (x : Waiting). x.task) (same_Some _ _ one.2))
+    (two.0, two.1, ap (λ (x : Waiting). x.task) (same_Some _ _ two.2) ∙ sym same)
+
+-- no two records are of one cause
+pub causes_apart : (records : Records) (on : Awaited) (m n : ℕ) → HasCause (causes_in records) m on → HasCause (causes_in records) n on → m ≡ n
+causes_apart records on m n one two = one_cause records.causes.slab.slots records.causes.index records.causes.indexed on m n one two

@@ -1,8 +1,7 @@
 -- A record leaves, and with it the key that it names.
-use Rattle.std.proofs.Common.{◌≡◌, ◌≢◌, ◌⊎◌, ℕ, zero, suc, Bool, true, false, cond, ◌||◌, not, List, [], ◌∷◌, ◌++◌, Option, Some, None, get_or, refl, sym, ap, ◌∙◌, subst, inl, inr}
+use Rattle.std.proofs.Common.{◌≡◌, ◌≢◌, ℕ, zero, suc, Bool, true, false, cond, ◌||◌, List, [], ◌∷◌, Option, Some, None, get_or, refl, sym, ap, ◌∙◌, subst, inl, inr}
 use Rattle.std.proofs.lemmas.Bool.{cases_eq, or_cases, false≢true, false_from_ne_true}
 use Rattle.std.proofs.lemmas.Option.{none-some, same_Some}
-use Rattle.std.specs.HashMap.{HashMap}
 use Rattle.gpi.specs.Content.{Content, Removes}
 use Rattle.gpi.specs.Keys.{among, has, same_key}
 use Rattle.gpi.specs.declared.types.Key.{Key}
@@ -10,17 +9,15 @@ use Rattle.await_tree.specs.declared.cause.Awaited.{Awaited}
 use Rattle.await_tree.specs.declared.cause.Awaited.TheVariants as awaited
 use Rattle.await_tree.specs.WaitList.Keys.{AreAlike}
 use Rattle.await_tree.specs.WaitList.Waiting.{keys_among}
-use Rattle.trigger_table.specs.Entries.{HasCause, cause_name}
-use Rattle.trigger_table.specs.Indexed.{Sets, IsIndexed}
+use Rattle.trigger_table.specs.Entries.{HasCause}
+use Rattle.trigger_table.specs.Indexed.{Sets}
 use Rattle.trigger_table.specs.Keys.{slot_keys, held_slot, record_keys, runner_keys}
-use Rattle.trigger_table.specs.Name.{name_of}
-use Rattle.trigger_table.specs.Parts.{AreWithin, Fits, Narrows}
+use Rattle.await_tree.specs.WaitList.Parts.{AreWithin, Fits, Narrows}
 use Rattle.trigger_table.specs.State.{State, HeldStays, IsNeeded, concat_by}
+use Rattle.trigger_table.specs.Tied.{Shrinks}
 use Rattle.trigger_table.specs.declared.entries.CauseRecord.{CauseRecord}
-use Rattle.trigger_table.specs.declared.name.Name.{Name}
-use Rattle.trigger_table.proofs.Members.{within_both, alike, among_append, among_left, among_right, or_left, or_right, same_is, same_self, within_self}
-use Rattle.trigger_table.proofs.NameLemmas.{name_eq, is_name}
-use Rattle.trigger_table.proofs.Rekeys.{fits_after, first_goes, first_stays, first_there, fits_alike, narrows_alike, narrows_none}
+use Rattle.await_tree.proofs.WaitListLemmas.Members.{within_both, alike, among_append, among_left, among_right, or_left, or_right, same_is, same_self, within_self}
+use Rattle.await_tree.proofs.WaitListLemmas.Rekeys.{fits_after, first_goes, first_stays, first_there, fits_alike, narrows_alike, narrows_none}
 
 abbrev Slots : Type 0
 Slots = List (Option CauseRecord)
@@ -35,12 +32,12 @@ found_slot f key (slot ∷ slots) is =
       | inr there ↦ let later = found_slot f key slots there in (suc later.0, later.1)
     ]
 
-slot_found : (f : Option CauseRecord → List Key) (key : Key) → among key (f None) ≡ false → (slots : Slots) (number : ℕ) → among key (f (get_or slots number None)) ≡ true → among key (concat_by f slots) ≡ true
+pub slot_found : (f : Option CauseRecord → List Key) (key : Key) → among key (f None) ≡ false → (slots : Slots) (number : ℕ) → among key (f (get_or slots number None)) ≡ true → among key (concat_by f slots) ≡ true
 slot_found f key none [] number is = absurd (false≢true (sym none ∙ is))
 slot_found f key none (slot ∷ slots) zero is = among_left key (f slot) (concat_by f slots) is
 slot_found f key none (slot ∷ slots) (suc number) is = among_right key (f slot) (concat_by f slots) (slot_found f key none slots number is)
 
-one_key : (key : Key) (on : Awaited) → among key (keys_among (on ∷ [])) ≡ true → on ≡ awaited.Key key
+pub one_key : (key : Key) (on : Awaited) → among key (keys_among (on ∷ [])) ≡ true → on ≡ awaited.Key key
 one_key key (awaited.Key own) is = ap awaited.Key (sym (same_is key own (by_left (same_key key own) is)))
   where
     by_left : (b : Bool) → (b || false) ≡ true → b ≡ true
@@ -50,7 +47,7 @@ one_key key (awaited.Event event) is = absurd (false≢true is)
 one_key key (awaited.Lock lock) is = absurd (false≢true is)
 one_key key (awaited.Join task) is = absurd (false≢true is)
 
-own_key : (key : Key) → among key (keys_among (awaited.Key key ∷ [])) ≡ true
+pub own_key : (key : Key) → among key (keys_among (awaited.Key key ∷ [])) ≡ true
 own_key key = or_left (same_key key key) false (same_self key)
 
 slot_key : (key : Key) (slot : Option CauseRecord) → among key (slot_keys slot) ≡ true → (held : Bool) × (slot ≡ Some (record { on = awaited.Key key; held = held }))
@@ -167,7 +164,7 @@ pub unheld : (number : ℕ) (s : State) (left : CauseRecord) → ¬ IsNeeded num
 unheld number s left free slot = false_from_ne_true left.held (λ held. free (inr (left, slot, held)))
 
 -- what the runner held it holds still
-held_within : (slots slots' : Slots) → HeldStays slots slots' → AreWithin (runner_keys slots) (runner_keys slots')
+pub held_within : (slots slots' : Slots) → HeldStays slots slots' → AreWithin (runner_keys slots) (runner_keys slots')
 held_within slots slots' stay key is =
     let one = runner_key key slots is in
     slot_found held_slot key refl slots' one.0 (ap (λ (o : Option CauseRecord). among key (held_slot o)) (stay one.0 (record { on = awaited.Key key; held = true }) one.1 refl) ∙ own_key key)
@@ -186,3 +183,18 @@ fits_on a b fired slots slots' fits narrows stay =
 
 pub held_self : (slots : Slots) → HeldStays slots slots
 held_self slots number kept slot held = slot
+
+-- ---- records only go
+
+pub shrinks_self : (slots : Slots) → Shrinks slots slots
+shrinks_self slots number kept is = is
+
+pub shrinks_sets : (slots slots' : Slots) (number : ℕ) → Sets slots slots' number None → Shrinks slots slots'
+shrinks_sets slots slots' number sets n kept is =
+    elim (cases_eq n number) [
+      | inl same ↦ absurd (none-some kept (sym sets.changed ∙ ap (λ (j : ℕ). get_or slots' j None) (sym same) ∙ is))
+      | inr differs ↦ sym (sets.others n differs) ∙ is
+    ]
+
+pub shrinks_through : (first mid mid' last : Slots) → Shrinks first mid → mid' ≡ mid → Shrinks mid' last → Shrinks first last
+shrinks_through first mid mid' last one same two number kept is = one number kept (ap (λ (cs : Slots). get_or cs number None) (sym same) ∙ two number kept is)

@@ -1,5 +1,5 @@
 -- What a change of the chains makes of the state of `Records`.
-use Rattle.std.proofs.Common.{Result, Ok, Err, IfOk, OnErr, ◌≡◌, ◌≢◌, ◌⊎◌, ℕ, ◌+◌, ◌<◌, ◌≤◌, List, [], ◌∷◌, ◌++◌, length, map, filter, Bool, true, false, not, cond, Option, Some, None, is_some, IsSome, OnSome, IfNone, IfSome, slice_get, get_or, refl, sym, ap, ◌∙◌, subst, inl, inr, arith, ◌==◌, eq-eqb, ne_eqb}
+use Rattle.std.proofs.Common.{Result, Ok, Err, IfOk, OnErr, ◌≡◌, ◌≢◌, ℕ, ◌<◌, ◌≤◌, List, [], ◌∷◌, ◌++◌, map, filter, Bool, true, false, not, Option, Some, None, is_some, IsSome, OnSome, IfNone, IfSome, slice_get, get_or, refl, sym, ap, ◌∙◌, subst, inl, inr, arith, ◌==◌, eq-eqb, ne_eqb}
 use Rattle.std.proofs.lemmas.Bool.{cases_eq, cond-true, cond-false}
 use Rattle.std.proofs.lemmas.List.{append_assoc, append-nil}
 use Rattle.std.proofs.lemmas.Option.{none-some, same_Some}
@@ -9,13 +9,12 @@ use Rattle.trigger_table.specs.Links.{without, IsIn, IsApart}
 use Rattle.trigger_table.specs.Links.{is_list}
 use Rattle.trigger_table.proofs.LinkLemmas.{IsIn-without, without_head, without_absent}
 use Rattle.slab.specs.Slab.{Slab, Updates}
-use Rattle.trigger_table.specs.State.{Link, Row, concat_by, links_of, add_link, row_without, drop_link, without_row, IsLast, HasNoLinks, HasLink, waiters_on, has_some, tail_of, numbers_of, HasRow, links_at, entry_at, row_behead, behead, waits_on, first_on}
+use Rattle.trigger_table.specs.State.{Link, Row, concat_by, links_of, add_link, row_without, drop_link, without_row, IsLast, HasNoLinks, waiters_on, has_some, tail_of, numbers_of, HasRow, links_at, entry_at, row_behead, behead, waits_on, first_on}
 use Rattle.trigger_table.specs.Indexed.{Sets}
-use Rattle.trigger_table.proofs.IndexLemmas.{sets_of}
 use Rattle.trigger_table.specs.Kept.{number_or_zero, link_of, row_of, rows_of, kept_as, all_waiters, IsSound}
 use Rattle.trigger_table.specs.declared.entries.TaskRecord.{TaskRecord}
 use Rattle.trigger_table.specs.declared.entries.CauseRecord.{CauseRecord}
-use Rattle.trigger_table.proofs.ListLemmas.{map_on, concat_on, filter_on, filter_append, filter_swap, concat_append, concat_without, concat_without_one, IsIn_append_left, IsIn_append_cases, IsIn_concat, IsIn_filter, map_append, map_map, filter_map, map_last}
+use Rattle.trigger_table.proofs.ListLemmas.{map_on, concat_on, filter_on, filter_append, filter_swap, concat_append, concat_without, concat_without_one, IsIn_concat, IsIn_filter, map_append, map_map, filter_map, map_last}
 
 abbrev Slots : Type 0 → Type 0
 Slots T = List (Option T)

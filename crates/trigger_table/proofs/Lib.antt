@@ -7,7 +7,11 @@ pub mod NameLemmas
 pub mod RowLemmas
 pub mod TaskLemmas
 pub mod EntryLemmas
-pub mod Members
-pub mod Counts
-pub mod Rekeys
 pub mod GoneLemmas
+pub mod TieLemmas
+pub mod CallLemmas
+pub mod AwaitLemmas
+pub mod BeginLemmas
+pub mod HoldLemmas
+pub mod TableLemmas
+pub mod CursorLemmas

@@ -1,9 +1,9 @@
 -- Lists of numbers under a function, a test or a function to lists, where these agree on the members.
-use Rattle.std.proofs.Common.{◌≡◌, ◌≢◌, ◌⊎◌, ℕ, List, [], ◌∷◌, ◌++◌, length, map, filter, Bool, true, false, not, cond, Option, Some, None, refl, sym, ap, ◌∙◌, subst, inl, inr, arith, ◌==◌, eq-eqb, ne_eqb}
+use Rattle.std.proofs.Common.{◌≡◌, ◌⊎◌, ℕ, List, [], ◌∷◌, ◌++◌, map, filter, Bool, true, false, cond, refl, sym, ap, ◌∙◌, inl, inr}
 use Rattle.std.proofs.lemmas.Bool.{cases_eq, cond-true, cond-false}
-use Rattle.std.proofs.lemmas.List.{append_assoc, append-nil}
+use Rattle.std.proofs.lemmas.List.{append_assoc}
 use Rattle.trigger_table.specs.Links.{without, IsIn}
-use Rattle.trigger_table.proofs.LinkLemmas.{without_head, without_past, without_absent}
+use Rattle.trigger_table.proofs.LinkLemmas.{without_head, without_past}
 use Rattle.trigger_table.specs.State.{concat_by}
 
 pub map_on : {B : Type 0} (f g : ℕ → B) (xs : List ℕ) → ((k : ℕ) → IsIn k xs → f k ≡ g k) → map f xs ≡ map g xs

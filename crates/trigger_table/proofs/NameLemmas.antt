@@ -1,7 +1,7 @@
 -- The derived equality of names is equality.
-use Rattle.std.proofs.Common.{◌≡◌, ◌≢◌, ℕ, Bool, true, false, List, Option, Some, None, IfSome, IfNone, get_or, refl, sym, ap, ◌∙◌, eq-eqb}
+use Rattle.std.proofs.Common.{◌≡◌, ℕ, Bool, true, List, Option, Some, None, IfSome, IfNone, get_or, refl, sym, ap, ◌∙◌, eq-eqb}
 use Rattle.std.proofs.lemmas.Bool.{eqb-true}
-use Rattle.std.proofs.lemmas.Option.{none-some}
+use Rattle.std.proofs.lemmas.Option.{none-some, same_Some}
 use Rattle.std.specs.HashMap.{HashMap, get}
 use Rattle.gpi.specs.declared.types.Key.TheVariants as key
 use Rattle.await_tree.specs.declared.cause.Awaited.{Awaited}
@@ -103,3 +103,7 @@ module _ {S : Type 0} (slots : Causes) (index : HashMap Name ℕ S) (s : IsIndex
       go : (res : Option ℕ) → get name_eq index (name_of on) ≡ res → res ≡ None
       go None is = refl
       go (Some number) is = absurd (none number (has_name number on (s.found (name_of on) number is)))
+
+  -- what is awaited has one record at most
+  pub one_cause : (on : Awaited) (m n : ℕ) → HasCause slots m on → HasCause slots n on → m ≡ n
+  one_cause on m n one two = same_Some m n (sym (s.listed (name_of on) m (is_name m on one)) ∙ s.listed (name_of on) n (is_name n on two))

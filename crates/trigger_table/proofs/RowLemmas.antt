@@ -1,10 +1,9 @@
 -- How the rows change where a waiter or a task leaves.
-use Rattle.std.proofs.Common.{◌≡◌, ◌≢◌, ◌⊎◌, ℕ, ◌+◌, ◌≤◌, List, [], ◌∷◌, ◌++◌, length, map, filter, Bool, true, false, not, cond, Option, Some, None, get_or, refl, sym, ap, ◌∙◌, subst, inl, inr, arith, ◌==◌, eq-eqb, ne_eqb}
+use Rattle.std.proofs.Common.{◌≡◌, ◌≢◌, ℕ, ◌+◌, List, [], ◌∷◌, ◌++◌, length, filter, Bool, true, false, not, cond, Option, Some, None, get_or, refl, sym, ap, ◌∙◌, subst, inl, inr, arith, ◌==◌, eq-eqb, ne_eqb}
 use Rattle.std.proofs.lemmas.Bool.{cases_eq, cond-true, cond-false}
-use Rattle.std.proofs.lemmas.Option.{none-some, same_Some}
-use Rattle.std.proofs.lemmas.List.{append_assoc}
+use Rattle.std.proofs.lemmas.Option.{same_Some}
 use Rattle.trigger_table.specs.Links.{IsIn, IsApart}
-use Rattle.trigger_table.specs.State.{Link, Row, has_some, tail_of, numbers_of, HasRow, links_at, entry_at, row_behead, behead, without_row, HasNoLinks, State, links_of, waiters_on, IsNeeded, AllNeeded, HeldStays}
+use Rattle.trigger_table.specs.State.{Link, Row, tail_of, numbers_of, HasRow, links_at, entry_at, row_behead, behead, without_row, HasNoLinks, State, links_of, waiters_on, IsNeeded, AllNeeded, HeldStays}
 use Rattle.trigger_table.proofs.ListLemmas.{filter_append}
 use Rattle.trigger_table.specs.declared.entries.CauseRecord.{CauseRecord}
 
@@ -38,10 +37,10 @@ module _ (n : ℕ) where
         | inr differs ↦ rw (past row (record row { links = tail_of row.links }) row differs, past row row.entry (entry_at n rows) differs) (past row _ _ differs ∙ entry_at-behead rows)
       ]
 
-  out : (row : Row) (rows : List Row) → row.number ≡ n → without_row n (row ∷ rows) ≡ without_row n rows
+  pub out : (row : Row) (rows : List Row) → row.number ≡ n → without_row n (row ∷ rows) ≡ without_row n rows
   out row rows same = ap (λ b. cond (not b) (row ∷ without_row n rows) (without_row n rows)) (eq-eqb row.number n same)
 
-  kept : (row : Row) (rows : List Row) → row.number ≢ n → without_row n (row ∷ rows) ≡ row ∷ without_row n rows
+  pub kept : (row : Row) (rows : List Row) → row.number ≢ n → without_row n (row ∷ rows) ≡ row ∷ without_row n rows
   kept row rows differs = ap (λ b. cond (not b) (row ∷ without_row n rows) (without_row n rows)) (ne_eqb row.number n differs)
 
   pub without-behead : (rows : List Row) → without_row n (behead n rows) ≡ without_row n rows
@@ -65,7 +64,7 @@ module _ (n : ℕ) where
       ]
 
   -- a number that no row has
-  without_none : (rows : List Row) → ¬ HasRow n rows → without_row n rows ≡ rows
+  pub without_none : (rows : List Row) → ¬ HasRow n rows → without_row n rows ≡ rows
   without_none [] none = refl
   without_none (row ∷ rows) none = kept row rows (λ same. none (inl same)) ∙ ap (λ rs. row ∷ rs) (without_none rows (λ there. none (inr there)))
 
@@ -88,7 +87,7 @@ fewer_by n old new link rest is made =
 
 -- ---- what is needed stays needed
 
-waiters_cons : (k : ℕ) (row : Row) (rows : List Row) → waiters_on k (row ∷ rows) ≡ filter (λ (link : Link). link.cause == k) row.links ++ waiters_on k rows
+pub waiters_cons : (k : ℕ) (row : Row) (rows : List Row) → waiters_on k (row ∷ rows) ≡ filter (λ (link : Link). link.cause == k) row.links ++ waiters_on k rows
 waiters_cons k row rows = filter_append (λ (link : Link). link.cause == k) row.links (links_of rows)
 
 behead_none : (n : ℕ) (rows : List Row) → ¬ HasRow n rows → behead n rows ≡ rows

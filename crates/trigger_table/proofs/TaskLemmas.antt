@@ -1,5 +1,5 @@
 -- How the index of waiting tasks follows their records.
-use Rattle.std.proofs.Common.{◌≡◌, ◌≢◌, ℕ, Bool, true, false, List, Option, Some, None, IfSome, IfNone, get_or, refl, sym, ap, ◌∙◌, eq-eqb, nat_eq}
+use Rattle.std.proofs.Common.{◌≡◌, ℕ, true, List, Option, Some, None, IfSome, IfNone, get_or, refl, sym, ap, ◌∙◌, eq-eqb, nat_eq}
 use Rattle.std.proofs.lemmas.Bool.{eqb-true}
 use Rattle.std.proofs.Common.{set}
 use Rattle.std.proofs.lemmas.Option.{none-some, same_Some}
@@ -38,6 +38,10 @@ module _ {S : Type 0} (slots : List (Option TaskRecord)) (index : HashMap ℕ �
   pub task_absent : (task : TaskNo) (res : Option ℕ) → res ≡ get nat_eq index task.0 → IfNone res ((number : ℕ) → ¬ HasTask slots number task)
   task_absent task None same = λ number has. none-some number (same ∙ s.listed task.0 number (is_name number task has))
   task_absent task (Some number) same = tt
+
+  -- a task has one record at most
+  pub one_task : (task : TaskNo) (m n : ℕ) → HasTask slots m task → HasTask slots n task → m ≡ n
+  one_task task m n one two = same_Some m n (sym (s.listed task.0 m (is_name m task one)) ∙ s.listed task.0 n (is_name n task two))
 
   pub no_task : (task : TaskNo) → ((number : ℕ) → ¬ HasTask slots number task) → get nat_eq index task.0 ≡ None
   no_task task none = go (get nat_eq index task.0) refl

@@ -1,5 +1,5 @@
 -- A means of proof: how `Records` keeps its state.
-use Rattle.std.specs.Prelude.{◌≡◌, ℕ, zero, ◌<◌, ◌==◌, Bool, false, List, [], ◌∷◌, ◌++◌, map, filter, length, Option, Some, None, slice_index_or, IsSome}
+use Rattle.std.specs.Prelude.{◌≡◌, ℕ, ◌<◌, List, map, filter, Option, Some, None, slice_index_or, IsSome}
 use Rattle.trigger_table.specs.declared.rings.Rings.{Rings}
 use Rattle.trigger_table.specs.Rings.{items, list_of, key_limit}
 use Rattle.trigger_table.specs.Links.{is_list}

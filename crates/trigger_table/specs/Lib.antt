@@ -6,6 +6,9 @@ pub mod Entries
 pub mod State
 pub mod Kept
 pub mod Records
-pub mod Parts
-pub mod Edges
+pub mod Cursor
 pub mod Keys
+pub mod Tied
+pub mod Work
+pub mod Awaiting
+pub mod Table

@@ -1,5 +1,5 @@
 -- A means of proof: what contracts see of `Records`.
-use Rattle.std.specs.Prelude.{◌≡◌, ℕ, List, Option}
+use Rattle.std.specs.Prelude.{List, Option}
 use Rattle.trigger_table.specs.State.{State, Row}
 use Rattle.trigger_table.specs.Kept.{rows_of}
 use Rattle.trigger_table.specs.declared.entries.CauseRecord.{CauseRecord}

@@ -1,5 +1,5 @@
 -- A means of proof: what a contract sees of `Records`.
-use Rattle.std.specs.Prelude.{◌≡◌, ◌≢◌, ℕ, zero, suc, ◌+◌, ◌<◌, ◌==◌, Bool, true, false, not, List, [], ◌∷◌, ◌++◌, map, filter, length, Option, Some, None, slice_index_or, IsSome, if◌then◌else◌, ◌⊎◌}
+use Rattle.std.specs.Prelude.{◌≡◌, ◌≢◌, ℕ, ◌==◌, Bool, true, false, not, List, [], ◌∷◌, ◌++◌, map, filter, Option, Some, None, slice_index_or, if◌then◌else◌, ◌⊎◌}
 use Rattle.trigger_table.specs.Links.{IsIn}
 use Rattle.py_value.specs.declared.trigger.TaskNo.{TaskNo}
 use Rattle.await_tree.specs.WaitList.Waiting.{Waiting}

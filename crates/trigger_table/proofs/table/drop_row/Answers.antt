@@ -1,17 +1,15 @@
-use Rattle.std.proofs.Common.{◌≡◌, ℕ, ◌+◌, ◌*◌, ◌≤◌, length, refl, sym, ap, ◌∙◌, subst, arith, ◌∷◌, List, Option}
-use Rattle.gpi.specs.declared.types.Key.{Key}
+use Rattle.std.proofs.Common.{length, refl, sym, ap, ◌∙◌, subst, arith, List, Option}
 use Rattle.await_tree.specs.WaitList.Waiting.{fired_keys}
 use Rattle.trigger_table.specs.Keys.{record_keys, runner_keys}
-use Rattle.trigger_table.specs.Links.{IsApart}
-use Rattle.trigger_table.specs.Parts.{Fits, Narrows}
+use Rattle.await_tree.specs.WaitList.Parts.{Fits, Narrows}
 use Rattle.trigger_table.specs.Records.{causes_in, rows_in, state_in}
-use Rattle.trigger_table.specs.State.{State, Row, Link, links_at, without_row, numbers_of, entry_at, HasRow, HeldStays}
+use Rattle.trigger_table.specs.State.{Row, links_at, without_row, entry_at, HasRow, HeldStays}
 use Rattle.trigger_table.specs.declared.entries.CauseRecord.{CauseRecord}
 use Rattle.trigger_table.proofs.EntryLemmas.{rows_apart}
-use Rattle.trigger_table.proofs.GoneLemmas.{fits_on, held_self}
-use Rattle.trigger_table.proofs.Members.{within_self}
-use Rattle.trigger_table.proofs.Rekeys.{narrows_none, narrows_through}
-use Rattle.trigger_table.proofs.RowLemmas.{Fewer, fewer_by, has_no_links, all_needed, needed_after, held_step, held_along}
+use Rattle.trigger_table.proofs.GoneLemmas.{fits_on, held_self, shrinks_self, shrinks_through}
+use Rattle.await_tree.proofs.WaitListLemmas.Members.{within_self}
+use Rattle.await_tree.proofs.WaitListLemmas.Rekeys.{narrows_none, narrows_through}
+use Rattle.trigger_table.proofs.RowLemmas.{fewer_by, has_no_links, all_needed, needed_after, held_step, held_along}
 use Rattle.trigger_table.proofs.table.drop_row.Goals as goal
 
 pub links-init : goal.links-init
@@ -21,6 +19,7 @@ links-init g c = record {
   rows = refl;
   needed = c.requires.needed;
   held = held_self (causes_in c.args.records.now);
+  shrinks = shrinks_self (causes_in c.args.records.now);
   loaded = c.requires.loaded;
   fits = c.requires.fits;
   keys = narrows_none (g.K.Gpi.content c.args.kernel.now) (record_keys (causes_in c.args.records.now)) (record_keys (causes_in c.args.records.now)) (λ k h. c.requires.fits.keys.within k h) (within_self (record_keys (causes_in c.args.records.now)));
@@ -50,6 +49,7 @@ links-preserved g c =
       rows = ap (without_row c.args.number) same ∙ less.rows ∙ c.links.invariant.rows;
       needed = all_needed c.args.number c.in-Some.cause (state_in c.links.records) (state_in c.pop.new.self) (state_in c.let_go.new.records) _ c.in-Some.ensures.some.1 (rows_apart c.links.records) c.in-Some.ensures.some.2 refl c.in-Some.ensures.rows c.pop.ensures.causes same c.let_go.ensures.others c.let_go.ensures.needed c.links.invariant.needed;
       held = held_step c.in-Some.cause (causes_in c.args.records.now) (state_in c.pop.new.self) (state_in c.let_go.new.records) (held_along _ _ _ c.links.invariant.held (sym c.pop.ensures.causes)) c.let_go.ensures.others c.let_go.ensures.stays;
+      shrinks = shrinks_through (causes_in c.args.records.now) (causes_in c.links.records) (causes_in c.pop.new.self) (causes_in c.let_go.new.records) c.links.invariant.shrinks c.pop.ensures.causes c.let_go.ensures.shrinks;
       loaded = c.let_go.ensures.loaded;
       fits = fits_on (g.K.Gpi.content c.links.kernel) (g.K.Gpi.content c.let_go.new.kernel) (fired_keys c.args.fired) (causes_in c.links.records) (causes_in c.let_go.new.records) c.links.invariant.fits step held_now;
       keys = narrows_through (g.K.Gpi.content c.args.kernel.now) (g.K.Gpi.content c.links.kernel) (g.K.Gpi.content c.let_go.new.kernel) (record_keys (causes_in c.args.records.now)) (record_keys (causes_in c.links.records)) (record_keys (causes_in c.let_go.new.records)) c.links.invariant.keys step;

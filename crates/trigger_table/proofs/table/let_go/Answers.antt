@@ -1,10 +1,10 @@
-use Rattle.std.proofs.Common.{◌≡◌, ◌≢◌, ◌+◌, ◌≤◌, ℕ, true, false, refl, sym, ap, ◌∙◌, arith}
+use Rattle.std.proofs.Common.{sym, ◌∙◌, arith}
 use Rattle.await_tree.specs.WaitList.Waiting.{fired_keys}
-use Rattle.trigger_table.specs.Keys.{record_keys, runner_keys}
-use Rattle.trigger_table.specs.Records.{causes_in, rows_in, state_in}
-use Rattle.trigger_table.proofs.GoneLemmas.{fired_goes, goes_there, key_goes, other_goes, unheld}
-use Rattle.trigger_table.proofs.Members.{within_self}
-use Rattle.trigger_table.proofs.Rekeys.{narrows_none}
+use Rattle.trigger_table.specs.Keys.{record_keys}
+use Rattle.trigger_table.specs.Records.{causes_in, state_in}
+use Rattle.trigger_table.proofs.GoneLemmas.{fired_goes, goes_there, key_goes, other_goes, shrinks_self, shrinks_sets, unheld}
+use Rattle.await_tree.proofs.WaitListLemmas.Members.{within_self}
+use Rattle.await_tree.proofs.WaitListLemmas.Rekeys.{narrows_none}
 use Rattle.trigger_table.proofs.table.let_go.Goals as goal
 
 pub returns-then-not-is_bare-clause-keys : goal.returns-then-not-is_bare-clause-keys
@@ -32,12 +32,22 @@ returns-else-not-has_fired-clause-keys g c =
     (unheld c.args.number (state_in c.args.records.now) c.remove_cause-record.result (c.is_bare.ensures.free c.if-not-is_bare.false) c.remove_cause-record.ensures.value) c.requires.fits
     (sym c.has_fired.ensures ∙ c.if-not-has_fired.false)
 
+pub returns-then-not-is_bare-clause-shrinks : goal.returns-then-not-is_bare-clause-shrinks
+returns-then-not-is_bare-clause-shrinks g c = shrinks_self (causes_in c.args.records.now)
+
+pub returns-then-not-has_fired-clause-shrinks : goal.returns-then-not-has_fired-clause-shrinks
+returns-then-not-has_fired-clause-shrinks g c = shrinks_sets (causes_in c.args.records.now) (causes_in c.remove_cause-record.new.self) c.args.number c.remove_cause-record.ensures.sets
+
+pub returns-else-not-has_fired-clause-shrinks : goal.returns-else-not-has_fired-clause-shrinks
+returns-else-not-has_fired-clause-shrinks g c = shrinks_sets (causes_in c.args.records.now) (causes_in c.remove_cause-record.new.self) c.args.number c.remove_cause-record.ensures.sets
+
 pub returns-in_default : goal.returns-in_default
 returns-in_default g c = record {
   rows = c.remove_cause-record.ensures.rows;
   others = c.remove_cause-record.ensures.sets.others;
   stays = λ needed. absurd (c.is_bare.ensures.free c.if-not-is_bare.false needed);
   needed = λ some. absurd (some c.remove_cause-record.ensures.sets.changed);
+  shrinks = shrinks_sets (causes_in c.args.records.now) (causes_in c.remove_cause-record.new.self) c.args.number c.remove_cause-record.ensures.sets;
   loaded = c.requires.loaded;
   keys = other_goes (causes_in c.args.records.now) (causes_in c.remove_cause-record.new.self) c.args.number c.remove_cause-record.result c.remove_cause-record.ensures.value c.remove_cause-record.ensures.sets c.remove_cause-record.ensures.gone
       c.in_default.not-Key (g.K.Gpi.content c.args.kernel.now) (fired_keys c.args.fired) c.requires.fits;

@@ -6,7 +6,8 @@ use Rattle.await_tree.specs.declared.cause.Awaited.{Awaited}
 use Rattle.await_tree.specs.WaitList.Keys.{AreAsked}
 use Rattle.await_tree.specs.WaitList.Waiting.{Waiting, keys_among}
 use Rattle.plain_waits.specs.Kept.{waiting_in, waiting_of}
-use Rattle.plain_waits.proofs.Calls.{begun_few, begun_list, begun_rekeyed, held_items}
+use Rattle.plain_waits.proofs.Calls.{begun_few, begun_list, held_items}
+use Rattle.await_tree.proofs.WaitListLemmas.Served.{begun_rekeyed}
 use Rattle.plain_waits.proofs.awaits.WaitListAwaits.begin.Goals as goal
 
 pub prepare-requires-clause-keys : goal.prepare-requires-clause-keys

@@ -1,6 +1,6 @@
 use Rattle.std.proofs.Common.{refl}
 use Rattle.plain_waits.specs.Kept.{names_of}
-use Rattle.plain_waits.proofs.Rekeys.{fits_unfired}
+use Rattle.await_tree.proofs.WaitListLemmas.Rekeys.{fits_unfired}
 use Rattle.plain_waits.proofs.awaits.WaitListAwaits.drop_task.Goals as goal
 
 pub drop_all_of-requires-clause-fits : goal.drop_all_of-requires-clause-fits

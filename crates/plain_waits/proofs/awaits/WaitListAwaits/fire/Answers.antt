@@ -2,9 +2,9 @@ use Rattle.std.proofs.Common.{◌||◌, List, [], ◌++◌, sym, ap, ◌∙◌}
 use Rattle.gpi.specs.Keys.{among, has}
 use Rattle.await_tree.specs.WaitList.Waiting.{Waiting, all_waiting, all_woken, fired_keys}
 use Rattle.plain_waits.specs.Kept.{names_of}
-use Rattle.plain_waits.proofs.Awaited.{fired_again, fired_kept}
+use Rattle.await_tree.proofs.WaitListLemmas.Awaited.{fired_again, fired_kept}
 use Rattle.plain_waits.proofs.Calls.{fits_taken, held_items, narrows_taken, served_edges, waiting_same}
-use Rattle.plain_waits.proofs.Members.{and_left, without_all_gone}
+use Rattle.await_tree.proofs.WaitListLemmas.Members.{and_left, without_all_gone}
 use Rattle.plain_waits.proofs.awaits.WaitListAwaits.fire.Goals as goal
 
 pub serve_all-requires-clause-fits : goal.serve_all-requires-clause-fits

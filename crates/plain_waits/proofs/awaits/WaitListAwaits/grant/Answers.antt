@@ -4,7 +4,7 @@ use Rattle.await_tree.specs.Fire.{awaits}
 use Rattle.await_tree.specs.declared.cause.Awaited.TheVariants as awaited
 use Rattle.await_tree.specs.WaitList.Waiting.{Waiting, Granted}
 use Rattle.plain_waits.specs.Kept.{names_of, waiting_in, waiting_of}
-use Rattle.plain_waits.proofs.Rekeys.{fits_unfired, rekeyed_none}
+use Rattle.await_tree.proofs.WaitListLemmas.Rekeys.{fits_unfired, rekeyed_none}
 use Rattle.plain_waits.proofs.Walks.{any_at, granted_here, granted_none, none_there}
 use Rattle.plain_waits.proofs.awaits.WaitListAwaits.grant.Goals as goal
 

@@ -1,7 +1,7 @@
 use Rattle.std.proofs.Common.{List, [], ◌∷◌, ◌++◌, sym, ap, ◌∙◌}
 use Rattle.gpi.specs.declared.types.Key.{Key}
 use Rattle.plain_waits.specs.Kept.{waiting_in}
-use Rattle.plain_waits.proofs.Awaited.{held_joined, held_push, held_there}
+use Rattle.await_tree.proofs.WaitListLemmas.Awaited.{held_joined, held_push, held_there}
 use Rattle.plain_waits.proofs.awaits.WaitListAwaits.hold.Goals as goal
 
 pub register_unless-requires-clause-there : goal.register_unless-requires-clause-there

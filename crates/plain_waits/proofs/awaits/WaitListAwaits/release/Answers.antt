@@ -3,7 +3,7 @@ use Rattle.gpi.specs.Keys.{among}
 use Rattle.await_tree.specs.WaitList.Keys.{Rekeyed}
 use Rattle.await_tree.specs.WaitList.Waiting.{Waiting, keys_of, named}
 use Rattle.plain_waits.specs.Kept.{names_of, waiting_in}
-use Rattle.plain_waits.proofs.Awaited.{released_gone, released_waited}
+use Rattle.await_tree.proofs.WaitListLemmas.Awaited.{released_gone, released_waited}
 use Rattle.plain_waits.proofs.Calls.{waiting_same}
 use Rattle.plain_waits.proofs.awaits.WaitListAwaits.release.Goals as goal
 

@@ -1,6 +1,6 @@
 use Rattle.std.proofs.Common.{refl}
 use Rattle.plain_waits.specs.Kept.{names_of}
-use Rattle.plain_waits.proofs.Rekeys.{fits_unfired}
+use Rattle.await_tree.proofs.WaitListLemmas.Rekeys.{fits_unfired}
 use Rattle.plain_waits.proofs.awaits.WaitListAwaits.wake.Goals as goal
 
 pub serve-requires-clause-fits : goal.serve-requires-clause-fits

@@ -1,8 +1,8 @@
 use Rattle.std.proofs.Common.{[], refl, ◌∙◌, arith}
 use Rattle.plain_waits.specs.Kept.{names_of}
 use Rattle.plain_waits.proofs.Calls.{fits_on}
-use Rattle.plain_waits.proofs.Members.{within_self}
-use Rattle.plain_waits.proofs.Rekeys.{narrows_none, narrows_through}
+use Rattle.await_tree.proofs.WaitListLemmas.Members.{within_self}
+use Rattle.await_tree.proofs.WaitListLemmas.Rekeys.{narrows_none, narrows_through}
 use Rattle.plain_waits.proofs.Walks.{all_dropped, dropped_one}
 use Rattle.plain_waits.proofs.keeper.WaitList.drop_all.Goals as goal
 

@@ -1,6 +1,6 @@
 use Rattle.std.proofs.Common.{◌≡◌, length}
 use Rattle.plain_waits.specs.Kept.{names_of}
-use Rattle.plain_waits.specs.Parts.{Narrows}
+use Rattle.await_tree.specs.WaitList.Parts.{Narrows}
 use Rattle.plain_waits.proofs.keeper.WaitList.drop_all.Given as goal
 
 abbrev pub invariant-loop-left : goal.invariant-loop-left

@@ -3,8 +3,8 @@ use Rattle.std.proofs.lemmas.List.{length-map}
 use Rattle.await_tree.specs.WaitList.Waiting.{without_task}
 use Rattle.plain_waits.specs.Kept.{names_of, waiting_in, waiting_of}
 use Rattle.plain_waits.proofs.Calls.{fits_on}
-use Rattle.plain_waits.proofs.Members.{within_self}
-use Rattle.plain_waits.proofs.Rekeys.{narrows_none, narrows_through}
+use Rattle.await_tree.proofs.WaitListLemmas.Members.{within_self}
+use Rattle.await_tree.proofs.WaitListLemmas.Rekeys.{narrows_none, narrows_through}
 use Rattle.plain_waits.proofs.Walks.{each_without, walk_falls, walked, walked_all}
 use Rattle.plain_waits.proofs.keeper.WaitList.drop_all_of.Goals as goal
 

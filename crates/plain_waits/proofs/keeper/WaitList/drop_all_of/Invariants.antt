@@ -1,7 +1,7 @@
 use Rattle.std.proofs.Common.{◌≡◌, ◌≤◌, ◌-◌, ◌++◌, length, take, drop}
 use Rattle.await_tree.specs.WaitList.Waiting.{without_task}
 use Rattle.plain_waits.specs.Kept.{names_of, waiting_in}
-use Rattle.plain_waits.specs.Parts.{Narrows}
+use Rattle.await_tree.specs.WaitList.Parts.{Narrows}
 use Rattle.plain_waits.proofs.keeper.WaitList.drop_all_of.Given as goal
 
 abbrev pub invariant-loop-at : goal.invariant-loop-at

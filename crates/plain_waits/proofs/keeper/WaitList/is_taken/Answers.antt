@@ -2,7 +2,7 @@ use Rattle.std.proofs.Common.{◌∙◌, ◌||◌, Bool, ap, sym}
 use Rattle.gpi.specs.Keys.{among}
 use Rattle.await_tree.specs.WaitList.Waiting.{keys_among}
 use Rattle.plain_waits.specs.Kept.{names_of}
-use Rattle.plain_waits.proofs.Members.{among_append, among_left}
+use Rattle.await_tree.proofs.WaitListLemmas.Members.{among_append, among_left}
 use Rattle.plain_waits.proofs.keeper.WaitList.is_taken.Goals as goal
 
 pub returns-then-stands : goal.returns-then-stands

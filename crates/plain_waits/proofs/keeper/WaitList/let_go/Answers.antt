@@ -1,9 +1,9 @@
 use Rattle.std.proofs.Common.{◌+◌, ◌++◌, drop, arith}
 use Rattle.await_tree.specs.WaitList.Waiting.{fired_keys, keys_among}
 use Rattle.plain_waits.specs.Kept.{names_of}
-use Rattle.plain_waits.proofs.Awaited.{fits_from, narrows_end, narrows_from, some_left}
-use Rattle.plain_waits.proofs.Members.{within_self}
-use Rattle.plain_waits.proofs.Rekeys.{fits_after, narrows_none, narrows_through}
+use Rattle.await_tree.proofs.WaitListLemmas.Awaited.{fits_from, narrows_end, narrows_from, some_left}
+use Rattle.await_tree.proofs.WaitListLemmas.Members.{within_self}
+use Rattle.await_tree.proofs.WaitListLemmas.Rekeys.{fits_after, narrows_none, narrows_through}
 use Rattle.plain_waits.proofs.keeper.WaitList.let_go.Goals as goal
 
 pub loop-at-init : goal.loop-at-init

@@ -1,7 +1,7 @@
 use Rattle.std.proofs.Common.{◌≤◌, ◌-◌, ◌++◌, length, drop}
 use Rattle.await_tree.specs.WaitList.Waiting.{keys_among}
 use Rattle.plain_waits.specs.Kept.{names_of}
-use Rattle.plain_waits.specs.Parts.{Narrows}
+use Rattle.await_tree.specs.WaitList.Parts.{Narrows}
 use Rattle.plain_waits.proofs.keeper.WaitList.let_go.Given as goal
 
 abbrev pub invariant-loop-at : goal.invariant-loop-at

@@ -3,8 +3,8 @@ use Rattle.gpi.specs.declared.types.Key.TheVariants.{At}
 use Rattle.await_tree.specs.declared.cause.Awaited.TheVariants as awaited
 use Rattle.await_tree.specs.WaitList.Waiting.{fired_keys}
 use Rattle.plain_waits.specs.Kept.{names_of, waiting_in}
-use Rattle.plain_waits.proofs.Awaited.{key_front, left_known, list_goes, list_other, list_stays, list_there}
-use Rattle.plain_waits.proofs.Members.{named_held}
+use Rattle.await_tree.proofs.WaitListLemmas.Awaited.{key_front, left_known, list_goes, list_other, list_stays, list_there}
+use Rattle.await_tree.proofs.WaitListLemmas.Members.{named_held}
 use Rattle.plain_waits.proofs.keeper.WaitList.let_go_first.Goals as goal
 
 pub remove-requires-clause-there : goal.remove-requires-clause-there

@@ -1,6 +1,6 @@
 use Rattle.std.proofs.Common.{◌∙◌, sym}
 use Rattle.plain_waits.specs.Kept.{waiting_in}
-use Rattle.plain_waits.proofs.Members.{named_unwaited, named_waited}
+use Rattle.await_tree.proofs.WaitListLemmas.Members.{named_unwaited, named_waited}
 use Rattle.plain_waits.proofs.keeper.WaitList.names.Goals as goal
 
 pub returns-then-waited : goal.returns-then-waited

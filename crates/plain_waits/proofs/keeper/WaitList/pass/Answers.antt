@@ -1,6 +1,6 @@
 use Rattle.plain_waits.specs.Kept.{names_of, waiting_in}
-use Rattle.plain_waits.proofs.Members.{within_self}
-use Rattle.plain_waits.proofs.Rekeys.{narrows_none}
+use Rattle.await_tree.proofs.WaitListLemmas.Members.{within_self}
+use Rattle.await_tree.proofs.WaitListLemmas.Rekeys.{narrows_none}
 use Rattle.plain_waits.proofs.Walks.{passes_other, passes_own}
 use Rattle.plain_waits.proofs.keeper.WaitList.pass.Goals as goal
 

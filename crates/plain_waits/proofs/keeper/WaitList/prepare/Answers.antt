@@ -5,7 +5,7 @@ use Rattle.await_tree.specs.WaitList.Keys.{Rekeyed}
 use Rattle.await_tree.specs.WaitList.Waiting.{keys_among, named}
 use Rattle.plain_waits.specs.Kept.{waiting_of}
 use Rattle.plain_waits.specs.declared.waiter.Waiter.{Waiter}
-use Rattle.plain_waits.proofs.Calls.{always_err, always_ok, kept_same}
+use Rattle.await_tree.proofs.WaitListLemmas.Served.{always_err, always_ok, kept_same}
 use Rattle.plain_waits.proofs.keeper.WaitList.prepare.Goals as goal
 
 pub register_all-requires-clause-keys : goal.register_all-requires-clause-keys

@@ -1,7 +1,7 @@
 use Rattle.std.proofs.Common.{sym, ◌∙◌}
 use Rattle.plain_waits.specs.Kept.{names_of}
-use Rattle.plain_waits.proofs.Awaited.{again_named, again_none, again_unnamed, not_true, some_key}
-use Rattle.plain_waits.proofs.Rekeys.{edge_asked, edge_untimed}
+use Rattle.await_tree.proofs.WaitListLemmas.Awaited.{again_named, again_none, again_unnamed, not_true, some_key}
+use Rattle.await_tree.proofs.WaitListLemmas.Rekeys.{edge_asked, edge_untimed}
 use Rattle.plain_waits.proofs.keeper.WaitList.register_again.Goals as goal
 
 pub register-requires-clause-asked : goal.register-requires-clause-asked

@@ -2,8 +2,8 @@ use Rattle.std.proofs.Common.{[], ◌++◌, take, sym, subst, arith}
 use Rattle.gpi.specs.Content.{Content}
 use Rattle.await_tree.specs.WaitList.Waiting.{keys_among}
 use Rattle.plain_waits.specs.Kept.{names_of}
-use Rattle.plain_waits.specs.Parts.{Fits, Narrows}
-use Rattle.plain_waits.proofs.Awaited.{asked_upto, fits_again, kept_again, keys_upto, registered_all, registered_first, registered_next}
+use Rattle.await_tree.specs.WaitList.Parts.{Fits, Narrows}
+use Rattle.await_tree.proofs.WaitListLemmas.Awaited.{asked_upto, fits_again, kept_again, keys_upto, registered_all, registered_first, registered_next}
 use Rattle.plain_waits.proofs.keeper.WaitList.register_all.Goals as goal
 
 pub loop-at-init : goal.loop-at-init

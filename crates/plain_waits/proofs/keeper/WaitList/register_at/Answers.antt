@@ -3,8 +3,8 @@ use Rattle.std.proofs.lemmas.Result.{on_ok_weaker}
 use Rattle.gpi.specs.declared.types.Key.TheVariants.{At}
 use Rattle.await_tree.specs.declared.cause.Awaited.TheVariants as awaited
 use Rattle.plain_waits.specs.Kept.{names_of}
-use Rattle.plain_waits.specs.Parts.{Joins}
-use Rattle.plain_waits.proofs.Awaited.{joined_at, key_one, key_there, other_at}
+use Rattle.await_tree.specs.WaitList.Parts.{Joins}
+use Rattle.await_tree.proofs.WaitListLemmas.Awaited.{joined_at, key_one, key_there, other_at}
 use Rattle.plain_waits.proofs.keeper.WaitList.register_at.Goals as goal
 
 pub register_unless-requires-clause-there : goal.register_unless-requires-clause-there

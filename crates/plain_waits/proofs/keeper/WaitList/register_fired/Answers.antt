@@ -2,9 +2,9 @@ use Rattle.std.proofs.Common.{◌||◌, sym, ◌∙◌}
 use Rattle.gpi.specs.Keys.{among, has}
 use Rattle.await_tree.specs.WaitList.Waiting.{key_list}
 use Rattle.plain_waits.specs.Kept.{names_of}
-use Rattle.plain_waits.proofs.Awaited.{design_kept, out_second}
-use Rattle.plain_waits.proofs.Members.{among_left, among_right, and_left}
-use Rattle.plain_waits.proofs.Rekeys.{rekeyed_more}
+use Rattle.await_tree.proofs.WaitListLemmas.Awaited.{design_kept, out_second}
+use Rattle.await_tree.proofs.WaitListLemmas.Members.{among_left, among_right, and_left}
+use Rattle.await_tree.proofs.WaitListLemmas.Rekeys.{rekeyed_more}
 use Rattle.plain_waits.proofs.keeper.WaitList.register_fired.Goals as goal
 
 pub register_again-requires-clause-out : goal.register_again-requires-clause-out

@@ -6,8 +6,8 @@ use Rattle.await_tree.specs.declared.wait_list.ready.Entry.{Entry}
 use Rattle.plain_waits.specs.Kept.{names_of, waiting_in, waiting_of}
 use Rattle.plain_waits.specs.Parts.{left_after, woken_after}
 use Rattle.plain_waits.proofs.Calls.{fits_on}
-use Rattle.plain_waits.proofs.Members.{within_self}
-use Rattle.plain_waits.proofs.Rekeys.{narrows_none, narrows_through}
+use Rattle.await_tree.proofs.WaitListLemmas.Members.{within_self}
+use Rattle.await_tree.proofs.WaitListLemmas.Rekeys.{narrows_none, narrows_through}
 use Rattle.plain_waits.proofs.Walks.{each_left, left_still, room_here, room_walked, walk_falls, walked, walked_all, woken_all, woken_still, woken_walked}
 use Rattle.plain_waits.proofs.keeper.WaitList.serve.Goals as goal
 

@@ -1,7 +1,8 @@
 use Rattle.std.proofs.Common.{◌≡◌, ◌≤◌, ◌+◌, ◌-◌, ◌++◌, length, take, drop}
 use Rattle.await_tree.specs.Fire.{fire}
 use Rattle.plain_waits.specs.Kept.{names_of, waiting_in}
-use Rattle.plain_waits.specs.Parts.{Narrows, left_after, woken_after}
+use Rattle.await_tree.specs.WaitList.Parts.{Narrows}
+use Rattle.plain_waits.specs.Parts.{left_after, woken_after}
 use Rattle.plain_waits.proofs.keeper.WaitList.serve.Given as goal
 
 abbrev pub invariant-loop-at : goal.invariant-loop-at

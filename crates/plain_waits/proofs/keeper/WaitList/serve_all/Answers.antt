@@ -2,8 +2,9 @@ use Rattle.std.proofs.Common.{List, ◌++◌, refl, sym, ap, ◌∙◌, append_a
 use Rattle.await_tree.specs.WaitList.Waiting.{Waiting, all_waiting, all_woken, fired_keys, key_list}
 use Rattle.await_tree.specs.declared.wait_list.ready.Entry.{Entry}
 use Rattle.plain_waits.specs.Kept.{names_of, waiting_in}
-use Rattle.plain_waits.proofs.Calls.{all_both, fits_on, woken_both}
-use Rattle.plain_waits.proofs.Rekeys.{narrows_through}
+use Rattle.plain_waits.proofs.Calls.{fits_on}
+use Rattle.await_tree.proofs.WaitListLemmas.Served.{all_both, woken_both}
+use Rattle.await_tree.proofs.WaitListLemmas.Rekeys.{narrows_through}
 use Rattle.plain_waits.proofs.Walks.{served_room}
 use Rattle.plain_waits.proofs.keeper.WaitList.serve_all.Goals as goal
 

@@ -4,8 +4,8 @@ use Rattle.await_tree.specs.declared.cause.Cause.TheVariants as cause
 use Rattle.await_tree.specs.WaitList.Waiting.{all_waiting, all_woken, woken}
 use Rattle.await_tree.specs.declared.wait_list.ready.Entry.{Entry}
 use Rattle.plain_waits.specs.Kept.{names_of, waiting_in}
-use Rattle.plain_waits.proofs.Members.{within_self}
-use Rattle.plain_waits.proofs.Rekeys.{narrows_none}
+use Rattle.await_tree.proofs.WaitListLemmas.Members.{within_self}
+use Rattle.await_tree.proofs.WaitListLemmas.Rekeys.{narrows_none}
 use Rattle.plain_waits.proofs.Walks.{none_list, some_list}
 use Rattle.plain_waits.proofs.keeper.WaitList.serve_one.Goals as goal
 

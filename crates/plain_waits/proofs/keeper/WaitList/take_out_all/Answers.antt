@@ -1,7 +1,7 @@
 use Rattle.std.proofs.Common.{sym, ap, ◌∙◌}
 use Rattle.await_tree.specs.WaitList.Keys.{without_all}
 use Rattle.await_tree.specs.WaitList.Waiting.{key_list}
-use Rattle.plain_waits.proofs.Calls.{without_both}
+use Rattle.await_tree.proofs.WaitListLemmas.Served.{without_both}
 use Rattle.plain_waits.proofs.keeper.WaitList.take_out_all.Goals as goal
 
 pub returns-clause-held : goal.returns-clause-held

@@ -1,11 +1,9 @@
-use Rattle.std.proofs.Common.{◌≡◌, ◌≢◌, ℕ, List, Option, Some, None, IfSome, IfNone, get_or, false, refl, sym, ap, ◌∙◌, subst, arith, nat_eq}
+use Rattle.std.proofs.Common.{◌≡◌, List, Option, Some, None, get_or, false, sym, ap, ◌∙◌, subst}
 use Rattle.slab.specs.Slab.{Slab}
-use Rattle.trigger_table.specs.Entries.{HasCause, HasTask, cause_name, task_name}
-use Rattle.trigger_table.specs.Indexed.{Sets, IsIndexed}
-use Rattle.trigger_table.specs.Name.{name_of}
+use Rattle.trigger_table.specs.Entries.{cause_name}
+use Rattle.trigger_table.specs.Indexed.{Sets}
 use Rattle.trigger_table.specs.declared.entries.CauseRecord.{CauseRecord}
-use Rattle.trigger_table.specs.declared.entries.TaskRecord.{TaskRecord}
-use Rattle.trigger_table.proofs.IndexLemmas.{indexed_make, indexed_remove, kept_index, sets_made, sets_of, none_left}
+use Rattle.trigger_table.proofs.IndexLemmas.{indexed_make, sets_made}
 use Rattle.trigger_table.proofs.NameLemmas.{name_eq, name_same, name_self, no_number}
 use Rattle.std.specs.HashMap.{get}
 use Rattle.trigger_table.proofs.causes.Causes.make.Goals as goal

@@ -1,11 +1,6 @@
-use Rattle.std.proofs.Common.{◌≡◌, ◌≢◌, ℕ, List, Option, Some, None, IfSome, IfNone, get_or, false, refl, sym, ap, ◌∙◌, subst, arith, nat_eq}
-use Rattle.slab.specs.Slab.{Slab}
-use Rattle.trigger_table.specs.Entries.{HasCause, HasTask, cause_name, task_name}
-use Rattle.trigger_table.specs.Indexed.{Sets, IsIndexed}
-use Rattle.trigger_table.specs.Name.{name_of}
+use Rattle.std.proofs.Common.{refl, sym}
+use Rattle.trigger_table.specs.Entries.{cause_name}
 use Rattle.trigger_table.specs.declared.entries.CauseRecord.{CauseRecord}
-use Rattle.trigger_table.specs.declared.entries.TaskRecord.{TaskRecord}
-use Rattle.trigger_table.proofs.IndexLemmas.{indexed_make, indexed_remove, kept_index, sets_made, sets_of, none_left}
 use Rattle.trigger_table.proofs.IndexLemmas.{indexed_set, sets_slot}
 use Rattle.trigger_table.proofs.NameLemmas.{name_same, name_self}
 use Rattle.trigger_table.proofs.causes.Causes.set_held.Goals as goal

@@ -1,7 +1,5 @@
-use Rattle.std.proofs.Common.{rules, ◌≡◌, ◌≢◌, ℕ, ◌+◌, ◌*◌, ◌/◌, ◌%◌, ◌++◌, ◌∷◌, ◌<◌, ◌≤◌, ◌==◌, [], None, Some, OnOk, IfSome, slice_get, ◌-◌, length, Bool, true, false, List, get_or, refl, sym, ap, ◌∙◌, subst, arith, Option}
-use Rattle.trigger_table.specs.Links.{without, behind, IsLinked, keys_in}
-use Rattle.trigger_table.specs.Rings.{Moves, SameLists, items, key_limit, list_of}
-use Rattle.trigger_table.proofs.RingLemmas.{Becomes, grown_by, owners_stay}
+use Rattle.std.proofs.Common.{◌+◌, ◌++◌, ◌∷◌, [], None, ap, ◌∙◌}
+use Rattle.trigger_table.proofs.RingLemmas.{grown_by, owners_stay}
 use Rattle.trigger_table.proofs.rings.Rings.grow.Goals as goal
 
 pub invariant_of-self-2 : goal.invariant_of-self-2

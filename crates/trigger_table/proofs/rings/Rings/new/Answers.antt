@@ -1,6 +1,3 @@
-use Rattle.std.proofs.Common.{rules, ◌≡◌, ◌≢◌, ℕ, ◌+◌, ◌*◌, ◌/◌, ◌%◌, ◌++◌, ◌∷◌, ◌<◌, ◌≤◌, ◌==◌, [], None, Some, OnOk, IfSome, slice_get, ◌-◌, length, Bool, true, false, List, get_or, refl, sym, ap, ◌∙◌, subst, arith, Option}
-use Rattle.trigger_table.specs.Links.{without, behind, IsLinked, keys_in}
-use Rattle.trigger_table.specs.Rings.{Moves, SameLists, items, key_limit, list_of}
 use Rattle.trigger_table.proofs.RingLemmas.{no_keys, nothing_linked}
 use Rattle.trigger_table.proofs.rings.Rings.new.Goals as goal
 

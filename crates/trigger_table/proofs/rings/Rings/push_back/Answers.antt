@@ -1,6 +1,4 @@
-use Rattle.std.proofs.Common.{rules, ◌≡◌, ◌≢◌, ℕ, ◌+◌, ◌*◌, ◌/◌, ◌%◌, ◌++◌, ◌∷◌, ◌<◌, ◌≤◌, ◌==◌, [], None, Some, OnOk, IfSome, slice_get, ◌-◌, length, Bool, true, false, List, get_or, refl, sym, ap, ◌∙◌, subst, arith, Option}
-use Rattle.trigger_table.specs.Links.{without, behind, IsLinked, keys_in}
-use Rattle.trigger_table.specs.Rings.{Moves, SameLists, items, key_limit, list_of}
+use Rattle.std.proofs.Common.{arith}
 use Rattle.trigger_table.proofs.RingLemmas.{last_below, key_in_linked, key_in_here, key_in_past}
 use Rattle.trigger_table.proofs.rings.Rings.push_back.Goals as goal
 

@@ -1,5 +1,5 @@
-use Rattle.std.proofs.Common.{◌≡◌, ℕ, ◌+◌, ◌-◌, ◌≤◌, length}
-use Rattle.trigger_table.specs.Rings.{SameLists, items, key_limit, list_of}
+use Rattle.std.proofs.Common.{◌+◌, ◌-◌, ◌≤◌}
+use Rattle.trigger_table.specs.Rings.{SameLists, key_limit}
 use Rattle.trigger_table.proofs.rings.Rings.reserve.Given as goal
 
 abbrev pub invariant-loop-self : goal.invariant-loop-self

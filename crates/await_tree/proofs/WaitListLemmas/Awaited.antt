@@ -12,9 +12,9 @@ use Rattle.await_tree.specs.declared.cause.Awaited.TheVariants as awaited
 use Rattle.await_tree.specs.WaitList.Keys.{AreAsked, AreAlike, AreApart, AreFired, AreKeys, AreKeysBut, IsOfDesign, KeepsKeys, Rekeyed, without, without_all}
 use Rattle.std.specs.Prelude.{Option, None, Some, not}
 use Rattle.await_tree.specs.WaitList.Waiting.{Waiting, key_list, keys_among, keys_of, named}
-use Rattle.plain_waits.specs.Parts.{AreWithin, Fits, Joins, Narrows}
-use Rattle.plain_waits.proofs.Members.{among_append, among_first, among_left, among_right, and_no, keys_among_append, or_false_right, or_left, or_right, alike, among_none, among_without, and_yes, named_unheld, same_is, same_self, same_sym, without_all_kept, without_all_within, within_both, within_self}
-use Rattle.plain_waits.proofs.Rekeys.{first_goes, first_stays, first_there, joins_registered, narrows_none, narrows_through, rekeyed_joined, rekeyed_more, rekeyed_none, rekeyed_removed, rekeyed_same}
+use Rattle.await_tree.specs.WaitList.Parts.{AreWithin, Fits, Joins, Narrows}
+use Rattle.await_tree.proofs.WaitListLemmas.Members.{among_append, among_first, among_left, among_right, and_no, keys_among_append, or_false_right, or_left, or_right, alike, among_none, among_without, and_yes, named_unheld, same_is, same_self, same_sym, without_all_kept, without_all_within, within_both, within_self}
+use Rattle.await_tree.proofs.WaitListLemmas.Rekeys.{first_goes, first_stays, first_there, joins_registered, narrows_none, narrows_through, rekeyed_joined, rekeyed_more, rekeyed_none, rekeyed_removed, rekeyed_same}
 
 -- ---- the first of a list
 

@@ -9,7 +9,7 @@ use Rattle.await_tree.specs.declared.cause.Awaited.{Awaited}
 use Rattle.await_tree.specs.declared.cause.Awaited.TheVariants as awaited
 use Rattle.await_tree.specs.WaitList.Keys.{without, without_all}
 use Rattle.await_tree.specs.WaitList.Waiting.{Waiting, keys_among, keys_of, named, tree_keys}
-use Rattle.plain_waits.specs.Parts.{AreWithin}
+use Rattle.await_tree.specs.WaitList.Parts.{AreWithin}
 
 -- ---- truth values
 

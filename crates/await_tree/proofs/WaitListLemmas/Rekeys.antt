@@ -7,10 +7,10 @@ use Rattle.gpi.specs.declared.types.Key.{Key}
 use Rattle.gpi.specs.declared.types.Key.TheVariants as key
 use Rattle.await_tree.specs.WaitList.Counts.{count_keys, raised_times}
 use Rattle.await_tree.specs.WaitList.Keys.{AreAlike, AreKeysBut, IsOfDesign, Rekeyed}
-use Rattle.trigger_table.specs.Edges.{is_edge}
-use Rattle.trigger_table.specs.Parts.{AreWithin, Fits, Joins, Narrows}
-use Rattle.trigger_table.proofs.Counts.{count_none, count_passing, count_single, count_sum, count_tests, raised_sum}
-use Rattle.trigger_table.proofs.Members.{among_append, among_first, among_same, and_left, and_no, or_false_left, or_false_right, or_no, or_none, or_right, or_yes, same_is, within_through}
+use Rattle.await_tree.specs.WaitList.Edges.{is_edge}
+use Rattle.await_tree.specs.WaitList.Parts.{AreWithin, Fits, Joins, Narrows}
+use Rattle.await_tree.proofs.WaitListLemmas.Counts.{count_none, count_passing, count_single, count_sum, count_tests, raised_sum}
+use Rattle.await_tree.proofs.WaitListLemmas.Members.{among_append, among_first, among_same, and_left, and_no, or_false_left, or_false_right, or_no, or_none, or_right, or_yes, same_is, within_through}
 
 -- a key that is registered then and wasn't, and one that was and isn't
 abbrev is_new : Keys → Keys → Key → Bool

@@ -4,7 +4,7 @@ use Rattle.gpi.specs.declared.types.Key.{Key}
 use Rattle.gpi.specs.Keys.{among, raised, same_key}
 use Rattle.await_tree.specs.WaitList.Counts.{count_keys, raised_times}
 use Rattle.await_tree.specs.WaitList.Keys.{without}
-use Rattle.trigger_table.proofs.Members.{and_no, and_yes, among_first, among_without, or_right, same_is, same_self, same_sym}
+use Rattle.await_tree.proofs.WaitListLemmas.Members.{and_no, and_yes, among_first, among_without, or_right, same_is, same_self, same_sym}
 
 later : (j k : Key) (ks : List Key) → among j ks ≡ true → among j (k ∷ ks) ≡ true
 later j k ks h = or_right (same_key j k) (among j ks) h

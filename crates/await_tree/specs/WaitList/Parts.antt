@@ -1,18 +1,10 @@
--- A means of proof: what the parts of a call do, to the registered keys and to the list.
-use Rattle.std.specs.Prelude.{◌≡◌, ℕ, ◌+◌, ◌≤◌, ◌||◌, true, List, [], ◌∷◌, ◌++◌, length, take, drop, if◌then◌else◌}
+-- A means of proof: what the parts of a call do to the registered keys, for the proofs of the keepers of waiting tasks.
+use Rattle.std.specs.Prelude.{◌≡◌, ◌||◌, true, List, [], ◌++◌, if◌then◌else◌}
 use Rattle.gpi.specs.Content.{Content}
 use Rattle.gpi.specs.Keys.{among, has, same_key}
 use Rattle.gpi.specs.declared.types.Key.{Key}
-use Rattle.await_tree.specs.Steps.{step_of}
-use Rattle.await_tree.specs.Tree.{Tree}
-use Rattle.await_tree.specs.declared.cause.Step.{Step}
-use Rattle.await_tree.specs.declared.cause.Step.TheVariants.{Still, Done}
 use Rattle.await_tree.specs.WaitList.Counts.{raised_times}
 use Rattle.await_tree.specs.WaitList.Keys.{AreKeysBut, AreOut, Rekeyed}
-use Rattle.await_tree.specs.WaitList.Waiting.{Waiting, entry_of, left_of}
-use Rattle.await_tree.specs.declared.wait_list.ready.Entry.{Entry}
-
--- ---- registered keys
 
 -- each key of the first list is one of the second
 abbrev pub AreWithin : List Key → List Key → Type 0

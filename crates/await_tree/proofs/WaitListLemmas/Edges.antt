@@ -1,6 +1,6 @@
 -- The counted keys of a tree that has begun are edges, and a key that was served is awaited on only where it is one.
 use Rattle.std.proofs.Common.{◌≡◌, ℕ, zero, suc, Bool, true, false, List, [], ◌∷◌, ◌++◌, refl, sym, ap, ◌∙◌}
-use Rattle.std.specs.Prelude.{Option, None, Some, if◌then◌else◌, ◌||◌, ◌&&◌, map}
+use Rattle.std.specs.Prelude.{Option, None, Some, if◌then◌else◌, ◌||◌, ◌&&◌}
 use Rattle.gpi.specs.Keys.{among, same_key}
 use Rattle.gpi.specs.declared.types.Key.{Key}
 use Rattle.gpi.specs.declared.types.Key.TheVariants.{At}
@@ -19,7 +19,6 @@ use Rattle.await_tree.specs.Check.{all_trees, edge, form_tree, only, tree_of}
 use Rattle.await_tree.specs.Fire.{fire, fire_all, grant, grant_one, is_same, is_among, reach_of, reached, edge_passed, awaits}
 use Rattle.await_tree.specs.Steps.{rest_of}
 use Rattle.await_tree.specs.Tree as tree
-use Rattle.await_tree.specs.Whole.{tree_in}
 use Rattle.await_tree.specs.Tree.{Tree, Trees, Over, Leaf, Cycles, First, Combine, Limit, NoTree, Then, leaves, all_leaves, is_over, is_faulted, or_left, first_over, first_faulted, are_over, first_by, combine_by, limit_by}
 use Rattle.await_tree.proofs.AmongLaws.{among_more}
 use Rattle.await_tree.proofs.Few.{IsBare, first_bare, fault_bare as bare_fault}
@@ -30,11 +29,9 @@ use Rattle.await_tree.specs.declared.cause.Step.{Step}
 use Rattle.await_tree.specs.declared.cause.Step.TheVariants.{Still, Done}
 use Rattle.await_tree.specs.WaitList.Begun.{IsBegun}
 use Rattle.await_tree.specs.WaitList.Waiting.{Waiting, all_waiting, keys_of, left_of, still_waiting, tree_keys}
-use Rattle.plain_waits.specs.Kept.{waiting_of}
-use Rattle.plain_waits.specs.Parts.{AreWithin}
-use Rattle.plain_waits.specs.declared.waiter.Waiter.{Waiter}
-use Rattle.plain_waits.specs.Edges.{has_edges, have_edges, is_edge}
-use Rattle.plain_waits.proofs.Members.{and_left, and_right, among_append, among_leaves, keys_of_append, or_no, same_is, within_both, within_self, within_through}
+use Rattle.await_tree.specs.WaitList.Parts.{AreWithin}
+use Rattle.await_tree.specs.WaitList.Edges.{has_edges, have_edges, is_edge}
+use Rattle.await_tree.proofs.WaitListLemmas.Members.{and_left, and_right, among_append, among_leaves, keys_of_append, or_no, same_is, within_both, within_self, within_through}
 
 -- ---- what the test says
 
@@ -42,7 +39,7 @@ abbrev pub IsEdge : Key → Type 0
 IsEdge key = is_edge key ≡ true
 
 abbrev mutual
-  HasEdges : Tree → Type 0
+  pub HasEdges : Tree → Type 0
   HasEdges (Over f) = Unit {0}
   HasEdges (Leaf on trig) = Unit {0}
   HasEdges (Cycles key left trig) = IsEdge key
@@ -50,7 +47,7 @@ abbrev mutual
   HasEdges (Combine trig ts) = HaveEdges ts
   HasEdges (Limit due t) = HasEdges t
 
-  HaveEdges : Trees → Type 0
+  pub HaveEdges : Trees → Type 0
   HaveEdges NoTree = Unit {0}
   HaveEdges (Then t ts) = HasEdges t × HaveEdges ts
 
@@ -59,7 +56,7 @@ both_true true b h k = k
 both_true false b h k = absurd (cc)
 
 mutual
-  tested : (t : Tree) → HasEdges t → has_edges t ≡ true
+  pub tested : (t : Tree) → HasEdges t → has_edges t ≡ true
   tested (Over f) h = refl
   tested (Leaf on trig) h = refl
   tested (Cycles key left trig) h = h
@@ -72,7 +69,7 @@ mutual
   all_tested (Then t ts) h = both_true (has_edges t) (have_edges ts) (tested t h.0) (all_tested ts h.1)
 
 mutual
-  shown : (t : Tree) → has_edges t ≡ true → HasEdges t
+  pub shown : (t : Tree) → has_edges t ≡ true → HasEdges t
   shown (Over f) h = tt
   shown (Leaf on trig) h = tt
   shown (Cycles key left trig) h = h
@@ -141,7 +138,7 @@ cycles_edges false left key trig h = h
 -- ---- a tree keeps its edges
 
 mutual
-  fire_edges : (c : Cause) (t : Tree) → HasEdges t → HasEdges (fire c t)
+  pub fire_edges : (c : Cause) (t : Tree) → HasEdges t → HasEdges (fire c t)
   fire_edges c (Over f) h = tt
   fire_edges c (Leaf on trig) h = leaf_edges (is_same (reach_of c) on) (reached c trig) on trig
   fire_edges c (Cycles key left trig) h = cycles_edges (is_same (reach_of c) (awaited.Key key)) left key trig h
@@ -158,7 +155,7 @@ one_edges true t u ts us h k l m = (k, l)
 one_edges false t u ts us h k l m = (h, m)
 
 mutual
-  grant_edges : (l : LockNo) (t : Tree) → HasEdges t → HasEdges (grant l t)
+  pub grant_edges : (l : LockNo) (t : Tree) → HasEdges t → HasEdges (grant l t)
   grant_edges l (Over f) h = tt
   grant_edges l (Leaf on trig) h = leaf_edges (is_same (awaited.Lock l) on) (finish.Reached trig) on trig
   grant_edges l (Cycles key left trig) h = h
@@ -330,15 +327,11 @@ abbrev pub AreEdged : List Waiting → Type 0
 AreEdged [] = Unit {0}
 AreEdged (w ∷ ws) = HasEdges w.tree × AreEdged ws
 
-pub items_edged : (ws : List Waiter) → AreEdged (map waiting_of ws)
-items_edged [] = tt
-items_edged (w ∷ ws) = (shown (tree_in w.tree) w.edges, items_edged ws)
-
 left_edged : (task : TaskNo) (t : Tree) (step : Step) (ws : List Waiting) → HasEdges t → AreEdged ws → AreEdged (left_of task t step ++ ws)
 left_edged task t Still ws h k = (h, k)
 left_edged task t (Done given) ws h k = k
 
-still_edged : (c : Cause) (ws : List Waiting) → AreEdged ws → AreEdged (still_waiting c ws)
+pub still_edged : (c : Cause) (ws : List Waiting) → AreEdged ws → AreEdged (still_waiting c ws)
 still_edged c [] h = tt
 still_edged c (w ∷ ws) h = left_edged w.task (fire c w.tree) (step_of (fire c w.tree)) (still_waiting c ws) (fire_edges c w.tree h.0) (still_edged c ws h.1)
 
@@ -357,7 +350,7 @@ keys_go c (w ∷ ws) =
     (within_both (keys_of (left_of w.task (fire c w.tree) (step_of (fire c w.tree)))) (tree_keys w.tree) (keys_of (still_waiting c ws)) (keys_of ws)
     (left_within w.task w.tree (fire c w.tree) (step_of (fire c w.tree)) (leaves_only_go.fires c w.tree)) (keys_go c ws))
 
-all_go : (ks : List Key) (ws : List Waiting) → AreWithin (keys_of (all_waiting ks ws)) (keys_of ws)
+pub all_go : (ks : List Key) (ws : List Waiting) → AreWithin (keys_of (all_waiting ks ws)) (keys_of ws)
 all_go [] ws = within_self (keys_of ws)
 all_go (k ∷ ks) ws =
     within_through (keys_of (all_waiting ks (still_waiting (cause.Key k) ws))) (keys_of (still_waiting (cause.Key k) ws)) (keys_of ws)
@@ -367,7 +360,7 @@ left_on : (k : Key) (task : TaskNo) (t : Tree) (step : Step) → AreOnEdge k (le
 left_on k task t Still h m = h (sym (among_leaves k (leaves t)) ∙ sym (among_append k (tree_keys t) [] ∙ or_no (among k (tree_keys t))) ∙ m)
 left_on k task t (Done given) h m = absurd (cc)
 
-served_on : (k : Key) (ws : List Waiting) → AreEdged ws → among k (keys_of (still_waiting (cause.Key k) ws)) ≡ true → IsEdge k
+pub served_on : (k : Key) (ws : List Waiting) → AreEdged ws → among k (keys_of (still_waiting (cause.Key k) ws)) ≡ true → IsEdge k
 served_on k [] h m = absurd (cc)
 served_on k (w ∷ ws) h m =
     decided (among k (keys_of (left_of w.task (fire (cause.Key k) w.tree) (step_of (fire (cause.Key k) w.tree))))) refl (λ d. served_on k ws h.1 d)
