@@ -3,7 +3,7 @@ use Rattle.std.proofs.Common.{◌≡◌, ℕ, zero, suc, ◌+◌, Bool, true, fa
 use Rattle.std.specs.Prelude.{nat_le}
 use Rattle.four_value.specs.declared.Digit.{Digit}
 use Rattle.gpi.specs.Content.{no_counts}
-use Rattle.gpi.specs.Design.{Proc, procs_of, start_map, starters}
+use Rattle.gpi.specs.Design.{Proc, procs_of, start_map, start_hidden, starters}
 use Rattle.gpi.specs.Events.{Event, event, put}
 use Rattle.gpi.specs.Keys.{among, set_of}
 use Rattle.gpi.specs.State.{State, is_end}
@@ -184,7 +184,17 @@ module _ (functions : List Function) (signals : List Signal) (nodes : List Node)
   opening_same : (seed : ℕ) (cases : List Case) → opening p seed cases ≡ opening q seed cases
   opening_same seed cases =
       ap (λ (procs : List Proc).
-      let s : State = record { signals = start_map signals; active = starters 0 procs; reports = []; due = []; later = []; time = 0; region = region.Begin } in
+      let s : State = record {
+        signals = start_map signals;
+        hidden = start_hidden signals;
+        active = starters 0 procs;
+        reports = [];
+        due = [];
+        later = [];
+        delayed = [];
+        time = 0;
+        region = region.Begin;
+      } in
       let r : Run = record { rig = emptied s (seeded seed) no_counts; place = Begins cases; lines = []; verdicts = []; cost = 0 } in r) same
 
   written_same : (budget : ℕ) (c : Run) → written p budget c ≡ written q budget c

@@ -6,6 +6,7 @@ pub mod Served
 pub mod Starts
 pub mod Free
 pub mod Falls
+pub mod Comes
 pub mod Exists
 pub mod Worked
 pub mod Wider

@@ -14,3 +14,4 @@ pub mod Texts
 pub mod TestRows
 pub mod WaitRows
 pub mod ObjectRows
+pub mod DelayRows

@@ -8,11 +8,11 @@ mod laws;
 mod outcome;
 
 pub use laws::{
-    budgets, clock_cycles, deadlines, ended_is_empty, exact_budget, fired_is_served, gives_way,
-    joined_faults, just_killed, kill_in_combine, kill_of_woken, killed_is_gone, largest_time,
-    least_run, lines_are_a_front, locks, no_past_edge, no_test, options, phase_last,
-    random_numbers, read_only_end, read_only_write, repeated_writes, rise_first, run_exists,
-    run_is_one, run_is_within_budget, set_and_clear, stalled_test, step_costs_at_most_one,
-    step_keeps_known, ties, verdicts, with_timeout,
+    amid_delay, budgets, clock_cycles, deadlines, delayed_update, ended_is_empty, exact_budget,
+    fired_is_served, gives_way, joined_faults, just_killed, kill_in_combine, kill_of_woken,
+    killed_is_gone, largest_time, least_run, lines_are_a_front, locks, no_past_edge, no_test,
+    options, phase_last, random_numbers, read_only_end, read_only_write, repeated_writes,
+    rise_first, run_exists, run_is_one, run_is_within_budget, set_and_clear, stalled_test,
+    step_costs_at_most_one, step_keeps_known, ties, update_of_ended_test, verdicts, with_timeout,
 };
 pub use outcome::{Outcome, Verdict};

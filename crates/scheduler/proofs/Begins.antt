@@ -107,7 +107,7 @@ module _ {M W F : Type 0} (m : Means M W F) (e : Engine M W F) (k k' : Content) 
         };
         names = subst (λ (s : State). IsOf e.teller.flat.now e.names s) (sym state) fits.names;
         known = subst (IsKnown (setup_of m e)) (sym is) (known_but (setup_of m e) c deadline planned c.random counts c.outcome fits.known);
-        timely = subst (IsTimely latest_time) (sym is) (record { time = fits.timely.time; leaves = fits.timely.leaves; deadline = d; planned = p });
+        timely = subst (IsTimely latest_time) (sym is) (record { time = fits.timely.time; updates = fits.timely.updates; leaves = fits.timely.leaves; deadline = d; planned = p });
       }
 
   -- a deadline was set
@@ -176,7 +176,7 @@ module _ {M W F : Type 0} (m : Means M W F) (e : Engine M W F) (k : Content) (fi
         names = fits.names;
         known = subst (λ (s : Setup). IsKnown s (rig_of m then' k)) (ap (λ (x : M). (let s : Setup = record { functions = m.functions x; flat = e.teller.flat.now; trace = e.teller.trace } in s)) (sym maker))
             (subst (IsKnown (setup_of m e)) (sym own_is) first);
-        timely = subst (IsTimely latest_time) (sym own_is) (record { time = old.time; leaves = old.leaves; deadline = old.deadline; planned = old.planned });
+        timely = subst (IsTimely latest_time) (sym own_is) (record { time = old.time; updates = old.updates; leaves = old.leaves; deadline = old.deadline; planned = old.planned });
       }
 
   -- the test has no limit

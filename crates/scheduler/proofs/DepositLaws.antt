@@ -1,20 +1,24 @@
 -- A write is done at once, and its keys are served.
-use Rattle.std.proofs.Common.{◌≡◌, ℕ, ◌==◌, ◌||◌, ◌&&◌, Bool, true, false, not, if◌then◌else◌, List, [], ◌∷◌, ◌++◌, Option, None, Some, refl, sym, ap, subst, ◌∙◌}
+use Rattle.std.proofs.Common.{◌≡◌, ℕ, ◌<◌, ◌==◌, ◌||◌, ◌&&◌, Bool, true, false, not, if◌then◌else◌, List, [], ◌∷◌, ◌++◌, length, Option, None, Some, refl, sym, ap, subst, ◌∙◌}
+use Rattle.std.proofs.lemmas.List.{get_or-set_same}
+use Rattle.std.specs.Prelude.{slice_set}
 use Rattle.port_io.specs.Means.{SinkMeans}
 use Rattle.port_io.specs.declared.ports.SinkFault.{SinkFault}
 use Rattle.four_value.specs.declared.Digit.{Digit}
+use Rattle.four_value.specs.declared.Digit.TheVariants.{Zero, One, X, Z}
 use Rattle.four_value.specs.Vector.{same_digits}
 use Rattle.gpi.specs.Content.{Content, Does}
 use Rattle.gpi.specs.Design.{Proc}
-use Rattle.gpi.specs.Events.{Event, put, value_at}
+use Rattle.gpi.specs.Events.{Event, edge_keys, hidden_at, put, put_over, tells, unseen, value_at}
 use Rattle.gpi.specs.Keys.{Keys, has, among, holds, set_of, times_of, fired_of}
-use Rattle.gpi.specs.State.{State}
+use Rattle.gpi.specs.State.{State, woken}
 use Rattle.gpi.specs.Terms.{widths_of}
 use Rattle.gpi.specs.declared.design.Flat.{Flat}
 use Rattle.gpi.specs.declared.types.Counts.{Counts}
 use Rattle.gpi.specs.declared.types.Fired.{Fired}
 use Rattle.gpi.specs.declared.types.Key.{Key}
 use Rattle.gpi.specs.declared.types.Key.TheVariants as key
+use Rattle.gpi.specs.declared.types.Report.{Report}
 use Rattle.gpi.specs.declared.types.SigId.{SigId}
 use Rattle.gpi.specs.declared.types.Told.{Told}
 use Rattle.gpi.proofs.SameKeys.{put_same}
@@ -104,23 +108,62 @@ has_set ks key.ReadWrite = refl
 has_set ks key.ReadOnly = refl
 has_set ks key.NextStep = refl
 
--- the change that a write tells
-told_is : (ps : List Proc) (s : State) (keys : Keys) (sig : SigId) (bits : List Digit)
-    → (put ps s keys sig bits).told ≡ (if same_digits (value_at s sig) bits then None else Some (record { sig = sig; bits = bits }))
-told_is ps s keys sig bits = decided (same_digits (value_at s sig) bits) refl
-  where
-    decided : (b : Bool) → same_digits (value_at s sig) bits ≡ b → (put ps s keys sig bits).told ≡ (if same_digits (value_at s sig) bits then None else Some (record { sig = sig; bits = bits }))
-    decided true e = rw e refl
-    decided false e = rw e refl
+-- ---- the change that a write tells
+
+same_self : (xs : List Digit) → same_digits xs xs ≡ true
+same_self [] = refl
+same_self (Zero ∷ xs) = same_self xs
+same_self (One ∷ xs) = same_self xs
+same_self (X ∷ xs) = same_self xs
+same_self (Z ∷ xs) = same_self xs
+
+-- the change of a signal that showed the one value and shows the other
+abbrev shown_change : SigId → List Digit → List Digit → Option Told
+shown_change sig old new = if same_digits old new then None else Some (record { sig = sig; bits = new })
+
+unchanged : (sig : SigId) (ds : List Digit) → shown_change sig ds ds ≡ None
+unchanged sig ds = rw (same_self ds) refl
+
+changed : (sig : SigId) (old new : List Digit) → same_digits old new ≡ false → shown_change sig old new ≡ Some (record { sig = sig; bits = new })
+changed sig old new h = rw h refl
+
+-- what a write leaves where the value of its signal changes, and where it doesn't
+abbrev change_by : Bool → List Proc → State → Keys → Report → Event
+change_by b ps s keys c =
+    if b then unseen s else record {
+      state = record s { signals = slice_set s.signals c.sig.0 c.after; active = s.active ++ woken 0 ps (c ∷ []) s.active };
+      told = tells c;
+      fired = edge_keys c keys;
+    }
+
+module _ (ps : List Proc) (s : State) (keys : Keys) (sig : SigId) (bits : List Digit) (inside : sig.0 < length s.signals) where
+  abbrev TellsChange : Event → Type 0
+  TellsChange e = e.told ≡ shown_change sig (value_at s sig) (value_at e.state sig)
+
+  show_tells : (b : Bool) → same_digits (value_at s sig) bits ≡ b → TellsChange (change_by b ps s keys (record { sig = sig; before = value_at s sig; after = bits }))
+  show_tells true h = sym (unchanged sig (value_at s sig))
+  show_tells false h =
+      sym (changed sig (value_at s sig) bits h) ∙ ap (shown_change sig (value_at s sig)) (sym (get_or-set_same s.signals sig.0 bits [] inside))
+
+  put_over_tells : (o : Option (List Digit)) → TellsChange (put_over o ps s keys sig bits)
+  put_over_tells None = show_tells (same_digits (value_at s sig) bits) refl
+  put_over_tells (Some ds) = sym (unchanged sig (value_at s sig))
+
+  put_tells : TellsChange (put ps s keys sig bits)
+  put_tells = put_over_tells (hidden_at s sig)
 
 -- the lines of the change that a write tells
-pub told_same : (setup : Setup) (k : Content) (sig : SigId) (old bits : List Digit) (time : ℕ) (change : Option Told) → time ≡ k.state.time → old ≡ value_at k.state sig
-    → change ≡ (if same_digits old bits then None else Some (record { sig = sig; bits = bits }))
+pub told_same : (setup : Setup) (k k1 : Content) (sig : SigId) (bits old new : List Digit) (time : ℕ) (change : Option Told) → sig.0 < length k.state.signals → time ≡ k.state.time
+    → old ≡ value_at k.state sig → new ≡ value_at k1.state sig → k1.state ≡ (put k.procs k.state k.keys sig bits).state
+    → change ≡ (if same_digits old new then None else Some (record { sig = sig; bits = new }))
     → told_lines setup time change ≡ told_lines setup k.state.time (put k.procs k.state k.keys sig bits).told
-told_same setup k sig old bits time change t o h =
-    ap (λ (n : ℕ). told_lines setup n change) t
+told_same setup k k1 sig bits old new time change inside t o n done h =
+    ap (λ (m : ℕ). told_lines setup m change) t
     ∙ ap (told_lines setup k.state.time)
-    (h ∙ ap (λ (ds : List Digit). (let x : Option Told = if same_digits ds bits then None else Some (record { sig = sig; bits = bits }) in x)) o ∙ sym (told_is k.procs k.state k.keys sig bits))
+    (h
+    ∙ ap (λ (ds : List Digit). shown_change sig ds new) o
+    ∙ ap (shown_change sig (value_at k.state sig)) (n ∙ ap (λ (s : State). value_at s sig) done)
+    ∙ sym (put_tells k.procs k.state k.keys sig bits inside))
 
 -- ---- registered keys
 

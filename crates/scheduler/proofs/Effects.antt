@@ -34,10 +34,10 @@ use Rattle.await_tree.specs.WaitList.Waiting.{Waiting, tree_keys, keys_of, is_wa
 use Rattle.rig_model.specs.Run.Rig.{Rig, Setup, After, facts_of, awaited, procs}
 use Rattle.rig_model.specs.Run.Serve.{wake, serve_keys, is_due, not_due, with_fired, after_put, deposit, flushed, flushed_if, served, ended_if, serve}
 use Rattle.rig_model.specs.Run.Effect.{begun_by, awaits_by, write_by, stages, puts, starts, starter, next_task, with_new_task, with_end, withdrawn, fails, kills_by, kills, makes_event, makes_lock, releases, is_full, handed_on, effect, effect_of}
-use Rattle.scheduler.specs.Timely.{AreTimely, IsTimely}
+use Rattle.scheduler.specs.Timely.{AreTimely, IsEarly, IsTimely}
 use Rattle.scheduler.proofs.Keys.{allowed_timely}
 use Rattle.scheduler.proofs.TimeWaits.{waits_more, one_waits, waits_without, still_waits, granted_waits, begun_timely}
-use Rattle.scheduler.proofs.Events.{put_time}
+use Rattle.scheduler.proofs.Events.{kept_early, put_time}
 
 module _ (bound : ℕ) where
   abbrev Timely : Rig → Type 0
@@ -45,11 +45,11 @@ module _ (bound : ℕ) where
 
   -- with other tasks that wait
   with_waiting : (ws : List Waiting) (c : Rig) → AreTimely last_time (keys_of ws) → Timely c → Timely (record c { waiting = ws })
-  with_waiting ws c k h = record { time = h.time; leaves = k; deadline = h.deadline; planned = h.planned }
+  with_waiting ws c k h = record { time = h.time; updates = h.updates; leaves = k; deadline = h.deadline; planned = h.planned }
 
   -- in another state of the simulator
-  pub at_state : (s : State) (c : Rig) → s.time ≤ bound → Timely c → Timely (record c { sim = s })
-  at_state s c k h = record { time = k; leaves = h.leaves; deadline = h.deadline; planned = h.planned }
+  pub at_state : (s : State) (c : Rig) → IsEarly bound s → Timely c → Timely (record c { sim = s })
+  at_state s c k h = record { time = k.time; updates = k.updates; leaves = h.leaves; deadline = h.deadline; planned = h.planned }
 
   -- ---- serving
 
@@ -70,22 +70,21 @@ module _ (bound : ℕ) where
   fired_timely : (keys : List Key) (c : Rig) → Timely c → Timely (with_fired keys c)
   fired_timely keys c h = record {
     time = h.time;
+    updates = h.updates;
     leaves = h.leaves;
     deadline = not_due_within keys c.deadline last_time h.deadline;
     planned = not_due_within keys c.planned bound h.planned;
   }
 
-  put_timely : (setup : Setup) (e : Event) (c : Rig) → e.state.time ≤ bound → Timely c → Timely (after_put setup e c).rig
+  put_timely : (setup : Setup) (e : Event) (c : Rig) → IsEarly bound e.state → Timely c → Timely (after_put setup e c).rig
   put_timely setup e c k h =
       let d : Rig = record c { sim = e.state } in serve_keys_timely e.fired c.fired (with_fired e.fired d) (fired_timely e.fired d (at_state e.state c k h))
 
   pub deposit_timely : (setup : Setup) (sig : SigId) (bits : List Digit) (c : Rig) → Timely c → Timely (deposit setup sig bits c).rig
   deposit_timely setup sig bits c h =
       let e : Event = put (procs setup) c.sim (set_of (awaited c)) sig bits in
-      let same : e.state.time ≡ c.sim.time = put_time (procs setup) c.sim (set_of (awaited c)) sig bits in
-      let now : c.sim.time ≤ bound = h.time in
-      let k : e.state.time ≤ bound = omega arith in
-      put_timely setup e c k h
+      put_timely setup e c
+      (kept_early bound c.sim e.state (put_time (procs setup) c.sim (set_of (awaited c)) sig bits) (record { time = h.time; updates = h.updates })) h
 
   flushed_timely : (setup : Setup) (writes : List Staged) (c : Rig) → Timely c → Timely (flushed setup writes c).rig
   flushed_timely setup [] c h = h

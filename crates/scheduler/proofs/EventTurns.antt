@@ -174,7 +174,7 @@ module _ (setup : Setup) (c : Rig) (runs : c.running ≡ None) (none : c.ready �
         by_late : (b : Bool) → (evented setup e c).rig ≡ (ended_if b d).rig → IsTimely latest_time d
         by_late true l =
             let x : IsTimely latest_time (ended_if true d).rig = subst (IsTimely latest_time) l timely_step in
-            record { time = x.time; leaves = x.leaves; deadline = x.deadline; planned = x.planned }
+            record { time = x.time; updates = x.updates; leaves = x.leaves; deadline = x.deadline; planned = x.planned }
         by_late false l = subst (IsTimely latest_time) l timely_step
 
     pub event_stands : d.running ≡ None → StandsIn None c → StandsIn None d

@@ -7,9 +7,9 @@ use Rattle.four_value.specs.Vector.{digit_at, same_digits}
 use Rattle.gpi.specs.Activation.{with_part}
 use Rattle.gpi.specs.Content.{Content}
 use Rattle.gpi.specs.Design.{Proc}
-use Rattle.gpi.specs.Events.{Event, event, put, or_else, if_has, level_keys, edge_keys, tells, value_at, write_change, report_case, due_case, active_case, later_case, settle_case, end_case, time_case}
+use Rattle.gpi.specs.Events.{Event, event, put_over, put, or_else, if_has, level_keys, edge_keys, tells, unseen, value_at, hidden_at, stored_at, with_hidden, write_change, report_case, due_case, active_case, later_case, settle_case, end_case, time_case}
 use Rattle.gpi.specs.Keys.{Keys, has, among, least, same_key, fired_of}
-use Rattle.gpi.specs.State.{State, is_end, woken}
+use Rattle.gpi.specs.State.{State, is_end, woken, arriving, waiting_on, delayed_times}
 use Rattle.gpi.specs.declared.types.Key.{Key}
 use Rattle.gpi.specs.declared.types.Key.TheVariants as key
 use Rattle.gpi.specs.declared.types.Region.TheVariants as region
@@ -135,9 +135,19 @@ put_change ps s keys c = decided (same_digits c.before c.after) (change_edges c 
       signals = λ content n k m. of_design c.sig content k n (h.own k m).0;
     }
 
+put_over_fires : (o : Option (List Digit)) (ps : List Proc) (s : State) (keys : Keys) (sig : SigId) (bits : List Digit) → PutFires keys sig (put_over o ps s keys sig bits)
+put_over_fires None ps s keys sig bits = put_change ps s keys (record { sig = sig; before = value_at s sig; after = bits })
+put_over_fires (Some ds) ps s keys sig bits = record {
+  few = omega arith;
+  apart = tt;
+  edges = all_none IsEdge;
+  there = all_none (λ (k : Key). has k keys ≡ true);
+  signals = λ content n. all_none (IsOfDesign content);
+}
+
 -- what a write fires
 pub put_fires : (ps : List Proc) (s : State) (keys : Keys) (sig : SigId) (bits : List Digit) → PutFires keys sig (put ps s keys sig bits)
-put_fires ps s keys sig bits = put_change ps s keys (record { sig = sig; before = value_at s sig; after = bits })
+put_fires ps s keys sig bits = put_over_fires (hidden_at s sig) ps s keys sig bits
 
 -- ---- events
 
@@ -178,6 +188,10 @@ write_fires ps s keys c = decided (same_digits c.before c.after)
     decided true = nothing_fires (record { state = s; told = None; fired = [] }) refl
     decided false = change_fires (record s { signals = slice_set s.signals c.sig.0 c.after; active = s.active ++ woken 0 ps (c ∷ []) s.active }) c keys
 
+written_fires : (o : Option (List Digit)) (ps : List Proc) (s : State) (keys : Keys) (sig : SigId) (bits : List Digit) → Fires (put_over o ps s keys sig bits)
+written_fires None ps s keys sig bits = write_fires ps s keys (record { sig = sig; before = value_at s sig; after = bits })
+written_fires (Some ds) ps s keys sig bits = nothing_fires (unseen (with_hidden s sig (Some bits))) refl
+
 abbrev FiresIf : Option Event → Type 0
 FiresIf None = Unit {0}
 FiresIf (Some e) = Fires e
@@ -194,7 +208,7 @@ due_fires : (ps : List Proc) (t : State) (keys : Keys) (us : List Update) → Fi
 due_fires ps t keys [] = tt
 due_fires ps t keys (u ∷ us) =
     let s : State = record t { due = us; region = region.Active } in
-    write_fires ps s keys (record { sig = u.sig; before = value_at s u.sig; after = with_part (value_at t u.sig) u.low u.bits })
+    written_fires (hidden_at s u.sig) ps s keys u.sig (with_part (stored_at t u.sig) u.low u.bits)
 
 active_fires : (ps : List Proc) (s : State) (ns : List ℕ) → FiresIf (active_case ps s ns)
 active_fires ps s [] = tt
@@ -224,23 +238,35 @@ end_fires s false c = tt
 
 time_fires : (s : State) (keys : Keys) (o : Option ℕ) → FiresIf (time_case s keys o)
 time_fires s keys None = tt
-time_fires s keys (Some t) = decided (has key.NextStep keys)
+time_fires s keys (Some t) = decided (has key.NextStep keys) (has (key.At t) keys)
   where
-    decided : (b : Bool) → Fires (record { state = record s { time = t; region = region.Begin }; told = None; fired = (if b then key.NextStep ∷ [] else []) ++ key.At t ∷ [] })
-    decided true = record {
+    decided : (b c : Bool) → Fires (record {
+      state = record s { later = arriving t s.delayed; delayed = waiting_on t s.delayed; time = t; region = region.Begin };
+      told = None;
+      fired = (if b then key.NextStep ∷ [] else []) ++ (if c then key.At t ∷ [] else []);
+    })
+    decided true true = record {
       few = omega arith;
       apart = (refl, (refl, tt));
       alone = λ e. cc;
       settled = λ e. cc;
       signals = λ content n. all_more (IsOfDesign content) key.NextStep (key.At t ∷ []) tt (all_more (IsOfDesign content) (key.At t) [] tt (all_none (IsOfDesign content)));
     }
-    decided false = record {
+    decided true false = record {
+      few = omega arith;
+      apart = (refl, tt);
+      alone = λ e. cc;
+      settled = λ e. cc;
+      signals = λ content n. all_more (IsOfDesign content) key.NextStep [] tt (all_none (IsOfDesign content));
+    }
+    decided false true = record {
       few = omega arith;
       apart = (refl, tt);
       alone = λ e. cc;
       settled = λ e. cc;
       signals = λ content n. all_more (IsOfDesign content) (key.At t) [] tt (all_none (IsOfDesign content));
     }
+    decided false false = record { few = omega arith; apart = tt; alone = λ e. cc; settled = λ e. cc; signals = λ content n. all_none (IsOfDesign content) }
 
 event_if : (ps : List Proc) (s : State) (keys : Keys) → FiresIf (event ps s keys)
 event_if ps s keys =
@@ -249,8 +275,8 @@ event_if ps s keys =
     (either (active_case ps s s.active) _ (active_fires ps s s.active)
     (either (later_case ps s keys) _ (due_fires ps (record s { later = [] }) keys s.later)
     (either (settle_case s keys) _ (settle_fires s (has key.ReadWrite keys && not (is_end s.region)))
-    (either (end_case s keys) (time_case s keys (least keys.times)) (end_fires s (has key.ReadOnly keys) (not (is_end s.region)))
-    (time_fires s keys (least keys.times)))))))
+    (either (end_case s keys) (time_case s keys (least (delayed_times s.delayed ++ keys.times))) (end_fires s (has key.ReadOnly keys) (not (is_end s.region)))
+    (time_fires s keys (least (delayed_times s.delayed ++ keys.times))))))))
 
 -- what an event fires
 pub event_fires : (ps : List Proc) (s : State) (keys : Keys) (e : Event) → event ps s keys ≡ Some e → Fires e

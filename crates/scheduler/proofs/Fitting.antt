@@ -41,7 +41,7 @@ use Rattle.rig_model.specs.Parts.Steps.{FitSteps, TurnSteps, in_turn}
 use Rattle.run_state.specs.Queue.Effects.{dropping, with_first}
 use Rattle.run_state.specs.Queue.Fits.{Fits, IsBare, queue_of}
 use Rattle.run_state.specs.declared.queue.queue.RunQueue.{RunQueue}
-use Rattle.scheduler.specs.Timely.{IsTimely}
+use Rattle.scheduler.specs.Timely.{IsEarly, IsTimely}
 use Rattle.run_view.specs.View.{IsOf}
 use Rattle.scheduler.specs.Setups as events
 use Rattle.scheduler.specs.EffectLaws.Stands.{StandsIn}
@@ -95,20 +95,20 @@ bare_stands state random counts = record {
   live = omega arith;
 }
 
-pub bare_timely : (bound : ℕ) (state : State) (random : Generator) (counts : Counts) → state.time ≤ bound → IsTimely bound (emptied state random counts)
-bare_timely bound state random counts h = record { time = h; leaves = λ due k. cc; deadline = tt; planned = tt }
+pub bare_timely : (bound : ℕ) (state : State) (random : Generator) (counts : Counts) → IsEarly bound state → IsTimely bound (emptied state random counts)
+bare_timely bound state random counts h = record { time = h.time; updates = h.updates; leaves = λ due k. cc; deadline = tt; planned = tt }
 
 module _ {M W F : Type 0} (m : Means M W F) where
   -- an engine in which no test runs
   pub bare_fits : (e : Engine M W F) (k : Content) (random : Generator) → IsSoundFlat e.teller.flat.now → e.names ≡ e.teller.flat.now.nodes → AreSoundFunctions (m.functions e.test.tasks.maker)
-      → Fits e.teller.flat.now m.waiting m.held e.test.queue k → HasRoom m e.test → k.state.time ≤ latest_time → rig_of m e k ≡ emptied k.state random k.counts → FitsKernel m e k
-  bare_fits e k random sound names functions queue room time is =
+      → Fits e.teller.flat.now m.waiting m.held e.test.queue k → HasRoom m e.test → IsEarly latest_time k.state → rig_of m e k ≡ emptied k.state random k.counts → FitsKernel m e k
+  bare_fits e k random sound names functions queue room early is =
       let of : IsOf e.teller.flat.now e.names k.state = of_design e.teller.flat.now e.names k.state sound names queue.queue.signals in
       record {
         test = record { queue = queue; room = room; stands = subst (StandsIn None) (sym is) (bare_stands k.state random k.counts) };
         names = of;
         known = subst (IsKnown (setup_of m e)) (sym is) (bare_known (setup_of m e) e.names k.state random k.counts of functions);
-        timely = subst (IsTimely latest_time) (sym is) (bare_timely latest_time k.state random k.counts time);
+        timely = subst (IsTimely latest_time) (sym is) (bare_timely latest_time k.state random k.counts early);
       }
 
   -- ---- the end of a test
@@ -135,7 +135,7 @@ module _ {M W F : Type 0} (m : Means M W F) where
     cleared_fits b fits maker queue room state =
         bare_fits (record e { test = t; runs_test = b }) k' e.test.random fits.names.sound fits.names.nodes_are
         (subst (λ (x : M). AreSoundFunctions (m.functions x)) (sym maker) fits.known.sound) queue room
-        (subst (λ (s : State). s.time ≤ latest_time) (sym state) fits.timely.time) cleared_bare
+        (subst (IsEarly latest_time) (sym state) (record { time = fits.timely.time; updates = fits.timely.updates })) cleared_bare
 
   -- ---- the first that is ready
 
@@ -222,7 +222,7 @@ module _ {M W F : Type 0} (m : Means M W F) where
 
         after_timely : IsTimely latest_time (rig_of m after k)
         after_timely = subst (IsTimely latest_time) (sym polled_is)
-            (record { time = fits.timely.time; leaves = fits.timely.leaves; deadline = fits.timely.deadline; planned = fits.timely.planned })
+            (record { time = fits.timely.time; updates = fits.timely.updates; leaves = fits.timely.leaves; deadline = fits.timely.deadline; planned = fits.timely.planned })
 
         after_queue : Fits e.teller.flat.now m.waiting m.held t.queue k
         after_queue = subst (λ q. Fits e.teller.flat.now m.waiting m.held q k) (sym queue_is) fits.test.queue

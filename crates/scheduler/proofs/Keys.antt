@@ -86,7 +86,7 @@ module _ (latest : ℕ) where
   later more ks l h = λ (due : ℕ) (e : among (At due) ks ≡ true). let d : due ≤ latest = h due e in omega arith
 
   -- the least of the times
-  lesser_within : (t : ℕ) (o : Option ℕ) → t ≤ latest → IfSome (lesser t o) (λ (u : ℕ). u ≤ latest)
+  pub lesser_within : (t : ℕ) (o : Option ℕ) → t ≤ latest → IfSome (lesser t o) (λ (u : ℕ). u ≤ latest)
   lesser_within t None h = h
   lesser_within t (Some u) h = omega arith
 

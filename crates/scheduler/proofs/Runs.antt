@@ -18,7 +18,7 @@ use Rattle.scheduler.proofs.Steps.{wider, step_timely}
 -- ---- begins and ends of tests
 
 with_due : (o : Option ℕ) (bound : ℕ) (c : Rig) → IfSome o (λ (due : ℕ). due ≤ last_time) → IsTimely bound c → IsTimely bound (record c { deadline = o })
-with_due o bound c k h = record { time = h.time; leaves = h.leaves; deadline = k; planned = h.planned }
+with_due o bound c k h = record { time = h.time; updates = h.updates; leaves = h.leaves; deadline = k; planned = h.planned }
 
 due_by : (b : Bool) (latest due : ℕ) → nat_lt latest due ≡ b → IfSome (if b then None else Some due) (λ (d : ℕ). d ≤ latest)
 due_by true latest due e = tt
@@ -41,11 +41,12 @@ pub begin_timely : (setup : Setup) (case : Case) (bound : ℕ) (c : Rig) → IsT
 begin_timely setup case bound c h = test_timely setup case (values_of case.arguments) bound c h
 
 pub end_timely : (bound : ℕ) (c : Rig) → IsTimely bound c → IsTimely bound (ended c)
-end_timely bound c h = record { time = h.time; leaves = none last_time; deadline = tt; planned = tt }
+end_timely bound c h = record { time = h.time; updates = h.updates; leaves = none last_time; deadline = tt; planned = tt }
 
 pub plan_timely : (bound : ℕ) (c : Rig) → IsTimely bound c → IsTimely (bound + 1) (start_planned c)
 plan_timely bound c h = record {
   time = omega (arith, h.time);
+  updates = h.updates;
   leaves = h.leaves;
   deadline = h.deadline;
   planned = omega (arith, h.time);
@@ -139,7 +140,7 @@ module _ (setup : Setup) (tests : ℕ) where
 opening_holds : (setup : Setup) (seed : ℕ) (cases : List Case) → Holds (length cases) (opening setup seed cases)
 opening_holds setup seed cases = record {
   few = omega arith;
-  times = record { time = omega arith; leaves = none last_time; deadline = tt; planned = tt };
+  times = record { time = omega arith; updates = tt; leaves = none last_time; deadline = tt; planned = tt };
 }
 
 run_holds : (setup : Setup) (seed : ℕ) (cases : List Case) (budget n : ℕ) → Holds (length cases) (steps setup budget n (opening setup seed cases))

@@ -24,6 +24,14 @@ is_inside m ss sig e h = let n : length m ≡ length ss = signal_count m ss e in
 pub same_count : (m n : List (List Digit)) → widths_of m ≡ widths_of n → length m ≡ length n
 same_count m n e = sym (length_widths m) ∙ ap length e ∙ length_widths n
 
+-- a signal has as many digits where all are as wide
+pub same_width : (m n : List (List Digit)) (ss : List Signal) (sig : SigId) → widths_of m ≡ widths ss → widths_of n ≡ widths_of m → sig.0 < length ss
+    → length (get_or m sig.0 []) ≡ length (get_or n sig.0 [])
+same_width m n ss sig e w h =
+    sym (get_or_widths m sig.0 [] (is_inside m ss sig e h))
+    ∙ ap (λ (ws : List ℕ). get_or ws sig.0 0) (sym w)
+    ∙ get_or_widths n sig.0 [] (is_inside n ss sig (w ∙ e) h)
+
 -- digits of the width of a signal of the design are as many as its value has
 pub written_fits : (m : List (List Digit)) (ss : List Signal) (w : Staged) → widths_of m ≡ widths ss → IsSoundWrite ss w → length w.bits ≡ length (get_or m w.sig.0 [])
 written_fits m ss w e s =

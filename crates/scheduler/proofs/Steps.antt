@@ -32,6 +32,7 @@ later_due (Some t) latest bound l h = omega arith
 pub wider : (bound more : ℕ) (c : Rig) → bound ≤ more → IsTimely bound c → IsTimely more c
 wider bound more c l h = record {
   time = omega (arith, h.time);
+  updates = h.updates;
   leaves = h.leaves;
   deadline = h.deadline;
   planned = later_due c.planned bound more l h.planned;
@@ -68,7 +69,9 @@ module _ (setup : Setup) (bound : ℕ) (wide : last_time ≤ bound) where
   chosen_timely : (running : Option Running) (ready : List Entry) (c : Rig) → Timely c → Timely (chosen setup running ready c).rig
   chosen_timely (Some r) ready c h = stepped_timely r (task_at r.task c.tasks) c h
   chosen_timely None (e ∷ es) c h = stepped_timely (taken c e) (task_at e.task c.tasks) (resumed e es c) h
-  chosen_timely None [] c h = after_timely (event_of setup c) c (event_comes bound (procs setup) c.sim (awaited c) h.time (awaited_timely c h)) h
+  chosen_timely None [] c h =
+      after_timely (event_of setup c) c
+      (event_comes bound (procs setup) c.sim (awaited c) (omega (arith, wide)) (record { time = h.time; updates = h.updates }) (awaited_timely c h)) h
 
 pub step_timely : (setup : Setup) (bound : ℕ) (c : Rig) → last_time ≤ bound → IsTimely bound c → IsTimely bound (rig_step setup c).rig
 step_timely setup bound c wide h = chosen_timely setup bound wide c.running c.ready c h

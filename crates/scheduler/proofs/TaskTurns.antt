@@ -82,7 +82,7 @@ module _ (setup : Setup) (number : TaskNo) (b : Rig) (fuel : ℕ) (g : Given) (t
 
     timely_then : IsTimely latest_time b → IsTimely latest_time (effect setup number t after).rig
     timely_then i = moves_timely in_turn setup fuel begin (effect setup number t after).lines f (effect setup number t after).rig moves
-        (record { time = i.time; leaves = i.leaves; deadline = i.deadline; planned = i.planned })
+        (record { time = i.time; updates = i.updates; leaves = i.leaves; deadline = i.deadline; planned = i.planned })
 
     -- the task goes on
     module _ (g' : Given) (e : Rig) (runs : e.running ≡ None) (l : LeadsTo setup number t after (GoesOn g') e) where
@@ -98,7 +98,7 @@ module _ (setup : Setup) (number : TaskNo) (b : Rig) (fuel : ℕ) (g : Given) (t
       pub goes_timely : IsTimely latest_time b → IsTimely latest_time e
       goes_timely i =
           let x : IsTimely latest_time (goes_on number (Some g') e) = subst (IsTimely latest_time) l (timely_then i) in
-          record { time = x.time; leaves = x.leaves; deadline = x.deadline; planned = x.planned }
+          record { time = x.time; updates = x.updates; leaves = x.leaves; deadline = x.deadline; planned = x.planned }
 
       pub goes_planned : e.planned ≡ None
       goes_planned = ap (λ (x : Rig). x.planned) (sym l) ∙ plans_none
@@ -122,7 +122,7 @@ module _ (setup : Setup) (number : TaskNo) (b : Rig) (fuel : ℕ) (g : Given) (t
     ends_timely turn.Went e q l i = subst (IsTimely latest_time) l (timely_then i)
     ends_timely (turn.Over outcome) e q l i =
         let x : IsTimely latest_time (record e { outcome = Some outcome }) = subst (IsTimely latest_time) l (timely_then i) in
-        record { time = x.time; leaves = x.leaves; deadline = x.deadline; planned = x.planned }
+        record { time = x.time; updates = x.updates; leaves = x.leaves; deadline = x.deadline; planned = x.planned }
     ends_timely turn.Due e q l i = absurd l
     ends_timely turn.Spent e q l i = absurd l
     ends_timely turn.WriteFault e q l i = cc

@@ -57,7 +57,8 @@ impl<'a> Teller<'a> {
         let time = kernel.now();
         let old = kernel.read(write.sig);
         let fired = kernel.deposit(write.sig, write.bits);
-        let change = change_of(write.sig, old, write.bits);
+        let shown = kernel.read(write.sig);
+        let change = change_of(write.sig, old, shown);
         let fault = self.tell(alloc, time, change, out, fault);
         queue.awaits.fire(kernel, fired, &mut queue.ready, steps);
         fault

@@ -37,7 +37,7 @@ pub(crate) fn put_change<O: Sink>(
     }
 }
 
-/// The change that a write of a signal tells, if its value changes.
+/// The change of a signal that showed one value and shows another, if they differ.
 pub(crate) fn change_of(sig: SigId, old: Bits, new: Bits) -> Option<Told>
     requires { length old ≡ length new }
     ensures { result ≡ (if same_digits old new then None else Some (record { sig = sig; bits = new })) }

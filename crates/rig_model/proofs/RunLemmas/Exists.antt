@@ -2,8 +2,8 @@
 use Rattle.std.proofs.Common.{◌≡◌, ℕ, zero, suc, ◌+◌, ◌-◌, ◌≤◌, ◌<◌, ◌⊎◌, Bool, true, false, List, [], ◌∷◌, ◌++◌, length, Option, None, Some, refl, ap, sym, subst, ◌∙◌, arith, rules, inl, inr}
 use Rattle.std.specs.Prelude.{nat_le, not, ◌&&◌}
 use Rattle.gpi.specs.State.{State}
-use Rattle.gpi.specs.Keys.{Keys, among, set_of}
-use Rattle.gpi.specs.Events.{Event, or_else, report_case, due_case, active_case, later_case, settle_case, end_case, time_case}
+use Rattle.gpi.specs.Keys.{among, set_of}
+use Rattle.gpi.specs.Events.{Event}
 use Rattle.gpi.specs.declared.types.Counts.{Counts}
 use Rattle.gpi.specs.declared.types.Key.{Key}
 use Rattle.gpi.specs.declared.types.Key.TheVariants.{ReadWrite}
@@ -19,6 +19,7 @@ use Rattle.rig_model.specs.Run.Verdict.{reason_of}
 use Rattle.rig_model.specs.Run.Case.{emptied, start_planned, ended}
 use Rattle.rig_model.specs.Run.Run.{Place, Begins, Runs, Waits, Over, is_over, Run, unskipped, skipped, with_skips, judged, begun, planned as next_planned, within, step, step_at, step_in, place_by, cost_at, cost_in, goes, steps, opening, IsRun}
 use Rattle.rig_model.proofs.RunLemmas.Whole.{steps_one, steps_none}
+use Rattle.rig_model.proofs.RunLemmas.Comes.{is_event, event_is}
 use Rattle.rig_model.proofs.RunLemmas.Falls.{mass, rig_falls}
 
 -- ---- between two tests
@@ -43,29 +44,9 @@ record IsAfter (c : Rig) : Type 0 where
   planned : Option ℕ
   is : c ≡ between sim random counts planned []
 
-abbrev is_event : Option Event → Bool
-is_event None = false
-is_event (Some e) = true
-
-or_else_is : (o e : Option Event) → is_event e ≡ true → is_event (or_else o e) ≡ true
-or_else_is None e h = h
-or_else_is (Some x) e h = refl
-
+-- where a start is planned there is an event
 has_event : (setup : Setup) (sim : State) (random : Generator) (counts : Counts) (time : ℕ) → is_event (event_of setup (between sim random counts (Some time) [])) ≡ true
-has_event setup sim random counts time =
-    let keys : Keys = set_of (awaited (between sim random counts (Some time) [])) in
-    let last : Option Event = time_case sim keys (Some time) in
-    let a : Option Event = or_else (end_case sim keys) last in
-    let b : Option Event = or_else (settle_case sim keys) a in
-    let d : Option Event = or_else (later_case (procs setup) sim keys) b in
-    let e : Option Event = or_else (active_case (procs setup) sim sim.active) d in
-    let f : Option Event = or_else (due_case (procs setup) sim keys sim.due) e in
-    or_else_is (report_case sim keys sim.reports) f (
-    or_else_is (due_case (procs setup) sim keys sim.due) e (
-    or_else_is (active_case (procs setup) sim sim.active) d (
-    or_else_is (later_case (procs setup) sim keys) b (
-    or_else_is (settle_case sim keys) a (
-    or_else_is (end_case sim keys) last refl)))))
+has_event setup sim random counts time = event_is (procs setup) sim (set_of (awaited (between sim random counts (Some time) []))) time refl
 
 -- keys are served where nothing waits
 serve_keys_between : (keys others : List Key) (sim : State) (random : Generator) (counts : Counts) (planned : Option ℕ) (fired : List Key)

@@ -6,6 +6,7 @@ use Rattle.rig_model.specs.Run.Run.{steps}
 use Rattle.rig_model.specs.Run.Texts.{stays_balanced}
 use Rattle.rig_model.specs.Run.TestRows.{Budgets, Deadlines, Exact_budget, Least_run, No_test, Options, Read_only_end, Stalled_test, Verdicts}
 use Rattle.rig_model.specs.Run.WaitRows.{Clock_cycles, Just_killed, Kill_in_combine, Kill_of_woken, Largest_time, No_past_edge, Phase_last, Read_only_write, Repeated_writes, Rise_first, Ties, With_timeout}
+use Rattle.rig_model.specs.Run.DelayRows.{Amid_delay, Delayed_update, Update_of_ended_test}
 use Rattle.rig_model.specs.Run.ObjectRows.{Gives_way, Joined_faults, Locks, Random_numbers, Set_and_clear}
 
 pub least_run : Least_run
@@ -111,3 +112,15 @@ gives_way = record { lines_are = refl; counts_are = refl; cost_is = refl; balanc
 pub random_numbers : Random_numbers
 unfolding digits held steps stays_balanced
 random_numbers = record { lines_are = refl; counts_are = refl; cost_is = refl; balanced = refl }
+
+pub delayed_update : Delayed_update
+unfolding digits held steps stays_balanced
+delayed_update = record { lines_are = refl; counts_are = refl; cost_is = refl; balanced = refl }
+
+pub amid_delay : Amid_delay
+unfolding digits held steps
+amid_delay = (refl, refl)
+
+pub update_of_ended_test : Update_of_ended_test
+unfolding digits held steps stays_balanced
+update_of_ended_test = record { lines_are = refl; counts_are = refl; cost_is = refl; balanced = refl }

@@ -116,7 +116,7 @@ flip_flop = record {
   processes = record {
     kind = Always;
     wakes = record { sig = clk; edge = Pos } ∷ [];
-    body = Nonblocking (Whole (object.Signal q 8)) (term.Signal a 8);
+    body = Nonblocking (Whole (object.Signal q 8)) (term.Signal a 8) 0;
   } ∷ [];
   step_fs = 1000000;
 }

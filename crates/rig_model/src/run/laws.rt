@@ -10,6 +10,7 @@ ghost use Rattle.rig_model.specs.Run.ObjectRows.{Gives_way, Joined_faults, Locks
 ghost use Rattle.rig_model.specs.Run.Rig.{Rig, Setup};
 ghost use Rattle.rig_model.specs.Run.Run.{IsRun, IsStart, Run, step, step_cost, written};
 ghost use Rattle.rig_model.specs.Run.Step.{rig_step};
+ghost use Rattle.rig_model.specs.Run.DelayRows.{Amid_delay, Delayed_update, Update_of_ended_test};
 ghost use Rattle.rig_model.specs.Run.TestRows.{Budgets, Deadlines, Exact_budget, Least_run, No_test, Options, Read_only_end, Stalled_test, Verdicts};
 ghost use Rattle.rig_model.specs.Run.WaitRows.{
   Clock_cycles,
@@ -203,4 +204,19 @@ pub fn gives_way()
 /// Random numbers of a seed.
 pub fn random_numbers()
     ensures { Random_numbers }
+{}
+
+/// A delayed update alone makes a time step, in which `NextTimeStep` fires.
+pub fn delayed_update()
+    ensures { Delayed_update }
+{}
+
+/// A run that ends at its budget while an update waits for its time.
+pub fn amid_delay()
+    ensures { Amid_delay }
+{}
+
+/// A delayed update comes at its time though its test has ended.
+pub fn update_of_ended_test()
+    ensures { Update_of_ended_test }
 {}

@@ -1,7 +1,7 @@
 -- An activation leaves each signal as wide as it is, and its updates lie in their signals.
-use Rattle.std.proofs.Common.{◌≡◌, ℕ, zero, suc, ◌+◌, ◌<◌, ◌≤◌, List, [], ◌∷◌, ◌++◌, length, get_or, take, drop, set, Option, None, Some, ap, sym, ◌∙◌, arith, length-append}
+use Rattle.std.proofs.Common.{◌≡◌, ℕ, zero, suc, ◌+◌, ◌<◌, ◌≤◌, ◌==◌, Bool, true, false, List, [], ◌∷◌, ◌++◌, length, map, get_or, take, drop, set, Option, None, Some, refl, ap, sym, ◌∙◌, arith, length-append}
 use Rattle.std.proofs.lemmas.List.{length-take, length-drop}
-use Rattle.std.specs.Prelude.{IfSome, slice_index, slice_get}
+use Rattle.std.specs.Prelude.{IfSome, cond, slice_index, slice_get}
 use Rattle.four_value.specs.declared.Digit.{Digit}
 use Rattle.four_value.specs.declared.Digit.TheVariants.{Zero, One, X, Z}
 use Rattle.four_value.specs.Vector.{number, slice}
@@ -14,14 +14,16 @@ use Rattle.gpi.specs.declared.targets.Object.TheVariants.{Signal, Word}
 use Rattle.gpi.specs.declared.targets.Target.{Target}
 use Rattle.gpi.specs.declared.targets.Target.TheVariants.{Whole, Select, Join'}
 use Rattle.gpi.specs.declared.types.Update.{Update}
-use Rattle.gpi.specs.Activation.{Map, Run, with_part, applied, all_applied, by_truth, by_item, activation, activations, activation_at, IsSound, AreSound}
+use Rattle.gpi.specs.Activation.{Map, Hidden, Run, with_part, hidden_in, written_over, written, blocking, after, by_truth, by_item, activation, activations, activation_at, IsSound, AreSound, AreHidden}
 use Rattle.gpi.specs.Cases.{first_match}
 use Rattle.gpi.specs.Design.{Proc, procs_of}
 use Rattle.gpi.specs.Operators.{truth}
 use Rattle.gpi.specs.Selects.{overlap_of, word_at, IsInside}
 use Rattle.gpi.specs.Soundness.{AreProcesses}
+use Rattle.gpi.specs.State.{at_once}
 use Rattle.gpi.specs.Targets.{object_at, object_width, whole_update, part_update, updates_of, target_width, IsSoundObject, IsSoundTarget, IsFitting, AreFitting}
 use Rattle.gpi.specs.Terms.{read, value, widths_of, AreWords}
+use Rattle.gpi.proofs.Steps.{hidden_set, hidden_width}
 use Rattle.gpi.proofs.Widths.{length_widths, get_or_widths, widths_set}
 use Rattle.run_laws.proofs.PlacesLemmas.Values.{overlap_inside, word_inside, value_width}
 
@@ -50,16 +52,17 @@ module _ (ws : List ℕ) where
       let l : length ws ≡ length m = ap length (sym e) ∙ length_widths m in
       sym (get_or_widths m s [] (omega arith)) ∙ ap (λ (xs : List ℕ). get_or xs s 0) e
 
-  pub applied_widths : (u : Update) (m : Map) → IsFitting u ws → widths_of m ≡ ws → widths_of (applied u m) ≡ ws
-  applied_widths u m h e =
-      let l : length ws ≡ length m = ap length (sym e) ∙ length_widths m in
-      let w : length (get_or m u.sig.0 []) ≡ slice_index ws u.sig.0 = inside_width m u.sig.0 e h.0 in
-      same_widths m u.sig.0 (with_part (get_or m u.sig.0 []) u.low u.bits) (omega (arith, h.0, l))
-      (part_width (get_or m u.sig.0 []) u.low u.bits (omega (arith, h.1, w))) ∙ e
+  after_fitting : (n : ℕ) (us : List Update) → AreFitting us ws → AreFitting (map (after n) us) ws
+  after_fitting n [] h = tt
+  after_fitting n (u ∷ us) h = (h.0, after_fitting n us h.1)
 
-  all_widths : (us : List Update) (m : Map) → AreFitting us ws → widths_of m ≡ ws → widths_of (all_applied us m) ≡ ws
-  all_widths [] m h e = e
-  all_widths (u ∷ us) m h e = all_widths us (applied u m) h.1 (applied_widths u m h.0 e)
+  pub at_once_fitting : (us : List Update) → AreFitting us ws → AreFitting (at_once us) ws
+  at_once_fitting [] h = tt
+  at_once_fitting (u ∷ us) h = decided (u.delay == 0) (at_once_fitting us h.1)
+    where
+      decided : (b : Bool) → AreFitting (at_once us) ws → AreFitting (cond b (u ∷ at_once us) (at_once us)) ws
+      decided true more = (h.0, more)
+      decided false more = more
 
   -- ---- targets
 
@@ -100,10 +103,34 @@ module _ (ws : List ℕ) where
 
   -- ---- statements
 
-  -- the signals have these widths, and the updates lie in them
+  -- the shown and the hidden values have these widths, and the updates lie in them
   pub record RunFits (r : Run) : Type 0 where
     pub wide : widths_of r.signals ≡ ws
+    pub hidden : AreHidden r.hidden ws
     pub fits : AreFitting r.updates ws
+
+  written_over_fits : (o : Option (List Digit)) (u : Update) (r : Run) → hidden_in r.hidden u.sig.0 ≡ o → IsFitting u ws → RunFits r → RunFits (written_over o u r)
+  written_over_fits None u r e h k =
+      let l : length ws ≡ length r.signals = ap length (sym k.wide) ∙ length_widths r.signals in
+      let w : length (get_or r.signals u.sig.0 []) ≡ slice_index ws u.sig.0 = inside_width r.signals u.sig.0 k.wide h.0 in
+      record {
+        wide =
+            same_widths r.signals u.sig.0 (with_part (get_or r.signals u.sig.0 []) u.low u.bits) (omega (arith, h.0, l))
+            (part_width (get_or r.signals u.sig.0 []) u.low u.bits (omega (arith, h.1, w))) ∙ k.wide;
+        hidden = k.hidden;
+        fits = k.fits;
+      }
+  written_over_fits (Some ds) u r e h k =
+      let w : length ds ≡ slice_index ws u.sig.0 = hidden_width r.hidden ws u.sig.0 ds k.hidden h.0 e in
+      record {
+        wide = k.wide;
+        hidden = hidden_set r.hidden ws u.sig.0 (Some (with_part ds u.low u.bits)) k.hidden h.0 (part_width ds u.low u.bits (omega (arith, h.1, w)) ∙ w);
+        fits = k.fits;
+      }
+
+  blocking_fits : (us : List Update) (r : Run) → AreFitting us ws → RunFits r → RunFits (blocking us r)
+  blocking_fits [] r h k = k
+  blocking_fits (u ∷ us) r h k = blocking_fits us (written u r) h.1 (written_over_fits (hidden_in r.hidden u.sig.0) u r refl h.0 k)
 
   by_truth_fits : (d : Digit) (a b : Run) → RunFits a → RunFits b → RunFits (by_truth d a b)
   by_truth_fits One a b h k = h
@@ -129,14 +156,11 @@ module _ (ws : List ℕ) where
     activation_fits (Case' kind t labels shape all p other) r h k =
         by_item_fits (first_match kind (value t (read r.signals)) labels (read r.signals)) (λ n. activation_at all n r) (activation other r)
         (λ n. item_fits all n r h.3 k) (activation_fits other r h.4 k)
-    activation_fits (Blocking target t) r h k = record {
-      wide = all_widths (updates_of target (read r.signals) (value t (read r.signals))) r.signals (assigned_fit target t r h k) k.wide;
-      fits = k.fits;
-    }
-    activation_fits (Nonblocking target t) r h k = record {
-      wide = k.wide;
-      fits = fitting_more r.updates (updates_of target (read r.signals) (value t (read r.signals))) k.fits (assigned_fit target t r h k);
-    }
+    activation_fits (Blocking target t) r h k =
+        blocking_fits (updates_of target (read r.signals) (value t (read r.signals))) r (assigned_fit target t r h k) k
+    activation_fits (Nonblocking target t n) r h k =
+        let us : List Update = updates_of target (read r.signals) (value t (read r.signals)) in
+        record { wide = k.wide; hidden = k.hidden; fits = fitting_more r.updates (map (after n) us) k.fits (after_fitting n us (assigned_fit target t r h k)) }
 
     activations_fit : {n : _} (all : Row_of-Act n) (r : Run) → AreSound all ws → RunFits r → RunFits (activations all r)
     activations_fit end_of-Act r h k = k
@@ -151,9 +175,10 @@ module _ (ws : List ℕ) where
 
   -- whatever it finds, it leaves each signal as wide
   abbrev pub Fits : Proc → Type 0
-  Fits p = (m : Map) → widths_of m ≡ ws → RunFits (p.run m)
+  Fits p = (m : Map) (h : Hidden) → widths_of m ≡ ws → AreHidden h ws → RunFits (p.run m h)
 
   pub process_fits : (ps : List Process) (n : ℕ) → AreProcesses ps ws → IfSome (slice_get (procs_of ps) n) Fits
   process_fits [] n h = tt
-  process_fits (p ∷ ps) zero h = λ (m : Map) (e : widths_of m ≡ ws). activation_fits p.body (record { signals = m; updates = [] }) h.0 (record { wide = e; fits = tt })
+  process_fits (p ∷ ps) zero h = λ (m : Map) (hidden : Hidden) (e : widths_of m ≡ ws) (k : AreHidden hidden ws).
+      activation_fits p.body (record { signals = m; hidden = hidden; updates = [] }) h.0 (record { wide = e; hidden = k; fits = tt })
   process_fits (p ∷ ps) (suc n) h = process_fits ps n h.2

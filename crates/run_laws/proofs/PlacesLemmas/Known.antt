@@ -10,7 +10,8 @@ use Rattle.gpi.specs.declared.types.Key.{Key}
 use Rattle.gpi.specs.declared.types.Key.TheVariants.{ReadWrite}
 use Rattle.gpi.specs.declared.types.SigId.{SigId}
 use Rattle.gpi.specs.Content.{no_counts}
-use Rattle.gpi.specs.Design.{widths, start_map}
+use Rattle.gpi.specs.Activation.{AreHidden}
+use Rattle.gpi.specs.Design.{widths, start_map, start_hidden}
 use Rattle.gpi.specs.Events.{Event, put}
 use Rattle.gpi.specs.Keys.{among, set_of}
 use Rattle.gpi.specs.State.{State, is_end}
@@ -306,8 +307,12 @@ module _ (setup : Setup) (sound : IsSoundSetup setup) where
   start_widths [] = refl
   start_widths (s ∷ ss) = rw (length-replicate s.width s.start, start_widths ss) refl
 
+  start_free : (ss : List Signal) → AreHidden (start_hidden ss) (widths ss)
+  start_free [] = tt
+  start_free (s ∷ ss) = (tt, start_free ss)
+
   opening_wide : (seed : ℕ) (cases : List Case) → Wide (opening setup seed cases).rig
-  opening_wide seed cases = record { signals = start_widths setup.flat.signals; due = tt; later = tt }
+  opening_wide seed cases = record { signals = start_widths setup.flat.signals; hidden = start_free setup.flat.signals; due = tt; later = tt; delayed = tt }
 
   opening_known : (seed : ℕ) (cases : List Case) → IsKnown setup (opening setup seed cases).rig
   opening_known seed cases = empty_known (opening setup seed cases).rig.sim (opening setup seed cases).rig.random no_counts (opening_wide seed cases)

@@ -1,8 +1,8 @@
 -- Between two tests nothing of a test is there.
 use Rattle.std.proofs.Common.{◌≡◌, ℕ, zero, suc, ◌+◌, Bool, true, false, List, [], ◌∷◌, ◌++◌, Option, None, Some, refl, ap, sym, subst, ◌∙◌}
 use Rattle.gpi.specs.State.{State}
-use Rattle.gpi.specs.Keys.{Keys, among, set_of}
-use Rattle.gpi.specs.Events.{Event, or_else, report_case, due_case, active_case, later_case, settle_case, end_case, time_case}
+use Rattle.gpi.specs.Keys.{among, set_of}
+use Rattle.gpi.specs.Events.{Event}
 use Rattle.gpi.specs.declared.types.Counts.{Counts}
 use Rattle.gpi.specs.declared.types.Key.{Key}
 use Rattle.gpi.specs.declared.types.Key.TheVariants.{ReadWrite}
@@ -17,35 +17,15 @@ use Rattle.rig_model.specs.Run.Step.{rig_step, after_event}
 use Rattle.rig_model.specs.Run.Verdict.{reason_of}
 use Rattle.rig_model.specs.Run.Case.{start_planned, ended}
 use Rattle.rig_model.specs.Run.Run.{Place, Begins, Runs, Waits, Over, Run, unskipped, skipped, with_skips, judged, begun, planned, step, step_at, step_in, place_by, goes, steps, opening, opening_sim}
+use Rattle.rig_model.proofs.RunLemmas.Comes.{is_event, event_is}
 use Rattle.run_laws.specs.SeparateTests.Between.{idle, IsIdle, IsBetween, left_at}
 use Rattle.run_laws.specs.SeparateTests.Separate.{NothingBetween}
 
 -- ---- an event between two tests
 
-abbrev is_event : Option Event → Bool
-is_event None = false
-is_event (Some e) = true
-
-or_else_is : (o e : Option Event) → is_event e ≡ true → is_event (or_else o e) ≡ true
-or_else_is None e h = h
-or_else_is (Some x) e h = refl
-
 -- where a start is planned there is an event
 has_event : (setup : Setup) (sim : State) (time : ℕ) (random : Generator) (counts : Counts) → is_event (event_of setup (idle sim (Some time) random counts)) ≡ true
-has_event setup sim time random counts =
-    let keys : Keys = set_of (awaited (idle sim (Some time) random counts)) in
-    let last : Option Event = time_case sim keys (Some time) in
-    let a : Option Event = or_else (end_case sim keys) last in
-    let b : Option Event = or_else (settle_case sim keys) a in
-    let d : Option Event = or_else (later_case (procs setup) sim keys) b in
-    let e : Option Event = or_else (active_case (procs setup) sim sim.active) d in
-    let f : Option Event = or_else (due_case (procs setup) sim keys sim.due) e in
-    or_else_is (report_case sim keys sim.reports) f (
-    or_else_is (due_case (procs setup) sim keys sim.due) e (
-    or_else_is (active_case (procs setup) sim sim.active) d (
-    or_else_is (later_case (procs setup) sim keys) b (
-    or_else_is (settle_case sim keys) a (
-    or_else_is (end_case sim keys) last refl)))))
+has_event setup sim time random counts = event_is (procs setup) sim (set_of (awaited (idle sim (Some time) random counts))) time refl
 
 abbrev with_fired_keys : List Key → Rig → Rig
 with_fired_keys fired c = record c { fired = fired }

@@ -21,5 +21,5 @@ returns-clause-fits g c = λ sound functions.
     let test = c.in_ok-new-2.ensures in
     let k = opening c.args.flat.now in
     bare_fits m _ k (seeded c.args.seed) sound c.in_ok-new.ensures (subst (λ x. AreSoundFunctions (g.M.FlowMaker.functions x)) (sym test.maker) functions)
-    (test.fits c.args.flat.now k (opening_bare c.args.flat.now)) test.room (omega arith)
+    (test.fits c.args.flat.now k (opening_bare c.args.flat.now)) test.room (record { time = omega arith; updates = tt })
     (ap (λ (p : Parts). rig_by p (queue_of g.W.Awaits.waiting c.in_ok-new-2.field-0.queue) k) test.parts ∙ ap (λ (q : Queue). rig_by (record { tasks = []; endings = []; objects = none; random = seeded c.args.seed }) q k) test.queue)

@@ -5,7 +5,7 @@ use Rattle.run_state.specs.Queue.Fits.{queue_of}
 use Rattle.scheduler.specs.Puts.{PutsOn}
 use Rattle.scheduler.specs.Setups.{setup_of}
 use Rattle.scheduler.proofs.DepositLaws.{put_but, put_fired, put_held, put_serves, told_same}
-use Rattle.scheduler.proofs.SignalLaws.{is_inside, written_fits}
+use Rattle.scheduler.proofs.SignalLaws.{is_inside, same_width, written_fits}
 use Rattle.scheduler.proofs.teller.Teller.put_out.Goals as goal
 
 pub read-old-requires-clause-sig : goal.read-old-requires-clause-sig
@@ -14,10 +14,17 @@ read-old-requires-clause-sig g c = is_inside (g.K.Gpi.content c.args.kernel.now)
 pub deposit-fired-requires-clause-width : goal.deposit-fired-requires-clause-width
 deposit-fired-requires-clause-width g c = written_fits (g.K.Gpi.content c.args.kernel.now).state.signals c.args.self.now.flat.now.signals c.args.write c.requires.amid.amid.stands.signals c.requires.sound
 
+pub read-shown-requires-clause-sig : goal.read-shown-requires-clause-sig
+read-shown-requires-clause-sig g c =
+    is_inside (g.K.Gpi.content c.deposit-fired.new.self).state.signals c.args.self.now.flat.now.signals c.args.write.sig
+    (c.deposit-fired.ensures.widths ∙ c.requires.amid.amid.stands.signals) c.requires.sound.0
+
 pub change_of-change-requires : goal.change_of-change-requires
 change_of-change-requires g c =
     ap (λ (ds : List Digit). length ds) c.read-old.ensures
-    ∙ sym (written_fits (g.K.Gpi.content c.args.kernel.now).state.signals c.args.self.now.flat.now.signals c.args.write c.requires.amid.amid.stands.signals c.requires.sound)
+    ∙ same_width (g.K.Gpi.content c.args.kernel.now).state.signals (g.K.Gpi.content c.deposit-fired.new.self).state.signals c.args.self.now.flat.now.signals c.args.write.sig
+    c.requires.amid.amid.stands.signals c.deposit-fired.ensures.widths c.requires.sound.0
+    ∙ sym (ap (λ (ds : List Digit). length ds) c.read-shown.ensures)
 
 pub fire-requires-clause-fired : goal.fire-requires-clause-fired
 fire-requires-clause-fired g c = put_fired c.args.self.now.flat.now c.args.queue.now.ready.room (g.W.Awaits.held c.args.queue.now.awaits) (queue_of g.W.Awaits.waiting c.args.queue.now)
@@ -34,8 +41,10 @@ returns-clause-serves g c = λ functions others counts s.
     c.deposit-fired.ensures.is.0 c.deposit-fired.ensures.is.1 c.deposit-fired.ensures.widths c.fire.ensures.waiting c.fire.ensures.held c.fire.ensures.ready c.fire.ensures.keys
     others counts s (sink_means g.O.Sink) functions c.args.self.now.trace c.args.fault c.args.out.now c.tell-fault.result c.tell-fault.new.out
     (subst (λ (lines : List (List ℕ)). PutsOn (sink_means g.O.Sink) c.args.fault c.args.out.now lines c.tell-fault.result c.tell-fault.new.out)
-    (told_same (setup_of functions c.args.self.now) (g.K.Gpi.content c.args.kernel.now) c.args.write.sig c.read-old.result c.args.write.bits c.now-time.result c.change_of-change.result
-    c.now-time.ensures c.read-old.ensures c.change_of-change.ensures)
+    (told_same (setup_of functions c.args.self.now) (g.K.Gpi.content c.args.kernel.now) (g.K.Gpi.content c.deposit-fired.new.self) c.args.write.sig c.args.write.bits
+    c.read-old.result c.read-shown.result c.now-time.result c.change_of-change.result
+    (is_inside (g.K.Gpi.content c.args.kernel.now).state.signals c.args.self.now.flat.now.signals c.args.write.sig c.requires.amid.amid.stands.signals c.requires.sound.0)
+    c.now-time.ensures c.read-old.ensures c.read-shown.ensures c.deposit-fired.ensures.is.1.state c.change_of-change.ensures)
     (c.tell-fault.ensures functions))
 
 pub returns-clause-held : goal.returns-clause-held
