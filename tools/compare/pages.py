@@ -13,7 +13,7 @@ from itertools import product
 from pathlib import Path
 
 ROOT = Path(__file__).resolve().parents[2]
-SOURCES = ["crates/*/src/**/*.rt", "crates/*/specs/**/*.antt", "crates/*/proofs/**/*.antt", "tools/**/*.py", "tools/wrong_bodies", "cocorun"]
+SOURCES = ["crates/*/src/**/*.rt", "crates/*/specs/**/*.antt", "crates/*/proofs/**/*.antt", "tools/**/*.py", "tools/wrong_bodies", "tools/hints.txt", "cocorun"]
 TOPS = ("crates", "docs", "tools", "examples", "release")
 # of Rust, and the front of names of scripts
 OTHERS = {"assert_eq", "rows_"}

@@ -1,19 +1,20 @@
 #!/usr/bin/env python3
 """A model of Verilog designs: what a text stands for, and how a simulation of it goes on, event by event.
 
-    tools/models/verilog_model.py          compares itself with tools/data/elaboration_values.txt
+    tools/models/verilog_model.py          compares itself with tools/data/elaboration_values.txt and tools/data/delay_values.txt
 
 It is written from docs/VERILOG.md and from the part "The simulator" of docs/SEMANTICS.md, shares no code with the crates, and reads texts by
 `tools/models/verilog_trees.py`, the second reader of Verilog. It takes designs that break no rule, and says nothing good of others. Values are texts of
-the digits 0, 1, x and z, the highest first. The comparison runs each design of the table, whose values are those of Icarus Verilog but where
+the digits 0, 1, x and z, the highest first. The comparison runs each design of the tables, whose values are those of Icarus Verilog but where
 a row says why they aren't, and ends with the status 1 where a value differs.
 
     flat_of(text, top)     the flat design: signals, processes, hierarchy, step
-    Simulator(flat)        a simulation at its start: `advance`, `deposit`, `register`, `remove`
+    Simulator(flat)        a simulation at its start: `advance`, `deposit`, `force`, `release`, `register`, `remove`
 """
 import re
 import sys
 from collections import namedtuple
+from fractions import Fraction
 from pathlib import Path
 
 ROOT = Path(__file__).resolve().parents[2]
@@ -21,11 +22,13 @@ sys.path.insert(0, str(ROOT / "tools"))
 
 from models.verilog_trees import Reader
 
-TABLE = ROOT / "tools" / "data" / "elaboration_values.txt"
+TABLES = [ROOT / "tools" / "data" / name for name in ("elaboration_values.txt", "delay_values.txt")]
+LATEST_UPDATE = 2**62
 FEMTOSECONDS = {"s": 10**15, "ms": 10**12, "us": 10**9, "ns": 10**6, "ps": 1000, "fs": 1}
 
 Signal = namedtuple("Signal", "path width start")
-# kind: assign, always or initial; wakes: pairs of a signal and any, pos or neg; run: of the values and the later updates
+# kind: assign, always or initial; wakes: pairs of a signal and any, pos or neg; run: of the values and the updates, which are pairs of a delay
+# and a piece
 Process = namedtuple("Process", "kind wakes run")
 # children: ("signal", number), ("words", first, low, count) or ("inner", Node), by name
 Node = namedtuple("Node", "path children")
@@ -135,9 +138,9 @@ def edge_of(old, new):
 # ---- texts
 
 def plain(text):
-    """The text without comments and directives, and its step in femtoseconds."""
+    """The text without comments and directives, its step and the units of its modules, in order, in femtoseconds."""
     text = re.sub(r"/\*.*?\*/|//[^\n]*", " ", text, flags=re.S)
-    defined, taken, steps, kept = {"COCOTB_SIM"}, [], [], []
+    defined, taken, steps, kept, unit, units = {"COCOTB_SIM"}, [], [], [], FEMTOSECONDS["ns"], []
     for line in text.split("\n"):
         word, *rest = line.split() or [""]
         name = rest[0] if rest else ""
@@ -151,11 +154,15 @@ def plain(text):
             pass
         elif word == "`define":
             defined.add(name)
-        elif found := re.search(r"`timescale\s.*/\s*(\d+)\s*(\w+)", line):
-            steps.append(int(found[1]) * FEMTOSECONDS[found[2]])
+        elif word == "`resetall":
+            unit = FEMTOSECONDS["ns"]
+        elif found := re.search(r"`timescale\s+(\d+)\s*(\w+)\s*/\s*(\d+)\s*(\w+)", line):
+            unit = int(found[1]) * FEMTOSECONDS[found[2]]
+            steps.append(int(found[3]) * FEMTOSECONDS[found[4]])
         elif not word.startswith("`"):
             kept.append(line)
-    return "\n".join(kept), min(steps, default=10**6)
+            units += [unit] * len(re.findall(r"\bmodule\b", line))
+    return "\n".join(kept), min(steps, default=10**6), units
 
 
 def tree_of(text):
@@ -188,15 +195,15 @@ def position(named, index):
 
 
 class Scope:
-    """The names of one instance. `names` may be copied with a loop's name in it as a constant."""
+    """The names of one instance, and how many steps its unit has. `names` may be copied with a loop's name in it as a constant."""
 
-    def __init__(self, path, names=None):
-        self.path, self.names = path, {} if names is None else names
+    def __init__(self, path, steps, names=None):
+        self.path, self.steps, self.names = path, steps, {} if names is None else names
 
     def with_constant(self, name, value):
         held = self.names[name]
         names = {**self.names, name: vector(None, len(value), held.left, held.right, "constant", value)}
-        return Scope(self.path, names)
+        return Scope(self.path, self.steps, names)
 
     def constant(self, tree):
         return number(term(tree, self, width_of(tree, self))([]))
@@ -405,22 +412,35 @@ def piece_inside(values, chosen, low, front):
     return (chosen, inside[0][0], "".join(digit for _, digit in reversed(inside))) if inside else None
 
 
+class Values(list):
+    """The values that the signals show. `hidden` has those that are hidden, by the numbers of the forced signals."""
+
+    def __init__(self, values):
+        super().__init__(values)
+        self.hidden = {}
+
+    def written(self, piece):
+        """What a signal holds, hidden where it is forced, when the piece is written into it."""
+        chosen, low, front = piece
+        held = self.hidden.get(chosen, self[chosen])
+        end = len(held) - low
+        return held[: end - len(front)] + front + held[end:]
+
+
 def write(values, piece):
-    chosen, low, front = piece
-    held = values[chosen]
-    end = len(held) - low
-    values[chosen] = held[: end - len(front)] + front + held[end:]
+    held = values.hidden if piece[0] in values.hidden else values
+    held[piece[0]] = values.written(piece)
 
 
 def statement(tree, scope):
-    """A function of the values and the later updates."""
+    """A function of the values and the updates."""
     form, parts = tree[0], tree[1:]
     if form in ("null", "dumpfile", "dumpvars", "delay"):
         return lambda values, later: None
     if form == "begin":
         return block([statement(part, scope) for part in parts[1:]])
     if form in ("=", "<="):
-        return assigned(form, assignment(parts[0], parts[1], scope))
+        return assigned(form, assignment(*parts[-2:], scope), delay_of(parts[0], scope))
     if form == "if":
         return branch(own(parts[0], scope), [statement(part, scope) for part in parts[1:]])
     if form == "for":
@@ -435,14 +455,19 @@ def block(statements):
     return run
 
 
-def assigned(form, pieces):
+def delay_of(tree, scope):
+    """The steps of a delay: 0 where there is none."""
+    return int(number(tree[1]) * scope.steps) if tree[0] == "delay" else 0
+
+
+def assigned(form, pieces, delay=0):
     def run(values, later):
         inside = [piece_inside(values, *piece) for piece in pieces(values)]
         for piece in filter(None, inside):
             if form == "=":
                 write(values, piece)
             else:
-                later.append(piece)
+                later.append((delay, piece))
     return run
 
 
@@ -496,7 +521,7 @@ def reads_of(tree, scope):
     if isinstance(tree, str) or tree[0] in ("dumpfile", "dumpvars", "delay", "null"):
         return set()
     if tree[0] in ("=", "<="):
-        return target_reads(tree[1], scope) | names_in(tree[2], scope)
+        return target_reads(tree[-2], scope) | names_in(tree[-1], scope)
     if tree[0] == "for":
         inner = scope.with_constant(tree[1][1], "0" * scope.names[tree[1][1]].width)
         return reads_of(tree[4], inner)
@@ -516,8 +541,9 @@ def target_reads(tree, scope):
 # ---- elaboration
 
 class Builder:
-    def __init__(self, source):
+    def __init__(self, source, step, units):
         self.modules = {module[1]: module[2:] for module in source[1:]}
+        self.steps = {module[1]: Fraction(unit, step) for module, unit in zip(source[1:], units)}
         self.signals, self.processes = [], []
 
     def top(self, wanted):
@@ -526,7 +552,7 @@ class Builder:
 
     def instance(self, module, path, values):
         """The node of an instance, and its names; its own processes are behind it in `pending` order."""
-        items, scope, node = self.modules[module], Scope(path), Node(path, {})
+        items, scope, node = self.modules[module], Scope(path, self.steps[module]), Node(path, {})
         self.parameters(items, scope, values)
         self.declare(items, scope, node)
         return items, scope, node
@@ -685,8 +711,8 @@ def connections(ports, names):
 
 
 def flat_of(text, top=None):
-    text, step = plain(text)
-    builder = Builder(tree_of(Reader(text).source()))
+    text, step, units = plain(text)
+    builder = Builder(tree_of(Reader(text).source()), step, units)
     name = builder.top(top)
     items, scope, node = builder.instance(name, name, ("ordered", {}))
     builder.walk(items, scope, node)
@@ -704,9 +730,10 @@ class Simulator:
 
     def __init__(self, flat):
         self.flat = flat
-        self.values = [signal.start for signal in flat.signals]
+        self.values = Values(signal.start for signal in flat.signals)
         self.active = [at for at, process in enumerate(flat.processes) if process.kind != "always"]
-        self.reports, self.due, self.later = [], [], []
+        # delayed: pairs of a time and a piece, by rising time, and for one time as they came
+        self.reports, self.due, self.later, self.delayed = [], [], [], []
         self.time, self.region = 0, "Begin"
         self.keys = set()
         self.primed = self.removed = self.fired = 0
@@ -748,33 +775,57 @@ class Simulator:
         self.wake([(signal, old, new)])
         return Moved((signal, new), self.edge_keys(signal, new))
 
+    def put(self, signal, new):
+        """A write: of a forced signal the hidden value alone changes."""
+        if signal in self.values.hidden:
+            self.values.hidden[signal] = new
+            return Moved(None, [])
+        return self.changed(signal, new) or Moved(None, [])
+
     def deposit(self, signal, new):
         assert self.region != "End"
+        return self.put(signal, new)
+
+    def force(self, signal, new):
+        assert self.region != "End"
+        self.values.hidden.setdefault(signal, self.values[signal])
         return self.changed(signal, new) or Moved(None, [])
+
+    def release(self, signal):
+        """A net shows its hidden value, a register goes on with what it shows."""
+        assert self.region != "End"
+        old = self.values.hidden.pop(signal, None)
+        is_net = self.flat.signals[signal].start[0] == "z"
+        return (self.changed(signal, old) if is_net and old is not None else None) or Moved(None, [])
+
+    def is_resting(self):
+        """Whether nothing is left to be done at this time."""
+        return not (self.reports or self.due or self.active or self.later)
 
     def is_idle(self):
         is_open = self.region != "End" and (("ReadWrite",) in self.keys or ("ReadOnly",) in self.keys)
-        return not (self.reports or self.due or self.active or self.later or is_open or any(key[0] == "At" for key in self.keys))
+        return self.is_resting() and not (is_open or self.delayed or any(key[0] == "At" for key in self.keys))
 
     def activate(self, at):
-        """One activation of a process: its changes are reports, its nonblocking updates come later."""
-        before = list(self.values)
-        self.flat.processes[at].run(self.values, self.later)
+        """One activation of a process: its changes are reports, its nonblocking updates come later, or at their time."""
+        before, updates = list(self.values), []
+        self.flat.processes[at].run(self.values, updates)
+        self.later += [piece for delay, piece in updates if not delay]
+        self.delayed += [(self.time + delay, piece) for delay, piece in updates if delay and self.time + delay <= LATEST_UPDATE]
+        self.delayed.sort(key=lambda each: each[0])
         changes = [(signal, old, new) for signal, (old, new) in enumerate(zip(before, self.values)) if old != new]
         self.wake(changes, at)
         self.reports += changes
 
     def update(self):
-        chosen, low, front = self.due.pop(0)
-        values = [*self.values]
-        write(values, (chosen, low, front))
-        return self.changed(chosen, values[chosen]) or Moved(None, [])
+        piece = self.due.pop(0)
+        return self.put(piece[0], self.values.written(piece))
 
     def advance(self):
         """One event; None where there is nothing to do."""
         if self.is_idle():
             return None
-        if self.reports or self.due or self.active or self.later:
+        if not self.is_resting():
             self.region = "Active"
         if self.reports:
             signal, _, new = self.reports.pop(0)
@@ -793,35 +844,64 @@ class Simulator:
             if key in self.keys and self.region != "End":
                 self.region = region
                 return Moved(None, self.fire(key))
-        self.time = min(key[1] for key in self.keys if key[0] == "At")
+        self.time = min([key[1] for key in self.keys if key[0] == "At"] + [time for time, _ in self.delayed])
+        self.later = [piece for time, piece in self.delayed if time == self.time]
+        self.delayed = [each for each in self.delayed if each[0] != self.time]
         self.region = "Begin"
         return Moved(None, self.fire(("NextStep",), ("At", self.time)))
 
     def settle(self):
+        """Until nothing is left to be done at this time."""
+        while not self.is_resting():
+            self.advance()
+
+    def run_out(self):
+        """Until nothing is left, at any time."""
         while self.advance():
             pass
+
+    def wait(self, steps):
+        key = ("At", self.time + steps)
+        self.register(key)
+        while key in self.keys:
+            self.advance()
 
 
 # ---- the comparison
 
-def row_values(text, top, stimulus):
-    simulator = Simulator(flat_of(text, None if top == "-" else top))
-    simulator.settle()
+def obey(simulator, word):
+    """Does what a word of a step says (`tools/rows/value_rows.py`)."""
+    does, number_, given = re.fullmatch(r"([!~@]?)(\d+)=?(\w*)", word).groups()
+    if does == "@":
+        simulator.wait(int(number_))
+    elif does == "~":
+        simulator.release(int(number_))
+    elif does == "!":
+        simulator.force(int(number_), given)
+    else:
+        simulator.deposit(int(number_), given)
+
+
+def row_values(flat, stimulus):
+    """The values after each step: at its own time where some step waits, else when nothing is left."""
+    simulator = Simulator(flat)
+    rest = simulator.settle if "@" in stimulus else simulator.run_out
+    rest()
     for step in stimulus.split("|"):
-        for signal, value in (given.split("=") for given in step.split()):
-            simulator.deposit(int(signal), value)
-        simulator.settle()
+        for word in step.split():
+            obey(simulator, word)
+        rest()
         yield " ".join(simulator.values)
 
 
 def main():
-    lines = TABLE.read_text(encoding="ascii").splitlines()
+    lines = [line for table in TABLES for line in table.read_text(encoding="ascii").splitlines()]
     rows = [line.split("\t") for line in lines if not line.startswith("#")]
     wrong = 0
     for _, name, top, text, signals, stimulus, values, _ in rows:
         text = re.sub(r"\\([0-9a-f]{2})", lambda found: chr(int(found[1], 16)), text)
         flat = flat_of(text, None if top == "-" else top)
-        found = "|".join(row_values(text, top, stimulus))
+        found = "|".join(row_values(flat, stimulus))
         if found != values or " ".join(signal.path for signal in flat.signals) != signals:
             wrong += 1
             print(f"{name}: {values}\n  {found}")

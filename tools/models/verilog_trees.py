@@ -197,10 +197,12 @@ class Reader:
             self.take(";")
             return node("delay", delay)
         target = self.target()
-        sign = self.take("=", "<=")
+        sign, delay = self.take("=", "<="), []
+        if sign == "<=" and self.maybe("#"):
+            delay = [node("delay", digits_of(self.kind("number")))]
         value = self.expression()
         self.take(";")
-        return node(sign, target, value)
+        return node(sign, *delay, target, value)
 
     def bracketed(self):
         self.take("(")

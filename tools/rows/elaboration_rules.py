@@ -36,7 +36,7 @@ from pathlib import Path
 TABLE = Path(__file__).resolve().parent.parent / "data" / "elaboration_rules.txt"
 RULES = (
     "NoTop UnknownModule RecursiveInstance DuplicateName UnknownName BadPort NotConstant BadRange TooWide TwoDrivers BadTarget "
-    "LoopTooLong TooMany"
+    "LoopTooLong TooMany BadDelay"
 ).split()
 MARK, REPEATED = "§", "¤"
 
@@ -162,6 +162,8 @@ def unknown_name():
               "of two rules in one item the one with the lesser place counts", second=["BadRange"])
     yield row(rule, "a_subtree_before_the_next_item", "module m; s u(); nope v(); endmodule module s; wire w = §zz; endmodule",
               "the subtree of `u` is walked at its item, before the next one, which stands further ahead in the text", second=["UnknownModule"])
+    yield row(rule, "an_undeclared_target_before_a_delay_of_0", "module m; initial §zz <= #0 1; endmodule",
+              "the target stands before the delay", second=["BadDelay"])
 
 
 def bad_port():
@@ -414,6 +416,37 @@ def too_many():
               "the memory's name stands before the bound", second=["UnknownName"])
 
 
+def bad_delay():
+    """Delays of assignments that are no number of steps: told at the delay's number."""
+    rule, same = "BadDelay", "a delay of 0 is one to the end of the time step (5.4, 9.7.1); here a delay has at least one step"
+    rounded = "a delay is rounded to the precision (19.8); here it is a whole number of steps"
+    far = "how far a simulation's time goes is left to the tool"
+    yield row(rule, "a_delay_of_0", "module top(input clk, input d, output reg q);\n  always @(posedge clk) q <= #§0 d;\nendmodule",
+              "a delay is at least one step", same)
+    yield row(rule, "a_delay_of_a_sized_0", "module m(input d, output reg q); initial q <= #§8'd0 d; endmodule", "the number is 0, whatever its size")
+    yield row(rule, "a_delay_with_an_x", "module m(input d, output reg q); initial q <= #§4'b1x d; endmodule", "the number isn't known")
+    yield row(rule, "a_delay_with_a_z", "module m(input d, output reg q); initial q <= #§4'bz d; endmodule", "the number isn't known")
+    yield row(rule, "no_whole_number_of_steps",
+              "module m(input d, output reg q); initial q <= #§1500 d; s u(); endmodule\n`timescale 1us / 1us\nmodule s; endmodule",
+              "the unit of `m` is 1 ns (19.8), and the step is 1 us, the least precision", rounded)
+    yield row(rule, "the_unit_behind_a_resetall",
+              "`timescale 1us / 1us\nmodule m; s u(); reg q; initial q <= #1 1; endmodule\n`resetall\nmodule s; reg q; initial q <= #§1 1; endmodule",
+              "behind `resetall` the unit is 1 ns again (19.6), a thousandth of the step", rounded)
+    yield row(rule, "one_step_more_than_2_to_the_62", "module m(input d, output reg q); initial q <= #§64'd4611686018427387905 d; endmodule",
+              "its unit is the step")
+    yield row(rule, "units_that_come_to_too_many_steps", "`timescale 100s / 1fs\nmodule m(input d, output reg q); initial q <= #§47 d; endmodule",
+              "4,700 s are more than 2^62 fs", far)
+    yield row(rule, "a_product_beyond_128_digits",
+              "`timescale 100s / 1fs\nmodule m(input d, output reg q); initial q <= #§128'd340282366920938463463374607431768211455 d; endmodule",
+              "2^128 - 1 times 10^17")
+    yield row(rule, "a_delay_of_0_in_a_turn", "module m; integer i; reg [1:0] q; initial for (i = 0; i < 2; i = i + 1) q[i] <= #§0 1; endmodule",
+              "each turn is checked as it is unrolled", same)
+    yield row(rule, "a_delay_of_0_before_an_undeclared_value", "module m; reg q; initial q <= #§0 zz; endmodule",
+              "the delay stands before the value", second=["UnknownName"])
+    yield row(rule, "a_delay_of_0_before_an_undeclared_condition", "module m; reg q; initial begin q <= #§0 1; if (zz) q = 1; end endmodule",
+              "of all that is broken in an item the first place counts", second=["UnknownName"])
+
+
 def accepted():
     """Neighbours of the texts above that break no rule."""
     rule = "accepted"
@@ -454,13 +487,20 @@ def accepted():
     yield row(rule, "a_bound_of_2_to_the_32", "module m; wire [33'd4294967296:0] a; endmodule",
               "it is 0 modulo 2^32, so the range has one digit")
     yield row(rule, "65536_processes", processes(""), "256 in each of 16 by 16 instances", repeat=("initial r = 1; ", 256))
+    yield row(rule, "a_long_delay_in_long_units", "`timescale 100s / 1fs\nmodule m(input d, output reg q); initial q <= #46 d; endmodule",
+              "4,600 s are less than 2^62 fs")
+    yield row(rule, "delays_in_two_units",
+              "module m(input d, output reg q); initial q <= #2000 d; s u(); endmodule\n`timescale 1us / 1us\nmodule s; reg q; initial q <= #1 1; endmodule",
+              "2,000 ns and 1 us, in steps of 1 us")
+    yield row(rule, "a_delay_of_0_in_a_loop_without_turns", "module m; integer i; reg q; initial for (i = 0; 0; i = i + 1) q <= #0 1; endmodule",
+              "what stands in a loop is checked turn by turn")
     yield row(rule, "an_instance_64_below_the_top", chained(64).replace(MARK, ""), "the top is `a0`, and `a64` stands 64 below it")
 
 
 def rows():
     """All rows."""
     kinds = (no_top, unknown_module, recursive_instance, duplicate_name, unknown_name, bad_port, not_constant, bad_range, too_wide,
-             two_drivers, bad_target, loop_too_long, too_many, accepted)
+             two_drivers, bad_target, loop_too_long, too_many, bad_delay, accepted)
     return [found for kind in kinds for found in kind()]
 
 

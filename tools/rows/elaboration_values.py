@@ -12,33 +12,18 @@ Where the standard or `docs/VERILOG.md` has another value than Icarus on purpose
 have instead (`own`); the script looks that Icarus does differ there. It ends with the status 1, and writes nothing, where that isn't
 so, where two rows share a name, or where there are fewer than 60 expressions, 40 bodies and 15 hierarchies.
 
-A line of the table that begins with `#` is no row. A row has these parts, with a tab between two of them:
-
-    0 kind      `expression`, `body` or `hierarchy`
-    1 name      words with `_` between them
-    2 top       the name of the module that is to be the top, `-` for none
-    3 text      in which `\\0a` is a line feed, and so with each byte that isn't printed, and with `\\` itself
-    4 signals   the paths of all signals by their numbers, with a space between two of them
-    5 stimulus  steps, with `|` between two of them. A step is values that are deposited one after the other, with a space between two
-                of them: the number of a signal, `=` and its digits, the highest first. A step may be empty
-    6 values    for each step the values of all signals, with a space between two of them, and with `|` between two steps
-    7 icarus    `agrees`, or why Icarus has other values
-
-The design runs until nothing is left. Then, for each step, its values are deposited at once, the design runs until nothing is left,
-and the values are those that its signals have then.
+`tools/rows/value_rows.py` tells the parts of a row. Its kind is `expression`, `body` or `hierarchy`, and a step has deposits alone.
 """
-import re
-import subprocess
 import sys
-import tempfile
-from collections import namedtuple
 from pathlib import Path
 
-TABLE = Path(__file__).resolve().parent.parent / "data" / "elaboration_values.txt"
-LEAST = {"expression": 60, "body": 40, "hierarchy": 15}
+ROOT = Path(__file__).resolve().parents[2]
+sys.path.insert(0, str(ROOT / "tools"))
 
-# own: for each signal whose values differ from those of Icarus, its values in the steps
-Row = namedtuple("Row", "kind name text signals steps differs own")
+from rows.value_rows import Row, paths, put
+
+TABLE = ROOT / "tools" / "data" / "elaboration_values.txt"
+LEAST = {"expression": 60, "body": 40, "hierarchy": 15}
 
 # ---- expressions: `a` and `b` have eight digits, `c` four, `d` one; then the width of `y`, and what it is
 
@@ -299,6 +284,22 @@ LABELS = [(f"labels_of_a_{kind}", f"{kind} (a) b: y = 1; 8'b1z0x0000: y = 2; def
 # ---- hierarchies: a text of several modules, its signals, the steps
 
 HIERARCHIES = [
+    ("delays_of_several_steps",
+     "`timescale 1ns / 1ns\nmodule top(input clk, input [3:0] a, output reg [3:0] y, z); always @(posedge clk) begin y <= #3 a; y <= #1 ~a; z <= y; end endmodule",
+     "clk a y z", ["clk=0 a=0011", "clk=1", "clk=0 a=0101", "clk=1"]),
+    ("a_delay_that_others_see",
+     "`timescale 1ns / 1ns\nmodule top(input clk, input [3:0] a, output reg [3:0] y, z); always @(posedge clk) begin y <= #2 a; z <= #1 a; end always @(z) z <= #3 y; endmodule",
+     "clk a y z", ["clk=0 a=0011", "clk=1", "clk=0 a=1x0z", "clk=1"]),
+    ("a_delayed_word_whose_index_changes",
+     "`timescale 1ns / 1ns\nmodule top(input clk, input [3:0] a); reg [3:0] m [0:1]; reg i; initial i = 0; always @(posedge clk) begin m[i] <= #2 a; i <= #1 ~i; end endmodule",
+     "clk a m[0] m[1] i", ["clk=0 a=0011", "clk=1", "clk=0 a=0101", "clk=1", "clk=0 a=1x0z", "clk=1"]),
+    ("braces_with_a_delay",
+     "`timescale 1ns / 1ns\nmodule top(input clk, input [3:0] a, output reg [2:0] y, output reg z); always @(posedge clk) {z, y} <= #4 a + 1; endmodule",
+     "clk a y z", ["clk=0 a=0111", "clk=1", "clk=0 a=1111", "clk=1"]),
+    ("delays_in_units_of_two_modules",
+     "`timescale 1us / 1ns\nmodule top(input go, output reg y, z); wire w; s u(go, w); always @(go) y <= #2 go; always @(y) z <= w; endmodule\n"
+     "`timescale 1ns / 1ns\nmodule s(input i, output reg o); always @(i) o <= #3 i; endmodule",
+     "go y z w u.i u.o", ["go=0", "go=1", "go=0"]),
     ("two_instances_in_a_row",
      "module top(input [3:0] a, output [3:0] y); wire [3:0] w; s u(.i(a), .o(w)); s v(.o(y), .i(w)); endmodule\n"
      "module s(input [3:0] i, output [3:0] o); assign o = i * 3; endmodule",
@@ -468,11 +469,6 @@ DIFFERENT_HIERARCHIES = [
 # ---- rows
 
 
-def paths(names):
-    """The paths of signals of the top."""
-    return [f"top.{name}" for name in names]
-
-
 def expression(name, width, value, declared="", more=(), differs=None, own=None):
     """The row of `assign y = value`."""
     text = f"module top(input [7:0] a, b, input [3:0] c, input d, output [{width - 1}:0] y); {declared + ' ' if declared else ''}assign y = {value}; endmodule"
@@ -515,97 +511,5 @@ def hierarchies():
         yield Row("hierarchy", name, text, paths(signals.split()), steps, differs, {f"top.{signal}": values for signal, values in own.items()})
 
 
-# ---- Icarus
-
-
-def settings(step):
-    """The settings of a step: names of inputs, each with its digits."""
-    return [one.split("=") for one in step.split()]
-
-
-def bench(row):
-    """The bench of a row: a line is printed for each step."""
-    inputs = {name: len(digits) for step in row.steps for name, digits in settings(step)}
-    registers = "".join(f"  reg [{width - 1}:0] {name} = {width}'bz;\n" for name, width in inputs.items())
-    ports = ", ".join(f".{name}({name})" for name in inputs)
-    shown = ", ".join(["\"" + " ".join(["%b"] * len(row.signals)) + "\""] + row.signals)
-    steps = "".join("".join(f"{name} = {len(digits)}'b{digits}; " for name, digits in settings(step)) + f"#1 $display({shown});\n" for step in row.steps)
-    return f"module bench;\n{registers}  top top({ports});\n  initial begin #1 ;\n{steps}  end\nendmodule\n"
-
-
-def simulated(row):
-    """The values of all signals after each step, by Icarus."""
-    with tempfile.TemporaryDirectory() as folder:
-        source, program = Path(folder) / "text.v", Path(folder) / "program"
-        source.write_text(bench(row) + row.text + "\n", encoding="ascii")
-        made = subprocess.run(["iverilog", "-g2005", "-s", "bench", "-o", str(program), str(source)], capture_output=True, text=True)
-        if made.returncode:
-            sys.exit(f"{row.name}: Icarus refuses it: {made.stderr}")
-        lines = subprocess.run(["vvp", "-n", str(program)], check=True, capture_output=True, text=True).stdout.splitlines()
-    values = [line.split() for line in lines]
-    assert [len(one) for one in values] == [len(row.signals)] * len(row.steps), f"{row.name}: {lines}"
-    return values
-
-
-def answered(row, given):
-    """The values that are expected: those of Icarus, but for the signals that the row has values of its own for."""
-    return [[row.own[signal][at] if signal in row.own else value for signal, value in zip(row.signals, one)] for at, one in enumerate(given)]
-
-
-# ---- the table
-
-
-def escaped(text):
-    """A text as a part of a row."""
-    return "".join(letter if " " <= letter <= "~" and letter != "\\" else f"\\{ord(letter):02x}" for letter in text)
-
-
-def stimulus(row):
-    """The steps, with the numbers of signals."""
-    return "|".join(" ".join(f"{row.signals.index('top.' + name)}={digits}" for name, digits in settings(step)) for step in row.steps)
-
-
-def line(row, values):
-    """A row of the table."""
-    shown = "|".join(" ".join(one) for one in values)
-    return "\t".join([row.kind, row.name, "-", escaped(row.text), " ".join(row.signals), stimulus(row), shown, row.differs or "agrees"])
-
-
-def complaints(row, given, values):
-    """What is wrong with a row."""
-    if (given == values) != (row.differs is None):
-        yield f"{row.name}: it is to {'agree with' if row.differs is None else 'differ from'} Icarus, and doesn't"
-    if any(len(one) != len(other) for step, own in zip(given, values) for one, other in zip(step, own)):
-        yield f"{row.name}: a value hasn't the width of its signal"
-    if not all(re.fullmatch("[01xz]+", value) for step in values for value in step):
-        yield f"{row.name}: a value isn't one of digits"
-
-
-def missing(rows):
-    """What is missing among the rows."""
-    for kind, least in LEAST.items():
-        count = sum(row.kind == kind for row in rows)
-        print(f"{count} rows of the kind {kind}, {sum(row.kind == kind and row.differs is not None for row in rows)} of them not as Icarus has it")
-        if count < least:
-            yield f"fewer than {least} rows of the kind {kind}"
-    if len({row.name for row in rows}) < len(rows):
-        yield "two rows have one name"
-
-
-def main():
-    rows, lines, wrong = [*expressions(), *bodies(), *hierarchies()], [], []
-    for row in rows:
-        given = simulated(row)
-        values = answered(row, given)
-        wrong += complaints(row, given, values)
-        lines.append(line(row, values))
-    wrong += missing(rows)
-    print("".join(one + "\n" for one in wrong), end="")
-    if wrong:
-        return 1
-    TABLE.write_text("# Written by tools/rows/elaboration_values.py, which tells the form of a row.\n" + "".join(one + "\n" for one in lines), encoding="ascii")
-    return 0
-
-
 if __name__ == "__main__":
-    sys.exit(main())
+    sys.exit(put([*expressions(), *bodies(), *hierarchies()], LEAST, TABLE, "elaboration_values.py"))

@@ -49,6 +49,7 @@ DESIGNS = [
     design_refused("a part against its direction", "module top(input [7:0] a, output y);\n  assign y = a[0:1];\nendmodule\n", "BadRange at 2:15"),
     design_refused("a net in a procedure", "module top(input a, output y);\n  initial y = a;\nendmodule\n", "BadTarget at 2:11"),
     design_refused("4,097 turns", "module top;\n  integer i;\n  initial for (i = 0; i < 4097; i = i + 1) ;\nendmodule\n", "LoopTooLong at 3:11"),
+    design_refused("a delay of 0", "module top(input clk, input d, output reg q);\n  always @(posedge clk) q <= #0 d;\nendmodule\n", "BadDelay at 2:31"),
     design_refused("65,537 signals", "module top;\n  reg m [0:65536];\nendmodule\n", "TooMany at 2:7"),
 ]
 
