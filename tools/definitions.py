@@ -32,7 +32,7 @@ MEANS = "A means of proof:"
 HEADS = {
     "await_tree.specs.EndedTasks.Limits": "How many tasks may be started in a test.",
     "await_tree.specs.SyncObjects.Limits": "How many events and how many locks may be made in a test.",
-    "gpi.specs.Made": MEANS + " what the constructors of expressions make, for the proofs of elaboration and of copies.",
+    "gpi.specs.Forced": MEANS + " what a forced signal shows through any calls of a simulator (IEEE 1364-2005, clause 9.3.2), for two laws.",
     "port_io.specs.Reading": "What a reader gives, read after read, and what becomes of a read of a named file.",
     "port_io.specs.Written": "What a put does to a sink over a writer, write after write.",
     "rig_model.specs.Parts.Queue": MEANS + " what is ready, what waits and what the runner itself awaits, for the proofs of the runner.",

@@ -42,6 +42,7 @@ FIRST_EXPRESSION = 'f"{w}{dut}{t}" or (4611686018427387904) or dut.u._name'
 TABLES = [
     Step("rows/elaboration_rules.py", files=["tools/data/elaboration_rules.txt"], needs="icarus"),
     Step("rows/elaboration_values.py", files=["tools/data/elaboration_values.txt"], needs="icarus"),
+    Step("rows/delay_values.py", files=["tools/data/delay_values.txt"], needs="icarus"),
     Step("rows/elaboration_rows.py", files=["crates/design_tests/stdin", "crates/design_tests/stdout"], is_last=True),
     Step("rows/run_rows.py", files=[f"tools/data/{name}_rows.txt" for name in RUNS]),
     Step("rows/control_rows.py", files=["tools/data/control_rows.txt"]),
@@ -58,6 +59,7 @@ TABLES = [
     Step("models/run_model.py", ["@crates/cocorun_failed/args"], into="crates/cocorun_failed/stdout", at="crates/cocorun_failed/data"),
     Step("crate_table.py", files=["docs/ARCHITECTURE.md"]),
     Step("definitions.py", files=["docs/DEFINITIONS.md"]),
+    Step("left_out.py", files=["docs/PYTHON.md", "docs/VERILOG.md"]),
 ]
 
 COMPARISONS = [
@@ -67,6 +69,7 @@ COMPARISONS = [
     Step("compare/python_accepts.py"),
     Step("compare/py_lex_lines.py"),
     Step("compare/control_texts.py"),
+    Step("compare/delay_runs.py"),
     Step("compare/limits.py"),
     Step("compare/pages.py"),
     Step("wrong_bodies", ["--applies"]),

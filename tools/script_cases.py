@@ -7,6 +7,7 @@ around the script: its sources, the release, a program of these sources, what bu
 import functools
 import hashlib
 import os
+import pty
 import re
 import shutil
 import subprocess
@@ -24,6 +25,8 @@ FILES = {
     "t.py": b"import cocotb\n\tpass\n# caf\xc3\xa9 \x00 \x1b \xc3\xa9 end\n",
     "-d.v": b"module\n",
     "a at 9:9": b"one\ntwo\n",
+    "A=1": b"\x01\n",
+    "u.py": b"import cocotb\nX = {}\n'''\nY = {}\n'''\n# Z = {}\nZ = {}\n",
 }
 
 # Words and what is said of them, where they have no reading.
@@ -62,22 +65,43 @@ ODD_WORDS = [
     (["d.v", "t.py", "--top", b"\xed\xa0\x80"], "this word is no UTF-8: ???"),
 ]
 
+TWICE = "a digit of this net is driven twice, or an input is driven inside of its module"
+ONCE = "hint: drive each digit in one place; a choice among several drivers is a `? :` or an `always @*`\n"
+BAD_LINE = "no form of a line that may stand here is spelled like this"
+NO_TABLES = "hint: there are no dictionaries and sets: write `ADD = 0` for each name, and a function with `if` and `elif` for a look-up"
+NO_FORM = "this token fits no form of the grammar (docs/VERILOG.md)"
+LISTED = "hint: docs/VERILOG.md lists the forms, and what is left out\n"
+NO_BYTE = "a byte stands here that has no place: a control byte, a tab behind the first token, a letter outside of ASCII, a backslash, or a bracket too much"
+TOO_LONG = "TooLong: the text is longer than 1,048,576 bytes\n"
+SWAPPED_DESIGN = "hint: this is a tests file, and the design stands first: ./cocorun DESIGN TESTS\n"
+SWAPPED_TESTS = "hint: this is a design, and the tests stand behind it: ./cocorun DESIGN TESTS\n"
+
 # A refusal's status and line, the words, and what is shown.
 REFUSALS = [
-    (3, "error: d.v: TwoDrivers at 3:10", ["d.v", "t.py"], "  assign y = a;\n         ^\n"),
-    (3, "error: d.v: TwoDrivers at 2:9", ["--seed", "3", "d.v", "--top=top", "t.py"], "\tassign y = a;\n\t       ^\n"),
-    (3, "error: d.v: Syntax at 4:10", ["d.v", "t.py"], "endmodule\n         ^\n"),
-    (3, "error: d.v: NoTop at 1:1", ["d.v", "t.py"], "module top(input a, output y);\n^\n"),
-    (3, "error: d.v: TooLong", ["d.v", "t.py"], ""),
-    (3, "error: -d.v: Syntax at 1:1", ["--", "-d.v", "t.py"], "module\n^\n"),
-    (3, "error: a at 9:9: Syntax at 2:3", ["a at 9:9", "t.py"], "two\n  ^\n"),
-    (3, "error: a at 9:9: TooLong", ["a at 9:9", "t.py"], ""),
+    (3, "error: d.v: TwoDrivers at 3:10", ["d.v", "t.py"], f"d.v:3:10: TwoDrivers: {TWICE}\n  assign y = a;\n         ^\n{ONCE}"),
+    (3, "error: d.v: TwoDrivers at 2:9", ["--seed", "3", "d.v", "--top=top", "t.py"],
+     f"d.v:2:9: TwoDrivers: {TWICE}\n\tassign y = a;\n\t       ^\n{ONCE}"),
+    (3, "error: d.v: Syntax at 4:10", ["d.v", "t.py"], f"d.v:4:10: Syntax: {NO_FORM}\nendmodule\n         ^\n{LISTED}"),
+    (3, "error: d.v: TooDeep at 1:1", ["d.v", "t.py"],
+     "d.v:1:1: TooDeep: the expression or statement is higher than 64: give a part of it a name\nmodule top(input a, output y);\n^\n"),
+    (3, "error: d.v: TooLong", ["d.v", "t.py"], f"d.v: {TOO_LONG}"),
+    (3, "error: d.v: Unheard at 1:8", ["d.v", "t.py"], "d.v:1:8: Unheard\nmodule top(input a, output y);\n       ^\n"),
+    (3, "error: -d.v: Syntax at 1:1", ["--", "-d.v", "t.py"], f"-d.v:1:1: Syntax: {NO_FORM}\nmodule\n^\n{LISTED}"),
+    (3, "error: a at 9:9: Syntax at 2:3", ["a at 9:9", "t.py"], f"a at 9:9:2:3: Syntax: {NO_FORM}\ntwo\n  ^\n{LISTED}"),
+    (3, "error: a at 9:9: TooLong", ["a at 9:9", "t.py"], f"a at 9:9: {TOO_LONG}"),
+    (3, "error: a: BadByte at 1:1", ["a: BadByte at 1:1", "t.py"], ""),
+    (3, "error: A=1: BadByte at 1:1", ["A=1", "t.py"], "A=1:1:1: BadByte: no token begins with this byte\n?\n^\n"),
     (3, "error: gone: Syntax at 1:1", ["gone", "t.py"], ""),
-    (4, "error: t.py: Tab at line 2", ["--trace", "d.v", "t.py"], "\tpass\n"),
-    (4, "error: t.py: BadByte at line 3", ["d.v", "t.py"], "# caf\u00e9 ? ? \u00e9 end\n"),
-    (4, "error: t.py: BadByte at line 3", ["--", "d.v", "t.py"], "# caf\u00e9 ? ? \u00e9 end\n"),
-    (4, "error: t.py: TooLong", ["d.v", "t.py"], ""),
-    (3, "error: t.py: BadByte at 3:16", ["t.py", "d.v"], "# caf\u00e9 ? ? \u00e9 end\n             ^\n"),
+    (4, "error: t.py: Tab at line 2", ["--trace", "d.v", "t.py"], "t.py:2: Tab: a tab stands before the first token; indent by spaces\n\tpass\n"),
+    (4, "error: t.py: BadByte at line 3", ["d.v", "t.py"], f"t.py:3: BadByte: {NO_BYTE}\n# caf\u00e9 ? ? \u00e9 end\n"),
+    (4, "error: t.py: BadByte at line 3", ["--", "d.v", "t.py"], f"t.py:3: BadByte: {NO_BYTE}\n# caf\u00e9 ? ? \u00e9 end\n"),
+    (4, "error: t.py: TooLong", ["d.v", "t.py"], f"t.py: {TOO_LONG}"),
+    (4, "error: u.py: BadLine at line 2", ["d.v", "u.py"], f"u.py:2: BadLine: {BAD_LINE}\nX = {{}}\n{NO_TABLES} (also on lines: 7)\n"),
+    (3, "error: t.py: Syntax at 1:1", ["t.py", "d.v"], f"t.py:1:1: Syntax: {NO_FORM}\nimport cocotb\n^\n{SWAPPED_DESIGN}"),
+    (3, "error: t.py: BadByte at 3:16", ["t.py", "d.v"],
+     f"t.py:3:16: BadByte: no token begins with this byte\n# caf\u00e9 ? ? \u00e9 end\n             ^\n{SWAPPED_DESIGN}"),
+    (4, "error: d.v: BadLine at line 1", ["t.py", "d.v"],
+     f"d.v:1: BadLine: no form of a line that may stand here is spelled like this\nmodule top(input a, output y);\n{SWAPPED_TESTS}"),
     (0, "** TESTS=0 PASS=0 FAIL=0 SKIP=0 TIME=0 **", ["d.v", "t.py"], ""),
     (1, "** TESTS=1 PASS=0 FAIL=1 SKIP=0 TIME=0 **", ["d.v", "t.py"], ""),
     (5, "error: cannot read d.v", ["d.v", "t.py"], ""),
@@ -130,7 +154,7 @@ def sources_of(folder):
 def laid_out(folder):
     """The script in a folder of its own, with sources, the stand-in as their release, and the files of the cases."""
     (folder / "tools").mkdir(parents=True)
-    for name in ("cocorun", "tools/sources"):
+    for name in ("cocorun", "tools/sources", "tools/hints.awk", "tools/hints.txt"):
         shutil.copy(TOP / name, folder / name)
     (folder / "crates.txt").write_text("below:\nbeside:\ncocorun: below anyhow\n")
     for name in ("below", "beside", "cocorun"):
@@ -302,6 +326,15 @@ def runs_where_no_file_can_be_made(folder):
     return [(0, "", "")] * 2, [ran(folder), ran(folder)]
 
 
+def refuses_without_hints(folder):
+    """where the table of hints or what reads it isn't there, it shows the line alone"""
+    (folder / "tools" / "hints.txt").unlink()
+    found = [ran(folder, ["d.v", "t.py"], 3, "error: d.v: Syntax at 4:1\n")]
+    (folder / "tools" / "hints.awk").unlink()
+    found.append(ran(folder, ["d.v", "t.py"], 3, "error: d.v: Syntax at 4:1\n"))
+    return [(3, "error: d.v: Syntax at 4:1\n", told + "endmodule\n^\n") for told in ("d.v:4:1: Syntax\n", "")], found
+
+
 def runs_without_standard_error(folder):
     """standard error that takes nothing changes neither status nor output"""
     change(folder)
@@ -312,6 +345,67 @@ def runs_without_standard_error(folder):
             done = subprocess.run([folder / "cocorun", "d.v", "t.py"], cwd=folder, env=here, stdout=subprocess.PIPE, stderr=full)
         found.append((done.returncode, done.stdout))
     return [(status, b"x") for status in statuses], found
+
+
+SLOW = '#!/bin/sh\necho "5 PASS one"\n[ $# -eq 1 ] || sleep 4\necho "9 PASS two"\n'
+
+
+def on_a_terminal(folder, out, words=("d.v", "t.py")):
+    """Starts the script with standard error on a terminal; `terminal` as standard output is the same one. What is to be read of the terminal comes second."""
+    reads, writes = pty.openpty()
+    how = {"cwd": folder, "stdin": subprocess.DEVNULL, "stdout": writes if out == "terminal" else out, "stderr": writes}
+    started = subprocess.Popen([folder / "cocorun", *words], **how)
+    os.close(writes)
+    return started, reads
+
+
+def seen_on(reads):
+    """What was written to a terminal, whose lines end with two bytes."""
+    seen = b""
+    try:
+        while piece := os.read(reads, 4096):
+            seen += piece
+    except OSError:
+        # nothing holds the terminal any more
+        pass
+    os.close(reads)
+    return seen.decode().replace("\r\n", "\n")
+
+
+def shows_progress(folder):
+    """on a terminal it shows how long a run has taken, and the last verdict in a file; what is written to a file and a pipe stays as it is"""
+    program_in(folder / "release", SLOW, sources_of(folder))
+    lines = "5 PASS one\n9 PASS two\n"
+    (folder / "out.txt").write_text("1 PASS before\n")
+    with open(folder / "out.txt", "ab") as file:
+        started = [on_a_terminal(folder, out) for out in (file, subprocess.PIPE, "terminal")]
+    short = on_a_terminal(folder, subprocess.PIPE, ["d.v"])
+    piped = started[1][0].communicate()[0].decode()
+    statuses = [process.wait() for process, _ in started]
+    seen = [seen_on(reads) for _, reads in started]
+    # A time stands before a carriage return, and behind that comes another one or a line that is longer.
+    fits = [re.fullmatch(pattern, text) is not None for pattern, text in zip((
+        r"(\d+ s, 5 PASS one +\r)+(\d+ s, 9 PASS two +\r)* {79}\r", r"(\d+ s +\r)+ {7}\r", r"5 PASS one\n(\d+ s +\r)+9 PASS two\n(\d+ s +\r)* {7}\r"), seen)]
+    # A quick run shows nothing, unless the machine is slow.
+    quick = (short[0].communicate()[0].decode(), re.fullmatch(r"((\d+ s +\r)* {7}\r)?", seen_on(short[1])) is not None)
+    wanted = [[0] * 3, "1 PASS before\n" + lines, lines, [True] * 3, (lines, True)]
+    return wanted, [statuses, (folder / "out.txt").read_text(), piped, fits if all(fits) else seen, quick]
+
+
+def sums_up_a_regression(folder):
+    """examples/regression runs twenty seeds, goes on after a failure, and prints what its page says"""
+    if not shutil.which("make"):
+        return 0, 0
+    place = TOP / "examples" / "regression"
+    page = re.sub("^    ", "", (place / "README.md").read_text(encoding="utf-8"), flags=re.MULTILINE)
+    env = {name: value for name, value in os.environ.items() if not name.startswith(("MAKE", "MFLAGS"))}
+    found = []
+    for words in ([], ["NAMES=fifo", "DESIGN=bug.v"]):
+        how = {"cwd": place, "env": env, "stdout": subprocess.PIPE, "stderr": subprocess.DEVNULL, "text": True}
+        done = subprocess.run(["make", "-s", "-j2", f"OUT={folder}/out", *words], **how)
+        lines = done.stdout.splitlines()
+        found.append((done.returncode, len(lines), "\n".join(lines[:4]) in page, "\n".join(lines[-2:]) in page))
+    return [(0, 1, True, True), (2, 82, True, True)], found
 
 
 def tells_what_fails(folder):
@@ -335,6 +429,6 @@ def tells_another_machine(folder):
 
 AROUND = [
     runs_from_elsewhere, sums_once, tells_a_change, tells_an_old_change, tells_new_and_lost_files, tells_proofs_and_the_list_of_crates, tells_the_commit,
-    refuses_a_spoiled_release, runs_what_was_built, builds_when_asked, runs_where_nothing_can_be_written, runs_where_no_file_can_be_made,
-    runs_without_standard_error, tells_what_fails, names_the_program, tells_another_machine,
+    refuses_a_spoiled_release, runs_what_was_built, builds_when_asked, runs_where_nothing_can_be_written, runs_where_no_file_can_be_made, refuses_without_hints,
+    runs_without_standard_error, shows_progress, sums_up_a_regression, tells_what_fails, names_the_program, tells_another_machine,
 ]

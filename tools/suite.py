@@ -7,8 +7,9 @@
 
 A case has a name, files, words, and the status and the lines that are wanted; each runs in a folder of its own, as many side by side as there are
 processors. What is wanted comes from the tables of the test programs, which were worked out by hand, by CPython or by a model, and from the pages of
-the examples. The script `./cocorun` is tried with a stand-in for the program (`tools/script_cases.py`), and the tables are made anew by the scripts
-that need nothing else than Python (`tools/make.py --check`). Each case that differs is told with both texts. The last line is `N passed, M failed`,
+the examples. The script `./cocorun` is tried with a stand-in for the program (`tools/script_cases.py`), its hints on texts that are refused
+(`tools/hint_cases.py`), the pages on what they show (`tools/snippet_cases.py`), and `tools/where.py` on all examples (`tools/where_cases.py`); the tables are made anew
+by the scripts that need nothing else than Python (`tools/make.py --check`). Each case that differs is told with both texts. The last line is `N passed, M failed`,
 and the status is 1 where one failed. It needs `sh` and Python 3.9, and 3.10 for the tables.
 """
 import argparse
@@ -24,7 +25,10 @@ import time
 from collections import namedtuple
 from pathlib import Path
 
+import hint_cases
 import script_cases
+import snippet_cases
+import where_cases
 
 TOP = Path(__file__).resolve().parent.parent
 # Where the tables stand, each by a test program and by the first word of its rows there, if the program has several: the commands and runs, the
@@ -38,6 +42,8 @@ USAGE = b"usage: cocorun [--top NAME] [--budget N] [--seed N] [--trace] DESIGN T
 SMALL_DESIGN = b"module top(input a);\nendmodule\n"
 SMALL_TESTS = b"import cocotb\n\n@cocotb.test()\nasync def t(dut):\n    pass\n"
 SMALL_LINES = b"0 TEST t\n0 PASS t\n** TESTS=1 PASS=1 FAIL=0 SKIP=0 TIME=0 **\n"
+# Cases of the table of hints, of what stands on pages, and of the tool that tells lines, by their kinds.
+BESIDE = {hint_cases.HintCase: hint_cases, snippet_cases.SnippetCase: snippet_cases, where_cases.WhereCase: where_cases}
 # Seconds that a case may take.
 LIMIT = 60
 
@@ -288,8 +294,11 @@ def at_home(room):
 def looked_at(given):
     """What a case came to, in a folder of its own."""
     program, case = given
-    if not isinstance(case, Case):
+    if isinstance(case, script_cases.ScriptCase):
         return Result(*script_cases.looked_at(case))
+    for kind, cases in BESIDE.items():
+        if isinstance(case, kind):
+            return Result(*cases.looked_at(program, case))
     with tempfile.TemporaryDirectory() as name:
         folder = Path(name)
         try:
@@ -364,6 +373,7 @@ def main():
     program = os.path.realpath(asked.program) if asked.program else chosen_program()
     makers = (example_cases, fault_cases, word_cases, made_cases, command_cases, text_cases, rule_cases)
     every = [*(case for maker in makers for case in maker()), *script_cases.cases(rows_of(WORDS))]
+    every += [case for module in BESIDE.values() for case in module.cases()]
     wanted = [case for case in every if not asked.words or any(word in case.name for word in asked.words)]
     workers = len(os.sched_getaffinity(0))
     print(f"{len(wanted)} cases with {os.path.relpath(program)}, {workers} side by side", flush=True)
