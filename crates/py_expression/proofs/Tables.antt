@@ -48,6 +48,9 @@ method_again method.Acquire = refl
 method_again method.Join = refl
 method_again method.IsSet = refl
 method_again method.Done = refl
+method_again method.QSize = refl
+method_again method.Empty = refl
+method_again method.Full = refl
 
 pub operation_again : (op : Operation) (ts : List Token) → (4 ≤ level_of op → after_not ts ≡ None) → operation_at (operation_tokens op ++ ts) ≡ Some (op, ts)
 unfolding operation_at after

@@ -7,7 +7,7 @@ use Rattle.py_syntax.specs.Line.{Line}
 use Rattle.py_syntax.specs.ModuleTrees as lines
 use Rattle.py_syntax.specs.ModuleForms.{SpellsModuleLine, module_line}
 use Rattle.py_syntax.specs.Modules.{is_function}
-use Rattle.py_syntax.specs.StatementTrees.{Logger, CocotbLog, HierarchyLog, Statement, Pass, Break, Continue, Return, Raise, Assert, Assign, AugmentedAssign, AssignValue, SetImmediateValue, Await, Act, Log, StartSoon, Simple, Heads}
+use Rattle.py_syntax.specs.StatementTrees.{Logger, CocotbLog, HierarchyLog, Statement, Pass, Break, Continue, Return, Raise, Assert, Assign, AugmentedAssign, AssignValue, SetImmediateValue, Await, Act, Log, StartSoon, PutNow, AssignAction, SetImmediateAction, Simple, Heads}
 use Rattle.py_syntax.specs.StatementForms.{SpellsLogger, SpellsStatement}
 use Rattle.py_syntax.specs.Outline.{Content, Docstring, InModule, InBody, Says, word_of, is_header}
 use Rattle.py_syntax.specs.declared.constant.Const.{Const}
@@ -69,6 +69,9 @@ statement_word (Await a) here (us, p, q) = ap begins_header p
 statement_word (Act e a) here p = expression_word e here _ p.0
 statement_word (Log g l e es) here (us, p, q, r) = logger_word g here _ p
 statement_word (StartSoon f) here (us, vs, p, q, r) = ap begins_header p
+statement_word (PutNow e x) here (us, p, q) = expression_word e here _ p.0
+statement_word (AssignAction e w) here (us, p, q) = expression_word e here _ p.0
+statement_word (SetImmediateAction e w) here (us, vs, p, q, r) = expression_word e here _ p.0
 
 no_head : {X : Type 0} → false ≡ true → X
 no_head e = absurd (let f : false ≡ true = e in cc)

@@ -6,7 +6,9 @@ pub mod ValueLaws
 pub mod ArgumentLaws
 pub mod ValueListLaws
 pub mod WordLaws
+pub mod MethodLaws
 pub mod StartedLaws
 pub mod AwaitedLaws
 pub mod RightLaws
+pub mod WriteLaws
 pub mod HeightLaws

@@ -1,9 +1,9 @@
 -- What is kept of a line is the line with its height, where that is within the limit.
 use Rattle.std.proofs.Common.{max, List, ℕ}
 use Rattle.py_syntax.specs.ExpressionTrees.{Tree, height}
-use Rattle.py_syntax.specs.StatementTrees.{Logger, CocotbLog, HierarchyLog, Statement, Pass, Break, Continue, Return, Raise, Assert, Assign, AugmentedAssign, AssignValue, SetImmediateValue, Await, Act, Log, StartSoon, Span, Stop, StartStop, StartStopStep, Constants, Header, If, Elif, Else, While, For, Try, Except, With, BodyLine, Simple, Heads, greatest, right_height, logger_height, statement_height, span_height, header_height, line_height}
+use Rattle.py_syntax.specs.StatementTrees.{Logger, CocotbLog, HierarchyLog, Statement, Pass, Break, Continue, Return, Raise, Assert, Assign, AugmentedAssign, AssignValue, SetImmediateValue, Await, Act, Log, StartSoon, PutNow, AssignAction, SetImmediateAction, Span, Stop, StartStop, StartStopStep, Constants, Header, If, Elif, Else, While, For, Try, Except, With, BodyLine, Simple, Heads, greatest, right_height, logger_height, statement_height, span_height, header_height, line_height}
 use Rattle.py_statement.specs.Call.Kept.{kept, kept_right}
-use Rattle.py_statement.proofs.CallLemmas.HeightLaws.{Fits, kept_fits, none_fits, one_fits, two_fits, optional_fits, list_fits, started_fits, awaited_fits, right_fits}
+use Rattle.py_statement.proofs.CallLemmas.HeightLaws.{Fits, kept_fits, none_fits, one_fits, two_fits, optional_fits, list_fits, started_fits, awaited_fits, right_fits, write_action_fits}
 use Rattle.py_statement.specs.Kept.{kept_logger, logged_as, kept_values, acting, kept_statement, kept_span, kept_header, kept_line}
 
 logger_fits : (limit : ℕ) (g : Logger) → Fits limit g (logger_height g) (kept_logger limit g)
@@ -28,6 +28,9 @@ statement_fits limit (Await a) = one_fits limit Await a _ _ (awaited_fits limit 
 statement_fits limit (Act e a) = one_fits limit (acting a) e _ _ (kept_fits limit e)
 statement_fits limit (Log g l e es) = two_fits limit (logged_as l) g (e, es) _ _ _ _ (logger_fits limit g) (values_fit limit e es)
 statement_fits limit (StartSoon f) = one_fits limit StartSoon f _ _ (started_fits limit f)
+statement_fits limit (PutNow e x) = two_fits limit PutNow e x _ _ _ _ (kept_fits limit e) (kept_fits limit x)
+statement_fits limit (AssignAction e w) = two_fits limit AssignAction e w _ _ _ _ (kept_fits limit e) (write_action_fits limit w)
+statement_fits limit (SetImmediateAction e w) = two_fits limit SetImmediateAction e w _ _ _ _ (kept_fits limit e) (write_action_fits limit w)
 
 span_fits : (limit : ℕ) (s : Span) → Fits limit s (span_height s) (kept_span limit s)
 span_fits limit (Stop e) = one_fits limit Stop e _ _ (kept_fits limit e)

@@ -1,6 +1,6 @@
 -- The laws of reading lines.
 use Rattle.std.proofs.Common.{◌≡◌, ℕ, ◌<◌, ◌≤◌, max, List, [], ◌∷◌, Option, Some, None, refl, sym, ap, ◌∙◌, arith, ◌⊎◌, inl, inr, subst, true}
-use Rattle.py_syntax.specs.StatementTrees.{RightSide, CocotbLog, HierarchyLog, Statement, Pass, Break, Continue, Return, Raise, Assert, Assign, AugmentedAssign, AssignValue, SetImmediateValue, Await, Act, Log, StartSoon, Header, If, Elif, Else, While, For, Try, Except, With, BodyLine, Simple, Heads, line_height}
+use Rattle.py_syntax.specs.StatementTrees.{RightSide, CocotbLog, HierarchyLog, Statement, Pass, Break, Continue, Return, Raise, Assert, Assign, AugmentedAssign, AssignValue, SetImmediateValue, Await, Act, Log, StartSoon, PutNow, AssignAction, SetImmediateAction, Header, If, Elif, Else, While, For, Try, Except, With, BodyLine, Simple, Heads, line_height}
 use Rattle.py_syntax.specs.StatementForms.{SpellsStatement, SpellsHeader, SpellsLine}
 use Rattle.py_syntax.specs.declared.keyword.Keyword.{Keyword}
 use Rattle.py_syntax.specs.declared.keyword.Keyword.TheVariants as keyword
@@ -133,6 +133,10 @@ statement_again limit positive (Log CocotbLog l x xs) ts (us, e, s, can) = plain
 statement_again limit positive (Log (HierarchyLog f) l x xs) ts (us, sp, s, can) =
     plain_line_again limit (Log (HierarchyLog f) l x xs) ts (plain_again limit positive (Log (HierarchyLog f) l x xs) ts tt (us, sp, s, can)) (begins f ts _ sp.0)
 statement_again limit positive (StartSoon f) ts (us, vs, e, s, closes) = plain_line_again limit (StartSoon f) ts (plain_again limit positive (StartSoon f) ts tt (us, vs, e, s, closes)) (rw e)
+statement_again limit positive (PutNow x v) ts (us, sp, values) = plain_line_again limit (PutNow x v) ts (plain_again limit positive (PutNow x v) ts tt (us, sp, values)) (begins x ts _ sp.0)
+statement_again limit positive (AssignAction x w) ts (us, sp, a) = plain_line_again limit (AssignAction x w) ts (plain_again limit positive (AssignAction x w) ts tt (us, sp, a)) (begins x ts _ sp.0)
+statement_again limit positive (SetImmediateAction x w) ts (us, vs, sp, a, closes) =
+    plain_line_again limit (SetImmediateAction x w) ts (plain_again limit positive (SetImmediateAction x w) ts tt (us, vs, sp, a, closes)) (begins x ts _ sp.0)
 
 header_again : (limit : ℕ) (positive : 1 ≤ limit) (h : Header) (ts : List Token) → SpellsHeader h ts → body_of limit ts ≡ Some (kept_line limit (Heads h))
 unfolding body_of

@@ -11,40 +11,29 @@ use Rattle.py_expression.specs.Shown.{nothing}
 use Rattle.py_expression.proofs.Nodes.{at_most_or_more}
 use Rattle.py_expression.proofs.PhraseLemmas.Facts.{some_same}
 use Rattle.py_statement.specs.Call.Kept.{lowered, kept, kept_list}
-use Rattle.py_statement.specs.Call.Chosen.{also, made, ended}
-use Rattle.py_statement.specs.Call.Reading.{values_of}
+use Rattle.py_statement.specs.Call.Chosen.{made, ended}
+use Rattle.py_statement.specs.Call.Reading.{only_value_of}
 use Rattle.py_statement.proofs.CallLemmas.Chosen.{not_some, also_is, made_is, ended_is}
 use Rattle.py_statement.proofs.CallLemmas.ValueLaws.{lowered_low, lowered_high}
-use Rattle.py_statement.proofs.CallLemmas.ValueListLaws.{values_sound, values_again}
+use Rattle.py_statement.proofs.CallLemmas.ValueListLaws.{only_value_sound, only_value_again}
 use Rattle.py_statement.specs.Kept.{kept_span}
-use Rattle.py_statement.specs.Reading.{one_of, range_of, one_value_of, kind_of, kinds_behind}
+use Rattle.py_statement.specs.Reading.{range_of, one_value_of, kind_of, kinds_behind}
 use Rattle.py_statement.proofs.Places.{kinds_of, kinds_same}
 use Rattle.py_statement.proofs.TableLaws.{fault_is, fault_again}
 
 -- ---- one
 
-one_kept : (limit : ℕ) (es : List Tree) (x : Tree) → one_of (kept_list (kept limit) es).0 ≡ Some x → (e : Tree) × (es ≡ e ∷ []) × ((x, (kept_list (kept limit) es).1) ≡ kept limit e)
-unfolding kept_list
-one_kept limit [] x h = absurd (not_some h)
-one_kept limit (e ∷ []) x h = (e, refl, ap (λ t. (t, max (kept limit e).1 0)) (sym (some_same h)) ∙ ap (λ n. ((kept limit e).0, n)) (let k : max (kept limit e).1 0 ≡ (kept limit e).1 = omega arith in k))
-one_kept limit (e ∷ f ∷ es) x h = absurd (not_some h)
-
 pub one_value_sound : (limit : ℕ) (ts : List Token) (v : Tree × ℕ) → one_value_of limit ts ≡ Some v → (e : Tree) × SpellsValues (e ∷ []) ts [] × (v ≡ kept limit e)
 unfolding one_value_of
 one_value_sound limit ts v h =
-    let (x, a, b) = also_is (values_of limit ts) (λ y. also (one_of y.0.0) (λ e. ended (e, y.0.1) y.1)) v h in
-    let (t, c, d) = also_is (one_of x.0.0) (λ e. ended (e, x.0.1) x.1) v b in
-    let (end, same) = ended_is (t, x.0.1) v x.1 d in
-    let (es, s, k) = values_sound limit ts x.1 x.0 a in
-    let (e, list, is) = one_kept limit es t (ap (λ (w : List Tree × ℕ). one_of w.0) (sym k) ∙ c) in (
-      e,
-      subst (λ us. SpellsValues (e ∷ []) ts us) end (subst (λ fs. SpellsValues fs ts x.1) list s),
-      sym same ∙ ap (λ (w : List Tree × ℕ). (t, w.1)) k ∙ is,
-    )
+    let (x, a, b) = also_is (only_value_of limit ts) (λ y. ended y.0 y.1) v h in
+    let (end, same) = ended_is x.0 v x.1 b in
+    let (e, s, k) = only_value_sound limit ts x.1 x.0 a in
+    (e, subst (λ us. SpellsValues (e ∷ []) ts us) end s, sym same ∙ k)
 
 pub one_value_again : (limit : ℕ) (e : Tree) (ts : List Token) → SpellsValues (e ∷ []) ts [] → one_value_of limit ts ≡ Some (kept limit e)
-unfolding one_value_of kept_list
-one_value_again limit e ts s = rw (values_again limit (e ∷ []) ts [] s) (ap (λ n. Some ((kept limit e).0, n)) (let k : max (kept limit e).1 0 ≡ (kept limit e).1 = omega arith in k))
+unfolding one_value_of
+one_value_again limit e ts s = rw (only_value_again limit e ts [] s)
 
 -- ---- one to three
 

@@ -1,13 +1,13 @@
 -- The laws of reading statements that begin with an expression.
-use Rattle.std.proofs.Common.{◌≡◌, ℕ, List, [], ◌∷◌, Option, Some, None, refl, sym, ap, ◌∙◌, arith, subst, true, false, Bool, ◌&&◌, if◌then◌else◌, ◌≤◌}
+use Rattle.std.proofs.Common.{◌≡◌, ℕ, List, [], ◌∷◌, Option, Some, None, refl, sym, ap, ◌∙◌, arith, subst, true, false, Bool, ◌&&◌, if◌then◌else◌, ◌≤◌, ◌⊎◌, inl, inr}
 use Rattle.std.specs.Prelude.{codes}
 use Rattle.std.specs.Str.{bytes_eq}
 use Rattle.py_syntax.specs.ExpressionTrees.{Tree, Name, Attribute, height}
 use Rattle.py_syntax.specs.ExpressionSpells.{level, Closes, Spells}
 use Rattle.py_syntax.specs.StatementTables.{action_name, level_name, augmenting}
-use Rattle.py_syntax.specs.StatementTrees.{StartedCall, RightSide, Logger, CocotbLog, HierarchyLog, Statement, Pass, Break, Continue, Return, Raise, Assert, Assign, AugmentedAssign, AssignValue, SetImmediateValue, Await, Act, Log, StartSoon}
+use Rattle.py_syntax.specs.StatementTrees.{StartedCall, RightSide, WriteAction, Logger, CocotbLog, HierarchyLog, Statement, Pass, Break, Continue, Return, Raise, Assert, Assign, AugmentedAssign, AssignValue, SetImmediateValue, Await, Act, Log, StartSoon, PutNow, AssignAction, SetImmediateAction}
 use Rattle.py_syntax.specs.StatementForms.{SpellsBefore, SpellsLogger, SpellsStatement, can_log}
-use Rattle.py_syntax.specs.CallForms.{method_tokens, member_tokens, SpellsValues, SpellsStarted, SpellsRight}
+use Rattle.py_syntax.specs.CallForms.{method_tokens, member_tokens, SpellsValues, SpellsStarted, SpellsRight, SpellsAction}
 use Rattle.py_syntax.specs.declared.expression.BinOp.{BinOp}
 use Rattle.py_syntax.specs.declared.operator.Operator.{Operator}
 use Rattle.py_syntax.specs.declared.operator.Operator.TheVariants as operator
@@ -26,15 +26,17 @@ use Rattle.py_expression.proofs.ReaderLaws.{primary_again}
 use Rattle.py_expression.proofs.PhraseLemmas.Facts.{some_same, after_assign_is, after_open_is, after_close_is, bytes_are}
 use Rattle.py_statement.specs.Call.Kept.{lowered, kept, of_one, of_two, kept_list}
 use Rattle.py_statement.specs.Call.Chosen.{also, made, ended}
-use Rattle.py_statement.specs.Call.Reading.{whole_value_of, values_of, closed_start_of, right_of}
-use Rattle.py_statement.proofs.CallLemmas.Chosen.{not_some, also_is, made_is, choice_is, and_is, end_is, ended_is}
+use Rattle.py_statement.specs.Call.Reading.{whole_value_of, values_of, closed_start_of, right_of, whole_write_action_of, closed_write_action_of}
+use Rattle.py_statement.proofs.CallLemmas.Chosen.{not_some, also_is, made_is, or_is, choice_is, and_is, end_is, ended_is, when}
 use Rattle.py_statement.proofs.CallLemmas.ValueLaws.{same_base, attribute_is_shown, kept_attribute, stops_quiet, whole_value_sound, whole_value_again}
 use Rattle.py_statement.proofs.CallLemmas.ValueListLaws.{values_sound, values_again}
-use Rattle.py_statement.proofs.CallLemmas.StartedLaws.{attribute_read, attribute_again, closed_start_sound, closed_start_again}
+use Rattle.py_statement.proofs.CallLemmas.MethodLaws.{attribute_read, attribute_again}
+use Rattle.py_statement.proofs.CallLemmas.StartedLaws.{closed_start_sound, closed_start_again}
 use Rattle.py_statement.proofs.CallLemmas.RightLaws.{right_sound, right_again}
+use Rattle.py_statement.proofs.CallLemmas.WriteLaws.{whole_write_sound, whole_write_again, closed_write_sound, closed_write_again, right_no_write, argument_no_write}
 use Rattle.py_statement.specs.Kept.{kept_logger, logged_as, kept_values, acting, kept_statement}
 use Rattle.py_statement.specs.Words.{called_name, called_of, augmenting_at}
-use Rattle.py_statement.specs.Reading.{one_value_of, first_of, is_word, assigned_value_of, assigned_of, augmented_of, logger_by, logger_of, logged_by, log_of, act_of, set_immediate_of, start_soon_of, method_by, called_statement_of, behind_by, behind_of, plain_of}
+use Rattle.py_statement.specs.Reading.{one_value_of, first_of, is_word, assigned_to_of, assigned_value_of, assigned_of, augmented_of, logger_by, logger_of, logged_by, log_of, act_of, set_immediate_of, put_now_of, start_soon_of, method_by, called_statement_of, behind_by, behind_of, plain_of}
 use Rattle.py_statement.specs.declared.method.Called.{Called}
 use Rattle.py_statement.specs.declared.method.Called.TheVariants as called
 use Rattle.py_statement.proofs.TreeLaws.{tree_whole, name_read, base_is_name, base_is_attribute, attributes_shown, word_is}
@@ -46,12 +48,6 @@ use Rattle.py_statement.proofs.ListLaws.{one_value_sound, one_value_again, can_l
 abbrev pub Found : ℕ → List Token → Statement × ℕ → Type 0
 Found limit ts v = (s : Statement) × SpellsStatement s ts × (v ≡ kept_statement limit s)
 
--- a choice whose one side is a reading
-when : {A : Type 0} (b : Bool) (o : Option A) (y : A) → (if b then o else None) ≡ Some y → (b ≡ true) × (o ≡ Some y)
-unfolding after
-when true o y h = (refl, h)
-when false o y h = absurd (not_some h)
-
 -- ---- assignments
 
 assign_name_sound : (limit : ℕ) (ts us : List Token) (x : Shown) (n : List ℕ) (v : Statement × ℕ) → primary_of limit ts ≡ Some (x, token.Operator operator.Assign ∷ us)
@@ -61,17 +57,34 @@ assign_name_sound limit ts us x n v h at k =
     let (s, sp, is) = right_sound limit us w a in
     (Assign n s, (us, name_read limit ts (token.Operator operator.Assign ∷ us) x n h at, sp), sym b ∙ ap (λ z. of_one (Assign n) z) is)
 
+abbrev pub value_of_signal : List Token → List Token
+value_of_signal us = token.Operator operator.Dot ∷ token.Name (codes "value") ∷ token.Operator operator.Assign ∷ us
+
+assigned_to_sound : (limit : ℕ) (ts us : List Token) (t : Tree) (e : Tree × ℕ) (v : Statement × ℕ) → SpellsBefore t ts (value_of_signal us) → e ≡ kept limit t
+    → assigned_to_of limit e us ≡ Some v → Found limit ts v
+unfolding assigned_to_of
+assigned_to_sound limit ts us t e v st low h = go (or_is (made (of_two AssignAction e) (whole_write_action_of limit us)) (made (of_two AssignValue e) (right_of limit us)) v h)
+  where
+    go : (made (of_two AssignAction e) (whole_write_action_of limit us) ≡ Some v)
+        ⊎ ((made (of_two AssignAction e) (whole_write_action_of limit us) ≡ None) × (made (of_two AssignValue e) (right_of limit us) ≡ Some v)) → Found limit ts v
+    go (inl k) =
+        let (w, d, i) = made_is (whole_write_action_of limit us) (of_two AssignAction e) v k in
+        let (a, sp, is) = whole_write_sound limit us w d in
+        (AssignAction t a, (us, st, sp), sym i ∙ ap (λ z. of_two AssignAction z w) low ∙ ap (λ z. of_two AssignAction (kept limit t) z) is)
+    go (inr (none, k)) =
+        let (w, d, i) = made_is (right_of limit us) (of_two AssignValue e) v k in
+        let (s, sp, is) = right_sound limit us w d in
+        (AssignValue t s, (us, st, sp), sym i ∙ ap (λ z. of_two AssignValue z w) low ∙ ap (λ z. of_two AssignValue (kept limit t) z) is)
+
 assign_value_sound : (limit : ℕ) (ts us : List Token) (x : Shown) (v : Statement × ℕ) → primary_of limit ts ≡ Some (x, token.Operator operator.Assign ∷ us)
     → assigned_value_of limit x.tree x.height us ≡ Some v → Found limit ts v
 unfolding assigned_value_of
 assign_value_sound limit ts us x v h k =
-    let (y, a, b) = also_is (split_of x.tree) (λ z. if bytes_eq z.1 (codes "value") then made (of_two AssignValue (lowered limit 1 z.0 x.height)) (right_of limit us) else None) v k in
-    let (p, c) = when (bytes_eq y.1 (codes "value")) (made (of_two AssignValue (lowered limit 1 y.0 x.height)) (right_of limit us)) v b in
-    let (w, d, e) = made_is (right_of limit us) (of_two AssignValue (lowered limit 1 y.0 x.height)) v c in
-    let (s, sp, is) = right_sound limit us w d in
+    let (y, a, b) = also_is (split_of x.tree) (λ z. if bytes_eq z.1 (codes "value") then assigned_to_of limit (lowered limit 1 z.0 x.height) us else None) v k in
+    let (p, c) = when (bytes_eq y.1 (codes "value")) (assigned_to_of limit (lowered limit 1 y.0 x.height) us) v b in
     let at : x.tree ≡ Attribute y.0 (codes "value") = split_is x.tree y a ∙ ap (λ n. Attribute y.0 n) (bytes_are y.1 (codes "value") p) in
     let (t, st, l, low, same) = attribute_read limit ts (token.Operator operator.Assign ∷ us) x y.0 (codes "value") h at in
-    (AssignValue t s, (us, (st, l), sp), sym e ∙ ap (λ z. of_two AssignValue z w) low ∙ ap (λ z. of_two AssignValue (kept limit t) z) is)
+    assigned_to_sound limit ts us t (lowered limit 1 y.0 x.height) v (st, l) low c
 
 assigned_sound : (limit : ℕ) (ts us : List Token) (x : Shown) (v : Statement × ℕ) → primary_of limit ts ≡ Some (x, token.Operator operator.Assign ∷ us)
     → assigned_of limit x.tree x.height us ≡ Some v → Found limit ts v
@@ -108,13 +121,36 @@ act_sound limit ts us x b a v (h, at) k =
     let close : us ≡ token.Close bracket.Round ∷ [] = after_close_is us vs e ∙ ap (λ ws. token.Close bracket.Round ∷ ws) (end_is vs u f) in
     (Act t a, (subst (λ ws. Spells t ts (method_tokens (action_name a) ws)) close st, l), sym d ∙ ap (λ z. of_one (acting a) z) low)
 
-immediate_sound : (limit : ℕ) (ts us : List Token) (x : Shown) (b : Tree) (v : Statement × ℕ) → Called_at limit ts x (codes "setimmediatevalue") us b → set_immediate_of limit b x.height us ≡ Some v → Found limit ts v
+immediate_to_sound : (limit : ℕ) (ts us : List Token) (t : Tree) (e : Tree × ℕ) (v : Statement × ℕ) → SpellsBefore t ts (method_tokens (codes "setimmediatevalue") us) → e ≡ kept limit t
+    → set_immediate_of limit e us ≡ Some v → Found limit ts v
 unfolding set_immediate_of
+immediate_to_sound limit ts us t e v st low h = go (or_is (made (of_two SetImmediateAction e) (closed_write_action_of limit us)) (made (of_two SetImmediateValue e) (one_value_of limit us)) v h)
+  where
+    go : (made (of_two SetImmediateAction e) (closed_write_action_of limit us) ≡ Some v)
+        ⊎ ((made (of_two SetImmediateAction e) (closed_write_action_of limit us) ≡ None) × (made (of_two SetImmediateValue e) (one_value_of limit us) ≡ Some v)) → Found limit ts v
+    go (inl k) =
+        let (w, d, i) = made_is (closed_write_action_of limit us) (of_two SetImmediateAction e) v k in
+        let (a, vs, sp, closes, is) = closed_write_sound limit us w d in
+        (SetImmediateAction t a, (us, vs, st, sp, closes), sym i ∙ ap (λ z. of_two SetImmediateAction z w) low ∙ ap (λ z. of_two SetImmediateAction (kept limit t) z) is)
+    go (inr (none, k)) =
+        let (w, d, i) = made_is (one_value_of limit us) (of_two SetImmediateValue e) v k in
+        let (x, s, is) = one_value_sound limit us w d in
+        (SetImmediateValue t x, (us, st, s), sym i ∙ ap (λ z. of_two SetImmediateValue z w) low ∙ ap (λ z. of_two SetImmediateValue (kept limit t) z) is)
+
+immediate_sound : (limit : ℕ) (ts us : List Token) (x : Shown) (b : Tree) (v : Statement × ℕ) → Called_at limit ts x (codes "setimmediatevalue") us b
+    → set_immediate_of limit (lowered limit 1 b x.height) us ≡ Some v → Found limit ts v
 immediate_sound limit ts us x b v (h, at) k =
-    let (w, c, d) = made_is (one_value_of limit us) (of_two SetImmediateValue (lowered limit 1 b x.height)) v k in
-    let (e, s, is) = one_value_sound limit us w c in
     let (t, st, l, low, same) = attribute_read limit ts (token.Open bracket.Round ∷ us) x b (codes "setimmediatevalue") h at in
-    (SetImmediateValue t e, (us, (st, l), s), sym d ∙ ap (λ z. of_two SetImmediateValue z w) low ∙ ap (λ z. of_two SetImmediateValue (kept limit t) z) is)
+    immediate_to_sound limit ts us t (lowered limit 1 b x.height) v (st, l) low k
+
+put_now_sound : (limit : ℕ) (ts us : List Token) (x : Shown) (b : Tree) (v : Statement × ℕ) → Called_at limit ts x (codes "put_nowait") us b
+    → put_now_of limit (lowered limit 1 b x.height) us ≡ Some v → Found limit ts v
+unfolding put_now_of
+put_now_sound limit ts us x b v (h, at) k =
+    let (w, c, d) = made_is (one_value_of limit us) (of_two PutNow (lowered limit 1 b x.height)) v k in
+    let (e, s, is) = one_value_sound limit us w c in
+    let (t, st, l, low, same) = attribute_read limit ts (token.Open bracket.Round ∷ us) x b (codes "put_nowait") h at in
+    (PutNow t e, (us, (st, l), s), sym d ∙ ap (λ z. of_two PutNow z w) low ∙ ap (λ z. of_two PutNow (kept limit t) z) is)
 
 start_sound : (limit : ℕ) (ts us : List Token) (x : Shown) (b : Tree) (v : Statement × ℕ) → Called_at limit ts x (codes "start_soon") us b → start_soon_of limit b us ≡ Some v → Found limit ts v
 unfolding start_soon_of Spells
@@ -197,6 +233,7 @@ called_sound limit positive ts us x v h k =
     go (called.Act a) b at d = act_sound limit ts us x b a v (h, at) d
     go (called.Log l) b at d = log_sound limit positive ts us x b l v (h, at) d
     go called.SetImmediateValue b at d = immediate_sound limit ts us x b v (h, at) d
+    go called.PutNow b at d = put_now_sound limit ts us x b v (h, at) d
     go called.StartSoon b at d = start_sound limit ts us x b v (h, at) d
 
 -- ---- all of them
@@ -236,15 +273,21 @@ method_again : (limit : ℕ) (m : Called) (e b : Tree) (us : List Token) → (sh
 unfolding behind_of called_statement_of split_of after
 method_again limit m e b us at = rw (at, called_again m)
 
-assign_value_again : (limit : ℕ) (e : Tree) (s : RightSide) (ts us : List Token) → SpellsBefore e ts (token.Operator operator.Dot ∷ token.Name (codes "value") ∷ token.Operator operator.Assign ∷ us) → SpellsRight s us
-    → plain_of limit ts ≡ Some (kept_statement limit (AssignValue e s))
+assigned_again : (limit : ℕ) (e : Tree) (ts us : List Token) (v : Option (Statement × ℕ)) → SpellsBefore e ts (value_of_signal us) → assigned_to_of limit (kept limit e) us ≡ v → plain_of limit ts ≡ v
 unfolding plain_of behind_of assigned_of assigned_value_of split_of Spells level after
-assign_value_again limit e s ts us (sp, l) r =
-    let read = primary_again limit (Attribute e (codes "value")) ts (token.Operator operator.Assign ∷ us)
-    (token.Operator operator.Dot ∷ token.Name (codes "value") ∷ token.Operator operator.Assign ∷ us, sp, l, refl) (omega arith)
+assigned_again limit e ts us v (sp, l) h =
+    let read = primary_again limit (Attribute e (codes "value")) ts (token.Operator operator.Assign ∷ us) (value_of_signal us, sp, l, refl) (omega arith)
     (stops_quiet 12 (Attribute e (codes "value")) (token.Operator operator.Assign ∷ us) (omega arith) (quiet_assign us)) in
     let (b, at) = attribute_is_shown limit e (codes "value") in
-    rw (read, at, right_again limit s us r, kept_attribute limit e (codes "value") b (codes "value") at)
+    rw (read, at, kept_attribute limit e (codes "value") b (codes "value") at) h
+
+assign_value_again : (limit : ℕ) (e : Tree) (s : RightSide) (us : List Token) → SpellsRight s us → assigned_to_of limit (kept limit e) us ≡ Some (kept_statement limit (AssignValue e s))
+unfolding assigned_to_of
+assign_value_again limit e s us r = rw (right_no_write limit s us r, right_again limit s us r)
+
+assign_action_again : (limit : ℕ) (e : Tree) (w : WriteAction) (us : List Token) → SpellsAction w us [] → assigned_to_of limit (kept limit e) us ≡ Some (kept_statement limit (AssignAction e w))
+unfolding assigned_to_of
+assign_action_again limit e w us s = rw (whole_write_again limit w us s)
 
 plain_from : (limit : ℕ) (ts : List Token) (x : Shown × List Token) (v : Option (Statement × ℕ)) → primary_of limit ts ≡ Some x → behind_of limit x ≡ v → plain_of limit ts ≡ v
 unfolding plain_of after
@@ -270,14 +313,35 @@ act_again limit e a ts s =
     plain_from limit _ _ _ (called_read limit (called.Act a) e ts (token.Close bracket.Round ∷ []) s)
     (method_again limit (called.Act a) e b (token.Close bracket.Round ∷ []) at ∙ ap (λ z. Some (of_one (acting a) z)) (kept_attribute limit e (action_name a) b (action_name a) at))
 
-immediate_again : (limit : ℕ) (e v : Tree) (ts us : List Token) → SpellsBefore e ts (method_tokens (codes "setimmediatevalue") us) → SpellsValues (v ∷ []) us []
-    → plain_of limit ts ≡ Some (kept_statement limit (SetImmediateValue e v))
-unfolding set_immediate_of after
-immediate_again limit e v ts us s values =
+immediate_from : (limit : ℕ) (e : Tree) (ts us : List Token) (v : Option (Statement × ℕ)) → SpellsBefore e ts (method_tokens (codes "setimmediatevalue") us)
+    → set_immediate_of limit (kept limit e) us ≡ v → plain_of limit ts ≡ v
+unfolding after
+immediate_from limit e ts us v s h =
     let (b, at) = attribute_is_shown limit e (codes "setimmediatevalue") in
     plain_from limit _ _ _ (called_read limit called.SetImmediateValue e ts us s)
     (method_again limit called.SetImmediateValue e b us at
-    ∙ rw (one_value_again limit v us values) (ap (λ z. Some (of_two SetImmediateValue z (kept limit v))) (kept_attribute limit e (codes "setimmediatevalue") b (codes "setimmediatevalue") at)))
+    ∙ ap (λ z. set_immediate_of limit z us) (kept_attribute limit e (codes "setimmediatevalue") b (codes "setimmediatevalue") at) ∙ h)
+
+set_value_again : (limit : ℕ) (e x : Tree) (us : List Token) → SpellsValues (x ∷ []) us [] → set_immediate_of limit (kept limit e) us ≡ Some (kept_statement limit (SetImmediateValue e x))
+unfolding set_immediate_of
+set_value_again limit e x us s = rw (argument_no_write limit x us s, one_value_again limit x us s)
+
+set_action_again : (limit : ℕ) (e : Tree) (w : WriteAction) (us vs : List Token) → SpellsAction w us vs → Closes vs []
+    → set_immediate_of limit (kept limit e) us ≡ Some (kept_statement limit (SetImmediateAction e w))
+unfolding set_immediate_of
+set_action_again limit e w us vs s closes = rw (closed_write_again limit w us vs s closes)
+
+put_kept_again : (limit : ℕ) (e x : Tree) (us : List Token) → SpellsValues (x ∷ []) us [] → put_now_of limit (kept limit e) us ≡ Some (kept_statement limit (PutNow e x))
+unfolding put_now_of
+put_kept_again limit e x us s = rw (one_value_again limit x us s)
+
+put_now_again : (limit : ℕ) (e x : Tree) (ts us : List Token) → SpellsBefore e ts (method_tokens (codes "put_nowait") us) → SpellsValues (x ∷ []) us []
+    → plain_of limit ts ≡ Some (kept_statement limit (PutNow e x))
+unfolding after
+put_now_again limit e x ts us s values =
+    let (b, at) = attribute_is_shown limit e (codes "put_nowait") in
+    plain_from limit _ _ _ (called_read limit called.PutNow e ts us s)
+    (method_again limit called.PutNow e b us at ∙ ap (λ z. put_now_of limit z us) (kept_attribute limit e (codes "put_nowait") b (codes "put_nowait") at) ∙ put_kept_again limit e x us values)
 
 start_again : (limit : ℕ) (f : StartedCall) (ts us vs : List Token) → ts ≡ member_tokens (codes "cocotb") (codes "start_soon") us → SpellsStarted f us vs → Closes vs []
     → plain_of limit ts ≡ Some (kept_statement limit (StartSoon f))
@@ -327,6 +391,9 @@ BeginsPlain (SetImmediateValue e v) = Unit {0}
 BeginsPlain (Act e a) = Unit {0}
 BeginsPlain (Log g l e es) = Unit {0}
 BeginsPlain (StartSoon f) = Unit {0}
+BeginsPlain (PutNow e x) = Unit {0}
+BeginsPlain (AssignAction e w) = Unit {0}
+BeginsPlain (SetImmediateAction e w) = Unit {0}
 BeginsPlain Pass = ⊥
 BeginsPlain Break = ⊥
 BeginsPlain Continue = ⊥
@@ -339,12 +406,15 @@ pub plain_again : (limit : ℕ) (positive : 1 ≤ limit) (s : Statement) (ts : L
 unfolding after
 plain_again limit positive (Assign n s) ts p (us, e, r) = rw e (assign_name_again limit n s us r)
 plain_again limit positive (AugmentedAssign n op x) ts p (mark, us, e, is, s) = rw e (augmented_again limit n op x mark us is s)
-plain_again limit positive (AssignValue e s) ts p (us, sp, r) = assign_value_again limit e s ts us sp r
-plain_again limit positive (SetImmediateValue e v) ts p (us, s, values) = immediate_again limit e v ts us s values
+plain_again limit positive (AssignValue e s) ts p (us, sp, r) = assigned_again limit e ts us _ sp (assign_value_again limit e s us r)
+plain_again limit positive (SetImmediateValue e v) ts p (us, s, values) = immediate_from limit e ts us _ s (set_value_again limit e v us values)
 plain_again limit positive (Act e a) ts p s = act_again limit e a ts s
 plain_again limit positive (Log CocotbLog l e es) ts p (us, sl, s, can) = log_cocotb_again limit positive l e es ts us sl s can
 plain_again limit positive (Log (HierarchyLog f) l e es) ts p (us, sl, s, can) = log_hierarchy_again limit positive f l e es ts us sl s can
 plain_again limit positive (StartSoon f) ts p (us, vs, e, s, closes) = start_again limit f ts us vs e s closes
+plain_again limit positive (PutNow e x) ts p (us, s, values) = put_now_again limit e x ts us s values
+plain_again limit positive (AssignAction e w) ts p (us, sp, a) = assigned_again limit e ts us _ sp (assign_action_again limit e w us a)
+plain_again limit positive (SetImmediateAction e w) ts p (us, vs, s, a, closes) = immediate_from limit e ts us _ s (set_action_again limit e w us vs a closes)
 plain_again limit positive Pass ts p s = absurd p
 plain_again limit positive Break ts p s = absurd p
 plain_again limit positive Continue ts p s = absurd p

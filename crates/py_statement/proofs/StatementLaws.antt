@@ -3,7 +3,7 @@ use Rattle.std.proofs.Common.{◌≡◌, ℕ, List, [], ◌∷◌, Option, Some,
 use Rattle.py_syntax.specs.ExpressionTrees.{Tree}
 use Rattle.py_syntax.specs.ExpressionSpells.{Spells}
 use Rattle.py_syntax.specs.StatementTables.{fault_name}
-use Rattle.py_syntax.specs.StatementTrees.{Awaited, RightSide, RightValue, RightAwait, RightStart, NewEvent, NewLock, RandomInt, Statement, Return, Raise, Assert, Await}
+use Rattle.py_syntax.specs.StatementTrees.{Awaited, RightSide, RightValue, RightAwait, RightStart, NewEvent, NewLock, RandomInt, NewQueue, GetNow, Statement, Return, Raise, Assert, Await}
 use Rattle.py_syntax.specs.StatementForms.{SpellsRaised, SpellsMessage}
 use Rattle.py_syntax.specs.CallForms.{SpellsAwaited, SpellsRight}
 use Rattle.py_syntax.specs.declared.fault_kind.FaultKind.{FaultKind}
@@ -59,6 +59,8 @@ no_side NewEvent (inr (text, us, e, closes)) = cc
 no_side NewLock (inl e) = cc
 no_side NewLock (inr (text, us, e, closes)) = cc
 no_side (RandomInt a b) (us, e, s) = cc
+no_side (NewQueue e) (us, eq, s) = cc
+no_side (GetNow e) (us, s, l, eq) = let h = spells_length e [] us s in absurd (omega arith)
 
 pub return_again : (limit : ℕ) (s : Option RightSide) (ts : List Token) → SpellsReturned s ts → return_of limit ts ≡ Some (kept_statement limit (Return s))
 unfolding return_of after

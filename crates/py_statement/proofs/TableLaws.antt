@@ -46,6 +46,8 @@ fault_again kind.AssertionError = refl
 fault_again kind.AttributeError = refl
 fault_again kind.IndexError = refl
 fault_again kind.OverflowError = refl
+fault_again kind.QueueEmpty = refl
+fault_again kind.QueueFull = refl
 fault_again kind.RuntimeError = refl
 fault_again kind.SimTimeoutError = refl
 fault_again kind.TriggerException = refl
@@ -69,6 +71,7 @@ called_again (called.Log level.Info) = refl
 called_again (called.Log level.Warning) = refl
 called_again (called.Log level.Error) = refl
 called_again called.SetImmediateValue = refl
+called_again called.PutNow = refl
 called_again called.StartSoon = refl
 
 -- no expression calls a method of such a name
@@ -82,6 +85,7 @@ called_plain (called.Log level.Info) = refl
 called_plain (called.Log level.Warning) = refl
 called_plain (called.Log level.Error) = refl
 called_plain called.SetImmediateValue = refl
+called_plain called.PutNow = refl
 called_plain called.StartSoon = refl
 
 pub kind_at_is : (ts : List Token) (x : FaultKind × List Token) → kind_at ts ≡ Some x → ts ≡ token.Name (fault_name x.0) ∷ x.1

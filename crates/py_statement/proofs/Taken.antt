@@ -3,13 +3,8 @@ use Rattle.std.proofs.Common.{◌≡◌, List, [], ◌∷◌, map, refl}
 use Rattle.py_syntax.specs.ExpressionTrees.{view}
 use Rattle.py_syntax.specs.StatementTrees.{optional}
 use Rattle.py_syntax.specs.declared.expression.Expression.{Expression}
-use Rattle.py_statement.specs.Reading.{one_of, first_of, range_of}
+use Rattle.py_statement.specs.Reading.{first_of, range_of}
 use Rattle.py_statement.specs.Lists.{few_of, span_in}
-
-pub one_seen : {A B : Type 0} (see : A → B) (xs : List A) → one_of (map see xs) ≡ optional see (one_of xs)
-one_seen see [] = refl
-one_seen see (x ∷ []) = refl
-one_seen see (x ∷ y ∷ xs) = refl
 
 pub first_seen : {A B : Type 0} (see : A → B) (xs : List A) → first_of (map see xs) ≡ optional (λ x. (see x.0, map see x.1)) (first_of xs)
 first_seen see [] = refl

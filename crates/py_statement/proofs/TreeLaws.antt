@@ -1,5 +1,5 @@
 -- What a tree that is shown tells of the tree: names, and attributes of which two are taken off.
-use Rattle.std.proofs.Common.{◌≡◌, ℕ, ◌+◌, ◌<◌, ◌≤◌, List, ◌∷◌, Some, None, sym, ap, ◌∙◌, arith, ◌⊎◌, inl, inr, subst, true}
+use Rattle.std.proofs.Common.{◌≡◌, ℕ, ◌+◌, ◌<◌, ◌≤◌, List, ◌∷◌, Some, sym, ap, ◌∙◌, arith, ◌⊎◌, inl, inr, subst, true}
 use Rattle.py_syntax.specs.ExpressionTrees.{Tree, Constant, FormatString, Name, Bracketed, Attribute, Subscript, Call, MethodCall, Unary, Infix, height}
 use Rattle.py_syntax.specs.ExpressionSpells.{Spells}
 use Rattle.py_syntax.specs.declared.token.Token.{Token}
@@ -11,7 +11,6 @@ use Rattle.py_expression.proofs.Nodes.{at_most_or_more, shown_whole, shown_high}
 use Rattle.py_expression.proofs.ReaderLaws.{primary_sound}
 use Rattle.py_expression.proofs.PhraseLemmas.Facts.{bytes_are}
 use Rattle.py_statement.specs.Call.Kept.{lowered, kept}
-use Rattle.py_statement.proofs.CallLemmas.Chosen.{not_some}
 use Rattle.py_statement.proofs.CallLemmas.ValueLaws.{same_base, same_attribute, lowered_same, lowered_high}
 use Rattle.py_statement.specs.Reading.{is_word}
 

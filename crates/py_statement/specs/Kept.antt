@@ -2,10 +2,10 @@
 -- proofs of Python's parser.
 use Rattle.std.specs.Prelude.{ℕ, List}
 use Rattle.py_syntax.specs.ExpressionTrees.{Tree}
-use Rattle.py_syntax.specs.StatementTrees.{Logger, CocotbLog, HierarchyLog, Statement, Pass, Break, Continue, Return, Raise, Assert, Assign, AugmentedAssign, AssignValue, SetImmediateValue, Await, Act, Log, StartSoon, Span, Stop, StartStop, StartStopStep, Constants, Header, If, Elif, Else, While, For, Try, Except, With, BodyLine, Simple, Heads}
+use Rattle.py_syntax.specs.StatementTrees.{Logger, CocotbLog, HierarchyLog, Statement, Pass, Break, Continue, Return, Raise, Assert, Assign, AugmentedAssign, AssignValue, SetImmediateValue, Await, Act, Log, StartSoon, PutNow, AssignAction, SetImmediateAction, Span, Stop, StartStop, StartStopStep, Constants, Header, If, Elif, Else, While, For, Try, Except, With, BodyLine, Simple, Heads}
 use Rattle.py_syntax.specs.declared.statement.Action.{Action}
 use Rattle.py_syntax.specs.declared.statement.LogLevel.{LogLevel}
-use Rattle.py_statement.specs.Call.Kept.{of_one, of_two, kept, kept_optional, kept_list, kept_started, kept_awaited, kept_right}
+use Rattle.py_statement.specs.Call.Kept.{of_one, of_two, kept, kept_optional, kept_list, kept_started, kept_awaited, kept_right, kept_write_action}
 
 abbrev pub kept_logger : ℕ → Logger → Logger × ℕ
 kept_logger limit CocotbLog = (CocotbLog, 0)
@@ -35,6 +35,9 @@ kept_statement limit (Await a) = of_one Await (kept_awaited limit a)
 kept_statement limit (Act e a) = of_one (acting a) (kept limit e)
 kept_statement limit (Log g l e es) = of_two (logged_as l) (kept_logger limit g) (kept_values limit e es)
 kept_statement limit (StartSoon f) = of_one StartSoon (kept_started limit f)
+kept_statement limit (PutNow e x) = of_two PutNow (kept limit e) (kept limit x)
+kept_statement limit (AssignAction e w) = of_two AssignAction (kept limit e) (kept_write_action limit w)
+kept_statement limit (SetImmediateAction e w) = of_two SetImmediateAction (kept limit e) (kept_write_action limit w)
 
 abbrev pub kept_span : ℕ → Span → Span × ℕ
 kept_span limit (Stop e) = of_one Stop (kept limit e)

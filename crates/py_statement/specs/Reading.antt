@@ -2,9 +2,9 @@
 -- they give None no such form stands there.
 use Rattle.std.specs.Prelude.{ℕ, ◌+◌, ◌==◌, Bool, true, false, ◌&&◌, List, [], ◌∷◌, ◌++◌, Option, Some, None, codes, if◌then◌else◌}
 use Rattle.std.specs.Str.{bytes_eq}
-use Rattle.py_syntax.specs.ExpressionTrees.{Tree, Name, Attribute}
+use Rattle.py_syntax.specs.ExpressionTrees.{Tree, Name}
 use Rattle.py_syntax.specs.StatementTables.{fault_of}
-use Rattle.py_syntax.specs.StatementTrees.{Logger, CocotbLog, HierarchyLog, Statement, Pass, Break, Continue, Return, Raise, Assert, Assign, AugmentedAssign, AssignValue, SetImmediateValue, Await, StartSoon, Caught, All, Kind, Kinds, KindAs, Span, Stop, StartStop, StartStopStep, Constants, Header, If, Elif, Else, While, For, Try, Except, With, BodyLine, Simple, Heads}
+use Rattle.py_syntax.specs.StatementTrees.{Logger, CocotbLog, HierarchyLog, Statement, Pass, Break, Continue, Return, Raise, Assert, Assign, AugmentedAssign, AssignValue, SetImmediateValue, Await, StartSoon, PutNow, AssignAction, SetImmediateAction, Caught, All, Kind, Kinds, KindAs, Span, Stop, StartStop, StartStopStep, Constants, Header, If, Elif, Else, While, For, Try, Except, With, BodyLine, Simple, Heads}
 use Rattle.py_syntax.specs.StatementForms.{can_log}
 use Rattle.py_syntax.specs.declared.expression.BinOp.{BinOp}
 use Rattle.py_syntax.specs.declared.fault_kind.FaultKind.{FaultKind}
@@ -19,19 +19,15 @@ use Rattle.py_expression.specs.Phrase.Marks.{end_of, after_open, after_close, af
 use Rattle.py_expression.specs.Reading.{primary_of}
 use Rattle.py_expression.specs.Phrase.Readers.{constants_in}
 use Rattle.py_statement.specs.Call.Kept.{lowered, of_one, of_two}
-use Rattle.py_statement.specs.Call.Chosen.{also, made, ended}
+use Rattle.py_statement.specs.Call.Chosen.{also, or_else, made, ended}
 use Rattle.py_statement.specs.Call.Words.{after_call}
-use Rattle.py_statement.specs.Call.Reading.{value_of, whole_value_of, values_of, closed_start_of, awaited_of, right_of}
+use Rattle.py_statement.specs.Call.Reading.{value_of, whole_value_of, values_of, only_value_of, closed_start_of, awaited_of, right_of, whole_write_action_of, closed_write_action_of}
 use Rattle.py_statement.specs.Kept.{acting, logged_as}
 use Rattle.py_statement.specs.Words.{called_of, keyword_at, augmenting_at, after_in, after_as, after_with, colon_of, kind_at}
 use Rattle.py_statement.specs.declared.method.Called.{Called}
 use Rattle.py_statement.specs.declared.method.Called.TheVariants as called
 
 -- ---- lists of a known length
-
-abbrev pub one_of : {A : Type 0} → List A → Option A
-one_of (e ∷ []) = Some e
-one_of _ = None
 
 abbrev pub first_of : {A : Type 0} → List A → Option (A × List A)
 first_of [] = None
@@ -61,7 +57,7 @@ return_of limit (t ∷ ts) = made (of_one (λ s. Return (Some s))) (right_of lim
 
 -- one expression in brackets, at the end of the line
 unfoldable pub one_value_of : ℕ → List Token → Option (Tree × ℕ)
-one_value_of limit ts = also (values_of limit ts) (λ x. also (one_of x.0.0) (λ e. ended (e, x.0.1) x.1))
+one_value_of limit ts = also (only_value_of limit ts) (λ x. ended x.0 x.1)
 
 abbrev pub raised_by : ℕ → List Token → Option (List Token) → Option (Option Tree × ℕ)
 raised_by limit ts (Some us) = made (of_one (λ e. Some e)) (one_value_of limit us)
@@ -92,10 +88,14 @@ abbrev pub is_word : List ℕ → Tree → Bool
 is_word word (Name n) = bytes_eq n word
 is_word word _ = false
 
+-- behind `signal.value =`
+unfoldable pub assigned_to_of : ℕ → Tree × ℕ → List Token → Option (Statement × ℕ)
+assigned_to_of limit e ts = or_else (made (of_two AssignAction e) (whole_write_action_of limit ts)) (made (of_two AssignValue e) (right_of limit ts))
+
 -- a new value of what stands before the `=`
 unfoldable pub assigned_value_of : ℕ → Tree → ℕ → List Token → Option (Statement × ℕ)
 assigned_value_of limit t h ts =
-    also (split_of t) (λ x. if bytes_eq x.1 (codes "value") then made (of_two AssignValue (lowered limit 1 x.0 h)) (right_of limit ts) else None)
+    also (split_of t) (λ x. if bytes_eq x.1 (codes "value") then assigned_to_of limit (lowered limit 1 x.0 h) ts else None)
 
 abbrev pub assigned_name_of : ℕ → List ℕ → List Token → Option (Statement × ℕ)
 assigned_name_of limit n ts = made (of_one (Assign n)) (right_of limit ts)
@@ -130,8 +130,12 @@ log_of limit t h l ts = also (logger_of limit t h) (λ g. also (values_of limit 
 unfoldable pub act_of : ℕ → Tree → ℕ → Action → List Token → Option (Statement × ℕ)
 act_of limit t h a ts = made (λ _. of_one (acting a) (lowered limit 1 t h)) (also (after_close ts) end_of)
 
-unfoldable pub set_immediate_of : ℕ → Tree → ℕ → List Token → Option (Statement × ℕ)
-set_immediate_of limit t h ts = made (of_two SetImmediateValue (lowered limit 1 t h)) (one_value_of limit ts)
+unfoldable pub set_immediate_of : ℕ → Tree × ℕ → List Token → Option (Statement × ℕ)
+set_immediate_of limit e ts =
+    or_else (made (of_two SetImmediateAction e) (closed_write_action_of limit ts)) (made (of_two SetImmediateValue e) (one_value_of limit ts))
+
+unfoldable pub put_now_of : ℕ → Tree × ℕ → List Token → Option (Statement × ℕ)
+put_now_of limit e ts = made (of_two PutNow e) (one_value_of limit ts)
 
 unfoldable pub start_soon_of : ℕ → Tree → List Token → Option (Statement × ℕ)
 start_soon_of limit t ts = if is_word (codes "cocotb") t then made (of_one StartSoon) (closed_start_of limit ts) else None
@@ -139,7 +143,8 @@ start_soon_of limit t ts = if is_word (codes "cocotb") t then made (of_one Start
 abbrev pub method_by : ℕ → Called → Tree → ℕ → List Token → Option (Statement × ℕ)
 method_by limit (called.Act a) t h ts = act_of limit t h a ts
 method_by limit (called.Log l) t h ts = log_of limit t h l ts
-method_by limit called.SetImmediateValue t h ts = set_immediate_of limit t h ts
+method_by limit called.SetImmediateValue t h ts = set_immediate_of limit (lowered limit 1 t h) ts
+method_by limit called.PutNow t h ts = put_now_of limit (lowered limit 1 t h) ts
 method_by limit called.StartSoon t h ts = start_soon_of limit t ts
 
 -- behind `t(`

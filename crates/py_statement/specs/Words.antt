@@ -21,10 +21,11 @@ abbrev pub called_name : Called → List ℕ
 called_name (called.Act a) = action_name a
 called_name (called.Log l) = level_name l
 called_name called.SetImmediateValue = codes "setimmediatevalue"
+called_name called.PutNow = codes "put_nowait"
 called_name called.StartSoon = codes "start_soon"
 
 abbrev pub all_called : List Called
-all_called = called.Act action.Set ∷ called.Act action.Clear ∷ called.Act action.Release ∷ called.Act action.Kill ∷ called.Log level.Info ∷ called.Log level.Warning ∷ called.Log level.Error ∷ called.SetImmediateValue ∷ called.StartSoon ∷ []
+all_called = called.Act action.Set ∷ called.Act action.Clear ∷ called.Act action.Release ∷ called.Act action.Kill ∷ called.Log level.Info ∷ called.Log level.Warning ∷ called.Log level.Error ∷ called.SetImmediateValue ∷ called.PutNow ∷ called.StartSoon ∷ []
 
 -- what a method of this name is, where a statement calls it
 unfoldable pub called_of : List ℕ → Option Called

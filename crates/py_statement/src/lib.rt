@@ -1,7 +1,7 @@
 //! Reads the lines of a function's body: statements and the headers of blocks.
 //!
 //! Modules that the crates above use too:
-//! - [`call`]: the calls that are started, what is awaited, and the right sides of assignments.
+//! - [`call`]: the calls that are started, what is awaited, the right sides of assignments, and writes that are no values.
 #![tactic(auto)]
 
 pub mod call;

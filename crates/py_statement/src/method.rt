@@ -11,11 +11,12 @@ pub enum Called {
     Act(Action),
     Log(LogLevel),
     SetImmediateValue,
+    PutNow,
     StartSoon,
 }
 
 /// All such methods.
-const ALL: [Called; 9] = [
+const ALL: [Called; 10] = [
     Called::Act(Action::Set),
     Called::Act(Action::Clear),
     Called::Act(Action::Release),
@@ -24,6 +25,7 @@ const ALL: [Called; 9] = [
     Called::Log(LogLevel::Warning),
     Called::Log(LogLevel::Error),
     Called::SetImmediateValue,
+    Called::PutNow,
     Called::StartSoon,
 ];
 
@@ -36,6 +38,7 @@ impl Called {
             Called::Act(action) => action.name(),
             Called::Log(level) => level.name(),
             Called::SetImmediateValue => b"setimmediatevalue",
+            Called::PutNow => b"put_nowait",
             Called::StartSoon => b"start_soon",
         }
     }

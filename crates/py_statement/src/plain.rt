@@ -4,7 +4,7 @@ ghost use Rattle.py_expression.specs.Shown.{height_limit};
 ghost use Rattle.std.specs.Prelude.{◌≡◌, List, map, codes, Some};
 ghost use Rattle.py_syntax.specs.ExpressionTrees.{view};
 ghost use Rattle.py_syntax.specs.StatementTrees;
-ghost use Rattle.py_syntax.specs.StatementTrees.{view_statement, view_logger};
+ghost use Rattle.py_syntax.specs.StatementTrees.{view_statement, view_logger, view_write_action};
 ghost use Rattle.py_expression.specs.Phrase.Gives.{Gives};
 ghost use Rattle.py_expression.specs.Boxes.{inside};
 ghost use Rattle.py_statement.specs.Call.Chosen.{made};
@@ -13,7 +13,10 @@ ghost use Rattle.py_statement.specs.Call.Reading.{right_of};
 ghost use Rattle.py_statement.specs.Call.Views.{tall};
 ghost use Rattle.py_statement.specs.Reading;
 
-use crate::call::{closed_start, right_side, value_list, whole_value, within};
+use crate::call::{
+    closed_start, closed_write_action, right_side, value_list, whole_value, whole_write_action,
+    within,
+};
 use crate::method::Called;
 use crate::statement::{built, ending, one_value};
 use crate::tree::{can_log, first, is_word};
@@ -21,11 +24,13 @@ use crate::words::augmenting_at;
 use port_io::{Name, boxed};
 use py_expression::phrase::{Mark, ReadError, after};
 use py_expression::{primary, split};
-use py_syntax::{Action, BinOp, Bracket, Expression, LogLevel, Logger, Operator, Statement, Token};
+use py_syntax::{
+    Action, BinOp, Bracket, Expression, LogLevel, Logger, Operator, Statement, Token, WriteAction,
+};
 use std::alloc::Global;
 
-/// An assignment to the value of this signal, behind the `=`.
-fn assigned_to(
+/// An assignment of a right side to the value of this signal, behind the `=`.
+fn assigned_right(
     alloc: Global,
     signal: (Box<Expression>, usize),
     tokens: &[Token],
@@ -38,7 +43,36 @@ fn assigned_to(
     built(alloc, statement, signal.1.max(height))
 }
 
-/// `signal.value = right side`, behind the `=`; the tree is `signal.value`.
+/// A write that is no value, assigned to this signal.
+fn assigned_action(
+    alloc: Global,
+    signal: (Box<Expression>, usize),
+    write: (Box<WriteAction>, usize),
+) -> Result<(Box<Statement>, usize), ReadError>
+    ensures { Gives (tall (inside view_statement)) result
+        (Some (of_two StatementTrees.AssignAction (tall (inside view) signal) (tall (inside view_write_action) write))) }
+{
+    let statement = Statement::AssignAction(Box::into_inner(signal.0), Box::into_inner(write.0));
+    built(alloc, statement, signal.1.max(write.1))
+}
+
+/// An assignment to the value of this signal, behind the `=`.
+#[tactic(auto, unfolding(crate::specs::Reading::assigned_to_of))]
+fn assigned_to(
+    alloc: Global,
+    signal: (Box<Expression>, usize),
+    tokens: &[Token],
+) -> Result<(Box<Statement>, usize), ReadError>
+    ensures { Gives (tall (inside view_statement)) result (Reading.assigned_to_of height_limit (tall (inside view) signal) tokens.now) }
+{
+    match whole_write_action(alloc, tokens) {
+        Ok(write) => assigned_action(alloc, signal, write),
+        Err(ReadError::Wrong) => assigned_right(alloc, signal, tokens),
+        Err(error) => Err(error),
+    }
+}
+
+/// An assignment to a signal's value, behind the `=`; the tree is `signal.value`.
 #[tactic(auto, unfolding(crate::specs::Reading::assigned_value_of))]
 fn assigned_value(
     alloc: Global,
@@ -224,20 +258,63 @@ fn act(
 }
 
 /// `signal.setimmediatevalue(value)`, behind the `(`.
+fn set_value(
+    alloc: Global,
+    signal: (Box<Expression>, usize),
+    tokens: &[Token],
+) -> Result<(Box<Statement>, usize), ReadError>
+    ensures { Gives (tall (inside view_statement)) result
+        (made (of_two StatementTrees.SetImmediateValue (tall (inside view) signal)) (Reading.one_value_of height_limit tokens.now)) }
+{
+    let (value, height) = one_value(alloc, tokens)?;
+    let statement = Statement::SetImmediateValue(Box::into_inner(signal.0), Box::into_inner(value));
+    built(alloc, statement, signal.1.max(height))
+}
+
+/// `signal.setimmediatevalue(write)`.
+fn set_action(
+    alloc: Global,
+    signal: (Box<Expression>, usize),
+    write: (Box<WriteAction>, usize),
+) -> Result<(Box<Statement>, usize), ReadError>
+    ensures { Gives (tall (inside view_statement)) result
+        (Some (of_two StatementTrees.SetImmediateAction (tall (inside view) signal) (tall (inside view_write_action) write))) }
+{
+    let statement = Statement::SetImmediateAction(
+        Box::into_inner(signal.0),
+        Box::into_inner(write.0),
+    );
+    built(alloc, statement, signal.1.max(write.1))
+}
+
+/// A write to this signal at once, behind the `(`.
 #[tactic(auto, unfolding(crate::specs::Reading::set_immediate_of))]
 fn set_immediate(
     alloc: Global,
-    tree: Box<Expression>,
-    height: usize,
+    signal: (Box<Expression>, usize),
     tokens: &[Token],
 ) -> Result<(Box<Statement>, usize), ReadError>
-    ensures { Gives (tall (inside view_statement)) result (Reading.set_immediate_of height_limit (view tree.value) height tokens.now) }
+    ensures { Gives (tall (inside view_statement)) result (Reading.set_immediate_of height_limit (tall (inside view) signal) tokens.now) }
 {
-    let (signal, signal_height) = within(alloc, tree, height, 1)?;
-    let (value, value_height) = one_value(alloc, tokens)?;
-    let (signal, value) = (Box::into_inner(signal), Box::into_inner(value));
-    let statement = Statement::SetImmediateValue(signal, value);
-    built(alloc, statement, signal_height.max(value_height))
+    match closed_write_action(alloc, tokens) {
+        Ok(write) => set_action(alloc, signal, write),
+        Err(ReadError::Wrong) => set_value(alloc, signal, tokens),
+        Err(error) => Err(error),
+    }
+}
+
+/// `queue.put_nowait(item)`, behind the `(`.
+#[tactic(auto, unfolding(crate::specs::Reading::put_now_of))]
+fn put_now(
+    alloc: Global,
+    queue: (Box<Expression>, usize),
+    tokens: &[Token],
+) -> Result<(Box<Statement>, usize), ReadError>
+    ensures { Gives (tall (inside view_statement)) result (Reading.put_now_of height_limit (tall (inside view) queue) tokens.now) }
+{
+    let (item, height) = one_value(alloc, tokens)?;
+    let statement = Statement::PutNow(Box::into_inner(queue.0), Box::into_inner(item));
+    built(alloc, statement, queue.1.max(height))
 }
 
 /// `cocotb.start_soon(call)`, behind the `(`.
@@ -270,7 +347,10 @@ fn method_called(
     match method {
         Called::Act(action) => act(alloc, tree, height, action, tokens),
         Called::Log(level) => log(alloc, tree, height, level, tokens),
-        Called::SetImmediateValue => set_immediate(alloc, tree, height, tokens),
+        Called::SetImmediateValue => {
+            set_immediate(alloc, within(alloc, tree, height, 1)?, tokens)
+        }
+        Called::PutNow => put_now(alloc, within(alloc, tree, height, 1)?, tokens),
         Called::StartSoon => start_soon(alloc, &*tree, tokens),
     }
 }

@@ -10,8 +10,7 @@ ghost use Rattle.py_statement.specs.Call.Chosen.{ended};
 ghost use Rattle.py_statement.specs.Call.Views.{tall};
 ghost use Rattle.py_statement.specs.Reading;
 
-use crate::call::{await_operand, right_side, value, value_list, whole_value};
-use crate::tree::one;
+use crate::call::{await_operand, only_value, right_side, value, whole_value};
 use crate::words::kind_at;
 use port_io::boxed;
 use py_expression::phrase::{Mark, ReadError, after, end_of_line};
@@ -69,19 +68,13 @@ pub fn returning(alloc: Global, tokens: &[Token]) -> Result<(Box<Statement>, usi
 }
 
 /// One expression and `)` at the end of the line, behind a `(`.
-#[tactic(auto, using(crate::proofs::Taken::one_seen), unfolding(crate::specs::Reading::one_value_of))]
+#[tactic(auto, unfolding(crate::specs::Reading::one_value_of))]
 pub fn one_value(alloc: Global, tokens: &[Token]) -> Result<(Box<Expression>, usize), ReadError>
     ensures { Gives (tall (inside view)) result (Reading.one_value_of height_limit tokens.now) }
 {
-    let ((list, height), rest) = value_list(alloc, tokens)?;
-    match one(list) {
-        Some(value) => {
-            let value = boxed(alloc, value)?;
-            end_of_line(rest)?;
-            Ok((value, height))
-        }
-        None => Err(ReadError::Wrong),
-    }
+    let (value, rest) = only_value(alloc, tokens)?;
+    end_of_line(rest)?;
+    Ok(value)
 }
 
 /// A fault's value in brackets, if there is one.

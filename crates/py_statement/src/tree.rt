@@ -30,14 +30,6 @@ pub fn kind(tree: &Expression) -> Option<FaultKind>
     }
 }
 
-/// The only element of a list.
-pub fn one<T: Drop>(mut list: Vec<T>) -> Option<T>
-    ensures { MatchOption result (Reading.one_of list.items ≡ None) (λ x. Reading.one_of list.items ≡ Some x) }
-{
-    let only = list.pop()?;
-    if list.is_empty() { Some(only) } else { None }
-}
-
 /// The first element of a list, and the others.
 pub fn first<T: Drop>(mut list: Vec<T>) -> Option<(T, Vec<T>)>
     ensures { MatchOption result (Reading.first_of list.items ≡ None) (λ x. Reading.first_of list.items ≡ Some (x.0, x.1.items)) }

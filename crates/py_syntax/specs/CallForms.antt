@@ -4,7 +4,7 @@ use Rattle.std.specs.Prelude.{◌≡◌, ◌⊎◌, ℕ, Bool, true, false, ◌|
 use Rattle.std.specs.Str.{bytes_eq}
 use Rattle.py_syntax.specs.ExpressionTrees.{Tree}
 use Rattle.py_syntax.specs.ExpressionSpells.{level, Closes, Spells}
-use Rattle.py_syntax.specs.StatementTrees.{Argument, StartedCall, FunctionCall, ClockStart, Timed, TimedValue, TimedCall, Awaited, AwaitedValue, AwaitedCall, AwaitedStart, WithTimeout, RightSide, RightValue, RightAwait, RightStart, NewEvent, NewLock, RandomInt}
+use Rattle.py_syntax.specs.StatementTrees.{Argument, StartedCall, FunctionCall, ClockStart, QueuePut, QueueGet, Timed, TimedValue, TimedCall, Awaited, AwaitedValue, AwaitedCall, AwaitedStart, WithTimeout, RightSide, RightValue, RightAwait, RightStart, NewEvent, NewLock, RandomInt, NewQueue, GetNow, WriteAction, Force, Freeze, Release}
 use Rattle.py_syntax.specs.declared.keyword.Keyword.TheVariants as keyword
 use Rattle.py_syntax.specs.declared.operator.Operator.TheVariants as operator
 use Rattle.py_syntax.specs.declared.operator.Bracket.TheVariants as bracket
@@ -98,6 +98,11 @@ SpellsStarted (FunctionCall n xs) here rest =
 SpellsStarted (ClockStart e xs) here rest =
     (us : List Token) × (vs : List Token)
     × Spells e here us × (level e ≡ 12) × (us ≡ method_tokens (codes "start") vs) × SpellsArguments xs vs rest × (starts_clock xs ≡ true)
+SpellsStarted (QueuePut e x) here rest =
+    (us : List Token) × (vs : List Token)
+    × Spells e here us × (level e ≡ 12) × (us ≡ method_tokens (codes "put") vs) × SpellsValues (x ∷ []) vs rest
+SpellsStarted (QueueGet e) here rest =
+    (us : List Token) × Spells e here us × (level e ≡ 12) × (us ≡ method_tokens (codes "get") (token.Close bracket.Round ∷ rest))
 
 -- What is awaited.
 
@@ -148,6 +153,12 @@ SpellsNew name here =
     (here ≡ call_tokens name (token.Close bracket.Round ∷ []))
     ⊎ ((text : List ℕ) × (us : List Token) × (here ≡ call_tokens name (token.Text text ∷ us)) × Closes us [])
 
+-- the bound of a queue behind an opening bracket, by its place or by its name, and the end of the line
+abbrev pub SpellsBound : Option Tree → List Token → Type 0
+SpellsBound None here = here ≡ token.Close bracket.Round ∷ []
+SpellsBound (Some e) here =
+    (us : List Token) × (vs : List Token) × (IsGivenBy None here us ⊎ IsGivenBy (Some (codes "maxsize")) here us) × Spells e us vs × Closes vs []
+
 abbrev pub SpellsRight : RightSide → List Token → Type 0
 SpellsRight (RightValue e) here = Spells e here []
 SpellsRight (RightAwait a) here = (us : List Token) × (here ≡ token.Keyword keyword.Await ∷ us) × SpellsAwaited a us
@@ -155,3 +166,14 @@ SpellsRight (RightStart f) here = SpellsStart (codes "start_soon") f here
 SpellsRight NewEvent here = SpellsNew (codes "Event") here
 SpellsRight NewLock here = SpellsNew (codes "Lock") here
 SpellsRight (RandomInt a b) here = (us : List Token) × (here ≡ member_tokens (codes "random") (codes "randint") us) × SpellsValues (a ∷ b ∷ []) us []
+SpellsRight (NewQueue e) here = (us : List Token) × (here ≡ call_tokens (codes "Queue") us) × SpellsBound e us
+SpellsRight (GetNow e) here =
+    (us : List Token) × Spells e here us × (level e ≡ 12) × (us ≡ method_tokens (codes "get_nowait") (token.Close bracket.Round ∷ []))
+
+-- Writes that are no values.
+
+-- the call of an action, to the end of the brackets
+abbrev pub SpellsAction : WriteAction → List Token → List Token → Type 0
+SpellsAction (Force e) here rest = (us : List Token) × (here ≡ call_tokens (codes "Force") us) × SpellsValues (e ∷ []) us rest
+SpellsAction Freeze here rest = here ≡ call_tokens (codes "Freeze") (token.Close bracket.Round ∷ rest)
+SpellsAction Release here rest = here ≡ call_tokens (codes "Release") (token.Close bracket.Round ∷ rest)

@@ -158,9 +158,12 @@ method_name method.Acquire = codes "acquire"
 method_name method.Join = codes "join"
 method_name method.IsSet = codes "is_set"
 method_name method.Done = codes "done"
+method_name method.QSize = codes "qsize"
+method_name method.Empty = codes "empty"
+method_name method.Full = codes "full"
 
 abbrev pub methods : List Method
-methods = method.Wait ∷ method.Acquire ∷ method.Join ∷ method.IsSet ∷ method.Done ∷ []
+methods = method.Wait ∷ method.Acquire ∷ method.Join ∷ method.IsSet ∷ method.Done ∷ method.QSize ∷ method.Empty ∷ method.Full ∷ []
 
 -- the method of this name
 unfoldable pub method_of : List ℕ → Option Method

@@ -3,9 +3,9 @@ use Rattle.std.specs.Prelude.{◌≡◌, ℕ, suc, Bool, true, false, ◌==◌, 
 use Rattle.py_syntax.specs.ExpressionTrees.{Tree, Constant}
 use Rattle.py_syntax.specs.ExpressionSpells.{level, Closes, Spells}
 use Rattle.py_syntax.specs.StatementTables.{fault_name, action_name, level_name, augmenting}
-use Rattle.py_syntax.specs.StatementTrees.{Logger, CocotbLog, HierarchyLog, Statement, Pass, Break, Continue, Return, Raise, Assert, Assign, AugmentedAssign, AssignValue, SetImmediateValue, Await, Act, Log, StartSoon, Caught, All, Kind, Kinds, KindAs, Span, Stop, StartStop, StartStopStep, Constants, Header, If, Elif, Else, While, For, Try, Except, With, BodyLine, Simple, Heads}
+use Rattle.py_syntax.specs.StatementTrees.{Logger, CocotbLog, HierarchyLog, Statement, Pass, Break, Continue, Return, Raise, Assert, Assign, AugmentedAssign, AssignValue, SetImmediateValue, Await, Act, Log, StartSoon, PutNow, AssignAction, SetImmediateAction, Caught, All, Kind, Kinds, KindAs, Span, Stop, StartStop, StartStopStep, Constants, Header, If, Elif, Else, While, For, Try, Except, With, BodyLine, Simple, Heads}
 use Rattle.py_syntax.specs.ConstantForms.{SpellsConstants}
-use Rattle.py_syntax.specs.CallForms.{method_tokens, call_tokens, SpellsValues, SpellsStart, SpellsAwaited, SpellsRight}
+use Rattle.py_syntax.specs.CallForms.{method_tokens, call_tokens, SpellsValues, SpellsStart, SpellsAwaited, SpellsRight, SpellsAction}
 use Rattle.py_syntax.specs.declared.constant.Const.TheVariants as constants
 use Rattle.py_syntax.specs.declared.fault_kind.FaultKind.{FaultKind}
 use Rattle.py_syntax.specs.declared.keyword.Keyword.{Keyword}
@@ -86,6 +86,14 @@ SpellsStatement (Log g l e es) here =
     (us : List Token)
     × SpellsLogger g here (method_tokens (level_name l) us) × SpellsValues (e ∷ es) us [] × (can_log e es ≡ true)
 SpellsStatement (StartSoon f) here = SpellsStart (codes "start_soon") f here
+SpellsStatement (PutNow e x) here =
+    (us : List Token) × SpellsBefore e here (method_tokens (codes "put_nowait") us) × SpellsValues (x ∷ []) us []
+SpellsStatement (AssignAction e w) here =
+    (us : List Token)
+    × SpellsBefore e here (token.Operator operator.Dot ∷ token.Name (codes "value") ∷ token.Operator operator.Assign ∷ us) × SpellsAction w us []
+SpellsStatement (SetImmediateAction e w) here =
+    (us : List Token) × (vs : List Token)
+    × SpellsBefore e here (method_tokens (codes "setimmediatevalue") us) × SpellsAction w us vs × Closes vs []
 
 -- Headers (8).
 

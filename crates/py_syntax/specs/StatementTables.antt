@@ -18,6 +18,8 @@ fault_name kind.AssertionError = codes "AssertionError"
 fault_name kind.AttributeError = codes "AttributeError"
 fault_name kind.IndexError = codes "IndexError"
 fault_name kind.OverflowError = codes "OverflowError"
+fault_name kind.QueueEmpty = codes "QueueEmpty"
+fault_name kind.QueueFull = codes "QueueFull"
 fault_name kind.RuntimeError = codes "RuntimeError"
 fault_name kind.SimTimeoutError = codes "SimTimeoutError"
 fault_name kind.TriggerException = codes "TriggerException"
@@ -28,7 +30,7 @@ fault_name kind.ZeroDivisionError = codes "ZeroDivisionError"
 fault_name kind.Exception = codes "Exception"
 
 abbrev pub kinds : List FaultKind
-kinds = kind.AssertionError ∷ kind.AttributeError ∷ kind.IndexError ∷ kind.OverflowError ∷ kind.RuntimeError ∷ kind.SimTimeoutError ∷ kind.TriggerException ∷ kind.TypeError ∷ kind.UnboundLocalError ∷ kind.ValueError ∷ kind.ZeroDivisionError ∷ kind.Exception ∷ []
+kinds = kind.AssertionError ∷ kind.AttributeError ∷ kind.IndexError ∷ kind.OverflowError ∷ kind.QueueEmpty ∷ kind.QueueFull ∷ kind.RuntimeError ∷ kind.SimTimeoutError ∷ kind.TriggerException ∷ kind.TypeError ∷ kind.UnboundLocalError ∷ kind.ValueError ∷ kind.ZeroDivisionError ∷ kind.Exception ∷ []
 
 -- the kind of this name
 unfoldable pub fault_of : List ℕ → Option FaultKind

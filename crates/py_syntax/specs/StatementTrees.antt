@@ -16,6 +16,8 @@ use Rattle.py_syntax.specs.declared.call.Awaited as awaited
 use Rattle.py_syntax.specs.declared.call.Awaited.TheVariants as awaited_value
 use Rattle.py_syntax.specs.declared.call.RightSide as right
 use Rattle.py_syntax.specs.declared.call.RightSide.TheVariants as right_side
+use Rattle.py_syntax.specs.declared.call.WriteAction as write_action
+use Rattle.py_syntax.specs.declared.call.WriteAction.TheVariants as action_value
 use Rattle.py_syntax.specs.declared.statement.Logger as logger
 use Rattle.py_syntax.specs.declared.statement.Logger.TheVariants as logger_value
 use Rattle.py_syntax.specs.declared.statement.Statement as statement
@@ -34,10 +36,12 @@ pub record Argument : Type 0 where
   pub name : Option (List ℕ)
   pub value : Tree
 
--- a call that makes a task: of an async function, or the start of a clock
+-- a call that makes a task: of an async function, the start of a clock, or a queue's `put` with its item or its `get`
 pub data StartedCall : Type 0 where
   FunctionCall : List ℕ → List Argument → StartedCall
   ClockStart : Tree → List Argument → StartedCall
+  QueuePut : Tree → Tree → StartedCall
+  QueueGet : Tree → StartedCall
 
 -- what `with_timeout` waits for
 pub data Timed : Type 0 where
@@ -58,6 +62,14 @@ pub data RightSide : Type 0 where
   NewEvent : RightSide
   NewLock : RightSide
   RandomInt : Tree → Tree → RightSide
+  NewQueue : Option Tree → RightSide
+  GetNow : Tree → RightSide
+
+-- a write that is no value
+pub data WriteAction : Type 0 where
+  Force : Tree → WriteAction
+  Freeze : WriteAction
+  Release : WriteAction
 
 pub data Logger : Type 0 where
   CocotbLog : Logger
@@ -78,6 +90,9 @@ pub data Statement : Type 0 where
   Act : Tree → Action → Statement
   Log : Logger → LogLevel → Tree → List Tree → Statement
   StartSoon : StartedCall → Statement
+  PutNow : Tree → Tree → Statement
+  AssignAction : Tree → WriteAction → Statement
+  SetImmediateAction : Tree → WriteAction → Statement
 
 -- what an `except` catches
 pub data Caught : Type 0 where
@@ -120,6 +135,8 @@ view_argument a = record { name = a.name; value = view a.value }
 abbrev pub view_started : started.StartedCall → StartedCall
 view_started (started_call.Function n xs) = FunctionCall n (map view_argument xs.items)
 view_started (started_call.Clock e xs) = ClockStart (view e) (map view_argument xs.items)
+view_started (started_call.Put e x) = QueuePut (view e) (view x)
+view_started (started_call.Get e) = QueueGet (view e)
 
 abbrev pub view_timed : timed.Timed → Timed
 view_timed (timed_value.Value e) = TimedValue (view e)
@@ -138,6 +155,13 @@ view_right (right_side.StartSoon f) = RightStart (view_started f)
 view_right right_side.Event = NewEvent
 view_right right_side.Lock = NewLock
 view_right (right_side.RandomInt a b) = RandomInt (view a) (view b)
+view_right (right_side.Queue e) = NewQueue (optional view e)
+view_right (right_side.GetNow e) = GetNow (view e)
+
+abbrev pub view_write_action : write_action.WriteAction → WriteAction
+view_write_action (action_value.Force e) = Force (view e)
+view_write_action action_value.Freeze = Freeze
+view_write_action action_value.Release = Release
 
 abbrev pub view_logger : logger.Logger → Logger
 view_logger logger_value.Cocotb = CocotbLog
@@ -158,6 +182,9 @@ view_statement (statement_value.Await a) = Await (view_awaited a)
 view_statement (statement_value.Act e a) = Act (view e) a
 view_statement (statement_value.Log g l e es) = Log (view_logger g) l (view e) (map view es.items)
 view_statement (statement_value.StartSoon f) = StartSoon (view_started f)
+view_statement (statement_value.PutNow e x) = PutNow (view e) (view x)
+view_statement (statement_value.AssignAction e w) = AssignAction (view e) (view_write_action w)
+view_statement (statement_value.SetImmediateAction e w) = SetImmediateAction (view e) (view_write_action w)
 
 abbrev pub view_caught : caught.Caught → Caught
 view_caught caught_value.All = All
@@ -201,6 +228,8 @@ argument_height a = height a.value
 abbrev pub started_height : StartedCall → ℕ
 started_height (FunctionCall n xs) = greatest argument_height xs
 started_height (ClockStart e xs) = max (height e) (greatest argument_height xs)
+started_height (QueuePut e x) = max (height e) (height x)
+started_height (QueueGet e) = height e
 
 abbrev pub timed_height : Timed → ℕ
 timed_height (TimedValue e) = height e
@@ -219,6 +248,13 @@ right_height (RightStart f) = started_height f
 right_height NewEvent = 0
 right_height NewLock = 0
 right_height (RandomInt a b) = max (height a) (height b)
+right_height (NewQueue e) = optional_height height e
+right_height (GetNow e) = height e
+
+abbrev pub write_action_height : WriteAction → ℕ
+write_action_height (Force e) = height e
+write_action_height Freeze = 0
+write_action_height Release = 0
 
 abbrev pub logger_height : Logger → ℕ
 logger_height CocotbLog = 0
@@ -239,6 +275,9 @@ statement_height (Await a) = awaited_height a
 statement_height (Act e a) = height e
 statement_height (Log g l e es) = max (logger_height g) (max (height e) (greatest height es))
 statement_height (StartSoon f) = started_height f
+statement_height (PutNow e x) = max (height e) (height x)
+statement_height (AssignAction e w) = max (height e) (write_action_height w)
+statement_height (SetImmediateAction e w) = max (height e) (write_action_height w)
 
 abbrev pub span_height : Span → ℕ
 span_height (Stop e) = height e

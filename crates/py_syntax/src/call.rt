@@ -18,6 +18,10 @@ pub enum StartedCall {
     Function(Name, Vec<Argument>),
     /// `clock.start(cycles, start_high)`; either may be left out, or be given by its name.
     Clock(Expression, Vec<Argument>),
+    /// `queue.put(item)` (cocotb 1.8, `cocotb.queue.Queue.put`)
+    Put(Expression, Expression),
+    /// `queue.get()` (cocotb 1.8, `cocotb.queue.Queue.get`)
+    Get(Expression),
 }
 
 /// What `with_timeout` waits for.
@@ -52,4 +56,19 @@ pub enum RightSide {
     Lock,
     /// `random.randint(low, high)`
     RandomInt(Expression, Expression),
+    /// `Queue(maxsize)` (cocotb 1.8, `cocotb.queue.Queue`); the bound may be left out, or be given by its name.
+    Queue(Option<Expression>),
+    /// `queue.get_nowait()` (cocotb 1.8, `cocotb.queue.Queue.get_nowait`)
+    GetNow(Expression),
+}
+
+/// A write that is no value: an action of cocotb 1.8, `cocotb.handle`.
+#[derive(Drop)]
+pub enum WriteAction {
+    /// `Force(value)`
+    Force(Expression),
+    /// `Freeze()`
+    Freeze,
+    /// `Release()`
+    Release,
 }

@@ -143,6 +143,12 @@ pub enum Method {
     IsSet,
     /// `done()` of a task
     Done,
+    /// `qsize()` of a queue
+    QSize,
+    /// `empty()` of a queue
+    Empty,
+    /// `full()` of a queue
+    Full,
 }
 
 impl UnOp {
@@ -316,12 +322,15 @@ impl Function {
 }
 
 /// All methods.
-const METHODS: [Method; 5] = [
+const METHODS: [Method; 8] = [
     Method::Wait,
     Method::Acquire,
     Method::Join,
     Method::IsSet,
     Method::Done,
+    Method::QSize,
+    Method::Empty,
+    Method::Full,
 ];
 
 impl Method {
@@ -335,6 +344,9 @@ impl Method {
             Method::Join => b"join",
             Method::IsSet => b"is_set",
             Method::Done => b"done",
+            Method::QSize => b"qsize",
+            Method::Empty => b"empty",
+            Method::Full => b"full",
         }
     }
 

@@ -10,6 +10,8 @@ pub enum FaultKind {
     AttributeError,
     IndexError,
     OverflowError,
+    QueueEmpty,
+    QueueFull,
     RuntimeError,
     SimTimeoutError,
     TriggerException,
@@ -21,11 +23,13 @@ pub enum FaultKind {
 }
 
 /// All kinds.
-const KINDS: [FaultKind; 12] = [
+const KINDS: [FaultKind; 14] = [
     FaultKind::AssertionError,
     FaultKind::AttributeError,
     FaultKind::IndexError,
     FaultKind::OverflowError,
+    FaultKind::QueueEmpty,
+    FaultKind::QueueFull,
     FaultKind::RuntimeError,
     FaultKind::SimTimeoutError,
     FaultKind::TriggerException,
@@ -46,6 +50,8 @@ impl FaultKind {
             FaultKind::AttributeError => b"AttributeError",
             FaultKind::IndexError => b"IndexError",
             FaultKind::OverflowError => b"OverflowError",
+            FaultKind::QueueEmpty => b"QueueEmpty",
+            FaultKind::QueueFull => b"QueueFull",
             FaultKind::RuntimeError => b"RuntimeError",
             FaultKind::SimTimeoutError => b"SimTimeoutError",
             FaultKind::TriggerException => b"TriggerException",

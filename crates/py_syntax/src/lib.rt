@@ -25,7 +25,7 @@ mod statement;
 mod token;
 mod tree;
 
-pub use call::{Argument, Awaited, RightSide, StartedCall, Timed};
+pub use call::{Argument, Awaited, RightSide, StartedCall, Timed, WriteAction};
 pub use constant::Const;
 pub use expression::{BinOp, BoolOp, Expression, FormatPart, Function, Method, Operation, UnOp};
 pub use fault_kind::FaultKind;

@@ -3,7 +3,7 @@
 ghost use Rattle.std.specs.Prelude.{◌≡◌};
 ghost use Rattle.py_syntax.specs.StatementTables.{action_name, level_name};
 
-use crate::{Awaited, BinOp, Const, Expression, FaultKind, RightSide, StartedCall};
+use crate::{Awaited, BinOp, Const, Expression, FaultKind, RightSide, StartedCall, WriteAction};
 use port_io::Name;
 
 /// A method without arguments that a statement calls.
@@ -89,6 +89,12 @@ pub enum Statement {
     Log(Logger, LogLevel, Expression, Vec<Expression>),
     /// `cocotb.start_soon(call)`
     StartSoon(StartedCall),
+    /// `queue.put_nowait(item)` (cocotb 1.8, `cocotb.queue.Queue.put_nowait`)
+    PutNow(Expression, Expression),
+    /// `signal.value = action`
+    AssignAction(Expression, WriteAction),
+    /// `signal.setimmediatevalue(action)`
+    SetImmediateAction(Expression, WriteAction),
 }
 
 /// What an `except` catches.

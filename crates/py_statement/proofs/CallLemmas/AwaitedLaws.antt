@@ -12,7 +12,7 @@ use Rattle.py_syntax.specs.declared.token.Token.{Token}
 use Rattle.py_syntax.specs.declared.token.Token.TheVariants as token
 use Rattle.py_expression.specs.Phrase.Marks.{after, after_close, after_comma, after_last, after_assign, after_name, after_name_by, named_at}
 use Rattle.py_expression.proofs.Starts.{starts}
-use Rattle.py_expression.proofs.PhraseLemmas.Facts.{after_comma_is, named_at_is, bytes_are}
+use Rattle.py_expression.proofs.PhraseLemmas.Facts.{after_comma_is, named_at_is, bytes_are, bytes_same}
 use Rattle.py_statement.specs.Call.Kept.{kept, of_one, of_two, kept_optional, kept_timed, timeout_of, kept_times, kept_awaited}
 use Rattle.py_statement.specs.Call.Chosen.{also, made, ended, closed}
 use Rattle.py_statement.specs.Call.Words.{after_call, after_member}
@@ -27,7 +27,7 @@ comma_behind : (ts : List Token) → IsBehind (token.Operator operator.Comma ∷
 unfolding after
 comma_behind ts = end_behind (token.Operator operator.Comma ∷ ts) refl
 
-closes_behind : (ts rest : List Token) → Closes ts rest → IsBehind ts
+pub closes_behind : (ts rest : List Token) → Closes ts rest → IsBehind ts
 unfolding after
 closes_behind ts rest h = end_behind ts (closes_end ts rest h)
 
@@ -116,25 +116,24 @@ timed_again limit (TimedCall f) ts rest (s, other) =
 
 -- ---- the times of `with_timeout`
 
-name_is : (ts : List Token) → IsGivenBy None ts (after_name (codes "timeout_unit") ts) ⊎ IsGivenBy (Some (codes "timeout_unit")) ts (after_name (codes "timeout_unit") ts)
+pub name_is : (name : List ℕ) (ts : List Token) → IsGivenBy None ts (after_name name ts) ⊎ IsGivenBy (Some name) ts (after_name name ts)
 unfolding after
-name_is ts = go (named_at ts) refl
+name_is name ts = go (named_at ts) refl
   where
-    named : (x : List ℕ × List Token) → named_at ts ≡ Some x → (b : Bool) → bytes_eq x.0 (codes "timeout_unit") ≡ b
-        → IsGivenBy None ts (if b then x.1 else ts) ⊎ IsGivenBy (Some (codes "timeout_unit")) ts (if b then x.1 else ts)
-    named x q true k = inr (named_at_is ts x q ∙ ap (λ m. token.Name m ∷ token.Operator operator.Assign ∷ x.1) (bytes_are x.0 (codes "timeout_unit") k))
+    named : (x : List ℕ × List Token) → named_at ts ≡ Some x → (b : Bool) → bytes_eq x.0 name ≡ b
+        → IsGivenBy None ts (if b then x.1 else ts) ⊎ IsGivenBy (Some name) ts (if b then x.1 else ts)
+    named x q true k = inr (named_at_is ts x q ∙ ap (λ m. token.Name m ∷ token.Operator operator.Assign ∷ x.1) (bytes_are x.0 name k))
     named x q false k = inl refl
 
-    go : (o : Option (List ℕ × List Token)) → named_at ts ≡ o
-        → IsGivenBy None ts (after_name_by (codes "timeout_unit") ts o) ⊎ IsGivenBy (Some (codes "timeout_unit")) ts (after_name_by (codes "timeout_unit") ts o)
+    go : (o : Option (List ℕ × List Token)) → named_at ts ≡ o → IsGivenBy None ts (after_name_by name ts o) ⊎ IsGivenBy (Some name) ts (after_name_by name ts o)
     go None q = inl refl
-    go (Some x) q = named x q (bytes_eq x.0 (codes "timeout_unit")) refl
+    go (Some x) q = named x q (bytes_eq x.0 name) refl
 
-name_again : (ts us rest : List Token) (e : Tree) → IsGivenBy None ts us ⊎ IsGivenBy (Some (codes "timeout_unit")) ts us → Spells e us rest → after_assign rest ≡ None
-    → after_name (codes "timeout_unit") ts ≡ us
+pub name_again : (name : List ℕ) (ts us rest : List Token) (e : Tree) → IsGivenBy None ts us ⊎ IsGivenBy (Some name) ts us → Spells e us rest → after_assign rest ≡ None
+    → after_name name ts ≡ us
 unfolding after
-name_again ts us rest e (inl g) s h = rw (g, (starts e us rest s).2 h)
-name_again ts us rest e (inr g) s h = rw g
+name_again name ts us rest e (inl g) s h = rw (g, (starts e us rest s).2 h)
+name_again name ts us rest e (inr g) s h = rw (g, bytes_same name)
 
 argument_comma_is : (ts us : List Token) → after_argument_comma ts ≡ Some us → ts ≡ token.Operator operator.Comma ∷ us
 unfolding after_argument_comma after
@@ -155,21 +154,21 @@ unit_sound limit ts v h = go (after_argument_comma ts) refl h
         let (closes, same) = closed_is (of_one (λ e. Some e) x.0) v x.1 b in
         let (e, s, is) = value_sound limit (after_name (codes "timeout_unit") us) x.1 x.0 a in (
           Some e,
-          (us, after_name (codes "timeout_unit") us, x.1, argument_comma_is ts us q, name_is us, s, closes),
+          (us, after_name (codes "timeout_unit") us, x.1, argument_comma_is ts us q, name_is (codes "timeout_unit") us, s, closes),
           sym same ∙ ap (λ z. of_one (λ t. Some t) z) is,
         )
 
-given_begins : (e : Tree) (us vs ws : List Token) → IsGivenBy None us vs ⊎ IsGivenBy (Some (codes "timeout_unit")) us vs → Spells e vs ws → after_close us ≡ None
+pub given_begins : (name : List ℕ) (e : Tree) (us vs ws : List Token) → IsGivenBy None us vs ⊎ IsGivenBy (Some name) us vs → Spells e vs ws → after_close us ≡ None
 unfolding after
-given_begins e us vs ws (inl g) s = rw g (starts e vs ws s).0
-given_begins e us vs ws (inr g) s = rw g
+given_begins name e us vs ws (inl g) s = rw g (starts e vs ws s).0
+given_begins name e us vs ws (inr g) s = rw g
 
 unit_again : (limit : ℕ) (u : Option Tree) (ts : List Token) → SpellsUnit u ts → unit_of limit ts ≡ Some (kept_optional (kept limit) u)
 unfolding unit_of after_argument_comma after
 unit_again limit None ts closes = rw (closes_again ts [] closes) (closed_again (None, 0) ts closes)
 unit_again limit (Some e) ts (us, vs, ws, comma, given, s, closes) =
     let is = closes_behind ws [] closes in
-    rw (comma, given_begins e us vs ws given s, name_again us vs ws e given s is.1, value_again limit e vs ws s is.0) (closed_again (of_one (λ t. Some t) (kept limit e)) ws closes)
+    rw (comma, given_begins (codes "timeout_unit") e us vs ws given s, name_again (codes "timeout_unit") us vs ws e given s is.1, value_again limit e vs ws s is.0) (closed_again (of_one (λ t. Some t) (kept limit e)) ws closes)
 
 times_sound : (limit : ℕ) (ts : List Token) (v : (Tree × Option Tree) × ℕ) → times_of limit ts ≡ Some v
     → (e : Tree) × (u : Option Tree) × (us : List Token) × Spells e ts us × SpellsUnit u us × (v ≡ kept_times limit e u)

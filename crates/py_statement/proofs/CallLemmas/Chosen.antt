@@ -50,3 +50,8 @@ choice_is false x y e = absurd (not_some e)
 pub and_is : (a b : Bool) → (a && b) ≡ true → (a ≡ true) × (b ≡ true)
 and_is true b h = (refl, h)
 and_is false b h = absurd cc
+
+-- a choice whose one side is a reading
+pub when : {A : Type 0} (b : Bool) (o : Option A) (y : A) → (if b then o else None) ≡ Some y → (b ≡ true) × (o ≡ Some y)
+when true o y h = (refl, h)
+when false o y h = absurd (not_some h)

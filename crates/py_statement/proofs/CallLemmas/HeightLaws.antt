@@ -1,9 +1,9 @@
 -- What is kept of a form is the form with its height, where that is within the limit.
 use Rattle.std.proofs.Common.{◌≡◌, ℕ, ◌-◌, ◌<◌, ◌≤◌, max, List, [], ◌∷◌, Option, Some, None, refl, ap, ◌∙◌, arith, ◌⊎◌, inl, inr}
 use Rattle.py_syntax.specs.ExpressionTrees.{Tree, height}
-use Rattle.py_syntax.specs.StatementTrees.{Argument, StartedCall, FunctionCall, ClockStart, Timed, TimedValue, TimedCall, Awaited, AwaitedValue, AwaitedCall, AwaitedStart, WithTimeout, RightSide, RightValue, RightAwait, RightStart, NewEvent, NewLock, RandomInt, optional_height, greatest, argument_height, started_height, timed_height, awaited_height, right_height}
+use Rattle.py_syntax.specs.StatementTrees.{Argument, StartedCall, FunctionCall, ClockStart, QueuePut, QueueGet, Timed, TimedValue, TimedCall, Awaited, AwaitedValue, AwaitedCall, AwaitedStart, WithTimeout, RightSide, RightValue, RightAwait, RightStart, NewEvent, NewLock, RandomInt, NewQueue, GetNow, WriteAction, Force, Freeze, Release, optional_height, greatest, argument_height, started_height, timed_height, awaited_height, right_height, write_action_height}
 use Rattle.py_expression.proofs.Nodes.{at_most_or_more}
-use Rattle.py_statement.specs.Call.Kept.{kept, of_one, of_two, kept_optional, kept_list, given_as, kept_argument, kept_arguments, kept_started, kept_timed, timeout_of, kept_times, kept_awaited, kept_right}
+use Rattle.py_statement.specs.Call.Kept.{kept, of_one, of_two, kept_optional, kept_list, given_as, kept_argument, kept_arguments, kept_started, kept_timed, timeout_of, kept_times, kept_awaited, kept_right, kept_write_action}
 use Rattle.py_statement.proofs.CallLemmas.ValueLaws.{lowered_low, lowered_high}
 
 -- of a form of this height this is kept
@@ -51,6 +51,8 @@ arguments_fit limit xs = list_fits limit argument_height (kept_argument limit) (
 pub started_fits : (limit : ℕ) (f : StartedCall) → Fits limit f (started_height f) (kept_started limit f)
 started_fits limit (FunctionCall n xs) = one_fits limit (FunctionCall n) xs _ _ (arguments_fit limit xs)
 started_fits limit (ClockStart e xs) = two_fits limit ClockStart e xs _ _ _ _ (kept_fits limit e) (arguments_fit limit xs)
+started_fits limit (QueuePut e x) = two_fits limit QueuePut e x _ _ _ _ (kept_fits limit e) (kept_fits limit x)
+started_fits limit (QueueGet e) = one_fits limit QueueGet e _ _ (kept_fits limit e)
 
 timed_fits : (limit : ℕ) (x : Timed) → Fits limit x (timed_height x) (kept_timed limit x)
 timed_fits limit (TimedValue e) = one_fits limit TimedValue e _ _ (kept_fits limit e)
@@ -72,3 +74,10 @@ right_fits limit (RightStart f) = one_fits limit RightStart f _ _ (started_fits 
 right_fits limit NewEvent = none_fits limit NewEvent
 right_fits limit NewLock = none_fits limit NewLock
 right_fits limit (RandomInt a b) = two_fits limit RandomInt a b _ _ _ _ (kept_fits limit a) (kept_fits limit b)
+right_fits limit (NewQueue e) = one_fits limit NewQueue e _ _ (optional_fits limit height (kept limit) (kept_fits limit) e)
+right_fits limit (GetNow e) = one_fits limit GetNow e _ _ (kept_fits limit e)
+
+pub write_action_fits : (limit : ℕ) (w : WriteAction) → Fits limit w (write_action_height w) (kept_write_action limit w)
+write_action_fits limit (Force e) = one_fits limit Force e _ _ (kept_fits limit e)
+write_action_fits limit Freeze = none_fits limit Freeze
+write_action_fits limit Release = none_fits limit Release

@@ -5,29 +5,25 @@ use Rattle.std.specs.Str.{bytes_eq}
 use Rattle.py_syntax.specs.ExpressionTrees.{Tree, Constant, FormatString, Name, Bracketed, Attribute, Subscript, Call, MethodCall, Unary, Infix, Trees, NoTree, Then}
 use Rattle.py_syntax.specs.ExpressionTables.{prefix_level, function_name, method_of}
 use Rattle.py_syntax.specs.ExpressionSpells.{level, Closes, Spells, SpellArguments, SpellOthers}
-use Rattle.py_syntax.specs.StatementTrees.{Argument, StartedCall, FunctionCall, ClockStart}
-use Rattle.py_syntax.specs.CallForms.{call_tokens, method_tokens, in_order_behind, in_order, starts_clock, SpellsArguments, SpellsOthers, SpellsStarted}
+use Rattle.py_syntax.specs.StatementTrees.{Argument, StartedCall, FunctionCall, ClockStart, QueuePut, QueueGet}
+use Rattle.py_syntax.specs.CallForms.{call_tokens, method_tokens, in_order_behind, in_order, starts_clock, SpellsArguments, SpellsOthers, SpellsValues, SpellsStarted}
 use Rattle.py_syntax.specs.declared.expression.Function.{Function}
 use Rattle.py_syntax.specs.declared.operator.Operator.TheVariants as operator
 use Rattle.py_syntax.specs.declared.operator.Bracket.TheVariants as bracket
 use Rattle.py_syntax.specs.declared.token.Token.{Token}
 use Rattle.py_syntax.specs.declared.token.Token.TheVariants as token
-use Rattle.py_expression.specs.Shown.{Shown, shown}
-use Rattle.py_expression.specs.Attributes.{split_of}
-use Rattle.py_expression.proofs.AttributeLaws.{split_is}
-use Rattle.py_expression.specs.Phrase.Marks.{after, after_open}
-use Rattle.py_expression.specs.Reading.{primary_of}
-use Rattle.py_expression.specs.Ends.{IsPlain, IsRead}
+use Rattle.py_expression.specs.Phrase.Marks.{after, after_close}
+use Rattle.py_expression.specs.Ends.{IsPlain}
 use Rattle.py_expression.proofs.Tables.{prefix_range, level_below}
-use Rattle.py_expression.proofs.ReaderLaws.{primary_sound, primary_again}
-use Rattle.py_expression.proofs.PhraseLemmas.Facts.{some_same, after_open_is, bytes_are}
-use Rattle.py_statement.specs.Call.Kept.{lowered, kept, of_one, of_two, given_as, kept_list, kept_arguments, kept_started}
+use Rattle.py_expression.proofs.PhraseLemmas.Facts.{some_same, after_close_is, bytes_are}
+use Rattle.py_statement.specs.Call.Kept.{kept, of_one, of_two, given_as, kept_list, kept_arguments, kept_started}
 use Rattle.py_statement.specs.Call.Chosen.{also, or_else, closed}
 use Rattle.py_statement.specs.Call.Words.{call_at, is_end}
-use Rattle.py_statement.specs.Call.Reading.{arguments_of, function_call_by, function_call_of, owner_of, clock_start_by, clock_start_from, clock_start_of, started_of, closed_start_of}
-use Rattle.py_statement.proofs.CallLemmas.Chosen.{not_some, also_is, or_is, choice_is, and_is, closed_is, closed_again}
+use Rattle.py_statement.specs.Call.Reading.{arguments_of, only_value_of, method_at, function_call_by, function_call_of, clock_start_by, clock_start_of, queue_put_of, queue_get_of, method_start_by, method_start_of, started_of, closed_start_of}
+use Rattle.py_statement.proofs.CallLemmas.Chosen.{not_some, also_is, made_is, or_is, choice_is, and_is, closed_is, closed_again}
 use Rattle.py_statement.proofs.CallLemmas.ArgumentLaws.{arguments_sound, arguments_again}
-use Rattle.py_statement.proofs.CallLemmas.ValueLaws.{shown_is_attribute, attribute_is_shown, kept_attribute, stops_open}
+use Rattle.py_statement.proofs.CallLemmas.ValueListLaws.{only_value_sound, only_value_again}
+use Rattle.py_statement.proofs.CallLemmas.MethodLaws.{method_sound, method_again}
 use Rattle.py_statement.proofs.CallLemmas.WordLaws.{call_at_is, closes_end}
 
 -- ---- what is kept of arguments has their names
@@ -76,80 +72,102 @@ function_call_again : (limit : ℕ) (n : List ℕ) (xs : List Argument) (ts rest
 unfolding function_call_of function_call_by after
 function_call_again limit n xs ts rest (us, e, s, order) end = rw (e, arguments_again limit xs us rest s, in_order_kept limit false xs, order, end)
 
--- ---- the start of a clock
+-- ---- the start of a clock, a put and a get
 
-owner_is : (name : List ℕ) (t e : Tree) → owner_of name t ≡ Some e → t ≡ Attribute e name
-unfolding owner_of
-owner_is name t e h =
-    let (x, a, b) = also_is (split_of t) (λ y. if bytes_eq y.1 name then Some y.0 else None) e h in
-    let (p, same) = choice_is (bytes_eq x.1 name) x.0 e b in
-    split_is t x a ∙ ap (λ m. Attribute x.0 m) (bytes_are x.1 name p) ∙ ap (λ c. Attribute c name) same
+abbrev pub Found : ℕ → List Token → List Token → StartedCall × ℕ → Type 0
+Found limit ts rest v = (f : StartedCall) × SpellsStarted f ts rest × (v ≡ kept_started limit f)
 
--- an attribute that is read, and the tokens after it
-pub attribute_read : (limit : ℕ) (ts rest : List Token) (x : Shown) (b : Tree) (name : List ℕ) → primary_of limit ts ≡ Some (x, rest) → x.tree ≡ Attribute b name
-    → (e : Tree) × Spells e ts (token.Operator operator.Dot ∷ token.Name name ∷ rest) × (level e ≡ 12) × (lowered limit 1 b x.height ≡ kept limit e) × (x ≡ shown limit (Attribute e name))
-unfolding Spells
-attribute_read limit ts rest x b name h at =
-    let is : IsRead limit 12 ts x rest = primary_sound limit ts rest x h in
-    let (e, tree) = shown_is_attribute limit is.tree b name (ap (λ (s : Shown). s.tree) (sym is.kept) ∙ at) in
-    let same : x ≡ shown limit (Attribute e name) = is.kept ∙ ap (shown limit) tree in
-    let (us, s, l, eq) = subst (λ t. Spells t ts rest) tree is.spells in (
-      e,
-      subst (λ vs. Spells e ts vs) eq s,
-      l,
-      ap (λ (s : Shown). lowered limit 1 b s.height) same ∙ kept_attribute limit e name b name (ap (λ (s : Shown). s.tree) (sym same) ∙ at),
-      same,
-    )
-
-clock_start_sound : (limit : ℕ) (ts rest : List Token) (v : StartedCall × ℕ) → clock_start_of limit ts ≡ Some (v, rest) → (f : StartedCall) × SpellsStarted f ts rest × (v ≡ kept_started limit f)
-unfolding clock_start_of clock_start_from clock_start_by after
-clock_start_sound limit ts rest v h =
-    let (x, a, b) = also_is (primary_of limit ts) (clock_start_from limit) (v, rest) h in
-    let (c, d, e) = also_is (owner_of (codes "start") x.0.tree) (λ k. also (after_open x.1) (λ us. also (arguments_of limit us) (clock_start_by (lowered limit 1 k x.0.height)))) (v, rest) b in
-    let (us, f, g) = also_is (after_open x.1) (λ ws. also (arguments_of limit ws) (clock_start_by (lowered limit 1 c x.0.height))) (v, rest) e in
-    let (y, i, j) = also_is (arguments_of limit us) (clock_start_by (lowered limit 1 c x.0.height)) (v, rest) g in
-    let (p, same) = choice_is (starts_clock y.0.0) (of_two ClockStart (lowered limit 1 c x.0.height) y.0, y.1) (v, rest) j in
-    let (xs, s, k) = arguments_sound limit us y.1 y.0 i in
-    let (t, st, l, low, is) = attribute_read limit ts x.1 x.0 c (codes "start") a (owner_is (codes "start") x.0.tree c d) in (
+clock_start_sound : (limit : ℕ) (t : Tree) (ts us rest : List Token) (v : StartedCall × ℕ) → Spells t ts (method_tokens (codes "start") us) → level t ≡ 12
+    → clock_start_of limit (kept limit t) us ≡ Some (v, rest) → Found limit ts rest v
+unfolding clock_start_of clock_start_by after
+clock_start_sound limit t ts us rest v st l h =
+    let (y, i, j) = also_is (arguments_of limit us) (clock_start_by (kept limit t)) (v, rest) h in
+    let (p, same) = choice_is (starts_clock y.0.0) (of_two ClockStart (kept limit t) y.0, y.1) (v, rest) j in
+    let (xs, s, k) = arguments_sound limit us y.1 y.0 i in (
       ClockStart t xs,
       (
-        token.Operator operator.Dot ∷ token.Name (codes "start") ∷ x.1,
+        method_tokens (codes "start") us,
         us,
         st,
         l,
-        ap (λ ws. token.Operator operator.Dot ∷ token.Name (codes "start") ∷ ws) (after_open_is x.1 us f),
+        refl,
         subst (λ ws. SpellsArguments xs us ws) (ap (λ (w : (StartedCall × ℕ) × List Token). w.1) same) s,
         sym (clock_kept limit xs) ∙ ap (λ (w : List Argument × ℕ). starts_clock w.0) (sym k) ∙ p,
       ),
-      sym (ap (λ (w : (StartedCall × ℕ) × List Token). w.0) same) ∙ ap (λ w. of_two ClockStart w y.0) low ∙ ap (λ w. of_two ClockStart (kept limit t) w) k,
+      sym (ap (λ (w : (StartedCall × ℕ) × List Token). w.0) same) ∙ ap (λ w. of_two ClockStart (kept limit t) w) k,
     )
 
--- an attribute that an opening bracket follows is read
-pub attribute_again : (limit : ℕ) (e : Tree) (name : List ℕ) (ts us : List Token) → Spells e ts (method_tokens name us) → level e ≡ 12 → IsPlain (Attribute e name)
-    → primary_of limit ts ≡ Some (shown limit (Attribute e name), token.Open bracket.Round ∷ us)
-unfolding Spells level
-attribute_again limit e name ts us s l p =
-    primary_again limit (Attribute e name) ts (token.Open bracket.Round ∷ us) (method_tokens name us, s, l, refl) (omega arith) (stops_open 12 (Attribute e name) us (omega arith) p)
+queue_put_sound : (limit : ℕ) (t : Tree) (ts us rest : List Token) (v : StartedCall × ℕ) → Spells t ts (method_tokens (codes "put") us) → level t ≡ 12
+    → queue_put_of limit (kept limit t) us ≡ Some (v, rest) → Found limit ts rest v
+unfolding queue_put_of after
+queue_put_sound limit t ts us rest v st l h =
+    let (x, a, b) = made_is (only_value_of limit us) (λ y. (of_two QueuePut (kept limit t) y.0, y.1)) (v, rest) h in
+    let (e, s, k) = only_value_sound limit us x.1 x.0 a in (
+      QueuePut t e,
+      (method_tokens (codes "put") us, us, st, l, refl, subst (λ ws. SpellsValues (e ∷ []) us ws) (ap (λ (w : (StartedCall × ℕ) × List Token). w.1) b) s),
+      sym (ap (λ (w : (StartedCall × ℕ) × List Token). w.0) b) ∙ ap (λ w. of_two QueuePut (kept limit t) w) k,
+    )
+
+queue_get_sound : (limit : ℕ) (t : Tree) (ts us rest : List Token) (v : StartedCall × ℕ) → Spells t ts (method_tokens (codes "get") us) → level t ≡ 12
+    → queue_get_of (kept limit t) us ≡ Some (v, rest) → Found limit ts rest v
+unfolding queue_get_of after
+queue_get_sound limit t ts us rest v st l h =
+    let (ws, a, b) = made_is (after_close us) (λ zs. (of_one QueueGet (kept limit t), zs)) (v, rest) h in
+    let close : us ≡ token.Close bracket.Round ∷ rest = after_close_is us ws a ∙ ap (λ (w : (StartedCall × ℕ) × List Token). token.Close bracket.Round ∷ w.1) b in
+    (QueueGet t, (method_tokens (codes "get") us, st, l, ap (λ zs. method_tokens (codes "get") zs) close), sym (ap (λ (w : (StartedCall × ℕ) × List Token). w.0) b))
+
+named : (t : Tree) (name word : List ℕ) (ts us : List Token) → bytes_eq name word ≡ true → Spells t ts (method_tokens name us) → Spells t ts (method_tokens word us)
+named t name word ts us h s = subst (λ n. Spells t ts (method_tokens n us)) (bytes_are name word h) s
+
+method_by_sound : (limit : ℕ) (t : Tree) (name : List ℕ) (ts us rest : List Token) (v : StartedCall × ℕ) → Spells t ts (method_tokens name us) → level t ≡ 12
+    → method_start_by limit (kept limit t) name us ≡ Some (v, rest) → Found limit ts rest v
+unfolding method_start_by
+method_by_sound limit t name ts us rest v s l h = go (bytes_eq name (codes "start")) (bytes_eq name (codes "put")) (bytes_eq name (codes "get")) refl refl refl h
+  where
+    go : (p q r : Bool) → bytes_eq name (codes "start") ≡ p → bytes_eq name (codes "put") ≡ q → bytes_eq name (codes "get") ≡ r
+        → (if p then clock_start_of limit (kept limit t) us else (if q then queue_put_of limit (kept limit t) us else (if r then queue_get_of (kept limit t) us else None))) ≡ Some (v, rest)
+        → Found limit ts rest v
+    go true q r hp hq hr k = clock_start_sound limit t ts us rest v (named t name (codes "start") ts us hp s) l k
+    go false true r hp hq hr k = queue_put_sound limit t ts us rest v (named t name (codes "put") ts us hq s) l k
+    go false false true hp hq hr k = queue_get_sound limit t ts us rest v (named t name (codes "get") ts us hr s) l k
+    go false false false hp hq hr k = absurd (not_some k)
+
+method_start_sound : (limit : ℕ) (ts rest : List Token) (v : StartedCall × ℕ) → method_start_of limit ts ≡ Some (v, rest) → Found limit ts rest v
+unfolding method_start_of
+method_start_sound limit ts rest v h =
+    let (m, a, b) = also_is (method_at limit ts) (λ n. method_start_by limit n.0 n.1.0 n.1.1) (v, rest) h in
+    let (t, s, l, k) = method_sound limit ts m a in
+    method_by_sound limit t m.1.0 ts m.1.1 rest v s l (sym (ap (λ e. method_start_by limit e m.1.0 m.1.1) k) ∙ b)
 
 start_plain : (e : Tree) → IsPlain (Attribute e (codes "start"))
 unfolding IsPlain method_of
 start_plain e = refl
 
-clock_from : (limit : ℕ) (e b : Tree) (xs : List Argument) (vs rest : List Token) → (shown limit (Attribute e (codes "start"))).tree ≡ Attribute b (codes "start")
-    → SpellsArguments xs vs rest → starts_clock xs ≡ true
-    → clock_start_from limit (shown limit (Attribute e (codes "start")), token.Open bracket.Round ∷ vs) ≡ Some (kept_started limit (ClockStart e xs), rest)
-unfolding clock_start_from clock_start_by owner_of split_of after
-clock_from limit e b xs vs rest at s fits =
-    rw (at, arguments_again limit xs vs rest s, clock_kept limit xs, fits, kept_attribute limit e (codes "start") b (codes "start") at)
+put_plain : (e : Tree) → IsPlain (Attribute e (codes "put"))
+unfolding IsPlain method_of
+put_plain e = refl
 
-clock_start_again : (limit : ℕ) (e : Tree) (xs : List Argument) (ts rest : List Token) → SpellsStarted (ClockStart e xs) ts rest
-    → clock_start_of limit ts ≡ Some (kept_started limit (ClockStart e xs), rest)
-unfolding clock_start_of after
-clock_start_again limit e xs ts rest (us, vs, s, l, eq, sa, fits) =
-    let (b, at) = attribute_is_shown limit e (codes "start") in
-    rw (attribute_again limit e (codes "start") ts vs (subst (λ ws. Spells e ts ws) eq s) l (start_plain e)) (clock_from limit e b xs vs rest at sa fits)
+get_plain : (e : Tree) → IsPlain (Attribute e (codes "get"))
+unfolding IsPlain method_of
+get_plain e = refl
 
--- ---- a call at the front of a clock's start
+clock_start_again : (limit : ℕ) (e : Tree) (xs : List Argument) (ts us rest : List Token) → Spells e ts (method_tokens (codes "start") us) → level e ≡ 12
+    → SpellsArguments xs us rest → starts_clock xs ≡ true → method_start_of limit ts ≡ Some (kept_started limit (ClockStart e xs), rest)
+unfolding method_start_of method_start_by clock_start_of clock_start_by
+clock_start_again limit e xs ts us rest s l sa fits =
+    rw (method_again limit e (codes "start") ts us s l (start_plain e), arguments_again limit xs us rest sa, clock_kept limit xs, fits)
+
+queue_put_again : (limit : ℕ) (e x : Tree) (ts us rest : List Token) → Spells e ts (method_tokens (codes "put") us) → level e ≡ 12
+    → SpellsValues (x ∷ []) us rest → method_start_of limit ts ≡ Some (kept_started limit (QueuePut e x), rest)
+unfolding method_start_of method_start_by queue_put_of
+queue_put_again limit e x ts us rest s l sv = rw (method_again limit e (codes "put") ts us s l (put_plain e), only_value_again limit x us rest sv)
+
+queue_get_again : (limit : ℕ) (e : Tree) (ts rest : List Token) → Spells e ts (method_tokens (codes "get") (token.Close bracket.Round ∷ rest)) → level e ≡ 12
+    → method_start_of limit ts ≡ Some (kept_started limit (QueueGet e), rest)
+unfolding method_start_of method_start_by queue_get_of after
+queue_get_again limit e ts rest s l = rw (method_again limit e (codes "get") ts (token.Close bracket.Round ∷ rest) s l (get_plain e))
+
+-- ---- a call at the front of a method's call
 
 mutual
   unfolding SpellArguments SpellOthers
@@ -208,20 +226,20 @@ heads (Unary op x) n us rest l s = go (prefix_range op)
     go (inr k) = absurd (omega arith)
 heads (Infix op x y) n us rest l s = absurd (omega (arith, (level_below op).1))
 
--- Where a clock's start stands, no call of a function stands that ends as a started call does.
-no_function_call : (limit : ℕ) (e : Tree) (ts vs rest : List Token) (v : StartedCall × ℕ) → Spells e ts (method_tokens (codes "start") vs) → level e ≡ 12
+-- Where a method's call stands, no call of a function stands that ends as a started call does.
+no_function_call : (limit : ℕ) (e : Tree) (name : List ℕ) (ts vs rest : List Token) (v : StartedCall × ℕ) → Spells e ts (method_tokens name vs) → level e ≡ 12
     → function_call_of limit ts ≡ Some (v, rest) → ⊥
-no_function_call limit e ts vs rest v s l h =
+no_function_call limit e name ts vs rest v s l h =
     let (n, us, xs, eq, sa, order, end, k) = function_call_is limit ts rest v h in
-    go us xs sa end (heads e n us (method_tokens (codes "start") vs) l (subst (λ ws. Spells e ws (method_tokens (codes "start") vs)) eq s))
+    go us xs sa end (heads e n us (method_tokens name vs) l (subst (λ ws. Spells e ws (method_tokens name vs)) eq s))
   where
     ends : (us mid : List Token) (xs ys : List Argument) → SpellsArguments xs us rest → SpellsArguments ys us mid → is_end rest ≡ true → is_end mid ≡ false → ⊥
     ends us mid xs ys a b does never =
         let same : rest ≡ mid = ap (λ (w : (List Argument × ℕ) × List Token). w.1) (some_same (sym (arguments_again limit xs us rest a) ∙ arguments_again limit ys us mid b)) in
         let both : true ≡ false = sym does ∙ ap is_end same ∙ never in cc
 
-    go : (us : List Token) (xs : List Argument) → SpellsArguments xs us rest → is_end rest ≡ true → Heads us (method_tokens (codes "start") vs) → ⊥
-    go us xs sa end (inl eq) = no_dot us (method_tokens (codes "start") vs) _ refl eq
+    go : (us : List Token) (xs : List Argument) → SpellsArguments xs us rest → is_end rest ≡ true → Heads us (method_tokens name vs) → ⊥
+    go us xs sa end (inl eq) = no_dot us (method_tokens name vs) _ refl eq
     go us xs sa end (inr (ys, mid, sy, inl eq)) = ends us mid xs ys sa sy end (ap is_end eq)
     go us xs sa end (inr (ys, mid, sy, inr never)) = ends us mid xs ys sa sy end never
 
@@ -229,23 +247,34 @@ no_function_call limit e ts vs rest v s l h =
 
 pub started_sound : (limit : ℕ) (ts rest : List Token) (v : StartedCall × ℕ) → started_of limit ts ≡ Some (v, rest) → (f : StartedCall) × SpellsStarted f ts rest × (v ≡ kept_started limit f)
 unfolding started_of
-started_sound limit ts rest v h = go (or_is (function_call_of limit ts) (clock_start_of limit ts) (v, rest) h)
+started_sound limit ts rest v h = go (or_is (function_call_of limit ts) (method_start_of limit ts) (v, rest) h)
   where
-    go : (function_call_of limit ts ≡ Some (v, rest)) ⊎ ((function_call_of limit ts ≡ None) × (clock_start_of limit ts ≡ Some (v, rest)))
+    go : (function_call_of limit ts ≡ Some (v, rest)) ⊎ ((function_call_of limit ts ≡ None) × (method_start_of limit ts ≡ Some (v, rest)))
         → (f : StartedCall) × SpellsStarted f ts rest × (v ≡ kept_started limit f)
     go (inl k) = function_call_sound limit ts rest v k
-    go (inr k) = clock_start_sound limit ts rest v k.1
+    go (inr k) = method_start_sound limit ts rest v k.1
+
+method_only : (limit : ℕ) (e : Tree) (name : List ℕ) (ts vs : List Token) (v : (StartedCall × ℕ) × List Token) → Spells e ts (method_tokens name vs) → level e ≡ 12
+    → method_start_of limit ts ≡ Some v → started_of limit ts ≡ Some v
+unfolding started_of
+method_only limit e name ts vs v s l h = go (function_call_of limit ts) refl
+  where
+    go : (o : Option ((StartedCall × ℕ) × List Token)) → function_call_of limit ts ≡ o → or_else o (method_start_of limit ts) ≡ Some v
+    go None q = h
+    go (Some y) q = absurd (no_function_call limit e name ts vs y.1 y.0 s l q)
 
 pub started_again : (limit : ℕ) (f : StartedCall) (ts rest : List Token) → SpellsStarted f ts rest → is_end rest ≡ true → started_of limit ts ≡ Some (kept_started limit f, rest)
 unfolding started_of
 started_again limit (FunctionCall n xs) ts rest s end = rw (function_call_again limit n xs ts rest s end)
-started_again limit (ClockStart e xs) ts rest s end = go (function_call_of limit ts) refl
-  where
-    go : (o : Option ((StartedCall × ℕ) × List Token)) → function_call_of limit ts ≡ o → or_else o (clock_start_of limit ts) ≡ Some (kept_started limit (ClockStart e xs), rest)
-    go None q = clock_start_again limit e xs ts rest s
-    go (Some y) q =
-        let (us, vs, sp, l, eq, sa, fits) = s in
-        absurd (no_function_call limit e ts vs y.1 y.0 (subst (λ ws. Spells e ts ws) eq sp) l q)
+started_again limit (ClockStart e xs) ts rest (us, vs, s, l, eq, sa, fits) end =
+    let st = subst (λ ws. Spells e ts ws) eq s in
+    method_only limit e (codes "start") ts vs (kept_started limit (ClockStart e xs), rest) st l (clock_start_again limit e xs ts vs rest st l sa fits)
+started_again limit (QueuePut e x) ts rest (us, vs, s, l, eq, sv) end =
+    let st = subst (λ ws. Spells e ts ws) eq s in
+    method_only limit e (codes "put") ts vs (kept_started limit (QueuePut e x), rest) st l (queue_put_again limit e x ts vs rest st l sv)
+started_again limit (QueueGet e) ts rest (us, s, l, eq) end =
+    let st = subst (λ ws. Spells e ts ws) eq s in
+    method_only limit e (codes "get") ts (token.Close bracket.Round ∷ rest) (kept_started limit (QueueGet e), rest) st l (queue_get_again limit e ts rest st l)
 
 pub closed_start_sound : (limit : ℕ) (ts : List Token) (v : StartedCall × ℕ) → closed_start_of limit ts ≡ Some v → (f : StartedCall) × (us : List Token) × SpellsStarted f ts us × Closes us [] × (v ≡ kept_started limit f)
 unfolding closed_start_of

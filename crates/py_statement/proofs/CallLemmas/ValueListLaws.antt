@@ -1,12 +1,14 @@
 -- The laws of reading arguments that are given by their places alone.
-use Rattle.std.proofs.Common.{◌≡◌, ℕ, List, [], ◌∷◌, map, Option, Some, None, refl, sym, ap, ◌∙◌, subst, true}
+use Rattle.std.proofs.Common.{◌≡◌, ℕ, max, List, [], ◌∷◌, map, Option, Some, None, refl, sym, ap, ◌∙◌, arith, subst, true}
 use Rattle.py_syntax.specs.ExpressionTrees.{Tree}
 use Rattle.py_syntax.specs.StatementTrees.{Argument}
 use Rattle.py_syntax.specs.CallForms.{is_placed, placed, SpellsArguments, SpellsValues}
 use Rattle.py_syntax.specs.declared.token.Token.{Token}
+use Rattle.py_expression.proofs.PhraseLemmas.Facts.{some_same}
 use Rattle.py_statement.specs.Call.Kept.{kept, given_as, kept_list, kept_arguments}
-use Rattle.py_statement.specs.Call.Reading.{arguments_of, are_placed, values, only_placed, values_of}
-use Rattle.py_statement.proofs.CallLemmas.Chosen.{also_is, choice_is, and_is}
+use Rattle.py_statement.specs.Call.Chosen.{made}
+use Rattle.py_statement.specs.Call.Reading.{arguments_of, are_placed, values, only_placed, values_of, one_of, only_value_of}
+use Rattle.py_statement.proofs.CallLemmas.Chosen.{not_some, also_is, made_is, choice_is, and_is}
 use Rattle.py_statement.proofs.CallLemmas.ArgumentLaws.{arguments_sound, arguments_again}
 
 kept_placed : (limit : ℕ) (es : List Tree) → kept_arguments limit (map placed es) ≡ (map placed (kept_list (kept limit) es).0, (kept_list (kept limit) es).1)
@@ -56,3 +58,28 @@ pub values_again : (limit : ℕ) (es : List Tree) (ts rest : List Token) → Spe
 unfolding values_of
 values_again limit es ts rest s =
     rw (arguments_again limit (map placed es) ts rest s, kept_placed limit es, placed_all (kept_list (kept limit) es).0, values_placed (kept_list (kept limit) es).0)
+
+-- ---- one
+
+one_kept : (limit : ℕ) (es : List Tree) (x : Tree) → one_of (kept_list (kept limit) es).0 ≡ Some x → (e : Tree) × (es ≡ e ∷ []) × ((x, (kept_list (kept limit) es).1) ≡ kept limit e)
+unfolding kept_list
+one_kept limit [] x h = absurd (not_some h)
+one_kept limit (e ∷ []) x h = (e, refl, ap (λ t. (t, max (kept limit e).1 0)) (sym (some_same h)) ∙ ap (λ n. ((kept limit e).0, n)) (let k : max (kept limit e).1 0 ≡ (kept limit e).1 = omega arith in k))
+one_kept limit (e ∷ f ∷ es) x h = absurd (not_some h)
+
+pub only_value_sound : (limit : ℕ) (ts rest : List Token) (v : Tree × ℕ) → only_value_of limit ts ≡ Some (v, rest) → (e : Tree) × SpellsValues (e ∷ []) ts rest × (v ≡ kept limit e)
+unfolding only_value_of
+only_value_sound limit ts rest v h =
+    let (x, a, b) = also_is (values_of limit ts) (λ y. made (λ e. ((e, y.0.1), y.1)) (one_of y.0.0)) (v, rest) h in
+    let (t, c, d) = made_is (one_of x.0.0) (λ e. ((e, x.0.1), x.1)) (v, rest) b in
+    let (es, s, k) = values_sound limit ts x.1 x.0 a in
+    let (e, list, is) = one_kept limit es t (ap (λ (w : List Tree × ℕ). one_of w.0) (sym k) ∙ c) in (
+      e,
+      subst (λ us. SpellsValues (e ∷ []) ts us) (ap (λ (w : (Tree × ℕ) × List Token). w.1) d) (subst (λ fs. SpellsValues fs ts x.1) list s),
+      sym (ap (λ (w : (Tree × ℕ) × List Token). w.0) d) ∙ ap (λ (w : List Tree × ℕ). (t, w.1)) k ∙ is,
+    )
+
+pub only_value_again : (limit : ℕ) (e : Tree) (ts rest : List Token) → SpellsValues (e ∷ []) ts rest → only_value_of limit ts ≡ Some (kept limit e, rest)
+unfolding only_value_of kept_list
+only_value_again limit e ts rest s =
+    rw (values_again limit (e ∷ []) ts rest s) (ap (λ n. Some (((kept limit e).0, n), rest)) (let k : max (kept limit e).1 0 ≡ (kept limit e).1 = omega arith in k))

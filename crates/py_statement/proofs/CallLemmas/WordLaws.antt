@@ -14,7 +14,8 @@ use Rattle.py_expression.specs.Shown.{Shown}
 use Rattle.py_expression.specs.Tokens.{operation_at}
 use Rattle.py_expression.specs.Phrase.Marks.{after, after_dot, after_open, name_at}
 use Rattle.py_expression.specs.Ends.{IsPlain}
-use Rattle.py_expression.proofs.ReaderLaws.{expression_again}
+use Rattle.py_expression.proofs.Again.{Quiet}
+use Rattle.py_expression.proofs.ReaderLaws.{expression_again, one_expression_law}
 use Rattle.py_expression.specs.declared.phrase.mark.Mark.TheVariants as mark
 use Rattle.py_expression.proofs.PhraseLemmas.Facts.{after_is, after_dot_is, bytes_same}
 use Rattle.py_expression.proofs.PhraseLemmas.Facts.{after_is, after_dot_is, some_same, name_at_is, after_open_is, bytes_are}
@@ -22,7 +23,7 @@ use Rattle.py_statement.specs.Call.Chosen.{also}
 use Rattle.py_statement.specs.Call.Words.{call_at, after_call, after_member, after_text, after_await, is_end}
 use Rattle.py_statement.proofs.CallLemmas.Chosen.{not_some, also_is, choice_is}
 use Rattle.py_statement.proofs.CallLemmas.ArgumentLaws.{IsBehind}
-use Rattle.py_statement.proofs.CallLemmas.ValueLaws.{quiet_end, stops_quiet, stops_open}
+use Rattle.py_statement.proofs.CallLemmas.ValueLaws.{same_attribute, quiet_end, stops_quiet, stops_open}
 
 pub call_at_is : (ts : List Token) (c : List ℕ × List Token) → call_at ts ≡ Some c → ts ≡ call_tokens c.0 c.1
 unfolding after
@@ -82,14 +83,22 @@ pub closes_end : (ts rest : List Token) → Closes ts rest → is_end ts ≡ tru
 closes_end ts rest (inl e) = rw e
 closes_end ts rest (inr e) = rw e
 
--- an expression that nothing goes on with, and another one that reaches to the end of the line
+-- an expression that nothing goes on with, and another one that ends elsewhere
+pub no_rest : (limit : ℕ) (e f : Tree) (ts us rest : List Token) → Spells e ts (token.Open bracket.Round ∷ us) → IsPlain e → Spells f ts rest → Quiet rest
+    → (rest ≡ token.Open bracket.Round ∷ us → ⊥) → ⊥
+unfolding after
+no_rest limit e f ts us rest s p t q never =
+    let a = expression_again limit e ts (token.Open bracket.Round ∷ us) s (stops_open 1 e us (omega arith) p) in
+    let b = expression_again limit f ts rest t (stops_quiet 1 f rest (omega arith) q) in
+    never (ap (λ (x : Shown × List Token). x.1) (some_same (sym b ∙ a)))
+
+end_no_open : (us : List Token) → [] ≡ token.Open bracket.Round ∷ us → ⊥
+end_no_open us h = cc
+
+-- the same of one that reaches to the end of the line
 pub no_other : (limit : ℕ) (e f : Tree) (ts us : List Token) → Spells e ts (token.Open bracket.Round ∷ us) → IsPlain e → Spells f ts [] → ⊥
 unfolding after
-no_other limit e f ts us s p t =
-    let a = expression_again limit e ts (token.Open bracket.Round ∷ us) s (stops_open 1 e us (omega arith) p) in
-    let b = expression_again limit f ts [] t (stops_quiet 1 f [] (omega arith) quiet_end) in
-    let same : token.Open bracket.Round ∷ us ≡ [] = ap (λ (x : Shown × List Token). x.1) (some_same (sym a ∙ b)) in
-    cc
+no_other limit e f ts us s p t = no_rest limit e f ts us [] s p t quiet_end (end_no_open us)
 
 pub no_value_call : (limit : ℕ) (name : List ℕ) (us : List Token) (e : Tree) → function_of name ≡ None → Spells e (call_tokens name us) [] → ⊥
 unfolding Spells IsPlain
@@ -98,3 +107,26 @@ no_value_call limit name us e h s = no_other limit (Name name) e (call_tokens na
 pub no_value_member : (limit : ℕ) (owner name : List ℕ) (us : List Token) (e : Tree) → method_of name ≡ None → Spells e (member_tokens owner name us) [] → ⊥
 unfolding Spells IsPlain level
 no_value_member limit owner name us e h s = no_other limit (Attribute (Name owner) name) e (member_tokens owner name us) us (method_tokens name us, refl, refl, refl) h s
+
+-- Where a name and a bracket stand, no method without brackets is called of what begins there.
+
+name_no_attribute : (n m : List ℕ) (e : Tree) → Name n ≡ Attribute e m → ⊥
+name_no_attribute n m e h = cc
+
+pub no_method_call : (name m : List ℕ) (us vs : List Token) (e : Tree) → function_of name ≡ None → method_of m ≡ None
+    → Spells e (call_tokens name us) (method_tokens m vs) → level e ≡ 12 → ⊥
+unfolding Spells IsPlain level after
+no_method_call name m us vs e h k s l =
+    name_no_attribute name m e
+    (one_expression_law (Name name) (Attribute e m) (call_tokens name us) (token.Open bracket.Round ∷ us) (token.Open bracket.Round ∷ vs) refl
+    (stops_open 1 (Name name) us (omega arith) h) (method_tokens m vs, s, l, refl) (stops_open 1 (Attribute e m) vs (omega arith) k)).0
+
+pub no_method_member : (owner name m : List ℕ) (us vs : List Token) (e : Tree) → method_of name ≡ None → method_of m ≡ None → bytes_eq name m ≡ false
+    → Spells e (member_tokens owner name us) (method_tokens m vs) → level e ≡ 12 → ⊥
+unfolding Spells IsPlain level after
+no_method_member owner name m us vs e h k other s l =
+    let same : Attribute (Name owner) name ≡ Attribute e m =
+    (one_expression_law (Attribute (Name owner) name) (Attribute e m) (member_tokens owner name us) (token.Open bracket.Round ∷ us) (token.Open bracket.Round ∷ vs)
+    (method_tokens name us, refl, refl, refl) (stops_open 1 (Attribute (Name owner) name) us (omega arith) h)
+    (method_tokens m vs, s, l, refl) (stops_open 1 (Attribute e m) vs (omega arith) k)).0 in
+    let both : false ≡ true = sym other ∙ ap (λ n. bytes_eq n m) (same_attribute (Name owner) e name m same) ∙ bytes_same m in cc

@@ -2,7 +2,7 @@
 -- parser. In the place of an expression over the limit on heights another stands, and its height counts as one above the limit.
 use Rattle.std.specs.Prelude.{ℕ, ◌+◌, ◌-◌, max, nat_le, List, [], ◌∷◌, Option, Some, None, if◌then◌else◌}
 use Rattle.py_syntax.specs.ExpressionTrees.{Tree, height}
-use Rattle.py_syntax.specs.StatementTrees.{Argument, StartedCall, FunctionCall, ClockStart, Timed, TimedValue, TimedCall, Awaited, AwaitedValue, AwaitedCall, AwaitedStart, WithTimeout, RightSide, RightValue, RightAwait, RightStart, NewEvent, NewLock, RandomInt}
+use Rattle.py_syntax.specs.StatementTrees.{Argument, StartedCall, FunctionCall, ClockStart, QueuePut, QueueGet, Timed, TimedValue, TimedCall, Awaited, AwaitedValue, AwaitedCall, AwaitedStart, WithTimeout, RightSide, RightValue, RightAwait, RightStart, NewEvent, NewLock, RandomInt, NewQueue, GetNow, WriteAction, Force, Freeze, Release}
 use Rattle.py_expression.specs.Shown.{nothing}
 
 -- an expression of this height less so many attributes, which are taken off it
@@ -40,6 +40,8 @@ kept_arguments limit xs = kept_list (kept_argument limit) xs
 abbrev pub kept_started : ℕ → StartedCall → StartedCall × ℕ
 kept_started limit (FunctionCall n xs) = of_one (FunctionCall n) (kept_arguments limit xs)
 kept_started limit (ClockStart e xs) = of_two ClockStart (kept limit e) (kept_arguments limit xs)
+kept_started limit (QueuePut e x) = of_two QueuePut (kept limit e) (kept limit x)
+kept_started limit (QueueGet e) = of_one QueueGet (kept limit e)
 
 abbrev pub kept_timed : ℕ → Timed → Timed × ℕ
 kept_timed limit (TimedValue e) = of_one TimedValue (kept limit e)
@@ -64,3 +66,10 @@ kept_right limit (RightStart f) = of_one RightStart (kept_started limit f)
 kept_right limit NewEvent = (NewEvent, 0)
 kept_right limit NewLock = (NewLock, 0)
 kept_right limit (RandomInt a b) = of_two RandomInt (kept limit a) (kept limit b)
+kept_right limit (NewQueue e) = of_one NewQueue (kept_optional (kept limit) e)
+kept_right limit (GetNow e) = of_one GetNow (kept limit e)
+
+abbrev pub kept_write_action : ℕ → WriteAction → WriteAction × ℕ
+kept_write_action limit (Force e) = of_one Force (kept limit e)
+kept_write_action limit Freeze = (Freeze, 0)
+kept_write_action limit Release = (Release, 0)

@@ -1,9 +1,9 @@
--- A means of proof: how started calls, what is awaited and right sides are read, from left to right, as functions on lists of tokens, for
--- the proofs of Python's parser. Where they give None no such form stands there.
+-- A means of proof: how started calls, what is awaited, right sides and writes that are no values are read, from left to right, as functions
+-- on lists of tokens, for the proofs of Python's parser. Where they give None no such form stands there.
 use Rattle.std.specs.Prelude.{ℕ, zero, suc, max, Bool, true, ◌&&◌, List, [], ◌∷◌, ◌++◌, map, length, Option, Some, None, codes, if◌then◌else◌}
 use Rattle.std.specs.Str.{bytes_eq}
-use Rattle.py_syntax.specs.ExpressionTrees.{Tree, Attribute}
-use Rattle.py_syntax.specs.StatementTrees.{Argument, StartedCall, FunctionCall, ClockStart, Timed, TimedValue, TimedCall, Awaited, AwaitedValue, AwaitedCall, AwaitedStart, RightSide, RightValue, RightAwait, RightStart, NewEvent, NewLock, RandomInt}
+use Rattle.py_syntax.specs.ExpressionTrees.{Tree}
+use Rattle.py_syntax.specs.StatementTrees.{Argument, StartedCall, FunctionCall, ClockStart, QueuePut, QueueGet, Timed, TimedValue, TimedCall, Awaited, AwaitedValue, AwaitedCall, AwaitedStart, RightSide, RightValue, RightAwait, RightStart, NewEvent, NewLock, RandomInt, NewQueue, GetNow, WriteAction, Force, Freeze, Release}
 use Rattle.py_syntax.specs.CallForms.{is_placed, in_order, starts_clock}
 use Rattle.py_syntax.specs.declared.token.Token.{Token}
 use Rattle.py_expression.specs.Shown.{Shown}
@@ -100,6 +100,23 @@ only_placed x = if are_placed x.0.0 then Some ((values x.0.0, x.0.1), x.1) else 
 unfoldable pub values_of : ℕ → List Token → Option ((List Tree × ℕ) × List Token)
 values_of limit ts = also (arguments_of limit ts) only_placed
 
+abbrev pub one_of : {A : Type 0} → List A → Option A
+one_of (e ∷ []) = Some e
+one_of _ = None
+
+-- the value of the only argument, which is given by its place
+unfoldable pub only_value_of : ℕ → List Token → Option ((Tree × ℕ) × List Token)
+only_value_of limit ts = also (values_of limit ts) (λ x. made (λ e. ((e, x.0.1), x.1)) (one_of x.0.0))
+
+-- Calls of methods.
+
+abbrev pub method_from : ℕ → Shown × List Token → Option ((Tree × ℕ) × (List ℕ × List Token))
+method_from limit x = also (split_of x.0.tree) (λ y. made (λ us. (lowered limit 1 y.0 x.0.height, (y.1, us))) (after_open x.1))
+
+-- the method that is called at the front: its object, its name, and the tokens behind the bracket
+unfoldable pub method_at : ℕ → List Token → Option ((Tree × ℕ) × (List ℕ × List Token))
+method_at limit ts = also (primary_of limit ts) (method_from limit)
+
 -- Calls that are started.
 
 unfoldable pub function_call_by : List ℕ → (List Argument × ℕ) × List Token → Option ((StartedCall × ℕ) × List Token)
@@ -108,24 +125,33 @@ function_call_by n x = if in_order x.0.0 && is_end x.1 then Some (of_one (Functi
 unfoldable pub function_call_of : ℕ → List Token → Option ((StartedCall × ℕ) × List Token)
 function_call_of limit ts = also (call_at ts) (λ c. also (arguments_of limit c.1) (function_call_by c.0))
 
--- the object of which an expression is the attribute of this name
-unfoldable pub owner_of : List ℕ → Tree → Option Tree
-owner_of name t = also (split_of t) (λ x. if bytes_eq x.1 name then Some x.0 else None)
-
 unfoldable pub clock_start_by : Tree × ℕ → (List Argument × ℕ) × List Token → Option ((StartedCall × ℕ) × List Token)
 clock_start_by e x = if starts_clock x.0.0 then Some (of_two ClockStart e x.0, x.1) else None
 
--- behind `clock.start`
-unfoldable pub clock_start_from : ℕ → Shown × List Token → Option ((StartedCall × ℕ) × List Token)
-clock_start_from limit x = also (owner_of (codes "start") x.0.tree)
-    (λ e. also (after_open x.1) (λ us. also (arguments_of limit us) (clock_start_by (lowered limit 1 e x.0.height))))
+-- behind `clock.start(`
+unfoldable pub clock_start_of : ℕ → Tree × ℕ → List Token → Option ((StartedCall × ℕ) × List Token)
+clock_start_of limit e ts = also (arguments_of limit ts) (clock_start_by e)
 
-unfoldable pub clock_start_of : ℕ → List Token → Option ((StartedCall × ℕ) × List Token)
-clock_start_of limit ts = also (primary_of limit ts) (clock_start_from limit)
+-- behind `queue.put(`
+unfoldable pub queue_put_of : ℕ → Tree × ℕ → List Token → Option ((StartedCall × ℕ) × List Token)
+queue_put_of limit e ts = made (λ x. (of_two QueuePut e x.0, x.1)) (only_value_of limit ts)
+
+-- behind `queue.get(`
+unfoldable pub queue_get_of : Tree × ℕ → List Token → Option ((StartedCall × ℕ) × List Token)
+queue_get_of e ts = made (λ us. (of_one QueueGet e, us)) (after_close ts)
+
+-- behind the bracket of a method of this name
+unfoldable pub method_start_by : ℕ → Tree × ℕ → List ℕ → List Token → Option ((StartedCall × ℕ) × List Token)
+method_start_by limit e name ts =
+    if bytes_eq name (codes "start") then clock_start_of limit e ts
+    else (if bytes_eq name (codes "put") then queue_put_of limit e ts else (if bytes_eq name (codes "get") then queue_get_of e ts else None))
+
+unfoldable pub method_start_of : ℕ → List Token → Option ((StartedCall × ℕ) × List Token)
+method_start_of limit ts = also (method_at limit ts) (λ m. method_start_by limit m.0 m.1.0 m.1.1)
 
 -- a started call, and the tokens after it
 unfoldable pub started_of : ℕ → List Token → Option ((StartedCall × ℕ) × List Token)
-started_of limit ts = or_else (function_call_of limit ts) (clock_start_of limit ts)
+started_of limit ts = or_else (function_call_of limit ts) (method_start_of limit ts)
 
 -- What is awaited.
 
@@ -222,16 +248,47 @@ start_soon_of limit ts = made (of_one RightStart) (closed_start_of limit ts)
 unfoldable pub right_value_of : ℕ → List Token → Option (RightSide × ℕ)
 right_value_of limit ts = made (of_one RightValue) (whole_value_of limit ts)
 
-abbrev pub right_by : ℕ → List Token → Option (List Token) → Option (List Token) → Option (List Token) → Option (List Token) → Option (RightSide × ℕ)
-right_by limit ts (Some us) _ _ _ = start_soon_of limit us
-right_by limit ts None (Some us) _ _ = random_int_of limit us
-right_by limit ts None None (Some us) _ = new_of NewEvent us
-right_by limit ts None None None (Some us) = new_of NewLock us
-right_by limit ts None None None None = right_value_of limit ts
+abbrev pub bound_by : ℕ → List Token → Option (List Token) → Option (Option Tree × ℕ)
+bound_by limit ts (Some us) = ended (None, 0) us
+bound_by limit ts None = also (value_of limit (after_name (codes "maxsize") ts)) (λ x. closed (of_one (λ e. Some e) x.0) x.1)
+
+-- the bound of a queue, and the end of the line
+unfoldable pub bound_of : ℕ → List Token → Option (Option Tree × ℕ)
+bound_of limit ts = bound_by limit ts (after_close ts)
+
+-- behind `Queue(`
+unfoldable pub queue_of : ℕ → List Token → Option (RightSide × ℕ)
+queue_of limit ts = made (of_one NewQueue) (bound_of limit ts)
+
+-- behind the bracket of a method of this name
+unfoldable pub get_now_by : Tree × ℕ → List ℕ → List Token → Option (RightSide × ℕ)
+get_now_by e name ts = if bytes_eq name (codes "get_nowait") then also (after_close ts) (λ us. ended (of_one GetNow e) us) else None
+
+unfoldable pub get_now_of : ℕ → List Token → Option (RightSide × ℕ)
+get_now_of limit ts = also (method_at limit ts) (λ m. get_now_by m.0 m.1.0 m.1.1)
+
+unfoldable pub value_or_get_of : ℕ → List Token → Option (RightSide × ℕ)
+value_or_get_of limit ts = or_else (right_value_of limit ts) (get_now_of limit ts)
+
+-- behind the bracket of a call whose name begins a new object
+abbrev pub new_object_by : ℕ → List Token → Option (List Token) → Option (List Token) → Option (List Token) → Option (RightSide × ℕ)
+new_object_by limit ts (Some us) _ _ = new_of NewEvent us
+new_object_by limit ts None (Some us) _ = new_of NewLock us
+new_object_by limit ts None None (Some us) = queue_of limit us
+new_object_by limit ts None None None = value_or_get_of limit ts
+
+-- a new object, a value, or an item of a queue
+unfoldable pub object_or_value_of : ℕ → List Token → Option (RightSide × ℕ)
+object_or_value_of limit ts = new_object_by limit ts (after_call (codes "Event") ts) (after_call (codes "Lock") ts) (after_call (codes "Queue") ts)
+
+abbrev pub right_by : ℕ → List Token → Option (List Token) → Option (List Token) → Option (RightSide × ℕ)
+right_by limit ts (Some us) _ = start_soon_of limit us
+right_by limit ts None (Some us) = random_int_of limit us
+right_by limit ts None None = object_or_value_of limit ts
 
 unfoldable pub call_or_value_of : ℕ → List Token → Option (RightSide × ℕ)
-call_or_value_of limit ts = right_by limit ts (after_member (codes "cocotb") (codes "start_soon") ts) (after_member (codes "random") (codes "randint") ts)
-    (after_call (codes "Event") ts) (after_call (codes "Lock") ts)
+call_or_value_of limit ts =
+    right_by limit ts (after_member (codes "cocotb") (codes "start_soon") ts) (after_member (codes "random") (codes "randint") ts)
 
 abbrev pub await_by : ℕ → List Token → Option (List Token) → Option (RightSide × ℕ)
 await_by limit ts (Some us) = made (of_one RightAwait) (awaited_of limit us)
@@ -240,3 +297,30 @@ await_by limit ts None = call_or_value_of limit ts
 -- a right side that reaches to the end
 unfoldable pub right_of : ℕ → List Token → Option (RightSide × ℕ)
 right_of limit ts = await_by limit ts (after_await ts)
+
+-- Writes that are no values.
+
+abbrev pub as_force : (Tree × ℕ) × List Token → (WriteAction × ℕ) × List Token
+as_force x = (of_one Force x.0, x.1)
+
+-- a word with empty brackets
+abbrev pub bare : WriteAction → List Token → Option ((WriteAction × ℕ) × List Token)
+bare w ts = made (λ us. ((w, 0), us)) (after_close ts)
+
+abbrev pub write_action_by : ℕ → Option (List Token) → Option (List Token) → Option (List Token) → Option ((WriteAction × ℕ) × List Token)
+write_action_by limit (Some us) _ _ = made as_force (only_value_of limit us)
+write_action_by limit None (Some us) _ = bare Freeze us
+write_action_by limit None None (Some us) = bare Release us
+write_action_by limit None None None = None
+
+-- the write at the front, and the tokens after it
+unfoldable pub write_action_of : ℕ → List Token → Option ((WriteAction × ℕ) × List Token)
+write_action_of limit ts = write_action_by limit (after_call (codes "Force") ts) (after_call (codes "Freeze") ts) (after_call (codes "Release") ts)
+
+-- a write that reaches to the end
+unfoldable pub whole_write_action_of : ℕ → List Token → Option (WriteAction × ℕ)
+whole_write_action_of limit ts = also (write_action_of limit ts) (λ x. ended x.0 x.1)
+
+-- a write before `)` at the end
+unfoldable pub closed_write_action_of : ℕ → List Token → Option (WriteAction × ℕ)
+closed_write_action_of limit ts = also (write_action_of limit ts) (λ x. closed x.0 x.1)

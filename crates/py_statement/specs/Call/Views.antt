@@ -1,5 +1,5 @@
 -- A means of proof: what the code returns, without where it lies in memory, for the proofs of Python's parser.
-use Rattle.std.specs.Prelude.{ℕ, List, map, Option}
+use Rattle.std.specs.Prelude.{ℕ, List, map, Option, Box}
 use Rattle.std.specs.Borrow.{Bor}
 use Rattle.std.specs.declared.vec.Vec.{Vec}
 use Rattle.py_syntax.specs.ExpressionTrees.{Tree, view}
@@ -40,3 +40,6 @@ times_in t = (view t.0, optional view t.1)
 
 abbrev pub values_ahead : {Z : Type 0} → (Vec Expression Z × ℕ) × Bor (List Token) → (List Tree × ℕ) × List Token
 values_ahead x = ((map view x.0.0.items, x.0.1), x.1.now)
+
+abbrev pub method_ahead : {Z : Type 0} → (Box Expression Z × ℕ) × (List ℕ × Bor (List Token)) → (Tree × ℕ) × (List ℕ × List Token)
+method_ahead x = ((view x.0.0.value, x.0.1), (x.1.0, x.1.1.now))

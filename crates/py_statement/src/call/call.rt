@@ -1,7 +1,7 @@
 //! Calls that are started.
 
 ghost use Rattle.py_expression.specs.Shown.{height_limit};
-ghost use Rattle.std.specs.Prelude.{◌≡◌, [], map, List, Some, None, MatchOption};
+ghost use Rattle.std.specs.Prelude.{◌≡◌, [], map, List, Some, None};
 ghost use Rattle.py_syntax.specs.ExpressionTrees.{view};
 ghost use Rattle.py_syntax.specs.StatementTrees.{view_argument, view_started};
 ghost use Rattle.py_syntax.specs.CallForms;
@@ -9,15 +9,14 @@ ghost use Rattle.py_syntax.specs.CallForms.{in_order, starts_clock};
 ghost use Rattle.py_expression.specs.Phrase.Gives.{Gives};
 ghost use Rattle.py_statement.specs.Call.Reading;
 ghost use Rattle.py_expression.specs.Boxes.{inside};
-ghost use Rattle.py_expression.specs.Kept.{measured};
 ghost use Rattle.py_statement.specs.Call.Views.{tall, ahead, arguments_in};
 
 use crate::call::arguments::{Arguments, argument_list};
+use crate::call::method::method_at;
+use crate::call::placed::only_value;
 use crate::call::tokens::{call_at, is_end};
-use crate::call::values::within;
 use port_io::{Name, boxed};
 use py_expression::phrase::{Mark, ReadError, after};
-use py_expression::{Measured, primary, split};
 use py_syntax::{Argument, Bracket, Expression, StartedCall, Token};
 use std::alloc::Global;
 
@@ -103,18 +102,6 @@ fn function_call(
     called(alloc, name, arguments, rest)
 }
 
-/// The object of which a tree is the attribute of this name.
-#[tactic(auto, unfolding(crate::specs::Call::Reading::owner_of))]
-fn owner(tree: Box<Expression>, wanted: &[u8]) -> Option<Box<Expression>>
-    ensures { MatchOption result (Reading.owner_of wanted.now (view tree.value) ≡ None)
-        (λ e. Reading.owner_of wanted.now (view tree.value) ≡ Some (view e.value)) }
-{
-    match split(Box::into_inner(tree)) {
-        Some((base, name)) if name.bytes() == wanted => Some(base),
-        _ => None,
-    }
-}
-
 /// The start of this clock with these arguments.
 #[tactic(auto, unfolding(crate::specs::Call::Reading::clock_start_by))]
 fn clock_started(
@@ -134,37 +121,85 @@ fn clock_started(
     }
 }
 
-/// A clock's start, behind the expression that ends with `.start`.
-#[tactic(auto, unfolding(crate::specs::Call::Reading::clock_start_from))]
-fn clock_start_from<'a>(
-    alloc: Global,
-    callee: Measured,
-    tokens: &'a [Token],
-) -> Result<((Box<StartedCall>, usize), &'a [Token]), ReadError>
-    ensures { Gives (ahead (inside view_started)) result (Reading.clock_start_from height_limit (measured callee, tokens.now)) }
-{
-    let height = callee.height;
-    let (Some(clock), Some(rest)) = (
-        owner(callee.tree, b"start"),
-        after(Mark::Open(Bracket::Round), tokens),
-    ) else {
-        return Err(ReadError::Wrong);
-    };
-    let clock = within(alloc, clock, height, 1)?;
-    let (arguments, rest) = argument_list(alloc, rest)?;
-    clock_started(alloc, clock, arguments, rest)
-}
-
-/// The start of a clock at the front.
+/// The start of this clock, behind the bracket.
 #[tactic(auto, unfolding(crate::specs::Call::Reading::clock_start_of))]
 fn clock_start(
     alloc: Global,
+    clock: (Box<Expression>, usize),
     tokens: &[Token],
 ) -> Result<((Box<StartedCall>, usize), &[Token]), ReadError>
-    ensures { Gives (ahead (inside view_started)) result (Reading.clock_start_of height_limit tokens.now) }
+    ensures { Gives (ahead (inside view_started)) result (Reading.clock_start_of height_limit (tall (inside view) clock) tokens.now) }
 {
-    let (callee, rest) = primary(alloc, tokens)?;
-    clock_start_from(alloc, callee, rest)
+    let (arguments, rest) = argument_list(alloc, tokens)?;
+    clock_started(alloc, clock, arguments, rest)
+}
+
+/// A put into this queue, behind the bracket.
+#[tactic(auto, unfolding(crate::specs::Call::Reading::queue_put_of))]
+fn queue_put(
+    alloc: Global,
+    queue: (Box<Expression>, usize),
+    tokens: &[Token],
+) -> Result<((Box<StartedCall>, usize), &[Token]), ReadError>
+    ensures { Gives (ahead (inside view_started)) result (Reading.queue_put_of height_limit (tall (inside view) queue) tokens.now) }
+{
+    let ((item, height), rest) = only_value(alloc, tokens)?;
+    let height = queue.1.max(height);
+    let call = StartedCall::Put(Box::into_inner(queue.0), Box::into_inner(item));
+    Ok(((boxed(alloc, call)?, height), rest))
+}
+
+/// A get from this queue, behind the bracket.
+#[tactic(auto, unfolding(crate::specs::Call::Reading::queue_get_of))]
+fn queue_get(
+    alloc: Global,
+    queue: (Box<Expression>, usize),
+    tokens: &[Token],
+) -> Result<((Box<StartedCall>, usize), &[Token]), ReadError>
+    ensures { Gives (ahead (inside view_started)) result (Reading.queue_get_of (tall (inside view) queue) tokens.now) }
+{
+    match after(Mark::Close(Bracket::Round), tokens) {
+        Some(rest) => {
+            let call = StartedCall::Get(Box::into_inner(queue.0));
+            Ok(((boxed(alloc, call)?, queue.1), rest))
+        }
+        None => Err(ReadError::Wrong),
+    }
+}
+
+/// What the method of this name starts, behind the bracket.
+#[tactic(auto, unfolding(crate::specs::Call::Reading::method_start_by))]
+fn started_by<'a>(
+    alloc: Global,
+    object: (Box<Expression>, usize),
+    name: &[u8],
+    tokens: &'a [Token],
+) -> Result<((Box<StartedCall>, usize), &'a [Token]), ReadError>
+    ensures { Gives (ahead (inside view_started)) result
+        (Reading.method_start_by height_limit (tall (inside view) object) name.now tokens.now) }
+{
+    if name == b"start".as_slice() {
+        return clock_start(alloc, object, tokens);
+    }
+    if name == b"put".as_slice() {
+        return queue_put(alloc, object, tokens);
+    }
+    if name == b"get".as_slice() {
+        return queue_get(alloc, object, tokens);
+    }
+    Err(ReadError::Wrong)
+}
+
+/// The method's call at the front.
+#[tactic(auto, unfolding(crate::specs::Call::Reading::method_start_of))]
+fn method_start(
+    alloc: Global,
+    tokens: &[Token],
+) -> Result<((Box<StartedCall>, usize), &[Token]), ReadError>
+    ensures { Gives (ahead (inside view_started)) result (Reading.method_start_of height_limit tokens.now) }
+{
+    let (object, (name, rest)) = method_at(alloc, tokens)?;
+    started_by(alloc, object, name.bytes(), rest)
 }
 
 /// The started call at the front with its height, and the tokens after it. It ends at the end of the line, before a comma or before
@@ -177,7 +212,7 @@ pub fn started(
     ensures { Gives (ahead (inside view_started)) result (Reading.started_of height_limit tokens.now) }
 {
     match function_call(alloc, tokens) {
-        Err(ReadError::Wrong) => clock_start(alloc, tokens),
+        Err(ReadError::Wrong) => method_start(alloc, tokens),
         answer => answer,
     }
 }

@@ -2,11 +2,20 @@
 //! it, whatever the limit on heights is.
 
 ghost use Rattle.std.specs.Prelude.{◌≡◌, ℕ, ◌≤◌, ◌<◌, true, List, Some};
-ghost use Rattle.py_syntax.specs.StatementTrees.{StartedCall, Awaited, RightSide, started_height, awaited_height, right_height};
-ghost use Rattle.py_syntax.specs.CallForms.{SpellsStarted, SpellsAwaited, SpellsRight};
+ghost use Rattle.py_syntax.specs.StatementTrees.{
+  StartedCall,
+  Awaited,
+  RightSide,
+  WriteAction,
+  started_height,
+  awaited_height,
+  right_height,
+  write_action_height,
+};
+ghost use Rattle.py_syntax.specs.CallForms.{SpellsStarted, SpellsAwaited, SpellsRight, SpellsAction};
 ghost use Rattle.py_syntax.specs.declared.token.Token.{Token};
-ghost use Rattle.py_statement.specs.Call.Kept.{kept_started, kept_awaited, kept_right};
-ghost use Rattle.py_statement.specs.Call.Reading.{started_of, awaited_of, right_of};
+ghost use Rattle.py_statement.specs.Call.Kept.{kept_started, kept_awaited, kept_right, kept_write_action};
+ghost use Rattle.py_statement.specs.Call.Reading.{started_of, awaited_of, right_of, write_action_of};
 ghost use Rattle.py_statement.specs.Call.Words.{is_end};
 
 /// Of started calls. They end at the end of the line, before a comma or before `)`.
@@ -35,4 +44,14 @@ pub fn right_sides_are_read()
     ensures again { (limit : ℕ) (s : RightSide) (ts : List Token) → SpellsRight s ts → right_of limit ts ≡ Some (kept_right limit s) }
     ensures whole { (limit : ℕ) (s : RightSide) → right_height s ≤ limit → kept_right limit s ≡ (s, right_height s) }
     ensures over { (limit : ℕ) (s : RightSide) → limit < right_height s → limit < (kept_right limit s).1 }
+{}
+
+/// Of writes that are no values. Other tokens may follow them.
+pub fn write_actions_are_read()
+    ensures sound { (limit : ℕ) (ts rest : List Token) (v : WriteAction × ℕ) → write_action_of limit ts ≡ Some (v, rest)
+        → (w : WriteAction) × SpellsAction w ts rest × (v ≡ kept_write_action limit w) }
+    ensures again { (limit : ℕ) (w : WriteAction) (ts rest : List Token) → SpellsAction w ts rest
+        → write_action_of limit ts ≡ Some (kept_write_action limit w, rest) }
+    ensures whole { (limit : ℕ) (w : WriteAction) → write_action_height w ≤ limit → kept_write_action limit w ≡ (w, write_action_height w) }
+    ensures over { (limit : ℕ) (w : WriteAction) → limit < write_action_height w → limit < (kept_write_action limit w).1 }
 {}

@@ -1,64 +1,24 @@
 //! Right sides.
 
 ghost use Rattle.py_expression.specs.Shown.{height_limit};
-ghost use Rattle.std.specs.Prelude.{◌≡◌, codes, map, Some, None, IfOk, MatchOption};
-ghost use Rattle.py_syntax.specs.declared.call.Argument as argument;
-ghost use Rattle.py_syntax.specs.StatementTrees.{view_right, view_argument};
+ghost use Rattle.std.specs.Prelude.{◌≡◌, codes, Some, None, MatchOption};
+ghost use Rattle.py_syntax.specs.ExpressionTrees.{view};
+ghost use Rattle.py_syntax.specs.StatementTrees.{optional, view_right};
 ghost use Rattle.py_expression.specs.Phrase.Gives.{Gives};
 ghost use Rattle.py_expression.specs.Boxes.{inside};
 ghost use Rattle.py_statement.specs.Call.Reading;
 ghost use Rattle.py_statement.specs.Call.Words;
-ghost use Rattle.py_statement.specs.Call.Views.{tall, values_ahead};
+ghost use Rattle.py_statement.specs.Call.Views.{tall};
 
-use crate::call::arguments::argument_list;
 use crate::call::awaited::{await_operand, closed_start};
-use crate::call::tokens::{after_call, after_member, after_text};
-use crate::call::values::whole_value;
-use port_io::{NoMemory, boxed};
-use py_expression::phrase::{Mark, ReadError, after, after_last, end_of_line};
-use py_syntax::{Argument, Bracket, Expression, Keyword, RightSide, Token};
+use crate::call::method::method_at;
+use crate::call::placed::value_list;
+use crate::call::tokens::{after_call, after_member, after_text, close_of_line};
+use crate::call::values::{value, whole_value};
+use port_io::boxed;
+use py_expression::phrase::{Mark, ReadError, after, after_last, after_name, end_of_line};
+use py_syntax::{Bracket, Expression, Keyword, RightSide, Token};
 use std::alloc::Global;
-
-/// Whether all are given by their places.
-#[tactic(auto, unfolding(crate::specs::Call::Reading::are_placed))]
-fn are_placed(list: &[Argument]) -> bool
-    ensures { result ≡ Reading.are_placed (map view_argument list.now) }
-{
-    for argument in list {
-        if argument.name.is_some() {
-            return false;
-        }
-    }
-    true
-}
-
-/// The values of arguments.
-fn values(alloc: Global, list: Vec<Argument>) -> Result<Vec<Expression>, NoMemory>
-    ensures { IfOk result (λ all. all.items ≡ map (λ (x : argument.Argument). x.value) list.items) }
-{
-    Ok(
-        list.into_iter()
-            .map(|argument| argument.value)
-            .collect(alloc)?,
-    )
-}
-
-/// The expressions behind an opening bracket with their greatest height, and the tokens after the closing one, before which a comma
-/// may stand.
-#[tactic(auto, using(crate::proofs::CallLemmas::Lists::values_seen), unfolding(crate::specs::Call::Reading::values_of))]
-pub fn value_list(
-    alloc: Global,
-    tokens: &[Token],
-) -> Result<((Vec<Expression>, usize), &[Token]), ReadError>
-    ensures { Gives values_ahead result (Reading.values_of height_limit tokens.now) }
-{
-    let (arguments, rest) = argument_list(alloc, tokens)?;
-    if !are_placed(&arguments.list) {
-        return Err(ReadError::Wrong);
-    }
-    let height = arguments.height;
-    Ok(((values(alloc, arguments.list)?, height), rest))
-}
 
 /// The two elements of a list.
 fn two<T: Drop>(mut list: Vec<T>) -> Option<(T, T)>
@@ -134,6 +94,93 @@ fn right_value(alloc: Global, tokens: &[Token]) -> Result<(Box<RightSide>, usize
     Ok((boxed(alloc, side)?, height))
 }
 
+/// The bound of a queue, by its place or by its name, if there is one, and `)` at the end of the line.
+#[tactic(auto, unfolding(crate::specs::Call::Reading::bound_of))]
+fn bound(alloc: Global, tokens: &[Token]) -> Result<(Option<Expression>, usize), ReadError>
+    ensures { Gives (tall (optional view)) result (Reading.bound_of height_limit tokens.now) }
+{
+    match after(Mark::Close(Bracket::Round), tokens) {
+        Some(rest) => {
+            end_of_line(rest)?;
+            Ok((None, 0))
+        }
+        None => {
+            let ((bound, height), rest) = value(alloc, after_name(b"maxsize", tokens))?;
+            close_of_line(rest)?;
+            Ok((Some(Box::into_inner(bound)), height))
+        }
+    }
+}
+
+/// `Queue(maxsize)`, behind the bracket.
+#[tactic(auto, unfolding(crate::specs::Call::Reading::queue_of))]
+fn queue(alloc: Global, tokens: &[Token]) -> Result<(Box<RightSide>, usize), ReadError>
+    ensures { Gives (tall (inside view_right)) result (Reading.queue_of height_limit tokens.now) }
+{
+    let (bound, height) = bound(alloc, tokens)?;
+    Ok((boxed(alloc, RightSide::Queue(bound))?, height))
+}
+
+/// The item that a method of this name takes out of a queue, behind the bracket.
+#[tactic(auto, unfolding(crate::specs::Call::Reading::get_now_by))]
+fn taken_by(
+    alloc: Global,
+    queue: (Box<Expression>, usize),
+    name: &[u8],
+    tokens: &[Token],
+) -> Result<(Box<RightSide>, usize), ReadError>
+    ensures { Gives (tall (inside view_right)) result (Reading.get_now_by (tall (inside view) queue) name.now tokens.now) }
+{
+    if name != b"get_nowait".as_slice() {
+        return Err(ReadError::Wrong);
+    }
+    match after(Mark::Close(Bracket::Round), tokens) {
+        Some(rest) => {
+            end_of_line(rest)?;
+            let side = RightSide::GetNow(Box::into_inner(queue.0));
+            Ok((boxed(alloc, side)?, queue.1))
+        }
+        None => Err(ReadError::Wrong),
+    }
+}
+
+/// `queue.get_nowait()`
+#[tactic(auto, unfolding(crate::specs::Call::Reading::get_now_of))]
+fn get_now(alloc: Global, tokens: &[Token]) -> Result<(Box<RightSide>, usize), ReadError>
+    ensures { Gives (tall (inside view_right)) result (Reading.get_now_of height_limit tokens.now) }
+{
+    let (queue, (name, rest)) = method_at(alloc, tokens)?;
+    taken_by(alloc, queue, name.bytes(), rest)
+}
+
+/// An expression, or an item of a queue.
+#[tactic(auto, unfolding(crate::specs::Call::Reading::value_or_get_of))]
+fn value_or_get(alloc: Global, tokens: &[Token]) -> Result<(Box<RightSide>, usize), ReadError>
+    ensures { Gives (tall (inside view_right)) result (Reading.value_or_get_of height_limit tokens.now) }
+{
+    match right_value(alloc, tokens) {
+        Err(ReadError::Wrong) => get_now(alloc, tokens),
+        answer => answer,
+    }
+}
+
+/// A new event, lock or queue, an expression, or an item of a queue.
+#[tactic(auto, unfolding(crate::specs::Call::Reading::object_or_value_of))]
+fn object_or_value(alloc: Global, tokens: &[Token]) -> Result<(Box<RightSide>, usize), ReadError>
+    ensures { Gives (tall (inside view_right)) result (Reading.object_or_value_of height_limit tokens.now) }
+{
+    if let Some(rest) = after_call(b"Event", tokens) {
+        return new(boxed(alloc, RightSide::Event)?, rest);
+    }
+    if let Some(rest) = after_call(b"Lock", tokens) {
+        return new(boxed(alloc, RightSide::Lock)?, rest);
+    }
+    if let Some(rest) = after_call(b"Queue", tokens) {
+        return queue(alloc, rest);
+    }
+    value_or_get(alloc, tokens)
+}
+
 /// A right side that begins with no `await`.
 #[tactic(auto, unfolding(crate::specs::Call::Reading::call_or_value_of))]
 fn call_or_value(alloc: Global, tokens: &[Token]) -> Result<(Box<RightSide>, usize), ReadError>
@@ -145,13 +192,7 @@ fn call_or_value(alloc: Global, tokens: &[Token]) -> Result<(Box<RightSide>, usi
     if let Some(rest) = after_member(b"random", b"randint", tokens) {
         return random_int(alloc, rest);
     }
-    if let Some(rest) = after_call(b"Event", tokens) {
-        return new(boxed(alloc, RightSide::Event)?, rest);
-    }
-    if let Some(rest) = after_call(b"Lock", tokens) {
-        return new(boxed(alloc, RightSide::Lock)?, rest);
-    }
-    right_value(alloc, tokens)
+    object_or_value(alloc, tokens)
 }
 
 /// The right side that these tokens are, with its height.
