@@ -1,6 +1,7 @@
 -- The functions of a module in their order.
+use Rattle.std.specs.Prelude.{Result, Ok, Err, IfOk}
 use Rattle.std.proofs.Common.{◌≡◌, ◌<◌, ◌≤◌, ◌+◌, ℕ, suc, Bool, true, false, List, [], ◌∷◌, ◌++◌, length, map, drop, drop-cons, add-one, Option, Some, None, get_or, refl, sym, ap, ◌∙◌, cond, if◌then◌else◌, arith}
-use Rattle.std.proofs.lemmas.List.{drop_all, append-nil, map-append}
+use Rattle.std.proofs.lemmas.List.{drop_all, append-nil}
 use Rattle.std.specs.List.{filter_map, cons_option, find, position_from}
 use Rattle.std.specs.Option.{option_map, option_or}
 use Rattle.std.specs.Str.{bytes_eq}
@@ -16,7 +17,7 @@ use Rattle.test_names.specs.declared.definitions.item.Kind.TheVariants as kind
 use Rattle.test_functions.specs.Numbers.{AreFunctionNumbers}
 use Rattle.test_functions.specs.declared.numbers.FunctionNumbers.{FunctionNumbers}
 use Rattle.test_meaning.specs.Bodies.{function_in}
-use Rattle.test_meaning.specs.Library.{clock_start, functions}
+use Rattle.test_meaning.specs.Library.{functions, library}
 use Rattle.name_table.specs.Places.{first_place}
 use Rattle.name_table.proofs.Stored.{unchanged}
 use Rattle.test_meaning.specs.Rules.File.{File, Definition, file_of, functions_of}
@@ -132,13 +133,24 @@ all_made f items i made h so =
     sym (append-nil made) ∙ ap (λ ys. made ++ filter_map (made_of f) (map view_module_item ys)) (sym (drop_all i items h))
     ∙ so ∙ functions_in f 0 None (map view_module_item items)
 
--- and `Clock.start` behind them
-pub with_clock : (f : File) (items : List code.ModuleItem) (i : ℕ) (made new : List function.Function) (x : function.Function) → f ≡ file_of (map view_module_item items)
-    → length items ≤ i → map view_function made ++ made_from f i items ≡ made_from f 0 items → new ≡ made ++ x ∷ [] → view_function x ≡ clock_start
+-- three more behind them
+pub with_three : (made : List function.Function) (x y z : function.Function)
+    → map view_function (((made ++ x ∷ []) ++ y ∷ []) ++ z ∷ []) ≡ map view_function made ++ view_function x ∷ view_function y ∷ view_function z ∷ []
+with_three [] x y z = refl
+with_three (f ∷ made) x y z = ap (λ (gs : List Function). view_function f ∷ gs) (with_three made x y z)
+
+-- and those of the library behind them
+pub with_others : (f : File) (items : List code.ModuleItem) (i : ℕ) (made new : List function.Function) → f ≡ file_of (map view_module_item items)
+    → length items ≤ i → map view_function made ++ made_from f i items ≡ made_from f 0 items → map view_function new ≡ map view_function made ++ library
     → map view_function new ≡ functions f
-with_clock f items i made new x is h so more e =
-    ap (λ (gs : List function.Function). map view_function gs) more
-    ∙ map-append view_function made (x ∷ [])
-    ∙ ap (λ (gs : List Function). gs ++ view_function x ∷ []) (all_made f items i (map view_function made) h so)
-    ∙ ap (λ (g : Function). map (λ (d : Definition). function_in f d.parameters d.body) (file_of (map view_module_item items)).functions ++ g ∷ []) e
-    ∙ ap (λ (g : File). map (λ (d : Definition). function_in f d.parameters d.body) g.functions ++ clock_start ∷ []) (sym is)
+with_others f items i made new is h so more =
+    more
+    ∙ ap (λ (gs : List Function). gs ++ library) (all_made f items i (map view_function made) h so)
+    ∙ ap (λ (g : File). map (λ (d : Definition). function_in f d.parameters d.body) g.functions ++ library) (sym is)
+
+-- unless memory was wanting
+pub if_others : {E : Type 0} (f : File) (items : List code.ModuleItem) (i : ℕ) (made : List function.Function) (r : Result (List function.Function) E)
+    → f ≡ file_of (map view_module_item items) → length items ≤ i → map view_function made ++ made_from f i items ≡ made_from f 0 items
+    → IfOk r (λ new. map view_function new ≡ map view_function made ++ library) → IfOk r (λ new. map view_function new ≡ functions f)
+if_others f items i made (Ok new) is h so more = with_others f items i made new is h so more
+if_others f items i made (Err e) is h so more = tt

@@ -40,7 +40,7 @@ fn goes_on(alloc: Global) -> Result<Expression, NoMemory>
 }
 
 /// An item of one line. Only want of memory is an error.
-fn simple(alloc: Global, statement: Statement) -> Result<Item, NoMemory>
+pub(crate) fn simple(alloc: Global, statement: Statement) -> Result<Item, NoMemory>
     ensures { IfOk result (λ made. view_item made ≡ body.Simple (view_statement statement)) }
 {
     Ok(Item::Statement(boxed(alloc, statement)?))

@@ -6,6 +6,7 @@ mod made;
 mod meanings;
 mod trees;
 
+pub(crate) use made::method_call;
 pub use made::{binary, choice, constant, function_call, name};
 pub use meanings::{CalledFunction, Meanings};
 pub use trees::{expression, expressions};

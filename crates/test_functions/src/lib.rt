@@ -1,6 +1,6 @@
 //! The functions of an accepted tests file.
 //!
-//! [`functions`] makes those of a module, by number, with `Clock.start` behind them. [`function_numbers`] has the number of each by its
+//! [`functions`] makes those of a module, by number, with those of the library behind them. [`function_numbers`] has the number of each by its
 //! name. The tests of the file, and whether it breaks a rule, are left to others.
 //!
 //! Modules that the crates above use too:
@@ -16,6 +16,7 @@ mod file;
 mod function;
 mod meanings;
 mod numbers;
+mod queue;
 pub mod statements;
 mod whole;
 

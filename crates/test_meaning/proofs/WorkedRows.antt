@@ -36,7 +36,7 @@ constant_rows = (refl, refl, refl, refl, refl)
 
 pub call_rows : Call_rows
 unfolding fault_of digits module_lines block_lines item_lines module_item_lines
-call_rows = (refl, refl, refl, refl, refl, refl, refl, refl)
+call_rows = (refl, refl, refl, refl, refl, refl, refl, refl, refl, refl)
 
 pub sound_rows : Sound_rows
 unfolding fault_of digits module_lines block_lines item_lines module_item_lines

@@ -1,6 +1,6 @@
 -- What the functions of an accepted tests file stand for (the language reference, 6.3.4, 7 and 8): values in place of module constants,
 -- numbers in place of the names of called functions, an operand for each parameter, and compound statements in place of their clauses.
-use Rattle.std.specs.Prelude.{ℕ, suc, true, List, [], ◌∷◌, ◌++◌, length, map, Option, Some, None, option_map, codes, if◌then◌else◌}
+use Rattle.std.specs.Prelude.{ℕ, suc, ◌+◌, true, List, [], ◌∷◌, ◌++◌, length, map, Option, Some, None, option_map, codes, if◌then◌else◌}
 use Rattle.py_syntax.specs.BlockTrees.{BlockItem, DocstringAt, StatementAt, ClauseAt}
 use Rattle.py_syntax.specs.BlockTrees as blocks
 use Rattle.py_syntax.specs.ExpressionTrees as tree
@@ -87,13 +87,21 @@ abbrev pub clock_parameters : List Parameter
 clock_parameters =
     record { name = codes "cycles"; default = Some constant.Absent } ∷ record { name = codes "start_high"; default = Some (constant.Truth true) } ∷ []
 
--- `Clock.start` has the number behind those of the file's functions
+-- `Clock.start` has the number behind those of the file's functions, `Queue.put` and `Queue.get` the next ones
 abbrev pub clock_number : File → ℕ
 clock_number f = length f.functions
+
+abbrev pub put_number : File → ℕ
+put_number f = length f.functions + 1
+
+abbrev pub get_number : File → ℕ
+get_number f = length f.functions + 2
 
 abbrev pub call_in : Inside → syntax.StartedCall → Call
 call_in s (syntax.FunctionCall n xs) = called s xs (function s.file n)
 call_in s (syntax.ClockStart e xs) = body.ClockStart (clock_number s.file) (tree_in s e) (given_operands s clock_parameters 0 xs)
+call_in s (syntax.QueuePut e x) = body.QueuePut (put_number s.file) (tree_in s e) (tree_in s x)
+call_in s (syntax.QueueGet e) = body.QueueGet (get_number s.file) (tree_in s e)
 
 -- ---- statements
 
@@ -114,6 +122,13 @@ right_in s (syntax.RightStart c) = body.RightStart (call_in s c)
 right_in s syntax.NewEvent = body.NewEvent
 right_in s syntax.NewLock = body.NewLock
 right_in s (syntax.RandomInt a b) = body.RandomInt (tree_in s a) (tree_in s b)
+right_in s (syntax.NewQueue e) = body.NewQueue (option_map (tree_in s) e)
+right_in s (syntax.GetNow e) = body.GetNow (tree_in s e)
+
+abbrev pub write_action_in : Inside → syntax.WriteAction → body.WriteAction
+write_action_in s (syntax.Force e) = body.Force (tree_in s e)
+write_action_in s syntax.Freeze = body.Freeze
+write_action_in s syntax.Release = body.Release
 
 abbrev pub logger_in : Inside → syntax.Logger → body.Logger
 logger_in s syntax.CocotbLog = body.CocotbLog
@@ -134,6 +149,9 @@ statement_in s (syntax.Await a) = body.Await (awaited_in s a)
 statement_in s (syntax.Act e a) = body.Act (tree_in s e) a
 statement_in s (syntax.Log g l e es) = body.Log (logger_in s g) l (tree_in s e) (map (tree_in s) es)
 statement_in s (syntax.StartSoon c) = body.StartSoon (call_in s c)
+statement_in s (syntax.PutNow e x) = body.PutNow (tree_in s e) (tree_in s x)
+statement_in s (syntax.AssignAction e w) = body.AssignAction (tree_in s e) (write_action_in s w)
+statement_in s (syntax.SetImmediateAction e w) = body.SetImmediateAction (tree_in s e) (write_action_in s w)
 
 -- a name in a literal list is that of a constant, whatever names are the function's own
 abbrev pub span_in : Inside → syntax.Span → syntax.Span

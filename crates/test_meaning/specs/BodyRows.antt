@@ -20,7 +20,7 @@ use Rattle.test_meaning.specs.Body.BodyTrees.{Operand}
 use Rattle.test_meaning.specs.Body.Sound.{is_sound, is_sound_call}
 use Rattle.test_meaning.specs.Bodies.{Inside, block_in, call_in, function_in, span_in, statement_in, tree_in}
 use Rattle.test_meaning.specs.Check.{meaning}
-use Rattle.test_meaning.specs.Library.{clock_start, functions}
+use Rattle.test_meaning.specs.Library.{clock_start, library, functions}
 use Rattle.test_meaning.specs.Rules.File.{file_of}
 use Rattle.test_meaning.specs.Rules.Rows.{whole, named, parameter, defaulted, statements, constant_at, argument, given}
 
@@ -92,6 +92,7 @@ Call_rows =
     × (call_in here (starts_clock (argument k ∷ argument x ∷ [])) ≡ body.ClockStart 2 (number 3) (for_parameter 0 (number 3) ∷ for_parameter 1 x ∷ []))
     × (call_in here (starts_clock (given (codes "start_high") x ∷ [])) ≡ body.ClockStart 2 (number 3) (for_parameter 1 x ∷ []))
     × (call_in here (starts_clock (given (codes "cycles") x ∷ [])) ≡ body.ClockStart 2 (number 3) (for_parameter 0 x ∷ []))
+    × (call_in here (syntax.QueuePut x k) ≡ body.QueuePut 3 x (number 3)) × (call_in here (syntax.QueueGet k) ≡ body.QueueGet 4 (number 3))
 
 -- a call that leaves out what has no default, or gives one parameter twice, is not sound, nor one of a function that isn't there
 abbrev pub is_sound_here : body.Call → Bool
@@ -103,8 +104,8 @@ Sound_rows =
     call_in here (calls_g (given (codes "c") k ∷ given (codes "a") x ∷ [])) ∷ call_in here (starts_clock (given (codes "start_high") x ∷ []))
     ∷ call_in here (calls_g []) ∷ call_in here (calls_g (argument x ∷ given (codes "a") x ∷ [])) ∷ call_in here (calls_g (argument x ∷ given (codes "d") x ∷ []))
     ∷ body.FunctionCall 3 [] ∷ body.ClockStart 1 x [] ∷ body.ClockStart 2 x (for_parameter 1 x ∷ for_parameter 1 x ∷ [])
-    ∷ body.ClockStart 2 x (for_parameter 2 x ∷ []) ∷ [])
-    ≡ true ∷ true ∷ false ∷ false ∷ false ∷ false ∷ false ∷ false ∷ false ∷ [])
+    ∷ body.ClockStart 2 x (for_parameter 2 x ∷ []) ∷ call_in here (syntax.QueuePut x k) ∷ call_in here (syntax.QueueGet x) ∷ [])
+    ≡ true ∷ true ∷ false ∷ false ∷ false ∷ false ∷ false ∷ false ∷ false ∷ true ∷ true ∷ [])
     × (is_sound (meaning (file_of items)) ≡ true)
 
 -- ---- statements
@@ -125,14 +126,18 @@ Statement_rows =
     ∷ syntax.AssignValue k (syntax.RightAwait (syntax.AwaitedCall call_h)) ∷ syntax.SetImmediateValue k k ∷ syntax.Await (syntax.AwaitedValue k)
     ∷ syntax.Await (syntax.AwaitedStart call_h) ∷ syntax.Await (syntax.WithTimeout (syntax.TimedCall call_h) k (Some k))
     ∷ syntax.Await (syntax.WithTimeout (syntax.TimedValue k) k None) ∷ syntax.Log syntax.CocotbLog level.Info k (k ∷ x ∷ [])
-    ∷ syntax.Log (syntax.HierarchyLog k) level.Error k [] ∷ syntax.StartSoon call_h ∷ [])
+    ∷ syntax.Log (syntax.HierarchyLog k) level.Error k [] ∷ syntax.StartSoon call_h ∷ syntax.Assign (codes "x") (syntax.NewQueue None)
+    ∷ syntax.Assign (codes "x") (syntax.NewQueue (Some k)) ∷ syntax.Return (Some (syntax.GetNow k)) ∷ syntax.PutNow k x ∷ syntax.AssignAction k (syntax.Force k)
+    ∷ syntax.AssignAction x syntax.Freeze ∷ syntax.SetImmediateAction k syntax.Release ∷ [])
     ≡ body.Pass ∷ body.Break ∷ body.Continue ∷ body.Return None ∷ body.Return (Some (body.RightValue (number 3))) ∷ body.Raise kind.ValueError (Some (number 3))
     ∷ body.Assert (number 3) (Some (number 3)) ∷ body.Assign (codes "K") (body.RightStart h) ∷ body.Assign (codes "x") (body.RandomInt (number 3) (number 3))
     ∷ body.Assign (codes "x") body.NewEvent ∷ body.Assign (codes "x") body.NewLock ∷ body.AugmentedAssign (codes "K") binary.Add (number 3)
     ∷ body.AssignValue (number 3) (body.RightAwait (body.AwaitedCall h)) ∷ body.SetImmediateValue (number 3) (number 3) ∷ body.Await (body.AwaitedValue (number 3))
     ∷ body.Await (body.AwaitedStart h) ∷ body.Await (body.WithTimeout (body.TimedCall h) (number 3) (Some (number 3)))
     ∷ body.Await (body.WithTimeout (body.TimedValue (number 3)) (number 3) None) ∷ body.Log body.CocotbLog level.Info (number 3) (number 3 ∷ x ∷ [])
-    ∷ body.Log (body.HierarchyLog (number 3)) level.Error (number 3) [] ∷ body.StartSoon h ∷ [])
+    ∷ body.Log (body.HierarchyLog (number 3)) level.Error (number 3) [] ∷ body.StartSoon h ∷ body.Assign (codes "x") (body.NewQueue None)
+    ∷ body.Assign (codes "x") (body.NewQueue (Some (number 3))) ∷ body.Return (Some (body.GetNow (number 3))) ∷ body.PutNow (number 3) x
+    ∷ body.AssignAction (number 3) (body.Force (number 3)) ∷ body.AssignAction x body.Freeze ∷ body.SetImmediateAction (number 3) body.Release ∷ [])
 
 -- ---- blocks
 
@@ -202,7 +207,7 @@ block =
 abbrev pub empty_function : List (List ℕ) → body.Function
 empty_function ps = record { parameters = ps; others = []; body = body.NoItem }
 
--- The functions stand by number, with `Clock.start` behind them. A function has its parameters and the names that it assigns, each once, and in
+-- The functions stand by number, with those of the library behind them. A function has its parameters and the names that it assigns, each once, and in
 -- all of it these hide the constants of the module.
 abbrev pub Function_rows : Type 0
 Function_rows =
@@ -214,7 +219,7 @@ Function_rows =
       body = body.Then (body.Simple (body.Assign (codes "K") (body.RightValue (number 1)))) (
           body.Then (body.For (codes "i") (syntax.Stop (Name (codes "n"))) (alone (body.Simple (body.Assign (codes "g") (body.RightValue k))))) (
           alone (body.Simple (body.AugmentedAssign (codes "K") binary.Add (number 3)))));
-    } ∷ clock_start ∷ []
+    } ∷ library
 
 -- ---- the text of `Clock.start`
 

@@ -1,13 +1,14 @@
 -- The functions of a file with those of the library behind them.
-use Rattle.std.specs.Prelude.{ℕ, List, [], ◌∷◌, ◌++◌, map, codes, pos}
-use Rattle.py_syntax.specs.ExpressionTrees.{Tree, Constant, Name, Call, Infix, NoTree}
+use Rattle.std.specs.Prelude.{ℕ, List, [], ◌∷◌, ◌++◌, map, Some, codes, pos}
+use Rattle.py_syntax.specs.ExpressionTrees.{Tree, Constant, Name, Call, MethodCall, Infix, NoTree}
 use Rattle.py_syntax.specs.ExpressionTrees as tree
 use Rattle.py_syntax.specs.declared.constant.Const.TheVariants as constant
 use Rattle.py_syntax.specs.declared.expression.BinOp.TheVariants as op
 use Rattle.py_syntax.specs.declared.expression.BoolOp.TheVariants.{Or}
 use Rattle.py_syntax.specs.declared.expression.Function.TheVariants.{Timer}
+use Rattle.py_syntax.specs.declared.expression.Method.TheVariants.{Empty, Full}
 use Rattle.py_syntax.specs.declared.expression.Operation.TheVariants.{Binary, Bool}
-use Rattle.test_meaning.specs.Body.BodyTrees.{Function, NoItem, Item, Simple, While, Then, Assign, AssignValue, Await, AwaitedValue, RightValue}
+use Rattle.test_meaning.specs.Body.BodyTrees.{Function, NoItem, Item, Simple, While, Then, Assign, AssignValue, Await, AwaitedValue, AwaitedRoom, AwaitedItem, PutNow, Return, GetNow, RightValue}
 use Rattle.test_meaning.specs.Bodies.{function_in}
 use Rattle.test_meaning.specs.Rules.File.{File}
 
@@ -61,6 +62,39 @@ clock_start = record {
       (Then (set_count (Infix (Binary op.Add) count (whole 1))) NoItem)))))) NoItem);
 }
 
--- the functions by number, with `Clock.start` behind them
+-- `q`
+abbrev pub queue : Tree
+queue = Name (codes "q")
+
+-- A put's task (cocotb 1.8, `cocotb.queue.Queue.put`):
+--
+--     while q.full():
+--         await that there is room in q
+--     q.put_nowait(x)
+--
+-- It is given the queue and the item.
+abbrev pub queue_put : Function
+queue_put = record {
+  parameters = codes "q" ∷ codes "x" ∷ [];
+  others = [];
+  body = Then (While (MethodCall queue Full) (Then (Simple (Await (AwaitedRoom queue))) NoItem)) (Then (Simple (PutNow queue (Name (codes "x")))) NoItem);
+}
+
+-- A get's task (cocotb 1.8, `cocotb.queue.Queue.get`), which is given the queue:
+--
+--     while q.empty():
+--         await that there is an item in q
+--     return q.get_nowait()
+abbrev pub queue_get : Function
+queue_get = record {
+  parameters = codes "q" ∷ [];
+  others = [];
+  body = Then (While (MethodCall queue Empty) (Then (Simple (Await (AwaitedItem queue))) NoItem)) (Then (Simple (Return (Some (GetNow queue)))) NoItem);
+}
+
+abbrev pub library : List Function
+library = clock_start ∷ queue_put ∷ queue_get ∷ []
+
+-- the functions by number, with those of the library behind them
 abbrev pub functions : File → List Function
-functions f = map (λ d. function_in f d.parameters d.body) f.functions ++ clock_start ∷ []
+functions f = map (λ d. function_in f d.parameters d.body) f.functions ++ library

@@ -18,7 +18,7 @@ use Rattle.test_meaning.specs.Body.BodyTrees.{Case, Limit, TestFile}
 use Rattle.test_meaning.specs.Body.Sound.{is_sound}
 use Rattle.test_meaning.specs.Cases.{case_name, cases}
 use Rattle.test_meaning.specs.Check.{check, meaning}
-use Rattle.test_meaning.specs.Library.{clock_start}
+use Rattle.test_meaning.specs.Library.{library}
 use Rattle.test_meaning.specs.Rules.File.{file_of}
 use Rattle.test_meaning.specs.Rules.Names.{Name}
 use Rattle.test_meaning.specs.Rules.Rows.{whole, truth, text, named, parameter, defaulted, setting, function, lines, import_cocotb, from_cocotb, file, make_factory, generate, test_with, made, constant_at}
@@ -52,7 +52,7 @@ pass = body.Then (body.Simple body.Pass) body.NoItem
 abbrev pub Whole_row : Type 0
 Whole_row = check (file (codes "cocotb") [] Pass)
     ≡ Ok (record {
-      functions = record { parameters = codes "dut" ∷ []; others = []; body = pass } ∷ clock_start ∷ [];
+      functions = record { parameters = codes "dut" ∷ []; others = []; body = pass } ∷ library;
       cases = plain (codes "t") 0 [] ∷ [];
     })
 

@@ -11,8 +11,8 @@ mod item;
 mod laws;
 mod statement;
 
-pub use call::{Awaited, Call, Operand, RightSide, Timed};
+pub use call::{Awaited, Call, Operand, RightSide, Timed, WriteAction};
 pub use file::{Function, TestCase, TestFile};
-pub use item::{Handler, Item};
+pub use item::{Branch, Handler, Item};
 pub use laws::{call_rows, test_rows};
 pub use statement::{Logger, Statement};

@@ -27,6 +27,8 @@ right_made s (syntax.RightStart c) = refl
 right_made s syntax.NewEvent = refl
 right_made s syntax.NewLock = refl
 right_made s (syntax.RandomInt a b) = refl
+right_made s (syntax.NewQueue e) = refl
+right_made s (syntax.GetNow e) = refl
 
 statement_made : (s : Inside) (t : syntax.Statement) → statement_calls (statement_in s t) ≡ map (call_in s) (statement_starts t)
 statement_made s syntax.Pass = refl
@@ -44,6 +46,9 @@ statement_made s (syntax.Await a) = awaited_made s a
 statement_made s (syntax.Act e a) = refl
 statement_made s (syntax.Log g l e es) = refl
 statement_made s (syntax.StartSoon c) = refl
+statement_made s (syntax.PutNow e x) = refl
+statement_made s (syntax.AssignAction e w) = refl
+statement_made s (syntax.SetImmediateAction e w) = refl
 
 -- ---- blocks
 

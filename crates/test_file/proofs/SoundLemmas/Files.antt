@@ -24,10 +24,10 @@ use Rattle.test_meaning.specs.Factory.Product.{Choice, Chosen, case_count, produ
 use Rattle.test_meaning.proofs.FactoryLemmas.Product.{count_is_length}
 use Rattle.test_refusal.specs.Items.OwnLine.{first_rule, lines_below, own_rule}
 use Rattle.test_refusal.proofs.ItemsLemmas.Lines.{by_items, by_parts}
-use Rattle.test_meaning.specs.Bodies.{Inside, call_in, called, clock_number, clock_parameters, function_in, given_operands, inside, operands_in}
+use Rattle.test_meaning.specs.Bodies.{Inside, call_in, called, clock_number, clock_parameters, get_number, put_number, function_in, given_operands, inside, operands_in}
 use Rattle.test_meaning.specs.Cases.{argument, arguments, case_name, cases, cases_at, made, numbered, own_test, test_of}
 use Rattle.test_meaning.specs.Check.{meaning}
-use Rattle.test_meaning.specs.Library.{clock_start, functions}
+use Rattle.test_meaning.specs.Library.{library, functions}
 use Rattle.test_meaning.specs.Rules.File.{Definition, File, Maker, Place, choices, factory, factory_of, file_of, function, functions_of, further, is_made, is_test, its_function, line_of, made_by, next_function, places, places_below}
 use Rattle.test_meaning.specs.Rules.Names.{Name, only_if}
 use Rattle.test_meaning.specs.Rules.Rules.{defines_twice, first_broken, has_misfit, has_right_options, have_defaults, is_empty, is_misfit, is_misfit_at, is_overfull, is_stray, is_unknown_import, lacks_parameters, no_tests, one_test, order, refusal, refused_at, takes, test_limit, tests_among, tests_at}
@@ -88,7 +88,7 @@ abbrev body_of : File → Definition → body.Function
 body_of f d = function_in f d.parameters d.body
 
 pub made_at_number : (f : File) (d : Definition) → slice_get f.functions d.number ≡ Some d → slice_get (functions f) d.number ≡ Some (body_of f d)
-made_at_number f d e = at_map (body_of f) f.functions (clock_start ∷ []) d.number d e
+made_at_number f d e = at_map (body_of f) f.functions library d.number d e
 
 -- ---- calls
 
@@ -112,23 +112,41 @@ sound_called items s n xs same h =
         (made_at_number f d (at_number items there.0 d there.1))
         ∙ ap (λ m. fill m (operands_in s d.parameters xs)) (named_length d.parameters) ∙ filled s d.parameters xs t
 
+counted : (f : File) → clock_number f + 3 ≡ length (functions f)
+counted f =
+    let e : length (map (body_of f) f.functions ++ library) ≡ length (map (body_of f) f.functions) + 3 = length-append (map (body_of f) f.functions) library in
+    let d : length (map (body_of f) f.functions) ≡ length f.functions = length-map f.functions (body_of f) in
+    omega (arith, e, d)
+
 sound_started : (items : List ModuleItem) (s : Inside) (e : Tree) (xs : List syntax.Argument) → s.file ≡ file_of items
     → is_right_start (syntax.ClockStart e xs) ≡ true → is_sound_call (functions (file_of items)) (call_in s (syntax.ClockStart e xs)) ≡ true
 sound_started items s e xs same h =
     let f = file_of items in
-    both (suc (clock_number s.file) == length (functions f)) (fill_some 2 (given_operands s clock_parameters 0 xs))
-    (eq-eqb (suc (clock_number s.file)) (length (functions f)) (ap (λ (g : File). suc (clock_number g)) same ∙ counted f)) (clock_filled s xs h)
-  where
-    counted : (f : File) → suc (clock_number f) ≡ length (functions f)
-    counted f =
-        let e : length (map (body_of f) f.functions ++ clock_start ∷ []) ≡ length (map (body_of f) f.functions) + 1 = length-append (map (body_of f) f.functions) (clock_start ∷ []) in
-        let d : length (map (body_of f) f.functions) ≡ length f.functions = length-map f.functions (body_of f) in
-        omega (arith, e, d)
+    both (clock_number s.file + 3 == length (functions f)) (fill_some 2 (given_operands s clock_parameters 0 xs))
+    (eq-eqb (clock_number s.file + 3) (length (functions f)) (ap (λ (g : File). clock_number g + 3) same ∙ counted f)) (clock_filled s xs h)
+
+sound_put : (items : List ModuleItem) (s : Inside) (e x : Tree) → s.file ≡ file_of items
+    → is_sound_call (functions (file_of items)) (call_in s (syntax.QueuePut e x)) ≡ true
+sound_put items s e x same =
+    let f = file_of items in
+    let n : clock_number f + 3 ≡ length (functions f) = counted f in
+    let m : put_number f + 2 ≡ length (functions f) = omega (arith, n) in
+    eq-eqb (put_number s.file + 2) (length (functions f)) (ap (λ (g : File). put_number g + 2) same ∙ m)
+
+sound_get : (items : List ModuleItem) (s : Inside) (e : Tree) → s.file ≡ file_of items
+    → is_sound_call (functions (file_of items)) (call_in s (syntax.QueueGet e)) ≡ true
+sound_get items s e same =
+    let f = file_of items in
+    let n : clock_number f + 3 ≡ length (functions f) = counted f in
+    let m : get_number f + 1 ≡ length (functions f) = omega (arith, n) in
+    eq-eqb (get_number s.file + 1) (length (functions f)) (ap (λ (g : File). get_number g + 1) same ∙ m)
 
 sound_call : (items : List ModuleItem) (s : Inside) (c : syntax.StartedCall) → s.file ≡ file_of items → fits_function (file_of items) c ≡ true → is_right_start c ≡ true
     → is_sound_call (functions (file_of items)) (call_in s c) ≡ true
 sound_call items s (syntax.FunctionCall n xs) same h r = sound_called items s n xs same h
 sound_call items s (syntax.ClockStart e xs) same h r = sound_started items s e xs same r
+sound_call items s (syntax.QueuePut e x) same h r = sound_put items s e x same
+sound_call items s (syntax.QueueGet e) same h r = sound_get items s e same
 
 all_two : {A : Type 0} (p q r : A → Bool) → ((a : A) → p a ≡ true → q a ≡ true → r a ≡ true) → (xs : List A) → list_all p xs ≡ true → list_all q xs ≡ true → list_all r xs ≡ true
 all_two p q r step [] h k = refl
@@ -222,7 +240,7 @@ pub sound_functions : (items : List ModuleItem) → refusal (file_of items) ≡ 
     → list_all (is_sound_function (functions (file_of items))) (functions (file_of items)) ≡ true
 sound_functions items none r =
     let f = file_of items in
-    all_both (is_sound_function (functions f)) (map (body_of f) f.functions) (clock_start ∷ [])
+    all_both (is_sound_function (functions f)) (map (body_of f) f.functions) library
     (map_passes (is_sound_function (functions f)) (body_of f) f.functions
     (each_function items (λ d. is_sound_function (functions f) (body_of f d)) (λ xs ys x d e is. sound_body items xs ys x d e none r (length (file_of xs).functions) (settings_behind None xs) is)))
     refl

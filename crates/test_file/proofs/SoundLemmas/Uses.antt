@@ -5,7 +5,7 @@ use Rattle.std.specs.List.{flat_map, list_all, list_any}
 use Rattle.std.specs.Option.{option_or}
 use Rattle.py_syntax.specs.BlockTrees.{BlockItem, DocstringAt, StatementAt, ClauseAt, Block, NoItem, Then}
 use Rattle.py_syntax.specs.StatementTrees as syntax
-use Rattle.py_syntax.specs.StatementTrees.{StartedCall, FunctionCall, ClockStart}
+use Rattle.py_syntax.specs.StatementTrees.{StartedCall, FunctionCall, ClockStart, QueuePut, QueueGet}
 use Rattle.test_meaning.specs.Rules.File.{File, function}
 use Rattle.test_meaning.specs.Rules.Rules.{astray, broken_at, first_broken, is_unknown, refused_at, takes}
 use Rattle.std.specs.Prelude.{codes}
@@ -21,6 +21,8 @@ use Rattle.test_file.proofs.SoundLemmas.Calls.{all_both, both}
 abbrev pub fits_function : File → StartedCall → Bool
 fits_function f (FunctionCall n xs) = takes (map (λ a. a.name) xs) (function f n)
 fits_function f (ClockStart e xs) = true
+fits_function f (QueuePut e x) = true
+fits_function f (QueueGet e) = true
 
 first_none : (a b : Bool) → (a || b) ≡ false → a ≡ false
 first_none true b h = h
@@ -52,6 +54,8 @@ call_fits f a (FunctionCall n xs) h =
     (not_false (takes (map (λ x. x.name) xs) (function f n))
     (first_none (not (takes (map (λ x. x.name) xs) (function f n))) (list_any (astray f a) (flat_map argument_uses xs)) h)) refl
 call_fits f a (ClockStart e xs) h = refl
+call_fits f a (QueuePut e x) h = refl
+call_fits f a (QueueGet e) h = refl
 
 timed_fits : (f : File) (a : Around) (x : syntax.Timed) → None_astray f a (timed_uses x) → list_all (fits_function f) (timed_starts x) ≡ true
 timed_fits f a (syntax.TimedValue e) h = refl
@@ -75,6 +79,8 @@ right_fits f a (syntax.RightStart c) h = call_fits f a c (behind_one f a cocotb 
 right_fits f a syntax.NewEvent h = refl
 right_fits f a syntax.NewLock h = refl
 right_fits f a (syntax.RandomInt x y) h = refl
+right_fits f a (syntax.NewQueue e) h = refl
+right_fits f a (syntax.GetNow e) h = refl
 
 statement_fits : (f : File) (a : Around) (looped : Bool) (t : syntax.Statement) → None_astray f a (statement_uses looped t) → list_all (fits_function f) (statement_starts t) ≡ true
 statement_fits f a looped syntax.Pass h = refl
@@ -92,6 +98,9 @@ statement_fits f a looped (syntax.Await x) h = awaited_fits f a x h
 statement_fits f a looped (syntax.Act e x) h = refl
 statement_fits f a looped (syntax.Log g l e es) h = refl
 statement_fits f a looped (syntax.StartSoon c) h = call_fits f a c (behind_one f a cocotb (call_uses c) h)
+statement_fits f a looped (syntax.PutNow e x) h = refl
+statement_fits f a looped (syntax.AssignAction e w) h = refl
+statement_fits f a looped (syntax.SetImmediateAction e w) h = refl
 
 -- ---- blocks
 

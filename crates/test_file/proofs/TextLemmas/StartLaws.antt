@@ -10,7 +10,7 @@ use Rattle.py_syntax.specs.Modules.{SpellsModule, block_lines, item_lines, modul
 use Rattle.py_syntax.specs.Outline.{Content, Docstring, InBody, InModule, Placed, Says, SpellsOutline, at_start, depth, with_last, word_of}
 use Rattle.py_syntax.specs.StatementForms.{SpellsStatement}
 use Rattle.py_syntax.specs.StatementTrees as tree
-use Rattle.py_syntax.specs.StatementTrees.{Awaited, AwaitedCall, AwaitedStart, AwaitedValue, ClockStart, FunctionCall, Heads, RightSide, Simple, StartedCall, Statement, Timed, TimedCall, TimedValue, WithTimeout}
+use Rattle.py_syntax.specs.StatementTrees.{Awaited, AwaitedCall, AwaitedStart, AwaitedValue, ClockStart, FunctionCall, QueueGet, QueuePut, Heads, RightSide, Simple, StartedCall, Statement, Timed, TimedCall, TimedValue, WithTimeout}
 use Rattle.py_syntax.specs.declared.outline.OpenBlock.{OpenBlock}
 use Rattle.py_syntax.specs.declared.token.Token.{Token}
 use Rattle.test_file.specs.Sound.Starts.{are_right_starts, awaited_starts, block_starts, is_right_start, item_starts, right_starts, starts_at, statement_starts, timed_starts}
@@ -30,6 +30,8 @@ together cs ds h k = list_all-append is_right_start cs ds ∙ rw (h, k) refl
 started : (c : StartedCall) (here rest : List Token) → SpellsStarted c here rest → is_right_start c ≡ true
 started (FunctionCall n xs) here rest h = refl
 started (ClockStart e xs) here rest (us, vs, spells, level, dot, arguments, starts) = starts
+started (QueuePut e x) here rest h = refl
+started (QueueGet e) here rest h = refl
 
 begun : (name : List ℕ) (c : StartedCall) (here : List Token) → SpellsStart name c here → AreRight (c ∷ [])
 begun name c here (us, vs, e, spells, closes) = alone c (started c us vs spells)
@@ -51,6 +53,8 @@ side (tree.RightStart c) here h = begun _ c here h
 side tree.NewEvent here h = refl
 side tree.NewLock here h = refl
 side (tree.RandomInt a b) here h = refl
+side (tree.NewQueue e) here h = refl
+side (tree.GetNow e) here h = refl
 
 -- ---- lines
 
@@ -70,6 +74,9 @@ statement (tree.Await a) here (us, is, spells) = awaited a us spells
 statement (tree.Act e a) here h = refl
 statement (tree.Log g l e es) here h = refl
 statement (tree.StartSoon c) here h = begun _ c here h
+statement (tree.PutNow e x) here h = refl
+statement (tree.AssignAction e w) here h = refl
+statement (tree.SetImmediateAction e w) here h = refl
 
 -- the calls that a line starts
 abbrev line_starts : Content → List StartedCall

@@ -3,7 +3,7 @@ use Rattle.std.specs.Prelude.{Bool, true, List, [], ◌∷◌, ◌++◌, Some}
 use Rattle.std.specs.List.{flat_map, list_all}
 use Rattle.py_syntax.specs.BlockTrees.{BlockItem, DocstringAt, StatementAt, ClauseAt, Block, NoItem, Then, ModuleItem, FunctionAt}
 use Rattle.py_syntax.specs.CallForms.{starts_clock}
-use Rattle.py_syntax.specs.StatementTrees.{StartedCall, FunctionCall, ClockStart, Timed, TimedValue, TimedCall, Awaited, AwaitedValue, AwaitedCall, AwaitedStart, WithTimeout, RightSide, RightAwait, RightStart, Statement, Return, Assign, AssignValue, Await, StartSoon}
+use Rattle.py_syntax.specs.StatementTrees.{StartedCall, FunctionCall, ClockStart, QueuePut, QueueGet, Timed, TimedValue, TimedCall, Awaited, AwaitedValue, AwaitedCall, AwaitedStart, WithTimeout, RightSide, RightAwait, RightStart, Statement, Return, Assign, AssignValue, Await, StartSoon}
 
 abbrev pub timed_starts : Timed → List StartedCall
 timed_starts (TimedValue e) = []
@@ -46,6 +46,8 @@ starts_at _ = []
 abbrev pub is_right_start : StartedCall → Bool
 is_right_start (FunctionCall n xs) = true
 is_right_start (ClockStart e xs) = starts_clock xs
+is_right_start (QueuePut e x) = true
+is_right_start (QueueGet e) = true
 
 abbrev pub are_right_starts : List ModuleItem → Bool
 are_right_starts xs = list_all is_right_start (flat_map starts_at xs)

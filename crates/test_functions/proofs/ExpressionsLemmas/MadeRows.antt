@@ -1,7 +1,7 @@
 -- Expressions, in a row and as the parts of an f-string.
 use Rattle.std.proofs.Common.{◌≡◌, ℕ, ◌+◌, ◌<◌, List, [], ◌∷◌, ◌++◌, length, map, take, get_or, refl, sym, ap, ◌∙◌}
 use Rattle.std.proofs.lemmas.List.{map-append, take_more}
-use Rattle.py_syntax.specs.ExpressionTrees.{Tree, Trees, Then, Parts, NoPart, TextThen, FormattedThen, view, view_part, view_row, view_parts}
+use Rattle.py_syntax.specs.ExpressionTrees.{Tree, Then, Parts, NoPart, TextThen, FormattedThen, view, view_part, view_row, view_parts}
 use Rattle.py_syntax.specs.declared.expression.Expression.{Expression, Row_of-Expression, end_of-Expression, more_of-Expression, Row_of-FormatPart, end_of-FormatPart, more_of-FormatPart}
 use Rattle.py_syntax.specs.declared.expression.Expression.TheBlock.{items-the_row-Expression, items-the_row-FormatPart}
 use Rattle.py_syntax.specs.declared.expression.FormatPart.{FormatPart}

@@ -1,7 +1,7 @@
 -- Defaults of the parameters that no operand is given for.
-use Rattle.std.proofs.Common.{◌≡◌, ℕ, suc, ◌+◌, ◌<◌, ◌≤◌, ◌==◌, ◌||◌, if◌then◌else◌, Bool, true, false, List, [], ◌∷◌, ◌++◌, length, map, take, drop, get_or, Option, Some, None, refl, sym, ap, subst, ◌∙◌, arith, drop-cons, add-one}
+use Rattle.std.proofs.Common.{◌≡◌, ℕ, suc, ◌+◌, ◌<◌, ◌≤◌, ◌==◌, ◌||◌, if◌then◌else◌, Bool, true, false, List, [], ◌∷◌, ◌++◌, length, map, take, drop, get_or, Option, Some, None, refl, sym, ap, subst, ◌∙◌, drop-cons, add-one}
 use Rattle.std.specs.Prelude.{slice_index_or, replicate}
-use Rattle.std.proofs.lemmas.List.{take_more, take_all, drop_all, append-nil, append_assoc, map-append, get_or-replicate, length-replicate}
+use Rattle.std.proofs.lemmas.List.{take_more, drop_all, append-nil, append_assoc, map-append, get_or-replicate, length-replicate}
 use Rattle.std.proofs.lemmas.List.Folds.{list_any-append}
 use Rattle.py_syntax.specs.ExpressionTrees as tree
 use Rattle.py_syntax.specs.declared.constant.Const.{Const}

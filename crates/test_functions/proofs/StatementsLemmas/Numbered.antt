@@ -3,7 +3,7 @@ use Rattle.std.proofs.Common.{◌≡◌, ℕ, List, Option, Some, Result, IfOk, 
 use Rattle.std.proofs.lemmas.Result.{IfOk-weaker}
 use Rattle.py_syntax.specs.StatementTrees.{Argument}
 use Rattle.py_syntax.specs.declared.module.Parameter.{Parameter}
-use Rattle.test_meaning.specs.Body.BodyTrees.{Call, FunctionCall}
+use Rattle.test_meaning.specs.Body.BodyTrees.{FunctionCall}
 use Rattle.test_meaning.specs.Body.Views.{view_call}
 use Rattle.test_meaning.specs.declared.body.call.Call as made
 use Rattle.test_meaning.specs.Bodies.{Inside, called, operands_in}

@@ -1,6 +1,6 @@
 -- The operands that are written.
 use Rattle.std.proofs.Common.{◌≡◌, ℕ, suc, ◌+◌, ◌<◌, Bool, Result, IfOk, Vec, Global, subst, List, [], ◌∷◌, ◌++◌, length, map, take, get_or, refl, sym, ap, ◌∙◌, arith}
-use Rattle.std.proofs.lemmas.List.{map-append, take_more, length-map, length-take, take_all}
+use Rattle.std.proofs.lemmas.List.{map-append, take_more, length-map, length-take}
 use Rattle.std.proofs.lemmas.Result.{IfOk-weaker}
 use Rattle.py_syntax.specs.ExpressionTrees.{Tree, view}
 use Rattle.py_syntax.specs.StatementTrees.{Argument, view_argument}

@@ -4,22 +4,35 @@ ghost use Rattle.std.specs.Prelude.{◌≡◌};
 ghost use Rattle.py_syntax.specs.ExpressionTrees.{view};
 ghost use Rattle.py_syntax.specs.StatementTrees.{view_caught, view_span};
 ghost use Rattle.test_meaning.specs.Body.BodyTrees as body;
-ghost use Rattle.test_meaning.specs.Body.BodyTrees.{Handlers};
-ghost use Rattle.test_meaning.specs.Body.Views.{block_of, handlers_of, view_item, with_handler};
+ghost use Rattle.test_meaning.specs.Body.BodyTrees.{Block, Handlers};
+ghost use Rattle.test_meaning.specs.Body.Views.{block_of, else_of, handlers_of, view_branch, view_item, with_handler};
 
 use port_io::Name;
 use py_syntax::{Caught, Expression, Span};
-use test_meaning::body::{Handler, Item};
+use test_meaning::body::{Branch, Handler, Item};
 
-/// An `if` with its block and that of its `else`.
-pub(crate) fn if_item(condition: Expression, block: Vec<Item>, other: Vec<Item>) -> Item
-    ensures { view_item result ≡ body.If (view condition) (block_of block.items) (block_of other.items) }
+/// An `if` with its block, each `elif` behind it, in order, and the block of the `else`.
+pub(crate) fn if_item(
+    condition: Expression,
+    block: Vec<Item>,
+    elifs: Vec<Branch>,
+    other: Vec<Item>,
+) -> Item
+    ensures { view_item result ≡ body.If (view condition) (block_of block.items) (else_of elifs.items (block_of other.items)) }
 {
     Item::If {
         condition,
         block,
+        elifs,
         other,
     }
+}
+
+/// An `elif` with its block.
+pub(crate) fn branch(condition: Expression, block: Vec<Item>) -> Branch
+    ensures { (other : Block) → view_branch result other ≡ body.If (view condition) (block_of block.items) other }
+{
+    Branch::Elif { condition, block }
 }
 
 /// A `while` with its block.

@@ -8,18 +8,20 @@ ghost use Rattle.test_meaning.specs.Body.BodyTrees.{Catch, If, NoHandler, NoItem
 ghost use Rattle.test_meaning.specs.Body.Views.{block_of, view_item};
 ghost use Rattle.test_meaning.specs.Bodies.{before, behind};
 
-use crate::blocks::items::{handler, if_item, try_item};
+use crate::blocks::items::{branch, handler, if_item, try_item};
 use port_io::NoMemory;
 use py_syntax::{Caught, Expression};
 use std::alloc::Global;
-use test_meaning::body::{Handler, Item};
+use test_meaning::body::{Branch, Handler, Item};
 
 /// What stands in a block from some place on, made from the last item to the first.
 #[derive(Drop)]
 pub(crate) struct Tail {
     /// The items, the last one first.
     pub items: Vec<Item>,
-    /// The `else` of the statement above, where its clause stands at this place; else empty.
+    /// Each `elif` of the statement above, the last one first, where the clause of one stands at this place.
+    pub elifs: Vec<Branch>,
+    /// The block of the `else` behind them, or at this place; else empty.
     pub other: Vec<Item>,
     /// The handlers of the statement above, the last one first, where the clause of one stands at this place.
     pub handlers: Vec<Handler>,
@@ -32,6 +34,7 @@ impl Tail {
     {
         Tail {
             items,
+            elifs: Vec::new(alloc),
             other: Vec::new(alloc),
             handlers: Vec::new(alloc),
         }
@@ -59,14 +62,17 @@ impl Tail {
     {
         let Tail {
             mut items,
+            mut elifs,
             other,
             ..
         } = self;
-        items.push(if_item(condition, block, other))?;
+        elifs.reverse();
+        items.push(if_item(condition, block, elifs, other))?;
         Ok(Tail::behind(alloc, items))
     }
 
-    /// `elif` with its block before these: it is an `if` that stands alone in an `else`. Only want of memory is an error.
+    /// `elif` with its block before these: it stands for an `if` that is alone in an `else`. Only want of memory is an error.
+    #[tactic(auto, using(crate::proofs::BlocksLemmas::Tails::reverse_more))]
     pub fn with_elif(
         self,
         alloc: Global,
@@ -79,12 +85,17 @@ impl Tail {
           handlers = NoHandler;
         }) }
     {
-        let Tail { items, other, .. } = self;
-        let mut outer = Vec::new(alloc);
-        outer.push(if_item(condition, block, other))?;
+        let Tail {
+            items,
+            mut elifs,
+            other,
+            ..
+        } = self;
+        elifs.push(branch(condition, block))?;
         Ok(Tail {
             items,
-            other: outer,
+            elifs,
+            other,
             handlers: Vec::new(alloc),
         })
     }
@@ -95,6 +106,7 @@ impl Tail {
     {
         Tail {
             items: self.items,
+            elifs: Vec::new(alloc),
             other: block,
             handlers: Vec::new(alloc),
         }
@@ -137,6 +149,7 @@ impl Tail {
         handlers.push(handler(caught, block))?;
         Ok(Tail {
             items,
+            elifs: Vec::new(alloc),
             other: Vec::new(alloc),
             handlers,
         })

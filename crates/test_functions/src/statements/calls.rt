@@ -1,9 +1,11 @@
 //! Calls that are started, what is awaited, and right sides.
 
-ghost use Rattle.std.specs.Prelude.{◌≡◌, Some, map, option_map, IfOk};
+ghost use Rattle.std.specs.Prelude.{◌≡◌, ◌+◌, Some, map, option_map, IfOk};
 ghost use Rattle.py_syntax.specs.ExpressionTrees.{view};
 ghost use Rattle.py_syntax.specs.StatementTrees.{
   ClockStart,
+  QueueGet,
+  QueuePut,
   WithTimeout,
   optional,
   view_argument,
@@ -11,10 +13,22 @@ ghost use Rattle.py_syntax.specs.StatementTrees.{
   view_right as view_side,
   view_started,
   view_timed as view_limited,
+  view_write_action as view_written,
 };
 ghost use Rattle.test_meaning.specs.Body.BodyTrees as body;
-ghost use Rattle.test_meaning.specs.Body.Views.{view_awaited, view_call, view_right, view_timed};
-ghost use Rattle.test_meaning.specs.Bodies.{awaited_in, call_in, called, clock_parameters, operands_in, right_in, timed_in, tree_in};
+ghost use Rattle.test_meaning.specs.Body.Views.{view_awaited, view_call, view_right, view_timed, view_write_action};
+ghost use Rattle.test_meaning.specs.Bodies.{
+  awaited_in,
+  call_in,
+  called,
+  clock_number,
+  clock_parameters,
+  operands_in,
+  right_in,
+  timed_in,
+  tree_in,
+  write_action_in,
+};
 ghost use Rattle.test_meaning.specs.Rules.File.{function};
 
 use crate::expressions::{CalledFunction, Meanings, expression};
@@ -23,7 +37,7 @@ use port_io::{Name, NoMemory};
 use py_syntax as syntax;
 use py_syntax::{Argument, Const, Expression, Parameter};
 use std::alloc::Global;
-use test_meaning::body::{Awaited, Call, RightSide, Timed};
+use test_meaning::body::{Awaited, Call, RightSide, Timed, WriteAction};
 
 /// An expression that may be left out. Only want of memory is an error.
 pub(crate) fn optional<M: Meanings>(
@@ -118,6 +132,37 @@ fn clock_start<M: Meanings>(
     Ok(Call::Clock(number, expression(alloc, meanings, clock)?, operands))
 }
 
+/// The number of a function of the library, which stands so many places behind `Clock.start`; memory is wanting where it is no number that calls
+/// have.
+fn library_number<M: Meanings>(meanings: &M, place: u32) -> Result<u32, NoMemory>
+    ensures { IfOk result (λ n. n ≡ clock_number (M.inside meanings.now).file + place) }
+{
+    let first = function_number(meanings.function_count())?;
+    first.checked_add(place).ok_or(NoMemory)
+}
+
+/// A put into a queue. Only want of memory is an error.
+fn queue_put<M: Meanings>(
+    alloc: Global,
+    meanings: &M,
+    queue: &Expression,
+    item: &Expression,
+) -> Result<Call, NoMemory>
+    ensures { IfOk result (λ made. view_call made ≡ call_in (M.inside meanings.now) (QueuePut (view queue.now) (view item.now))) }
+{
+    let number = library_number(meanings, 1)?;
+    let queue = expression(alloc, meanings, queue)?;
+    Ok(Call::Put(number, queue, expression(alloc, meanings, item)?))
+}
+
+/// A get from a queue. Only want of memory is an error.
+fn queue_get<M: Meanings>(alloc: Global, meanings: &M, queue: &Expression) -> Result<Call, NoMemory>
+    ensures { IfOk result (λ made. view_call made ≡ call_in (M.inside meanings.now) (QueueGet (view queue.now))) }
+{
+    let number = library_number(meanings, 2)?;
+    Ok(Call::Get(number, expression(alloc, meanings, queue)?))
+}
+
 /// A call that makes a task, by its function's number, with an operand for each parameter. Only want of memory is an error.
 pub fn call<M: Meanings>(
     alloc: Global,
@@ -136,6 +181,8 @@ pub fn call<M: Meanings>(
         syntax::StartedCall::Clock(clock, arguments) => clock_start(
             alloc, meanings, clock, arguments,
         ),
+        syntax::StartedCall::Put(queue, item) => queue_put(alloc, meanings, queue, item),
+        syntax::StartedCall::Get(queue) => queue_get(alloc, meanings, queue),
     }
 }
 
@@ -207,5 +254,26 @@ pub(crate) fn right_side<M: Meanings>(
             let low = expression(alloc, meanings, low)?;
             Ok(RightSide::RandomInt(low, expression(alloc, meanings, high)?))
         }
+        syntax::RightSide::Queue(bound) => Ok(RightSide::Queue(optional(alloc, meanings, bound)?)),
+        syntax::RightSide::GetNow(queue) => Ok(RightSide::GetNow(expression(
+            alloc, meanings, queue,
+        )?)),
+    }
+}
+
+/// A write that is no value. Only want of memory is an error.
+pub(crate) fn write_action<M: Meanings>(
+    alloc: Global,
+    meanings: &M,
+    action: &syntax::WriteAction,
+) -> Result<WriteAction, NoMemory>
+    ensures { IfOk result (λ made. view_write_action made ≡ write_action_in (M.inside meanings.now) (view_written action.now)) }
+{
+    match action {
+        syntax::WriteAction::Force(value) => Ok(WriteAction::Force(expression(
+            alloc, meanings, value,
+        )?)),
+        syntax::WriteAction::Freeze => Ok(WriteAction::Freeze),
+        syntax::WriteAction::Release => Ok(WriteAction::Release),
     }
 }

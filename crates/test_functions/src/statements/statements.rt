@@ -8,7 +8,7 @@ ghost use Rattle.test_meaning.specs.Body.Views.{view_logger, view_right, view_st
 ghost use Rattle.test_meaning.specs.Bodies.{logger_in, right_in, statement_in};
 
 use crate::expressions::{Meanings, expression, expressions};
-use crate::statements::calls::{awaited, call, optional, right_side};
+use crate::statements::calls::{awaited, call, optional, right_side, write_action};
 use port_io::{Name, NoMemory};
 use py_syntax as syntax;
 use py_syntax::{BinOp, Expression, LogLevel};
@@ -120,6 +120,48 @@ fn set_immediate<M: Meanings>(
     Ok(Statement::SetImmediateValue(signal, expression(alloc, meanings, value)?))
 }
 
+/// `signal.value = action`. Only want of memory is an error.
+fn assign_action<M: Meanings>(
+    alloc: Global,
+    meanings: &M,
+    signal: &Expression,
+    action: &syntax::WriteAction,
+) -> Result<Statement, NoMemory>
+    ensures { IfOk result (λ made. view_statement made
+        ≡ statement_in (M.inside meanings.now) (syntax_tree.AssignAction (view signal.now) (syntax_tree.view_write_action action.now))) }
+{
+    let signal = expression(alloc, meanings, signal)?;
+    Ok(Statement::AssignAction(signal, write_action(alloc, meanings, action)?))
+}
+
+/// `signal.setimmediatevalue(action)`. Only want of memory is an error.
+fn set_immediate_action<M: Meanings>(
+    alloc: Global,
+    meanings: &M,
+    signal: &Expression,
+    action: &syntax::WriteAction,
+) -> Result<Statement, NoMemory>
+    ensures { IfOk result (λ made. view_statement made
+        ≡ statement_in (M.inside meanings.now) (syntax_tree.SetImmediateAction (view signal.now) (syntax_tree.view_write_action action.now))) }
+{
+    let signal = expression(alloc, meanings, signal)?;
+    Ok(Statement::SetImmediateAction(signal, write_action(alloc, meanings, action)?))
+}
+
+/// `queue.put_nowait(item)`. Only want of memory is an error.
+fn put_now<M: Meanings>(
+    alloc: Global,
+    meanings: &M,
+    queue: &Expression,
+    item: &Expression,
+) -> Result<Statement, NoMemory>
+    ensures { IfOk result
+        (λ made. view_statement made ≡ statement_in (M.inside meanings.now) (syntax_tree.PutNow (view queue.now) (view item.now))) }
+{
+    let queue = expression(alloc, meanings, queue)?;
+    Ok(Statement::PutNow(queue, expression(alloc, meanings, item)?))
+}
+
 /// `assert condition` or `assert condition, value`. Only want of memory is an error.
 fn assertion<M: Meanings>(
     alloc: Global,
@@ -180,5 +222,12 @@ pub fn statement<M: Meanings>(
         syntax::Statement::StartSoon(started) => Ok(Statement::StartSoon(call(
             alloc, meanings, started,
         )?)),
+        syntax::Statement::PutNow(queue, item) => put_now(alloc, meanings, queue, item),
+        syntax::Statement::AssignAction(signal, action) => assign_action(
+            alloc, meanings, signal, action,
+        ),
+        syntax::Statement::SetImmediateAction(signal, action) => set_immediate_action(
+            alloc, meanings, signal, action,
+        ),
     }
 }

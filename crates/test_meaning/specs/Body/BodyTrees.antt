@@ -15,23 +15,28 @@ pub record Operand : Type 0 where
   pub parameter : ℕ
   pub value : Tree
 
--- A call that makes a task: of the function of this number, or of `Clock.start`, which has this number, of a clock. The operands stand in
--- the order in which they are evaluated. A clock's are for parameter 0, `cycles`, and parameter 1, `start_high`.
+-- A call that makes a task: of the function of this number, or of `Clock.start`, which has this number, of a clock, or of `Queue.put` or
+-- `Queue.get`, likewise, of a queue. The operands stand in the order in which they are evaluated. A clock's are for parameter 0, `cycles`, and
+-- parameter 1, `start_high`. A put has the queue and the item.
 pub data Call : Type 0 where
   FunctionCall : ℕ → List Operand → Call
   ClockStart : ℕ → Tree → List Operand → Call
+  QueuePut : ℕ → Tree → Tree → Call
+  QueueGet : ℕ → Tree → Call
 
 -- what `with_timeout` waits for
 pub data Timed : Type 0 where
   TimedValue : Tree → Timed
   TimedCall : Call → Timed
 
--- what stands behind `await`
+-- What stands behind `await`. That a queue has room, or an item, is awaited by the texts of `Queue.put` and `Queue.get` alone.
 pub data Awaited : Type 0 where
   AwaitedValue : Tree → Awaited
   AwaitedCall : Call → Awaited
   AwaitedStart : Call → Awaited
   WithTimeout : Timed → Tree → Option Tree → Awaited
+  AwaitedRoom : Tree → Awaited
+  AwaitedItem : Tree → Awaited
 
 pub data RightSide : Type 0 where
   RightValue : Tree → RightSide
@@ -40,6 +45,14 @@ pub data RightSide : Type 0 where
   NewEvent : RightSide
   NewLock : RightSide
   RandomInt : Tree → Tree → RightSide
+  NewQueue : Option Tree → RightSide
+  GetNow : Tree → RightSide
+
+-- a write that is no value
+pub data WriteAction : Type 0 where
+  Force : Tree → WriteAction
+  Freeze : WriteAction
+  Release : WriteAction
 
 pub data Logger : Type 0 where
   CocotbLog : Logger
@@ -61,6 +74,9 @@ pub data Statement : Type 0 where
   Act : Tree → Action → Statement
   Log : Logger → LogLevel → Tree → List Tree → Statement
   StartSoon : Call → Statement
+  PutNow : Tree → Tree → Statement
+  AssignAction : Tree → WriteAction → Statement
+  SetImmediateAction : Tree → WriteAction → Statement
 
 mutual
   -- A statement of one line, or one with blocks. An `if` has the block of its `else`, in which an `elif` is an `if`.
@@ -102,7 +118,7 @@ pub record Case : Type 0 where
   pub expect_error : Option FaultKind
   pub skip : Bool
 
--- the functions by number, `Clock.start` the last, and the tests in the order in which they run
+-- the functions by number, `Clock.start`, `Queue.put` and `Queue.get` the last, and the tests in the order in which they run
 pub record TestFile : Type 0 where
   pub functions : List Function
   pub cases : List Case

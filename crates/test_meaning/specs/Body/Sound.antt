@@ -1,9 +1,9 @@
 -- A means of proof: files in which each call and each test names a function of the file, with a value for each of its parameters, for the
 -- proofs of the runner.
-use Rattle.std.specs.Prelude.{ℕ, suc, ◌==◌, nat_lt, nat_le, Bool, false, ◌&&◌, List, [], ◌∷◌, ◌++◌, length, Some, slice_get}
+use Rattle.std.specs.Prelude.{ℕ, suc, ◌+◌, ◌==◌, nat_lt, nat_le, Bool, false, ◌&&◌, List, [], ◌∷◌, ◌++◌, length, Some, slice_get}
 use Rattle.std.specs.List.{list_all, filter, range_with_len}
 use Rattle.std.specs.Option.{option_map_or}
-use Rattle.test_meaning.specs.Body.BodyTrees.{Operand, Call, FunctionCall, ClockStart, Timed, TimedValue, TimedCall, Awaited, AwaitedValue, AwaitedCall, AwaitedStart, WithTimeout, RightSide, RightAwait, RightStart, Statement, Return, Assign, AssignValue, Await, StartSoon, Item, Simple, If, While, For, Try, With, Block, NoItem, Then, Handlers, NoHandler, Catch, Function, Case, TestFile}
+use Rattle.test_meaning.specs.Body.BodyTrees.{Operand, Call, FunctionCall, ClockStart, QueuePut, QueueGet, Timed, TimedValue, TimedCall, Awaited, AwaitedValue, AwaitedCall, AwaitedStart, WithTimeout, AwaitedRoom, AwaitedItem, RightSide, RightAwait, RightStart, Statement, Return, Assign, AssignValue, Await, StartSoon, Item, Simple, If, While, For, Try, With, Block, NoItem, Then, Handlers, NoHandler, Catch, Function, Case, TestFile}
 
 -- ---- the calls of a body
 
@@ -16,6 +16,8 @@ awaited_calls (AwaitedValue e) = []
 awaited_calls (AwaitedCall c) = c ∷ []
 awaited_calls (AwaitedStart c) = c ∷ []
 awaited_calls (WithTimeout x e u) = timed_calls x
+awaited_calls (AwaitedRoom e) = []
+awaited_calls (AwaitedItem e) = []
 
 abbrev pub right_calls : RightSide → List Call
 right_calls (RightAwait a) = awaited_calls a
@@ -67,7 +69,9 @@ fill_some n os = are_for n os && list_all (λ i. nat_le (operands_for os i) 1) (
 
 abbrev pub is_sound_call : List Function → Call → Bool
 is_sound_call fs (FunctionCall n os) = option_map_or (λ (f : Function). fill (length f.parameters) os) (slice_get fs n) false
-is_sound_call fs (ClockStart n e os) = (suc n == length fs) && fill_some 2 os
+is_sound_call fs (ClockStart n e os) = (n + 3 == length fs) && fill_some 2 os
+is_sound_call fs (QueuePut n e x) = n + 2 == length fs
+is_sound_call fs (QueueGet n e) = n + 1 == length fs
 
 abbrev pub is_sound_function : List Function → Function → Bool
 is_sound_function fs f = list_all (is_sound_call fs) (block_calls f.body)

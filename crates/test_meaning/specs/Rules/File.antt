@@ -116,6 +116,8 @@ file_of xs = record {
 abbrev pub is_always_known : FaultKind → Bool
 is_always_known kind.SimTimeoutError = false
 is_always_known kind.TriggerException = false
+is_always_known kind.QueueEmpty = false
+is_always_known kind.QueueFull = false
 is_always_known _ = true
 
 abbrev pub always_known : List Name

@@ -7,7 +7,7 @@ use Rattle.py_syntax.specs.ExpressionTrees.{Tree, NoTree, NoPart, TextThen, Form
 use Rattle.py_syntax.specs.Line.{physical_line}
 use Rattle.py_syntax.specs.ModuleTrees as line
 use Rattle.py_syntax.specs.ModuleTrees.{ModuleLine, Import, FromImport, Test, Factory, AddOption, GenerateTests}
-use Rattle.py_syntax.specs.StatementTrees.{Argument, StartedCall, FunctionCall, ClockStart, TimedValue, TimedCall, Awaited, AwaitedValue, AwaitedCall, AwaitedStart, WithTimeout, RightSide, RightValue, RightAwait, RightStart, NewEvent, NewLock, RandomInt, CocotbLog, HierarchyLog, Statement, Pass, Break, Continue, Return, Raise, Assert, Assign, AugmentedAssign, AssignValue, SetImmediateValue, Await, Act, Log, StartSoon, Caught, Kind, Kinds, KindAs, Stop, StartStop, StartStopStep, Constants, Header, If, Elif, While, For, Try, Except, With}
+use Rattle.py_syntax.specs.StatementTrees.{Argument, StartedCall, FunctionCall, ClockStart, QueuePut, QueueGet, TimedValue, TimedCall, Awaited, AwaitedValue, AwaitedCall, AwaitedStart, WithTimeout, RightSide, RightValue, RightAwait, RightStart, NewEvent, NewLock, RandomInt, NewQueue, GetNow, Force, Freeze, Release, CocotbLog, HierarchyLog, Statement, Pass, Break, Continue, Return, Raise, Assert, Assign, AugmentedAssign, AssignValue, SetImmediateValue, Await, Act, Log, StartSoon, PutNow, AssignAction, SetImmediateAction, Caught, Kind, Kinds, KindAs, Stop, StartStop, StartStopStep, Constants, Header, If, Elif, While, For, Try, Except, With}
 use Rattle.py_syntax.specs.declared.constant.Const.{Const}
 use Rattle.py_syntax.specs.declared.constant.Const.TheVariants as constant
 use Rattle.py_syntax.specs.declared.expression.BinOp.TheVariants as binary
@@ -151,7 +151,7 @@ Kept_rows = Keeps (file (codes "cocotb") [] Pass) × Keeps (factory 256 256)
 
 -- ---- imports
 
--- all that may be imported, on seven lines
+-- all that may be imported, on nine lines
 abbrev pub imports : List ModuleItem
 imports = lines 1 (
     Import (codes "cocotb") ∷ Import (codes "random")
@@ -159,17 +159,20 @@ imports = lines 1 (
     ∷ codes "NextTimeStep" ∷ codes "Event" ∷ codes "Lock" ∷ codes "Join" ∷ codes "First" ∷ codes "Combine" ∷ codes "ClockCycles"
     ∷ codes "TriggerException" ∷ codes "with_timeout" ∷ [])
     ∷ from_cocotb (codes "clock") (codes "Clock" ∷ []) ∷ from_cocotb (codes "regression") (codes "TestFactory" ∷ [])
-    ∷ from_cocotb (codes "result") (codes "SimTimeoutError" ∷ []) ∷ from_cocotb (codes "utils") (codes "get_sim_time" ∷ []) ∷ [])
+    ∷ from_cocotb (codes "result") (codes "SimTimeoutError" ∷ []) ∷ from_cocotb (codes "utils") (codes "get_sim_time" ∷ [])
+    ∷ from_cocotb (codes "handle") (codes "Force" ∷ codes "Freeze" ∷ codes "Release" ∷ [])
+    ∷ from_cocotb (codes "queue") (codes "Queue" ∷ codes "QueueEmpty" ∷ codes "QueueFull" ∷ []) ∷ [])
 
--- All of them may be; but not `from cocotb import Timer`, `from random import randint`, `from cocotb.triggers import Clock` and
--- `from cocotb.triggers import Timer, Clock`.
+-- All of them may be; but not `from cocotb import Timer`, `from random import randint`, `from cocotb.triggers import Clock`,
+-- `from cocotb.triggers import Timer, Clock`, `from cocotb.queue import PriorityQueue` and `from cocotb.handle import Deposit`.
 abbrev pub Import_rows : Type 0
 Import_rows =
-    Keeps (imports ++ test_at 8 (Pass ∷ []))
+    Keeps (imports ++ test_at 10 (Pass ∷ []))
     × Refuses_each (
     map (λ x. LineAt 1 x ∷ []) (
     FromImport (codes "cocotb" ∷ []) (codes "Timer" ∷ []) ∷ FromImport (codes "random" ∷ []) (codes "randint" ∷ [])
-    ∷ from_cocotb (codes "triggers") (codes "Clock" ∷ []) ∷ from_cocotb (codes "triggers") (codes "Timer" ∷ codes "Clock" ∷ []) ∷ []))
+    ∷ from_cocotb (codes "triggers") (codes "Clock" ∷ []) ∷ from_cocotb (codes "triggers") (codes "Timer" ∷ codes "Clock" ∷ [])
+    ∷ from_cocotb (codes "queue") (codes "PriorityQueue" ∷ []) ∷ from_cocotb (codes "handle") (codes "Deposit" ∷ []) ∷ []))
     rule.UnknownImport 1
 
 -- ---- names as values
@@ -226,12 +229,12 @@ unknown_trees =
     ∷ Call python.Timer (tree.Then one (tree.Then unknown NoTree)) ∷ MethodCall unknown method.Done ∷ Unary unary.Not unknown
     ∷ Infix (operation.Bool bool_operator.Or) unknown one ∷ Infix (operation.Binary binary.Add) one unknown ∷ []
 
--- `unknown(1)`, `g(unknown)`, `g(1, b=unknown)`, `unknown.start()` and `1 .start(cycles=unknown)`
+-- `unknown(1)`, `g(unknown)`, `g(1, b=unknown)`, `unknown.start()` and `1 .start(cycles=unknown)`, `unknown.put(1)`, `1 .put(unknown)`, `unknown.get()`
 abbrev pub unknown_calls : List StartedCall
 unknown_calls =
     FunctionCall (codes "unknown") (argument one ∷ []) ∷ FunctionCall (codes "g") (argument unknown ∷ [])
     ∷ FunctionCall (codes "g") (argument one ∷ given (codes "b") unknown ∷ []) ∷ ClockStart unknown [] ∷ ClockStart one (given (codes "cycles") unknown ∷ [])
-    ∷ []
+    ∷ QueuePut unknown one ∷ QueuePut one unknown ∷ QueueGet unknown ∷ []
 
 abbrev pub unknown_awaited : List Awaited
 unknown_awaited =
@@ -240,7 +243,8 @@ unknown_awaited =
 
 abbrev pub unknown_sides : List RightSide
 unknown_sides =
-    map RightValue unknown_trees ++ map RightAwait unknown_awaited ++ map RightStart unknown_calls ++ RandomInt unknown one ∷ RandomInt one unknown ∷ []
+    map RightValue unknown_trees ++ map RightAwait unknown_awaited ++ map RightStart unknown_calls ++ RandomInt unknown one ∷ RandomInt one unknown ∷ NewQueue (Some unknown)
+    ∷ GetNow unknown ∷ []
 
 abbrev pub unknown_statements : List Statement
 unknown_statements =
@@ -248,7 +252,9 @@ unknown_statements =
     ++ Raise kind.ValueError (Some unknown) ∷ Assert unknown None ∷ Assert one (Some unknown) ∷ Assign (codes "x") (RightValue unknown)
     ∷ AugmentedAssign (codes "x") binary.Add unknown ∷ AssignValue unknown (RightValue one) ∷ AssignValue one (RightValue unknown)
     ∷ SetImmediateValue unknown one ∷ SetImmediateValue one unknown ∷ Await (AwaitedValue unknown) ∷ Act unknown action.Set
-    ∷ Log (HierarchyLog unknown) level.Info one [] ∷ Log CocotbLog level.Info unknown [] ∷ Log CocotbLog level.Info one (one ∷ unknown ∷ []) ∷ []
+    ∷ Log (HierarchyLog unknown) level.Info one [] ∷ Log CocotbLog level.Info unknown [] ∷ Log CocotbLog level.Info one (one ∷ unknown ∷ [])
+    ∷ PutNow unknown one ∷ PutNow one unknown ∷ AssignAction unknown Freeze ∷ AssignAction one (Force unknown) ∷ SetImmediateAction unknown Freeze
+    ∷ SetImmediateAction one (Force unknown) ∷ []
 
 abbrev pub unknown_headers : List Header
 unknown_headers =
@@ -261,17 +267,17 @@ unknown_lines =
     line.Constant (codes "A") (named (codes "unknown")) ∷ Factory (codes "A") (codes "unknown") ∷ AddOption (codes "unknown") (codes "x") []
     ∷ GenerateTests (codes "unknown") None None ∷ []
 
--- all imports, `async def g(a, b=1):`, and a test with this block from line 12 on
+-- all imports, `async def g(a, b=1):`, and a test with this block from line 14 on
 abbrev pub in_test : Block → List ModuleItem
 in_test b =
-    imports ++ function 8 (codes "g") (parameter (codes "a") ∷ defaulted (codes "b") (whole 1) ∷ []) (Pass ∷ []) ∷ LineAt 10 (Test [])
-    ∷ FunctionAt 11 (codes "t") (parameter (codes "dut") ∷ []) b ∷ []
+    imports ++ function 10 (codes "g") (parameter (codes "a") ∷ defaulted (codes "b") (whole 1) ∷ []) (Pass ∷ []) ∷ LineAt 12 (Test [])
+    ∷ FunctionAt 13 (codes "t") (parameter (codes "dut") ∷ []) b ∷ []
 
 -- A name that nothing defines is found in each part of an expression, of a statement, of a header and of a line of the module.
 abbrev pub Place_rows : Type 0
 Place_rows =
-    Refuses_each (map (λ s. in_test (statements 12 (s ∷ []))) unknown_statements) rule.UnknownName 12
-    × Refuses_each (map (λ h. in_test (Then (ClauseAt 12 h (statements 13 (Pass ∷ []))) NoItem)) unknown_headers) rule.UnknownName 12
+    Refuses_each (map (λ s. in_test (statements 14 (s ∷ []))) unknown_statements) rule.UnknownName 14
+    × Refuses_each (map (λ h. in_test (Then (ClauseAt 14 h (statements 15 (Pass ∷ []))) NoItem)) unknown_headers) rule.UnknownName 14
     × Refuses_each (map (λ x. import_factory ∷ LineAt 2 x ∷ []) unknown_lines) rule.UnknownName 2
 
 -- ---- names by which a form is known
@@ -285,7 +291,8 @@ imported_forms =
     Return (Some (RightValue (Call python.Timer (tree.Then one NoTree)))) ∷ Return (Some (RightValue (Call python.GetSimTime NoTree)))
     ∷ Await (AwaitedStart call_g) ∷ Await (WithTimeout (TimedCall call_g) one None) ∷ Return (Some (RightStart call_g)) ∷ Return (Some NewEvent)
     ∷ Return (Some NewLock) ∷ Return (Some (RandomInt one one)) ∷ Raise kind.SimTimeoutError None ∷ Raise kind.TriggerException None
-    ∷ Log CocotbLog level.Info one [] ∷ StartSoon call_g ∷ []
+    ∷ Log CocotbLog level.Info one [] ∷ StartSoon call_g ∷ Return (Some (NewQueue None)) ∷ Raise kind.QueueEmpty None ∷ Raise kind.QueueFull None
+    ∷ AssignAction one (Force one) ∷ AssignAction one Freeze ∷ SetImmediateAction one Release ∷ []
 
 abbrev pub imported_catches : List Caught
 imported_catches =
@@ -294,12 +301,12 @@ imported_catches =
 -- `int(str(bool(len(dut))))`, `for i in range(1):`, and all kinds of faults that Python has
 abbrev pub built_in_forms : Block
 built_in_forms =
-    Then (StatementAt 12 (Return (Some (RightValue (Call python.Int (tree.Then (Call python.Str (tree.Then (Call python.Bool (
+    Then (StatementAt 14 (Return (Some (RightValue (Call python.Int (tree.Then (Call python.Str (tree.Then (Call python.Bool (
     tree.Then (Call python.Len (tree.Then (Name (codes "dut")) NoTree)) NoTree)) NoTree)) NoTree)))))) (
-    Then (ClauseAt 13 (For (codes "i") (Stop one)) (statements 14 (Pass ∷ []))) (
-    Then (ClauseAt 15 Try (statements 16 (Pass ∷ []))) (
-    Then (ClauseAt 17 (Except (Kinds (kind.AssertionError ∷ kind.AttributeError ∷ kind.IndexError ∷ kind.OverflowError ∷ kind.RuntimeError ∷ kind.TypeError
-    ∷ kind.UnboundLocalError ∷ kind.ValueError ∷ kind.ZeroDivisionError ∷ kind.Exception ∷ []))) (statements 18 (Pass ∷ []))) NoItem)))
+    Then (ClauseAt 15 (For (codes "i") (Stop one)) (statements 16 (Pass ∷ []))) (
+    Then (ClauseAt 17 Try (statements 18 (Pass ∷ []))) (
+    Then (ClauseAt 19 (Except (Kinds (kind.AssertionError ∷ kind.AttributeError ∷ kind.IndexError ∷ kind.OverflowError ∷ kind.RuntimeError ∷ kind.TypeError
+    ∷ kind.UnboundLocalError ∷ kind.ValueError ∷ kind.ZeroDivisionError ∷ kind.Exception ∷ []))) (statements 20 (Pass ∷ []))) NoItem)))
 
 -- `async def g(a):` from line 1 on, `try:` with `pass`, and such an `except` on line 4
 abbrev pub catching : Caught → List ModuleItem
@@ -310,7 +317,7 @@ catching c =
 -- Also `Timer(1)` where the function assigns `Timer`, and where the import stands below; and `@cocotb.test()` without `import cocotb`.
 abbrev pub Form_rows : Type 0
 Form_rows =
-    Keeps (in_test (statements 12 imported_forms)) × Keeps (in_test built_in_forms)
+    Keeps (in_test (statements 14 imported_forms)) × Keeps (in_test built_in_forms)
     × Keeps (test (Await (AwaitedValue (Call python.Timer (tree.Then one NoTree))) ∷ Assign (codes "Timer") (RightValue one) ∷ []))
     × Keeps (test (Await (AwaitedValue (Call python.Timer (tree.Then one NoTree))) ∷ []) ++ LineAt 5 (from_cocotb (codes "triggers") (codes "Timer" ∷ [])) ∷ [])
     × Refuses_each (map (λ s. function 1 (codes "g") (parameter (codes "a") ∷ []) (s ∷ []) ∷ []) imported_forms) rule.UnknownName 2
@@ -352,7 +359,7 @@ Above_rows =
     Keeps (import_cocotb ∷ constant_k 2 ∷ copy_of_k 3 ∷ default_k 4 ∷ timeout_k 6 ++ loop_over_k 9 ∷ [])
     × Refuses_each (map (λ xs. import_cocotb ∷ xs ++ constant_k 9 ∷ []) ((copy_of_k 2 ∷ []) ∷ (default_k 2 ∷ []) ∷ timeout_k 2 ∷ [])) rule.Misplaced 2
     × Refuses (loop_over_k 1 ∷ constant_k 9 ∷ []) rule.Misplaced 2
-    × Refuses (in_test (Then (StatementAt 12 (Assign (codes "K") (RightValue one))) (loop_over (codes "K") 13))) rule.Misplaced 13
+    × Refuses (in_test (Then (StatementAt 14 (Assign (codes "K") (RightValue one))) (loop_over (codes "K") 15))) rule.Misplaced 15
     × Keeps (factory_lines (parameter (codes "dut") ∷ parameter (codes "x") ∷ []) (
     line.Constant (codes "K") (whole 1) ∷ make_factory ∷ add (codes "x") (named (codes "K")) ∷ generate ∷ []))
     × Refuses (made (add (codes "x") (named (codes "K")) ∷ line.Constant (codes "K") (whole 1) ∷ [])) rule.Misplaced 5
@@ -374,22 +381,22 @@ Above_rows =
 
 -- such a call, where the function is `async def g(a, b=1):`
 abbrev pub calling : List ℕ → List Argument → List ModuleItem
-calling f xs = in_test (statements 12 (Await (AwaitedCall (FunctionCall f xs)) ∷ []))
+calling f xs = in_test (statements 14 (Await (AwaitedCall (FunctionCall f xs)) ∷ []))
 
 -- `g(1)`, `g(a=1)`, `g(1, 1)`, `g(1, b=1)` and `g(b=1, a=1)`; but not `g()`, `g(b=1)`, `g(1, 1, 1)`, `g(1, a=1)`, `g(a=1, a=1)` and `g(1, c=1)`;
 -- a call means the file's function, also where the function assigns its name; and nothing else that is known can be called so
 abbrev pub Call_rows : Type 0
 Call_rows =
-    Keeps (in_test (statements 12 (map (λ xs. Await (AwaitedCall (FunctionCall (codes "g") xs))) (
+    Keeps (in_test (statements 14 (map (λ xs. Await (AwaitedCall (FunctionCall (codes "g") xs))) (
     (argument one ∷ []) ∷ (given (codes "a") one ∷ []) ∷ (argument one ∷ argument one ∷ []) ∷ (argument one ∷ given (codes "b") one ∷ [])
     ∷ (given (codes "b") one ∷ given (codes "a") one ∷ []) ∷ []))))
     × Refuses_each (
     map (calling (codes "g")) (
     [] ∷ (given (codes "b") one ∷ []) ∷ (argument one ∷ argument one ∷ argument one ∷ []) ∷ (argument one ∷ given (codes "a") one ∷ [])
     ∷ (given (codes "a") one ∷ given (codes "a") one ∷ []) ∷ (argument one ∷ given (codes "c") one ∷ []) ∷ []))
-    rule.Misplaced 12
-    × Keeps (in_test (statements 12 (Assign (codes "g") (RightValue one) ∷ Await (AwaitedCall call_g) ∷ [])))
-    × Refuses_each (map (λ f. calling f (argument one ∷ [])) (codes "dut" ∷ codes "Lock" ∷ codes "ValueError" ∷ [])) rule.Misplaced 12
+    rule.Misplaced 14
+    × Keeps (in_test (statements 14 (Assign (codes "g") (RightValue one) ∷ Await (AwaitedCall call_g) ∷ [])))
+    × Refuses_each (map (λ f. calling f (argument one ∷ [])) (codes "dut" ∷ codes "Lock" ∷ codes "ValueError" ∷ [])) rule.Misplaced 14
 
 -- ---- loops
 
@@ -399,10 +406,10 @@ leaving = Break ∷ Continue ∷ []
 -- `break` and `continue` stand in a loop, also under an `if` there; not behind it, and not under an `if` alone.
 abbrev pub Loop_rows : Type 0
 Loop_rows =
-    Keeps (in_test (Then (ClauseAt 12 (While one) (Then (ClauseAt 13 (If one) (statements 14 leaving)) (statements 16 leaving))) NoItem))
-    × Keeps (in_test (Then (ClauseAt 12 (For (codes "i") (Stop one)) (statements 13 leaving)) NoItem))
-    × Refuses_each (map (λ s. in_test (Then (ClauseAt 12 (While one) (statements 13 (Pass ∷ []))) (statements 14 (s ∷ [])))) leaving) rule.Misplaced 14
-    × Refuses_each (map (λ s. in_test (Then (ClauseAt 12 (If one) (statements 13 (s ∷ []))) NoItem)) leaving) rule.Misplaced 13
+    Keeps (in_test (Then (ClauseAt 14 (While one) (Then (ClauseAt 15 (If one) (statements 16 leaving)) (statements 18 leaving))) NoItem))
+    × Keeps (in_test (Then (ClauseAt 14 (For (codes "i") (Stop one)) (statements 15 leaving)) NoItem))
+    × Refuses_each (map (λ s. in_test (Then (ClauseAt 14 (While one) (statements 15 (Pass ∷ []))) (statements 16 (s ∷ [])))) leaving) rule.Misplaced 16
+    × Refuses_each (map (λ s. in_test (Then (ClauseAt 14 (If one) (statements 15 (s ∷ []))) NoItem)) leaving) rule.Misplaced 15
 
 -- ---- decorators, and parameters that tests need
 

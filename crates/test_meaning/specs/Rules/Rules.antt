@@ -40,6 +40,12 @@ triggers = record {
       ∷ codes "TriggerException" ∷ codes "with_timeout" ∷ [];
 }
 
+abbrev pub handles : Exports
+handles = record { module_name = codes "cocotb.handle"; names = codes "Force" ∷ codes "Freeze" ∷ codes "Release" ∷ [] }
+
+abbrev pub queues : Exports
+queues = record { module_name = codes "cocotb.queue"; names = codes "Queue" ∷ codes "QueueEmpty" ∷ codes "QueueFull" ∷ [] }
+
 abbrev pub other_exports : List Exports
 other_exports =
     record { module_name = codes "cocotb.clock"; names = codes "Clock" ∷ [] }
@@ -52,7 +58,7 @@ abbrev pub has_export : Name → Name → Exports → Bool
 has_export m n x = bytes_eq x.module_name m && is_among n x.names
 
 abbrev pub is_exported : Name → Name → Bool
-is_exported m n = list_any (has_export m n) (triggers ∷ other_exports)
+is_exported m n = list_any (has_export m n) (triggers ∷ handles ∷ queues ∷ other_exports)
 
 abbrev pub is_unknown_import : ModuleItem → Bool
 is_unknown_import (LineAt l (Import n)) = not (is_among n modules)

@@ -9,7 +9,7 @@ use Rattle.py_syntax.specs.ExpressionTrees.{Tree, Trees, Parts, NoTree, NoPart, 
 use Rattle.py_syntax.specs.ModuleTrees as module_line
 use Rattle.py_syntax.specs.ModuleTrees.{ModuleLine, FromImport, Import, Test, Factory, AddOption, GenerateTests}
 use Rattle.py_syntax.specs.StatementTables.{fault_name, fault_of}
-use Rattle.py_syntax.specs.StatementTrees.{Argument, StartedCall, FunctionCall, ClockStart, Timed, TimedValue, TimedCall, Awaited, AwaitedValue, AwaitedCall, AwaitedStart, WithTimeout, RightSide, RightValue, RightAwait, RightStart, NewEvent, NewLock, RandomInt, Logger, CocotbLog, HierarchyLog, Statement, Pass, Break, Continue, Return, Raise, Assert, Assign, AugmentedAssign, AssignValue, SetImmediateValue, Await, Act, Log, StartSoon, Caught, All, Kind, Kinds, KindAs, Span, Stop, StartStop, StartStopStep, Constants, Header, If, Elif, Else, While, For, Try, Except, With}
+use Rattle.py_syntax.specs.StatementTrees.{Argument, StartedCall, FunctionCall, ClockStart, QueuePut, QueueGet, Timed, TimedValue, TimedCall, Awaited, AwaitedValue, AwaitedCall, AwaitedStart, WithTimeout, RightSide, RightValue, RightAwait, RightStart, NewEvent, NewLock, RandomInt, NewQueue, GetNow, WriteAction, Force, Freeze, Release, Logger, CocotbLog, HierarchyLog, Statement, Pass, Break, Continue, Return, Raise, Assert, Assign, AugmentedAssign, AssignValue, SetImmediateValue, Await, Act, Log, StartSoon, PutNow, AssignAction, SetImmediateAction, Caught, All, Kind, Kinds, KindAs, Span, Stop, StartStop, StartStopStep, Constants, Header, If, Elif, Else, While, For, Try, Except, With}
 use Rattle.py_syntax.specs.declared.constant.Const.{Const}
 use Rattle.py_syntax.specs.declared.constant.Const.TheVariants as constant
 use Rattle.py_syntax.specs.declared.fault_kind.FaultKind.{FaultKind}
@@ -82,6 +82,8 @@ argument_uses a = tree_uses a.value
 abbrev pub call_uses : StartedCall → List Use
 call_uses (FunctionCall n xs) = Calls n (map (λ a. a.name) xs) ∷ flat_map argument_uses xs
 call_uses (ClockStart e xs) = tree_uses e ++ flat_map argument_uses xs
+call_uses (QueuePut e x) = tree_uses e ++ tree_uses x
+call_uses (QueueGet e) = tree_uses e
 
 abbrev pub timed_uses : Timed → List Use
 timed_uses (TimedValue e) = tree_uses e
@@ -103,6 +105,13 @@ right_uses (RightStart c) = cocotb ∷ call_uses c
 right_uses NewEvent = Needs (codes "Event") ∷ []
 right_uses NewLock = Needs (codes "Lock") ∷ []
 right_uses (RandomInt a b) = Needs (codes "random") ∷ tree_uses a ++ tree_uses b
+right_uses (NewQueue e) = Needs (codes "Queue") ∷ if_given tree_uses e
+right_uses (GetNow e) = tree_uses e
+
+abbrev pub write_action_uses : WriteAction → List Use
+write_action_uses (Force e) = Needs (codes "Force") ∷ tree_uses e
+write_action_uses Freeze = Needs (codes "Freeze") ∷ []
+write_action_uses Release = Needs (codes "Release") ∷ []
 
 abbrev pub kind_use : FaultKind → Use
 kind_use k = Needs (fault_name k)
@@ -127,6 +136,9 @@ statement_uses looped (Await a) = awaited_uses a
 statement_uses looped (Act e a) = tree_uses e
 statement_uses looped (Log g l e es) = logger_uses g ++ tree_uses e ++ flat_map tree_uses es
 statement_uses looped (StartSoon c) = cocotb ∷ call_uses c
+statement_uses looped (PutNow e x) = tree_uses e ++ tree_uses x
+statement_uses looped (AssignAction e w) = tree_uses e ++ write_action_uses w
+statement_uses looped (SetImmediateAction e w) = tree_uses e ++ write_action_uses w
 
 abbrev pub caught_uses : Caught → List Use
 caught_uses All = []

@@ -19,6 +19,10 @@ pub enum Call {
     /// The start of a clock, by the number of `Clock.start`, with those operands that are written: of parameter 0, `cycles`, and of
     /// parameter 1, `start_high` (cocotb 1.8, `cocotb.clock.Clock.start`).
     Clock(u32, Expression, Vec<Operand>),
+    /// A put into a queue, by the number of `Queue.put`: the queue, and the item (cocotb 1.8, `cocotb.queue.Queue.put`).
+    Put(u32, Expression, Expression),
+    /// A get from a queue, by the number of `Queue.get`.
+    Get(u32, Expression),
 }
 
 /// What `with_timeout` waits for.
@@ -38,6 +42,10 @@ pub enum Awaited {
     Start(Call),
     /// `with_timeout(value, timeout_time, timeout_unit)`; the unit may be left out.
     WithTimeout(Timed, Expression, Option<Expression>),
+    /// That there is room in a queue: no file says so, and the text of `Queue.put` does.
+    Room(Expression),
+    /// That there is an item in a queue, likewise for `Queue.get`.
+    Items(Expression),
 }
 
 /// The right side of an assignment, or what a function returns.
@@ -53,4 +61,19 @@ pub enum RightSide {
     Lock,
     /// `random.randint(low, high)`
     RandomInt(Expression, Expression),
+    /// `Queue(maxsize)`; the bound may be left out.
+    Queue(Option<Expression>),
+    /// `queue.get_nowait()`
+    GetNow(Expression),
+}
+
+/// A write that is no value (cocotb 1.8, `cocotb.handle`).
+#[derive(Drop)]
+pub enum WriteAction {
+    /// `Force(value)`
+    Force(Expression),
+    /// `Freeze()`
+    Freeze,
+    /// `Release()`
+    Release,
 }

@@ -33,7 +33,7 @@ pub struct TestCase {
 /// A tests file that was accepted.
 #[derive(Drop)]
 pub struct TestFile {
-    /// Its functions, by number; `Clock.start` is the last.
+    /// Its functions, by number; behind them stand `Clock.start`, `Queue.put` and `Queue.get`.
     pub functions: Sequence<Function>,
     /// Its tests, in the order in which they run.
     pub cases: Sequence<TestCase>,

@@ -9,11 +9,12 @@ use py_syntax::{Caught, Expression, Span};
 #[derive(Drop)]
 pub enum Item {
     Statement(Box<Statement>),
-    /// `if condition:` with its block, and the block of `else`, which is empty where there is none. An `elif` is an `if` that stands
-    /// alone in the `else` of the one before.
+    /// `if condition:` with its block, each `elif` behind it, in order, and the block of `else`, which is empty where there is none. An
+    /// `elif` stands for an `if` that is alone in the `else` of the one before. They stand in a list, so that a long row of them is no deep tree.
     If {
         condition: Expression,
         block: Vec<Item>,
+        elifs: Vec<Branch>,
         other: Vec<Item>,
     },
     While {
@@ -33,6 +34,16 @@ pub enum Item {
     /// `async with lock:`
     With {
         lock: Expression,
+        block: Vec<Item>,
+    },
+}
+
+/// An `elif` with its block.
+#[cycle(items)]
+#[derive(Drop)]
+pub enum Branch {
+    Elif {
+        condition: Expression,
         block: Vec<Item>,
     },
 }

@@ -1,6 +1,6 @@
 //! Statements of one line.
 
-use crate::body::{Awaited, Call, RightSide};
+use crate::body::{Awaited, Call, RightSide, WriteAction};
 use port_io::Name;
 use py_syntax::{Action, BinOp, Expression, FaultKind, LogLevel};
 
@@ -39,4 +39,10 @@ pub enum Statement {
     Log(Logger, LogLevel, Expression, Vec<Expression>),
     /// `cocotb.start_soon(call)`
     StartSoon(Call),
+    /// `queue.put_nowait(item)`
+    PutNow(Expression, Expression),
+    /// `signal.value = action`
+    AssignAction(Expression, WriteAction),
+    /// `signal.setimmediatevalue(action)`
+    SetImmediateAction(Expression, WriteAction),
 }

@@ -5,6 +5,7 @@ ghost use Rattle.std.specs.Prelude.{◌≡◌, [], ◌∷◌};
 ghost use Rattle.test_meaning.specs.Rules.File.{always_known, built_in, is_always_known};
 ghost use Rattle.test_meaning.specs.Rules.Names.{is_among};
 ghost use Rattle.test_meaning.specs.Rules.Rules.{
+  handles,
   has_export,
   is_exported,
   is_right_value,
@@ -13,6 +14,7 @@ ghost use Rattle.test_meaning.specs.Rules.Rules.{
   is_whole,
   modules,
   other_exports,
+  queues,
   triggers,
 };
 ghost use Rattle.test_meaning.specs.Rules.Uses.{is_kind};
@@ -61,6 +63,26 @@ fn has_trigger(origin: &[u8], name: &[u8]) -> bool
     b"cocotb.triggers".as_slice() == origin && is_of_triggers(name)
 }
 
+/// Whether a name may be imported from this module, which is `cocotb.handle`: the profile has three of its actions.
+fn has_action(origin: &[u8], name: &[u8]) -> bool
+    ensures { result ≡ has_export origin.now name.now handles }
+{
+    b"cocotb.handle".as_slice() == origin
+        && (name == b"Force".as_slice()
+            || name == b"Freeze".as_slice()
+            || name == b"Release".as_slice())
+}
+
+/// Whether a name may be imported from this module, which is `cocotb.queue`.
+fn has_queue(origin: &[u8], name: &[u8]) -> bool
+    ensures { result ≡ has_export origin.now name.now queues }
+{
+    b"cocotb.queue".as_slice() == origin
+        && (name == b"Queue".as_slice()
+            || name == b"QueueEmpty".as_slice()
+            || name == b"QueueFull".as_slice())
+}
+
 /// Whether a name may be imported from this module, which is one of those with a single name.
 fn has_single(origin: &[u8], name: &[u8]) -> bool
     ensures { result ≡ list_any (has_export origin.now name.now) other_exports }
@@ -75,7 +97,10 @@ fn has_single(origin: &[u8], name: &[u8]) -> bool
 pub fn is_exported(origin: &[u8], name: &[u8]) -> bool
     ensures { result ≡ is_exported origin.now name.now }
 {
-    has_trigger(origin, name) || has_single(origin, name)
+    has_trigger(origin, name)
+        || has_action(origin, name)
+        || has_queue(origin, name)
+        || has_single(origin, name)
 }
 
 /// Whether a kind of fault is known without an import.
@@ -84,7 +109,10 @@ pub fn is_always_known(kind: FaultKind) -> bool
 {
     !matches!(
         kind,
-        FaultKind::SimTimeoutError | FaultKind::TriggerException
+        FaultKind::SimTimeoutError
+            | FaultKind::TriggerException
+            | FaultKind::QueueEmpty
+            | FaultKind::QueueFull
     )
 }
 

@@ -1,5 +1,5 @@
 -- Of the names that are a function's own, it matters alone which they are.
-use Rattle.std.proofs.Common.{◌≡◌, ℕ, Bool, false, not, ◌&&◌, ◌||◌, List, [], ◌∷◌, Option, Some, None, refl, sym, ap, ◌∙◌, if◌then◌else◌}
+use Rattle.std.proofs.Common.{◌≡◌, ℕ, Bool, not, ◌&&◌, ◌||◌, List, [], ◌∷◌, Option, Some, None, refl, sym, ap, ◌∙◌, if◌then◌else◌}
 use Rattle.std.specs.List.{list_any}
 use Rattle.std.specs.Option.{is_some, option_or}
 use Rattle.py_syntax.specs.BlockTrees.{BlockItem, DocstringAt, StatementAt, ClauseAt, Block, NoItem, Then}
@@ -8,7 +8,6 @@ use Rattle.test_meaning.specs.Rules.File.{File, fixed_of, is_known}
 use Rattle.test_meaning.specs.Rules.Names.{Name, is_among}
 use Rattle.test_meaning.specs.Rules.Rules.{is_unknown, is_nowhere, astray, broken_at, first_broken, refused_at, name_in}
 use Rattle.test_meaning.specs.Rules.Uses.{Use, FileLine, Reads, Needs, Takes, Calls, Leaves, Makes, Extends, with_names, block_lines, item_lines, statement_uses, header_uses, is_loop, body_line}
-use Rattle.test_meaning.specs.declared.rules.rule.FileRule.{FileRule}
 use Rattle.test_meaning.specs.declared.rules.rule.FileRule.TheVariants as rule
 use Rattle.test_names.specs.Uses.Answer.{answer}
 use Rattle.test_names.proofs.UsesLemmas.Blocks.{body_broken, broken_behind}

@@ -3,13 +3,13 @@
 ghost use Rattle.std.specs.Prelude.{◌≡◌, ◌∷◌, ◌++◌, map, IfOk};
 ghost use Rattle.std.specs.List.{flat_map};
 ghost use Rattle.py_syntax.specs.ExpressionTrees.{view};
-ghost use Rattle.py_syntax.specs.StatementTrees.{WithTimeout, optional, view_awaited, view_right, view_started, view_timed};
-ghost use Rattle.test_meaning.specs.Rules.Uses.{Calls, awaited_uses, call_uses, cocotb, if_given, right_uses, timed_uses, tree_uses};
+ghost use Rattle.py_syntax.specs.StatementTrees.{WithTimeout, optional, view_awaited, view_right, view_started, view_timed, view_write_action};
+ghost use Rattle.test_meaning.specs.Rules.Uses.{Calls, awaited_uses, call_uses, cocotb, if_given, right_uses, timed_uses, tree_uses, write_action_uses};
 ghost use Rattle.test_names.specs.Uses.Answer.{answer};
 
 use crate::uses::{Scope, first_of, of_tree};
 use port_io::NoMemory;
-use py_syntax::{Argument, Awaited, Expression, RightSide, StartedCall, Timed};
+use py_syntax::{Argument, Awaited, Expression, RightSide, StartedCall, Timed, WriteAction};
 use std::alloc::Global;
 use test_meaning::rules::FileRule;
 
@@ -86,6 +86,8 @@ pub(crate) fn of_started<S: Scope>(
             of_tree(scope, clock),
             of_arguments(scope, arguments),
         )),
+        StartedCall::Put(queue, item) => Ok(of_both(scope, queue, item)),
+        StartedCall::Get(queue) => Ok(of_tree(scope, queue)),
     }
 }
 
@@ -162,5 +164,30 @@ pub(crate) fn of_right<S: Scope>(
             scope.needs(b"random"),
             of_both(scope, low, high),
         )),
+        RightSide::Queue(bound) => Ok(first_of(scope.needs(b"Queue"), of_optional(scope, bound))),
+        RightSide::GetNow(queue) => Ok(of_tree(scope, queue)),
     }
+}
+
+/// The rule that the uses of an action break.
+fn of_action<S: Scope>(scope: &S, action: &WriteAction) -> Option<FileRule>
+    ensures { result ≡ answer (S.file scope.now) (S.around scope.now) (write_action_uses (view_write_action action.now)) }
+{
+    match action {
+        WriteAction::Force(value) => first_of(scope.needs(b"Force"), of_tree(scope, value)),
+        WriteAction::Freeze => scope.needs(b"Freeze"),
+        WriteAction::Release => scope.needs(b"Release"),
+    }
+}
+
+/// The rule that the uses of an expression break, and those of an action behind it.
+pub(crate) fn of_tree_action<S: Scope>(
+    scope: &S,
+    tree: &Expression,
+    action: &WriteAction,
+) -> Option<FileRule>
+    ensures { result ≡ answer (S.file scope.now) (S.around scope.now)
+        (tree_uses (view tree.now) ++ write_action_uses (view_write_action action.now)) }
+{
+    first_of(of_tree(scope, tree), of_action(scope, action))
 }

@@ -7,7 +7,9 @@ ghost use Rattle.py_syntax.specs.StatementTrees.{Break, optional, view_logger, v
 ghost use Rattle.test_meaning.specs.Rules.Uses.{if_given, kind_use, logger_uses, right_uses, statement_uses, tree_uses};
 ghost use Rattle.test_names.specs.Uses.Answer.{answer};
 
-use crate::uses::call::{of_awaited, of_both, of_optional, of_right, of_start, of_tree_and};
+use crate::uses::call::{
+    of_awaited, of_both, of_optional, of_right, of_start, of_tree_action, of_tree_and,
+};
 use crate::uses::{Scope, first_of, of_tree, of_trees};
 use port_io::NoMemory;
 use py_syntax::{Expression, FaultKind, Logger, RightSide, Statement};
@@ -120,5 +122,8 @@ pub fn of_statement<S: Scope>(
             of_values(scope, values),
         )),
         Statement::StartSoon(call) => of_start(alloc, scope, call),
+        Statement::PutNow(queue, item) => Ok(of_both(scope, queue, item)),
+        Statement::AssignAction(signal, action) => Ok(of_tree_action(scope, signal, action)),
+        Statement::SetImmediateAction(signal, action) => Ok(of_tree_action(scope, signal, action)),
     }
 }

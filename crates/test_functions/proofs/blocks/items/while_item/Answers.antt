@@ -1,5 +1,5 @@
 use Rattle.std.proofs.Common.{rules}
-use Rattle.test_meaning.specs.declared.body.item.Handler.TheViews.{the_lemmas}
+use Rattle.test_meaning.specs.declared.body.item.Branch.TheViews.{the_lemmas}
 use Rattle.test_functions.proofs.BlocksLemmas.Tails.{row_items, row_handlers}
 use Rattle.test_functions.proofs.blocks.items.while_item.Goals as goal
 

@@ -1,0 +1,7 @@
+use Rattle.std.proofs.Common.{rules}
+use Rattle.test_meaning.specs.declared.body.item.Branch.TheViews.{the_lemmas}
+use Rattle.test_functions.proofs.BlocksLemmas.Tails.{row_items}
+use Rattle.test_functions.proofs.blocks.items.branch.Goals as goal
+
+pub returns : goal.returns
+returns c = λ other. search (rules, the_lemmas, row_items)
