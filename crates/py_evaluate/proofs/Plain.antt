@@ -1,11 +1,13 @@
 -- What operators on one value give names nothing of a design, and a word of a known memory is known.
-use Rattle.std.proofs.Common.{◌≡◌, ℕ, ◌+◌, ◌-◌, ◌<◌, Bool, true, false, Ok, Err, nat_lt, nat_le, length, if◌then◌else◌, refl, arith}
-use Rattle.std.specs.Prelude.{ℤ, pos, negsuc, ◌&&◌, ◌-ℤ◌, neg_ℤ, IfOk}
+use Rattle.std.proofs.Common.{◌≡◌, ℕ, ◌+◌, ◌-◌, ◌<◌, Bool, true, false, Ok, Err, nat_lt, nat_le, length, if◌then◌else◌, refl, ap, sym, ◌∙◌, arith}
+use Rattle.std.specs.Prelude.{Result, ℤ, pos, negsuc, ◌&&◌, ◌-ℤ◌, neg_ℤ, IfOk}
 use Rattle.gpi.specs.declared.types.SigId.{SigId}
 use Rattle.py_syntax.specs.declared.expression.UnOp.{UnOp}
 use Rattle.py_syntax.specs.declared.expression.UnOp.TheVariants as unop
 use Rattle.py_syntax.specs.declared.fault_kind.FaultKind.TheVariants.{IndexError}
 use Rattle.py_value.specs.Integer.Integer.{held}
+use Rattle.py_value.specs.Answer.{Answer, raised}
+use Rattle.py_value.specs.declared.value.Fault.{Fault}
 use Rattle.py_value.specs.declared.value.Value.{Value}
 use Rattle.py_value.specs.declared.value.Value.TheVariants as value
 use Rattle.py_value.specs.Operator.Number.{one_number, whole}
@@ -14,6 +16,21 @@ use Rattle.py_evaluate.specs.Attribute.Attribute.{indexed, word_at}
 use Rattle.py_evaluate.specs.Attribute.Look.{View}
 use Rattle.py_evaluate.specs.Attribute.Knows.{Knows, KnowsWords}
 use Rattle.py_evaluate.proofs.AttributeLemmas.Plain.{chained, whole_plain}
+
+-- what was raised, without the text of the fault
+abbrev kind_of : Result Value Fault → Answer Value
+kind_of (Ok v) = Ok v
+kind_of (Err fault) = Err fault.kind
+
+unraised : (a : Answer Value) → kind_of (raised a) ≡ a
+unraised (Ok v) = refl
+unraised (Err kind) = refl
+
+pub raised_value : (a : Answer Value) (r : Result Value Fault) (v : Value) → r ≡ Ok v → r ≡ raised a → Ok v ≡ a
+raised_value a r v e h = ap kind_of (sym e ∙ h) ∙ unraised a
+
+pub raised_kind : (a : Answer Value) (r : Result Value Fault) (fault : Fault) → r ≡ Err fault → r ≡ raised a → Err fault.kind ≡ a
+raised_kind a r fault e h = ap kind_of (sym e ∙ h) ∙ unraised a
 
 pub unary_plain : (view : View) (o : UnOp) (a : Value) → IfOk (unary_value o a) (Knows view)
 unary_plain view unop.Not a = tt

@@ -4,7 +4,7 @@
 //! attributes of a vector, [`indexed`] a word of a memory, [`str_value`] the text of any value, and [`signal_of`] the signal that
 //! a value is. Texts have at most 65,536 bytes ([`text_value`]).
 //!
-//! [`Look`] is what a task sees: signals, the time, the names below a hierarchy, events, locks and tasks. [`Locals`] are the names
+//! [`Look`] is what a task sees: signals, the time, the names below a hierarchy, events, locks, queues and tasks. [`Locals`] are the names
 //! of its function. By them [`attribute`] gives an attribute of any value, [`len`] the width of a signal, [`one_bit`] a signal of
 //! one digit, [`str_text`] and [`shown_text`] texts, and [`operated`] what an operator gives, where a signal beside a value stands
 //! for its own value. Each asks that the view knows its operands.

@@ -3,7 +3,7 @@ use Rattle.std.specs.Prelude.{ℕ, ◌<◌, length, List, ◌++◌, codes, true,
 use Rattle.std.specs.Fmt.{decimal, signed_decimal}
 use Rattle.four_value.specs.Vector.{digit_letters}
 use Rattle.py_value.specs.declared.value.Value.{Value}
-use Rattle.py_value.specs.declared.value.Value.TheVariants.{Absent, Truth, Whole, Text, Vector, Place, Words, Signal as Sig, Trigger, Task, Event, Lock, Clock, Caught}
+use Rattle.py_value.specs.declared.value.Value.TheVariants.{Absent, Truth, Whole, Text, Vector, Place, Words, Signal as Sig, Trigger, Task, Event, Lock, Queue, Clock, Caught}
 use Rattle.py_value.specs.Places.{Places, path_at}
 
 -- a kind of thing, and its number
@@ -24,6 +24,7 @@ shown places (Trigger t) = codes "<trigger>"
 shown places (Task t) = numbered (codes "<task ") t.0
 shown places (Event e) = numbered (codes "<event ") e.0
 shown places (Lock l) = numbered (codes "<lock ") l.0
+shown places (Queue q) = numbered (codes "<queue ") q.0
 shown places (Clock s h) = codes "<clock>"
 shown places (Caught f) = f.text
 

@@ -31,6 +31,7 @@ pub fn copy(alloc: Global, v: &Value) -> Result<Value, NoMemory>
         Value::Task(task) => Ok(Value::Task(*task)),
         Value::Event(event) => Ok(Value::Event(*event)),
         Value::Lock(lock) => Ok(Value::Lock(*lock)),
+        Value::Queue(queue) => Ok(Value::Queue(*queue)),
         Value::Clock { sig, half } => Ok(Value::Clock {
             sig: *sig,
             half: *half,

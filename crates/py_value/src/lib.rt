@@ -26,5 +26,5 @@ pub use conditions::truth;
 pub use copies::copy;
 pub use paths::Paths;
 pub use shown::{digits_name, show};
-pub use trigger::{EventNo, Form, LockNo, TaskNo, Trig, TrigId, Trigs};
+pub use trigger::{EventNo, Form, LockNo, QueueNo, TaskNo, Trig, TrigId, Trigs};
 pub use value::{Fault, Value};

@@ -60,6 +60,7 @@ pub fn show<P: Paths>(alloc: Global, v: &Value, paths: &P) -> Result<Name, NoMem
         Value::Task(task) => numbered_text(alloc, b"<task ", task.0),
         Value::Event(event) => numbered_text(alloc, b"<event ", event.0),
         Value::Lock(lock) => numbered_text(alloc, b"<lock ", lock.0),
+        Value::Queue(queue) => numbered_text(alloc, b"<queue ", queue.0),
         Value::Clock { .. } => Name::of(alloc, b"<clock>"),
         Value::Caught(fault) => Name::of(alloc, fault.text.bytes()),
     }

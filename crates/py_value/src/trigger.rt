@@ -19,6 +19,10 @@ pub struct EventNo(pub u32);
 #[derive(Clone, Copy, Debug, PartialEq, Eq)]
 pub struct LockNo(pub u32);
 
+/// A queue (cocotb 1.8, `cocotb.queue.Queue`), by its number from 0 in the test, in the order in which queues are made.
+#[derive(Clone, Copy, Debug, PartialEq, Eq)]
+pub struct QueueNo(pub u32);
+
 /// Which trigger it is: the task that made it, and its number in that task.
 #[derive(Clone, Copy, Debug, PartialEq, Eq)]
 pub struct TrigId {

@@ -2,7 +2,7 @@
 ghost use Rattle.std.specs.Prelude.{◌≡◌};
 ghost use Rattle.py_value.specs.Answer.{plain_fault};
 
-use crate::{EventNo, LockNo, TaskNo, Trig};
+use crate::{EventNo, LockNo, QueueNo, TaskNo, Trig};
 use four_value::Bits;
 use gpi::SigId;
 use port_io::Name;
@@ -56,6 +56,8 @@ pub enum Value {
     Event(EventNo),
     /// A lock.
     Lock(LockNo),
+    /// A queue.
+    Queue(QueueNo),
     /// A clock on a signal of one bit, which stays high or low for `half` steps.
     Clock { sig: SigId, half: u64 },
     /// A fault that an `except` has caught and named.

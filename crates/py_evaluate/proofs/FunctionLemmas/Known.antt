@@ -22,7 +22,7 @@ use Rattle.py_evaluate.specs.Attribute.Attribute.{signal_of, str_value}
 use Rattle.py_value.specs.Time.Times.{in_unit, steps_of, half_steps}
 use Rattle.py_value.proofs.TimeLemmas.Sound.{steps_sound, half_sound}
 use Rattle.std.proofs.lemmas.Bool.Decides.{nat_tests}
-use Rattle.py_evaluate.specs.Attribute.Look.{View, len, one_bit, width}
+use Rattle.py_evaluate.specs.Attribute.Look.{View, SeenQueue, queue, len, one_bit, width}
 use Rattle.py_evaluate.specs.Attribute.Knows.{Knows, KnowsAll, KnowsSignal, KnowsForm, KnowsTrig, KnowsTrigs}
 use Rattle.py_evaluate.specs.Attribute.Outcome.{Outcome, gives, refuses, bind, after}
 use Rattle.py_evaluate.proofs.AttributeLemmas.Plain.{either, chained, whole_plain, text_plain}
@@ -299,9 +299,16 @@ done_known : (view : View) (v : Value) → IfOk (meaning.done_state view v) (Kno
 done_known view (value.Task t) = tt
 done_known view _ = tt
 
+queue_known : (view : View) (v : Value) (tell : SeenQueue → Value) → ((q : SeenQueue) → Knows view (tell q)) → IfOk (meaning.queue_state view v tell) (Knows view)
+queue_known view (value.Queue q) tell p = p (queue view q)
+queue_known view _ tell p = tt
+
 pub method_known : (task : TaskNo) (view : View) (v : Value) (m : Method) (k : ℕ) → Knows view v → IfOk (meaning.method_value task view v m k).answer (Knows view)
 method_known task view v method.IsSet k h = set_known view v
 method_known task view v method.Done k h = done_known view v
+method_known task view v method.QSize k h = queue_known view v (λ q. value.Whole (pos q.held)) (λ q. tt)
+method_known task view v method.Empty k h = queue_known view v (λ q. value.Truth (q.held == 0)) (λ q. tt)
+method_known task view v method.Full k h = queue_known view v (λ q. value.Truth q.is_full) (λ q. tt)
 method_known task view v method.Wait k h = form_known view task (meaning.method_form v method.Wait) k (waits view v method.Wait h)
 method_known task view v method.Acquire k h = form_known view task (meaning.method_form v method.Acquire) k (waits view v method.Acquire h)
 method_known task view v method.Join k h = form_known view task (meaning.method_form v method.Join) k (waits view v method.Join h)

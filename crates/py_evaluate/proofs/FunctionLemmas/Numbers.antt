@@ -21,7 +21,7 @@ use Rattle.py_value.specs.declared.value.Value.TheVariants as value
 use Rattle.py_value.specs.Operator.Number.{one_number, whole}
 use Rattle.py_evaluate.specs.Attribute.Attribute.{signal_of, str_value}
 use Rattle.py_value.specs.Time.Times.{in_unit, steps_of, half_steps}
-use Rattle.py_evaluate.specs.Attribute.Look.{View, len, one_bit, width}
+use Rattle.py_evaluate.specs.Attribute.Look.{View, SeenQueue, queue, len, one_bit, width}
 use Rattle.py_evaluate.specs.Attribute.Numbers.{Each, EachTrig, EachForm, EachOf, EachNumber}
 use Rattle.py_evaluate.specs.Attribute.Outcome.{Outcome, gives, refuses, bind}
 use Rattle.py_evaluate.proofs.AttributeLemmas.Onward.{bind_rises}
@@ -196,10 +196,18 @@ done_each : (test : TrigId → Bool) (view : View) (v : Value) → IfOk (meaning
 done_each test view (value.Task t) = tt
 done_each test view _ = tt
 
+queue_each : (test : TrigId → Bool) (view : View) (v : Value) (tell : SeenQueue → Value) → ((q : SeenQueue) → Each test (tell q))
+    → IfOk (meaning.queue_state view v tell) (Each test)
+queue_each test view (value.Queue q) tell p = p (queue view q)
+queue_each test view _ tell p = tt
+
 pub method_each : (test : TrigId → Bool) (task : TaskNo) (view : View) (v : Value) (m : Method) (k : ℕ) → EachNumber test task k (meaning.method_value task view v m k).next
     → IfOk (meaning.method_value task view v m k).answer (Each test)
 method_each test task view v method.IsSet k new = set_each test view v
 method_each test task view v method.Done k new = done_each test view v
+method_each test task view v method.QSize k new = queue_each test view v (λ q. value.Whole (pos q.held)) (λ q. tt)
+method_each test task view v method.Empty k new = queue_each test view v (λ q. value.Truth (q.held == 0)) (λ q. tt)
+method_each test task view v method.Full k new = queue_each test view v (λ q. value.Truth q.is_full) (λ q. tt)
 method_each test task view v method.Wait k new = made_each test task (meaning.method_form v method.Wait) k (waits_each test v method.Wait) new
 method_each test task view v method.Acquire k new = made_each test task (meaning.method_form v method.Acquire) k (waits_each test v method.Acquire) new
 method_each test task view v method.Join k new = made_each test task (meaning.method_form v method.Join) k (waits_each test v method.Join) new

@@ -94,6 +94,9 @@ called_rises task view function.Clock vs k = same k
 pub method_rises : (task : TaskNo) (view : View) (v : Value) (m : Method) (k : ℕ) → k ≤ (meaning.method_value task view v m k).next
 method_rises task view v method.IsSet k = same k
 method_rises task view v method.Done k = same k
+method_rises task view v method.QSize k = same k
+method_rises task view v method.Empty k = same k
+method_rises task view v method.Full k = same k
 method_rises task view v method.Wait k = made_rises task (meaning.method_form v method.Wait) k
 method_rises task view v method.Acquire k = made_rises task (meaning.method_form v method.Acquire) k
 method_rises task view v method.Join k = made_rises task (meaning.method_form v method.Join) k

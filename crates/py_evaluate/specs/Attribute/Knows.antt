@@ -1,12 +1,13 @@
 -- A means of proof: which values a view knows, for the proofs of evaluation: each signal and node in them is of its design, each task,
--- event and lock was made in its test, each trigger is sound, and each clock can run.
+-- event, lock and queue was made in its test, each trigger is sound, and each clock can run.
 use Rattle.std.specs.Prelude.{◌≡◌, ℕ, ◌+◌, ◌<◌, ◌≤◌, length, List, [], ◌∷◌, IfSome}
 use Rattle.gpi.specs.declared.types.SigId.{SigId}
 use Rattle.py_value.specs.Limits.{signal_numbers}
 use Rattle.py_value.specs.Trigger.{Trig, Made, Form, Trigs, NoTrig, Then, Rise, Fall, Change, Cycles, Event, Lock, Join, First, Combine, Limit, AreSteps, IsSound}
+use Rattle.py_value.specs.declared.trigger.QueueNo.{QueueNo}
 use Rattle.py_value.specs.declared.value.Value.{Value}
 use Rattle.py_value.specs.declared.value.Value.TheVariants as value
-use Rattle.py_evaluate.specs.Attribute.Look.{View, Names, child, local, spot_value, width}
+use Rattle.py_evaluate.specs.Attribute.Look.{View, Names, child, local, queue, spot_value, width}
 
 -- a signal of the design
 abbrev pub KnowsSignal : View → ℕ → Type 0
@@ -58,6 +59,7 @@ Knows view (value.Trigger t) = KnowsTrig view t × IsSound t
 Knows view (value.Task t) = t.0 < length view.ended
 Knows view (value.Event e) = e.0 < length view.events
 Knows view (value.Lock l) = l.0 < length view.locks
+Knows view (value.Queue q) = q.0 < length view.queues
 Knows view (value.Clock s h) = KnowsClock view s h
 Knows view _ = Unit {0}
 
@@ -72,3 +74,8 @@ KnowsNames view names = (n : List ℕ) → IfSome (local names n) (Knows view)
 -- what each name means that is declared in a node of the design
 abbrev pub KnowsDesign : View → Type 0
 KnowsDesign view = (node : ℕ) (name : List ℕ) → IfSome (child view node name) (λ s. Knows view (spot_value s))
+
+-- both events of each queue were made in the test
+abbrev pub KnowsEvents : View → Type 0
+KnowsEvents view =
+    (q : QueueNo) → q.0 < length view.queues → ((queue view q).items_event.0 < length view.events) × ((queue view q).space_event.0 < length view.events)

@@ -1,5 +1,5 @@
 -- What a task sees of the simulation and of the runner, its names, and what values are by it (the language reference, 4.2).
-use Rattle.std.specs.Prelude.{ℕ, ◌==◌, Bool, true, false, List, [], ◌∷◌, length, Option, None, Some, Ok, Err, codes, pos, slice_index_or, if◌then◌else◌}
+use Rattle.std.specs.Prelude.{ℕ, ◌==◌, Bool, true, false, List, [], length, Option, None, Some, Ok, Err, codes, pos, slice_index_or, if◌then◌else◌}
 use Rattle.std.specs.List.{find}
 use Rattle.std.specs.Option.{option_map, option_and_then}
 use Rattle.std.specs.Str.{bytes_eq}
@@ -13,13 +13,23 @@ use Rattle.py_syntax.specs.declared.expression.BinOp.TheVariants as op
 use Rattle.py_syntax.specs.declared.fault_kind.FaultKind.TheVariants.{AttributeError, TypeError, UnboundLocalError}
 use Rattle.py_value.specs.Answer.{Answer, and_then}
 use Rattle.py_value.specs.Places.{Places, path_at}
+use Rattle.py_value.specs.declared.trigger.EventNo.{EventNo}
+use Rattle.py_value.specs.declared.trigger.QueueNo.{QueueNo}
 use Rattle.py_value.specs.declared.value.Value.{Value}
 use Rattle.py_value.specs.declared.value.Value.TheVariants.{Truth, Whole, Vector, Place, Words, Signal, Lock}
 use Rattle.py_value.specs.Operator.Operation.{binary_value}
 use Rattle.py_evaluate.specs.Attribute.Attribute.{path_attribute, vector_attribute, signal_of}
 
+-- what is seen of a queue: how many items it holds, whether it is full, and the events that are set while it has an item and while it has room
+pub record SeenQueue : Type 0 where
+  pub held : ℕ
+  pub is_full : Bool
+  pub items_event : EventNo
+  pub space_event : EventNo
+
 -- The paths of the design; of each node the names that are declared in it; the femtoseconds of a step; the digits of each signal, the
--- time and the region; of each event of the test whether it is set, of each lock whether it is held, of each task whether it has ended.
+-- time and the region; of each event of the test whether it is set, of each lock whether it is held, of each task whether it has ended; what
+-- is seen of each queue of the test.
 pub record View : Type 0 where
   pub places : Places
   pub nodes : List (List (List ℕ × Spot))
@@ -30,6 +40,11 @@ pub record View : Type 0 where
   pub events : List Bool
   pub locks : List Bool
   pub ended : List Bool
+  pub queues : List SeenQueue
+
+-- a queue of the test
+abbrev pub queue : View → QueueNo → SeenQueue
+queue view q = slice_index_or view.queues q.0 (record { held = 0; is_full = false; items_event = record { 0 = 0 }; space_event = record { 0 = 0 } })
 
 abbrev pub read : View → SigId → List Digit
 read view sig = slice_index_or view.signals sig.0 []

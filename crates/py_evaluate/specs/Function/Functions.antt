@@ -1,5 +1,5 @@
 -- What functions and methods give (the library reference, "Built-in Functions"; cocotb 1.8, "Triggers", `Clock` and `get_sim_time`).
-use Rattle.std.specs.Prelude.{ℕ, zero, suc, ◌-◌, ◌^◌, ◌≤◌, nat_le, Bool, true, false, is_ok, IsTrue, List, Option, Some, None, Ok, Err, if◌then◌else◌, slice_get, slice_index_or, ℤ, pos, negsuc}
+use Rattle.std.specs.Prelude.{ℕ, zero, suc, ◌-◌, ◌^◌, ◌≤◌, ◌==◌, nat_le, Bool, true, false, is_ok, IsTrue, List, Option, Some, None, Ok, Err, if◌then◌else◌, slice_get, slice_index_or, ℤ, pos, negsuc}
 use Rattle.std.specs.List.{list_all}
 use Rattle.gpi.specs.declared.types.SigId.{SigId}
 use Rattle.py_syntax.specs.declared.expression.Function.{Function}
@@ -18,7 +18,7 @@ use Rattle.py_value.specs.declared.value.Value.TheVariants as value
 use Rattle.py_value.specs.Operator.Number.{one_number, whole}
 use Rattle.py_evaluate.specs.Attribute.Attribute.{signal_of, str_value}
 use Rattle.py_value.specs.Time.Times.{unit_of, steps_of, half_steps, time_in}
-use Rattle.py_evaluate.specs.Attribute.Look.{View, len, one_bit}
+use Rattle.py_evaluate.specs.Attribute.Look.{View, SeenQueue, queue, len, one_bit}
 use Rattle.py_evaluate.specs.Attribute.Outcome.{Outcome, lift}
 use Rattle.py_evaluate.specs.Function.Making.{is_waitable, new_value, several}
 
@@ -155,7 +155,15 @@ abbrev pub done_state : View → Value → Answer Value
 done_state view (value.Task t) = Ok (value.Truth (slice_index_or view.ended t.0 false))
 done_state view _ = Err AttributeError
 
+-- what a queue tells of itself
+abbrev pub queue_state : View → Value → (SeenQueue → Value) → Answer Value
+queue_state view (value.Queue q) tell = Ok (tell (queue view q))
+queue_state view _ tell = Err AttributeError
+
 abbrev pub method_value : TaskNo → View → Value → Method → ℕ → Outcome Value
 method_value task view v method.IsSet k = lift (set_state view v) k
 method_value task view v method.Done k = lift (done_state view v) k
+method_value task view v method.QSize k = lift (queue_state view v (λ q. value.Whole (pos q.held))) k
+method_value task view v method.Empty k = lift (queue_state view v (λ q. value.Truth (q.held == 0))) k
+method_value task view v method.Full k = lift (queue_state view v (λ q. value.Truth q.is_full)) k
 method_value task view v m k = new_value task (method_form v m) k

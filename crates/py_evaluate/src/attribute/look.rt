@@ -2,13 +2,13 @@
 use four_value::Bits;
 use gpi::{Region, SigId, Spot};
 use port_io::Name;
-use py_value::{EventNo, LockNo, Paths, TaskNo};
+use py_value::{EventNo, LockNo, Paths, QueueNo, TaskNo};
 
 /// What a task sees of the simulation and of the runner. No call takes memory.
 pub trait Look: Paths {
     ghost use Rattle.std.specs.Prelude.{◌≡◌, ◌<◌, ◌≤◌, length, false, slice_index_or, IfSome};
-    ghost use Rattle.py_evaluate.specs.Attribute.Look.{View, read, width, child, spot_value};
-    ghost use Rattle.py_evaluate.specs.Attribute.Knows.{Knows, KnowsDesign};
+    ghost use Rattle.py_evaluate.specs.Attribute.Look.{View, read, width, child, spot_value, queue};
+    ghost use Rattle.py_evaluate.specs.Attribute.Knows.{Knows, KnowsDesign, KnowsEvents};
 
     /// What it sees.
     ghost view: { Self → View };
@@ -57,9 +57,35 @@ pub trait Look: Paths {
         requires { task.0 < length (view self.now).ended }
         ensures { result ≡ slice_index_or (view self.now).ended task.0 false };
 
+    /// How many items a queue of the test holds.
+    fn queue_len(&self, q: QueueNo) -> u32
+        requires { q.0 < length (view self.now).queues }
+        ensures { result ≡ (queue (view self.now) q).held };
+
+    /// Whether a queue of the test is full.
+    fn queue_full(&self, q: QueueNo) -> bool
+        requires { q.0 < length (view self.now).queues }
+        ensures { result ≡ (queue (view self.now) q).is_full };
+
+    /// The event that is set exactly while a queue of the test has an item. It was made in the test.
+    fn queue_items(&self, q: QueueNo) -> EventNo
+        requires { q.0 < length (view self.now).queues }
+        ensures is { result ≡ (queue (view self.now) q).items_event }
+        ensures made { result.0 < length (view self.now).events };
+
+    /// The event that is set exactly while a queue of the test isn't full. It was made in the test.
+    fn queue_space(&self, q: QueueNo) -> EventNo
+        requires { q.0 < length (view self.now).queues }
+        ensures is { result ≡ (queue (view self.now) q).space_event }
+        ensures made { result.0 < length (view self.now).events };
+
     /// That each name that is declared in the design means something that is known. It does nothing, and only carries a proof.
     fn names_are_known(&self)
         ensures { KnowsDesign (view self.now) };
+
+    /// That both events of each queue were made. It does nothing, and only carries a proof.
+    fn queues_are_known(&self)
+        ensures { KnowsEvents (view self.now) };
 
     /// The paths that it tells are those that it sees.
     ghost told: { (x : Self) → Self.places x ≡ (view x).places };

@@ -1,7 +1,8 @@
 //! Calls of methods.
-ghost use Rattle.std.specs.Prelude.{◌≡◌, ◌≤◌, IfOk};
+ghost use Rattle.std.specs.Prelude.{◌≡◌, ◌==◌, ◌≤◌, IfOk, pos};
 ghost use Rattle.py_value.specs.Answer.{answer_map};
 ghost use Rattle.py_value.specs.TriggerView.{view_form};
+ghost use Rattle.py_value.specs.declared.value.Value.TheVariants as value;
 ghost use Rattle.py_evaluate.specs.Attribute.Knows.{Knows};
 ghost use Rattle.py_evaluate.specs.Attribute.Outcome.{lift};
 ghost use Rattle.py_evaluate.specs.Function.Functions as meaning;
@@ -45,6 +46,39 @@ fn done_state<V: Look>(view: &V, v: &Value) -> Result<Value, FaultKind>
     }
 }
 
+/// `queue.qsize()`. What is no queue is an AttributeError.
+fn item_count<V: Look>(view: &V, v: &Value) -> Result<Value, FaultKind>
+    requires { Knows (V.view view.now) v.now }
+    ensures { result ≡ meaning.queue_state (V.view view.now) v.now (λ q. value.Whole (pos q.held)) }
+{
+    match v {
+        Value::Queue(queue) => Ok(Value::Whole(view.queue_len(*queue) as i128)),
+        _ => Err(FaultKind::AttributeError),
+    }
+}
+
+/// `queue.empty()`. What is no queue is an AttributeError.
+fn empty_state<V: Look>(view: &V, v: &Value) -> Result<Value, FaultKind>
+    requires { Knows (V.view view.now) v.now }
+    ensures { result ≡ meaning.queue_state (V.view view.now) v.now (λ q. value.Truth (q.held == 0)) }
+{
+    match v {
+        Value::Queue(queue) => Ok(Value::Truth(view.queue_len(*queue) == 0)),
+        _ => Err(FaultKind::AttributeError),
+    }
+}
+
+/// `queue.full()`. What is no queue is an AttributeError.
+fn full_state<V: Look>(view: &V, v: &Value) -> Result<Value, FaultKind>
+    requires { Knows (V.view view.now) v.now }
+    ensures { result ≡ meaning.queue_state (V.view view.now) v.now (λ q. value.Truth q.is_full) }
+{
+    match v {
+        Value::Queue(queue) => Ok(Value::Truth(view.queue_full(*queue))),
+        _ => Err(FaultKind::AttributeError),
+    }
+}
+
 /// A method of a value.
 fn method_call<V: Look>(
     view: &V,
@@ -60,15 +94,19 @@ fn method_call<V: Look>(
     match method {
         Method::IsSet => set_state(view, v),
         Method::Done => done_state(view, v),
+        Method::QSize => item_count(view, v),
+        Method::Empty => empty_state(view, v),
+        Method::Full => full_state(view, v),
         Method::Wait => new_value(task, method_form(v, method), next),
         Method::Acquire => new_value(task, method_form(v, method), next),
         Method::Join => new_value(task, method_form(v, method), next),
     }
 }
 
-/// `v.method()` (cocotb 1.8, "Triggers" and "Coroutines and Tasks"), by a task whose next trigger has this number: `wait` and `is_set` of
-/// an event, `acquire` of a lock, `join` and `done` of a task. A new trigger takes the next number. Another method, or a value of another
-/// kind, is an AttributeError; a trigger of a task that has made 2^63, the most that it may, is a RuntimeError. It takes no memory.
+/// `v.method()` (cocotb 1.8, "Triggers", "Coroutines and Tasks" and `cocotb.queue.Queue`), by a task whose next trigger has this number: `wait`
+/// and `is_set` of an event, `acquire` of a lock, `join` and `done` of a task, `qsize`, `empty` and `full` of a queue. A new trigger takes the
+/// next number. Another method, or a value of another kind, is an AttributeError; a trigger of a task that has made 2^63, the most that it may,
+/// is a RuntimeError. It takes no memory.
 pub fn method_value<V: Look>(
     view: &V,
     task: TaskNo,

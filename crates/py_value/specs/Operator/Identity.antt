@@ -8,7 +8,7 @@ use Rattle.py_syntax.specs.StatementTables.{fault_name}
 use Rattle.py_value.specs.Trigger as trigger
 use Rattle.py_value.specs.declared.trigger.TrigId.{TrigId}
 use Rattle.py_value.specs.declared.value.Value.{Value}
-use Rattle.py_value.specs.declared.value.Value.TheVariants.{Absent, Truth, Whole, Text, Vector, Place, Words, Signal, Trigger, Task, Event, Lock, Clock, Caught}
+use Rattle.py_value.specs.declared.value.Value.TheVariants.{Absent, Truth, Whole, Text, Vector, Place, Words, Signal, Trigger, Task, Event, Lock, Queue, Clock, Caught}
 
 abbrev pub same_truth : Bool → Bool → Bool
 same_truth true b = b
@@ -47,6 +47,7 @@ same_value (Trigger a) (Trigger b) = same_trigger a b
 same_value (Task a) (Task b) = a.0 == b.0
 same_value (Event a) (Event b) = a.0 == b.0
 same_value (Lock a) (Lock b) = a.0 == b.0
+same_value (Queue a) (Queue b) = a.0 == b.0
 same_value (Clock a m) (Clock b n) = (a.0 == b.0) && (m == n)
 same_value (Caught a) (Caught b) = same_kind a.kind b.kind && bytes_eq a.text b.text
 same_value _ _ = false

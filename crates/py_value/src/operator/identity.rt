@@ -51,8 +51,8 @@ fn same_trigger(a: &Trig, b: &Trig) -> bool
     }
 }
 
-/// `is` (the language reference, 6.10.3): whether two values are the same. Tasks, events, locks, signals, hierarchies and memories are
-/// where they are one object; triggers as cocotb tells them apart; other values where kind and value are equal. It takes no memory.
+/// `is` (the language reference, 6.10.3): whether two values are the same. Tasks, events, locks, queues, signals, hierarchies and
+/// memories are where they are one object; triggers as cocotb tells them apart; other values where kind and value are equal. It takes no memory.
 pub fn is_same(a: &Value, b: &Value) -> bool
     ensures { result ≡ same_value a.now b.now }
 {
@@ -76,6 +76,7 @@ pub fn is_same(a: &Value, b: &Value) -> bool
         (Value::Task(a), Value::Task(b)) => a.0 == b.0,
         (Value::Event(a), Value::Event(b)) => a.0 == b.0,
         (Value::Lock(a), Value::Lock(b)) => a.0 == b.0,
+        (Value::Queue(a), Value::Queue(b)) => a.0 == b.0,
         (
             Value::Clock { sig, half },
             Value::Clock {
