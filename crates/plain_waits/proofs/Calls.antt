@@ -1,5 +1,5 @@
 -- The parts of a call, one after the other.
-use Rattle.std.proofs.Common.{◌≡◌, ◌≤◌, ◌<◌, ℕ, zero, suc, arith, ◌+◌, ◌||◌, Bool, true, false, List, [], ◌∷◌, ◌++◌, length, map, take, drop, get_or, refl, sym, ap, ◌∙◌, subst, append_assoc}
+use Rattle.std.proofs.Common.{◌≡◌, ◌≤◌, ◌<◌, ℕ, zero, suc, arith, ◌+◌, ◌||◌, Bool, true, false, List, [], ◌∷◌, ◌++◌, length, map, take, drop, get_or, refl, sym, ap, ◌∙◌, subst}
 use Rattle.std.proofs.lemmas.List.{map_push}
 use Rattle.gpi.specs.Content.{Content}
 use Rattle.gpi.specs.Keys.{among}
@@ -10,13 +10,10 @@ use Rattle.await_tree.specs.Tree as tree
 use Rattle.await_tree.specs.Tree.{leaves}
 use Rattle.await_tree.specs.Whole.{tree_in}
 use Rattle.await_tree.specs.declared.cause.Awaited.{Awaited}
-use Rattle.await_tree.specs.declared.cause.Cause.TheVariants as cause
 use Rattle.await_tree.specs.declared.tree.Tree.{Tree}
-use Rattle.std.specs.Prelude.{Result, Ok, Err, OnOk, OnErr}
-use Rattle.await_tree.specs.WaitList.Keys.{AreAlike, AreFired, AreKeysBut, KeepsKeys, Rekeyed, without, without_all}
+use Rattle.await_tree.specs.WaitList.Keys.{AreAlike, AreFired, AreKeysBut, without_all}
 use Rattle.await_tree.proofs.WaitListLemmas.Awaited.{fits_out, narrows_out}
-use Rattle.await_tree.specs.WaitList.Waiting.{Waiting, all_waiting, all_woken, keys_among, keys_of, named, still_waiting, tree_keys, woken}
-use Rattle.await_tree.specs.declared.wait_list.ready.Entry.{Entry}
+use Rattle.await_tree.specs.WaitList.Waiting.{Waiting, all_waiting, keys_among, keys_of, named, tree_keys}
 use Rattle.await_tree.specs.WaitList.Edges.{is_edge}
 use Rattle.plain_waits.specs.Kept.{names_of, waiting_in, waiting_of}
 use Rattle.await_tree.specs.WaitList.Parts.{Fits, Narrows}
@@ -24,8 +21,8 @@ use Rattle.plain_waits.specs.Parts.{left_after}
 use Rattle.plain_waits.specs.declared.keeper.WaitList.{WaitList}
 use Rattle.plain_waits.specs.declared.waiter.Waiter.{Waiter}
 use Rattle.await_tree.proofs.WaitListLemmas.Edges.{AreEdged, all_on, shown}
-use Rattle.await_tree.proofs.WaitListLemmas.Members.{among_append, keys_of_append}
-use Rattle.await_tree.proofs.WaitListLemmas.Rekeys.{fits_after, fits_alike, narrows_alike, rekeyed_alike}
+use Rattle.await_tree.proofs.WaitListLemmas.Members.{among_append}
+use Rattle.await_tree.proofs.WaitListLemmas.Rekeys.{fits_after, fits_alike, narrows_alike}
 use Rattle.plain_waits.proofs.Walks.{after_within, item_one, item_split, left_alike}
 
 -- ---- held keys

@@ -16,6 +16,7 @@ use Rattle.gpi.specs.declared.design.Spot.TheVariants as spot
 use Rattle.py_evaluate.specs.Attribute.Knows.{Knows, KnowsDesign}
 use Rattle.py_evaluate.specs.Attribute.Look.{spot_of, spot_value}
 use Rattle.run_view.specs.DesignNames.Names.{names_of, child_of}
+use Rattle.task_queue.specs.Queues.{TaskQueue}
 use Rattle.await_tree.specs.SyncObjects.States.{States}
 use Rattle.await_tree.specs.EndedTasks.Endings.{Endings}
 use Rattle.run_view.specs.View.{view_of, IsOf}
@@ -43,8 +44,8 @@ children nodes signals (x ∷ xs) (suc n) h = children nodes signals xs n (and_p
 
 -- ---- such a thing is known
 
-module _ (flat : Flat) (nodes : List Node) (state : State) (objects : States) (endings : Endings) (h : IsOf flat nodes state) where
-  spot_known : (s : Spot) → IsTrue (is_spot (length flat.nodes) (length flat.signals) s) → Knows (view_of flat state objects endings) (spot_value s)
+module _ (flat : Flat) (nodes : List Node) (state : State) (objects : States) (queues : List TaskQueue) (endings : Endings) (h : IsOf flat nodes state) where
+  spot_known : (s : Spot) → IsTrue (is_spot (length flat.nodes) (length flat.signals) s) → Knows (view_of flat state objects queues endings) (spot_value s)
   spot_known (spot.Inner k) e =
       let below : k < length flat.nodes = ltb-true k (length flat.nodes) e in
       (omega (arith, length-map flat.nodes (λ (n : Node). n.children)), omega (arith, length-map flat.nodes (λ (n : Node). n.path)))
@@ -61,7 +62,7 @@ module _ (flat : Flat) (nodes : List Node) (state : State) (objects : States) (e
         numbers = omega (arith, h.sound.signals);
       }
 
-  pub names_known : KnowsDesign (view_of flat state objects endings)
+  pub names_known : KnowsDesign (view_of flat state objects queues endings)
   names_known node name =
       IfSome_then (child_of flat.nodes node name)
       (meant (length flat.nodes) (length flat.signals) (slice_index_or (names_of flat.nodes) node []) name

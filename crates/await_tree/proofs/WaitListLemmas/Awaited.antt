@@ -209,6 +209,7 @@ pub kept_again : (a b d : Content) (asked fronts names all : List Key) → AreKe
     → Narrows b d (fronts ++ names) names → KeepsKeys a d
 kept_again a b d asked fronts names all g h e n = record {
   procs = n.keys.procs ∙ h.procs;
+  nets = n.keys.nets ∙ h.nets;
   state = n.keys.state ∙ h.state;
   keys = λ k. n.keys.keys k
       ∙ ap (λ (x : Bool). among k names && (x || false)) (e k ∙ among_append k fronts names)

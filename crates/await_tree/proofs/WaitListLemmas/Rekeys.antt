@@ -38,6 +38,7 @@ counted before after old new p r hp hr e = rw (hp, hr) e
 pub rekeyed_same : (c : Content) (asked old new : List Key) → ((k : Key) → has k c.keys ≡ (among k new && (has k c.keys || among k asked))) → Rekeyed c c asked old new
 rekeyed_same c asked old new h = record {
   procs = refl;
+  nets = refl;
   state = refl;
   keys = h;
   counts = counted c c old new 0 0 (count_none (λ k. is_new c.keys c.keys k) new (λ k m. and_not (has k c.keys)))
@@ -88,6 +89,7 @@ module _ (before after : Content) (gone : Key) (old new : List Key) (r : Removes
   pub rekeyed_removed : Rekeyed before after [] old new
   rekeyed_removed = record {
     procs = r.procs;
+    nets = r.nets;
     state = r.state;
     keys = removed_keys;
     counts = counted before after old new 0 1 (count_none (λ k. is_new before.keys after.keys k) new (λ k m. removed_new k))
@@ -99,6 +101,7 @@ module _ (before after : Content) (gone : Key) (old new : List Key) (r : Removes
 pub joins_registered : (before after : Content) (own : Key) → Registers before own after → has own before.keys ≡ false → Joins before own after
 joins_registered before after own r h = record {
   procs = r.procs;
+  nets = r.nets;
   state = r.state;
   keys = r.keys;
   counts = rw h r.counts;
@@ -107,6 +110,7 @@ joins_registered before after own r h = record {
 pub joins_there : (c : Content) (own : Key) → has own c.keys ≡ true → Joins c own c
 joins_there c own h = record {
   procs = refl;
+  nets = refl;
   state = refl;
   keys = λ k. same k (same_key k own) refl;
   counts = rw h refl;
@@ -170,7 +174,7 @@ module _ (before after : Content) (own : Key) (old new : List Key) (j : Joins be
           (j.counts ∙ ap (λ (b : Bool). let x : Counts = record before.counts { primed = raised_times (if b then 0 else 1) before.counts.primed } in x) e)
 
   pub rekeyed_joined : Rekeyed before after (own ∷ []) old new
-  rekeyed_joined = record { procs = j.procs; state = j.state; keys = joined_keys; counts = joined_counts }
+  rekeyed_joined = record { procs = j.procs; nets = j.nets; state = j.state; keys = joined_keys; counts = joined_counts }
 
 -- ---- one change after the other
 
@@ -267,6 +271,7 @@ module _ (a b c : Content) (old mid new : List Key) (h : Rekeyed a b [] old mid)
   rekeyed_less : Rekeyed a c [] old new
   rekeyed_less = record {
     procs = e.procs ∙ h.procs;
+    nets = e.nets ∙ h.nets;
     state = e.state ∙ h.state;
     keys = less_keys;
     counts = counted a c old new 0 (count_keys (λ k. is_gone a.keys b.keys k) old + count_keys (λ k. is_gone b.keys c.keys k) mid)
@@ -344,6 +349,7 @@ module _ (a b c : Content) (asked more old new : List Key) (h : Rekeyed a b aske
   pub rekeyed_more : Rekeyed a c (asked ++ more) old new
   rekeyed_more = record {
     procs = e.procs ∙ h.procs;
+    nets = e.nets ∙ h.nets;
     state = e.state ∙ h.state;
     keys = more_keys;
     counts = counted a c old new (count_keys (λ k. is_new a.keys b.keys k) new + count_keys (λ k. is_new b.keys c.keys k) new) (count_keys (λ k. is_gone a.keys b.keys k) old + 0)
@@ -359,6 +365,7 @@ pub rekeyed_alike : (a b : Content) (asked asked' old old' new new' : List Key) 
     → Rekeyed a b asked old new → Rekeyed a b asked' old' new'
 rekeyed_alike a b asked asked' old old' new new' x y z h = record {
   procs = h.procs;
+  nets = h.nets;
   state = h.state;
   keys = λ k. h.keys k ∙ rw (x k, z k) refl;
   counts = counted a b old' new' (count_keys (λ k. is_new a.keys b.keys k) new) (count_keys (λ k. is_gone a.keys b.keys k) old)

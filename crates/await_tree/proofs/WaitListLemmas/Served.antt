@@ -65,4 +65,4 @@ always_err (Ok x) p = tt
 always_err (Err e) p = p
 
 pub kept_same : (c : Content) → KeepsKeys c c
-kept_same c = record { procs = refl; state = refl; keys = λ k. refl; fired = refl }
+kept_same c = record { procs = refl; nets = refl; state = refl; keys = λ k. refl; fired = refl }

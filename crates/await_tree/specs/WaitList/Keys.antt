@@ -65,6 +65,7 @@ pub record AreFired (content : Content) (fired : List Key) : Type 0 where
 -- has risen by one for each key that is registered now and wasn't before, that of removals by one for each key that was and isn't.
 pub record Rekeyed (before after : Content) (asked old new : List Key) : Type 0 where
   pub procs : after.procs ≡ before.procs
+  pub nets : after.nets ≡ before.nets
   pub state : after.state ≡ before.state
   pub keys : (k : Key) → has k after.keys ≡ (among k new && (has k before.keys || among k asked))
   pub counts : after.counts ≡ record before.counts {
@@ -75,6 +76,7 @@ pub record Rekeyed (before after : Content) (asked old new : List Key) : Type 0 
 -- Of what a simulator holds only the counts of registrations and removals have changed.
 pub record KeepsKeys (before after : Content) : Type 0 where
   pub procs : after.procs ≡ before.procs
+  pub nets : after.nets ≡ before.nets
   pub state : after.state ≡ before.state
   pub keys : (k : Key) → has k after.keys ≡ has k before.keys
   pub fired : after.counts.fired ≡ before.counts.fired

@@ -24,6 +24,7 @@ pub record Narrows (before after : Content) (old new : List Key) : Type 0 where
 -- One key is registered, if it wasn't.
 pub record Joins (before : Content) (key : Key) (after : Content) : Type 0 where
   pub procs : after.procs ≡ before.procs
+  pub nets : after.nets ≡ before.nets
   pub state : after.state ≡ before.state
   pub keys : (k : Key) → has k after.keys ≡ (same_key k key || has k before.keys)
   pub counts : after.counts ≡ record before.counts { primed = raised_times (if has key before.keys then 0 else 1) before.counts.primed }

@@ -2,8 +2,8 @@
 use Rattle.std.proofs.Common.{◌≡◌, ℕ, zero, suc, ◌+◌, ◌-◌, ◌<◌, ◌≤◌, ◌==◌, Bool, true, false, not, List, [], ◌∷◌, ◌++◌, length, refl, ap, sym, subst, ◌∙◌, arith, append_assoc, append-nil, eqb-true, eq-eqb, cond}
 use Rattle.std.specs.Prelude.{if◌then◌else◌, filter}
 use Rattle.std.proofs.lemmas.List.Sums.{count_by-le-length, sum_by-append, sum_by-cons}
-use Rattle.four_value.specs.declared.Digit.{Digit}
 use Rattle.gpi.specs.declared.types.SigId.{SigId}
+use Rattle.gpi.specs.declared.types.Write.{Write}
 use Rattle.indexmap.specs.IndexMap.{IndexMap}
 use Rattle.run_view.specs.SignalPort.Queue.{count_of, newest, turned, turns, tally_at, IsTally}
 use Rattle.run_view.specs.SignalPort.Staging.{restaged}
@@ -206,8 +206,8 @@ newest_staged w (v ∷ ws) = decided (v.sig.0 == w.sig.0) (count_of v.sig.0 ws =
         let z : 0 < count_of v.sig.0 ws = positive (count_of v.sig.0 ws) q in
         newest_later v (ws ++ w ∷ []) (omega arith) ∙ more ∙ rw q refl
 
-pub newest_restaged : (sig : SigId) (bits : List Digit) (ws : List Staged) → newest (ws ++ record { sig = sig; bits = bits } ∷ []) ≡ restaged sig bits (newest ws)
-newest_restaged sig bits ws = newest_staged (record { sig = sig; bits = bits }) ws
+pub newest_restaged : (sig : SigId) (act : Write) (ws : List Staged) → newest (ws ++ record { sig = sig; act = act } ∷ []) ≡ restaged sig act (newest ws)
+newest_restaged sig act ws = newest_staged (record { sig = sig; act = act }) ws
 
 -- ---- none counts exactly where there is none
 

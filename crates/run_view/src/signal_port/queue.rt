@@ -7,6 +7,7 @@ ghost use Rattle.run_view.specs.SignalPort.Queue.{IsTally, newest, turned};
 
 use crate::signal_port::staged::Staged;
 use crate::signal_port::tally::{add_one, count_of, take_one};
+use gpi::{SigId, Write};
 use indexmap::IndexMap;
 use port_io::NoMemory;
 use std::collections::VecDeque;
@@ -30,15 +31,15 @@ pub fn take_newest(queue: &mut VecDeque<Staged>, tally: &mut IndexMap<u32, usize
 pub fn push(
     queue: &mut VecDeque<Staged>,
     tally: &mut IndexMap<u32, usize>,
-    write: Staged,
+    sig: SigId,
+    act: Write,
 ) -> Result<(), NoMemory>
     requires { IsTally tally.old queue.old.items }
-    ensures ok { OnOk result (queue.new.items ≡ queue.old.items ++ write ∷ []) }
+    ensures ok { OnOk result (queue.new.items ≡ queue.old.items ++ record { sig = sig; act = act } ∷ []) }
     ensures err { OnErr result (queue.new.items ≡ queue.old.items) }
     ensures tally { IsTally tally.new queue.new.items }
 {
-    let sig = write.sig;
-    queue.push_back(write)?;
+    queue.push_back(Staged { sig, act })?;
     match add_one(tally, sig) {
         Ok(()) => Ok(()),
         Err(fault) => {
@@ -85,12 +86,12 @@ fn turn_one(queue: &mut VecDeque<Staged>, tally: &mut IndexMap<u32, usize>)
     ensures queue { queue.new.items ≡ turned queue.old.items }
     ensures tally { IsTally tally.new queue.new.items }
 {
-    let Some(write) = queue.pop_front() else {
+    let Some(Staged { sig, act }) = queue.pop_front() else {
         return;
     };
-    if count_of(tally, write.sig) > 1 {
-        take_one(tally, write.sig);
+    if count_of(tally, sig) > 1 {
+        take_one(tally, sig);
     } else {
-        queue.push_back_reserved(write);
+        queue.push_back_reserved(Staged { sig, act });
     }
 }

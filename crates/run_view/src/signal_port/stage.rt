@@ -4,8 +4,7 @@ ghost use Rattle.run_view.specs.SignalPort.Staging.{restaged};
 
 use crate::signal_port::queue::{make_room, push, take_newest};
 use crate::signal_port::staged::Staged;
-use four_value::Bits;
-use gpi::SigId;
+use gpi::{SigId, Write};
 use indexmap::IndexMap;
 use port_io::NoMemory;
 use std::alloc::Global;
@@ -46,14 +45,14 @@ impl WriteStage {
 
     /// Stages a write as the last one, and takes an older one of the signal out. After `NoMemory` the same writes are staged.
     #[tactic(auto, using(crate::proofs::SignalPortLemmas::QueueLaws::newest_restaged))]
-    pub fn stage(&mut self, sig: SigId, bits: Bits) -> Result<(), NoMemory>
-        ensures ok { OnOk result (self.new ≡ restaged sig bits self.old) }
+    pub fn stage(&mut self, sig: SigId, act: Write) -> Result<(), NoMemory>
+        ensures ok { OnOk result (self.new ≡ restaged sig act self.old) }
         ensures err { OnErr result (self.new ≡ self.old) }
     {
         if self.queue.len() == self.queue.capacity() {
             make_room(&mut self.queue, &mut self.tally)?;
         }
-        push(&mut self.queue, &mut self.tally, Staged { sig, bits })
+        push(&mut self.queue, &mut self.tally, sig, act)
     }
 
     /// Whether no write is staged.
@@ -64,12 +63,12 @@ impl WriteStage {
     }
 
     /// Takes the oldest write out, or answers `None` where none is staged. It takes no memory.
-    pub fn take_first(&mut self) -> Option<(SigId, Bits)>
+    pub fn take_first(&mut self) -> Option<(SigId, Write)>
         ensures { MatchOption result ((self.old ≡ []) × (self.new ≡ []))
-            (λ write. self.old ≡ record { sig = write.0; bits = write.1 } ∷ self.new) }
+            (λ write. self.old ≡ record { sig = write.0; act = write.1 } ∷ self.new) }
     {
-        let Staged { sig, bits } = take_newest(&mut self.queue, &mut self.tally)?;
-        Some((sig, bits))
+        let Staged { sig, act } = take_newest(&mut self.queue, &mut self.tally)?;
+        Some((sig, act))
     }
 
     /// Takes all writes out. It takes no memory.

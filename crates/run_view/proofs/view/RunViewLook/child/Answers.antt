@@ -23,7 +23,7 @@ returns g c =
     c.child.ensures ∙ ap (λ (ns : List Node). child_of ns node name) c.self.invariant.1.nodes_are ∙ ap (λ (v : View). child v node name) c.self.view_is in
     let all : KnowsDesign c.args.self.now =
     subst (λ (v : View). KnowsDesign v) c.self.view_is
-    (names_known flat c.self.inside.names.now (g.K.Gpi.content c.self.inside.kernel.now).state c.self.inside.objects.now c.self.inside.ended.now c.self.invariant.1) in
+    (names_known flat c.self.inside.names.now (g.K.Gpi.content c.self.inside.kernel.now).state c.self.inside.objects.now c.self.inside.queues.now c.self.inside.ended.now c.self.invariant.1) in
     record {
       is = is;
       known = subst (λ (o : Option Spot). IfSome o (λ (s : Spot). Knows c.args.self.now (spot_value s))) (sym is) (all node name);
