@@ -24,6 +24,7 @@ made_of fired counts q sim c = record {
   endings = refl;
   running = refl;
   objects = refl;
+  queues = refl;
   random = refl;
   outcome = refl;
 }
@@ -70,6 +71,7 @@ module _ (setup : Setup) (room : ℕ) (held : List Key) (q : Queue) (content : C
   pub stands : (c : Rig) → StandsFor setup content (rig_at q content c)
   stands c = record {
     procs_are = fits.procs_are;
+    nets_are = fits.nets_are;
     state_is = refl;
     keys_are = λ k. named_are k ∙ sym (ap (among k) (all_stay (named q.waiting (queue_held q))));
     counts_are = refl;

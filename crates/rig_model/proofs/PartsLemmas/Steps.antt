@@ -200,7 +200,7 @@ module _ (setup : Setup) (budget fuel : ℕ) (run : Run) where
 
   -- what stays when a turn is broken off
   kept_is : (d e : Rig) → SameRest d e → SameTasks d e → d ≡ record e { running = d.running; ready = d.ready; outcome = d.outcome }
-  kept_is d e r t = rw (← r.sim, ← t.tasks, ← r.endings, ← r.waiting, ← r.objects, ← r.staged, ← r.fired, ← r.deadline, ← r.planned, ← r.random, ← r.counts) refl
+  kept_is d e r t = rw (← r.sim, ← t.tasks, ← r.endings, ← r.waiting, ← r.objects, ← r.queues, ← r.staged, ← r.fired, ← r.deadline, ← r.planned, ← r.random, ← r.counts) refl
 
   pub short_stops : (from : Rig → Bool) (case : Case) (cases : List Case) (lines : List (List ℕ)) (left : ℕ) (e : Rig)
       → run.place ≡ Runs case cases → run.cost + fuel ≡ budget → Short (FitSteps from setup) setup fuel run.rig lines left e → StopsAt setup budget run lines e

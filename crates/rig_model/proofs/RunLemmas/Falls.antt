@@ -1,15 +1,19 @@
 -- A step at no cost lessens a weight: of what tasks have still to do, and of turns that may still begin.
 use Rattle.std.proofs.Common.{◌≡◌, ℕ, zero, suc, ◌+◌, ◌≤◌, ◌<◌, ◌⊎◌, Bool, true, false, List, [], ◌∷◌, ◌++◌, length, Option, None, Some, refl, ap, ◌∙◌, arith, inl, inr, length-append}
-use Rattle.std.specs.Prelude.{◌==◌, not, filter, cond, nat_le}
+use Rattle.std.specs.Prelude.{◌==◌, not, filter, cond, nat_le, nat_lt}
 use Rattle.gpi.specs.State.{is_end}
 use Rattle.gpi.specs.Keys.{set_of}
-use Rattle.gpi.specs.Events.{Event, put}
+use Rattle.gpi.specs.Events.{Event}
 use Rattle.gpi.specs.declared.types.Key.{Key}
 use Rattle.gpi.specs.declared.types.SigId.{SigId}
-use Rattle.four_value.specs.declared.Digit.{Digit}
+use Rattle.gpi.specs.declared.types.Write.{Write}
 use Rattle.py_value.specs.declared.trigger.TaskNo.{TaskNo}
+use Rattle.py_value.specs.declared.trigger.EventNo.{EventNo}
 use Rattle.py_value.specs.declared.trigger.LockNo.{LockNo}
+use Rattle.py_value.specs.declared.trigger.QueueNo.{QueueNo}
+use Rattle.py_value.specs.declared.value.Value.{Value}
 use Rattle.py_value.specs.declared.value.Fault.{Fault}
+use Rattle.task_queue.specs.Queues.{TaskQueue, queue_at, is_full as has_no_room, is_at_limit, is_empty, with_items, with_item}
 use Rattle.await_tree.specs.declared.cause.Cause.{Cause}
 use Rattle.await_tree.specs.declared.cause.Cause.TheVariants as cause
 use Rattle.await_tree.specs.declared.cause.Step.{Step}
@@ -33,8 +37,8 @@ use Rattle.await_tree.specs.declared.ended_tasks.ending.Ending.{Ending}
 use Rattle.await_tree.specs.declared.ended_tasks.ending.Ending.TheVariants.{Returned, Failed, Killed}
 use Rattle.rig_model.specs.declared.run.outcome.Outcome.{Outcome}
 use Rattle.rig_model.specs.Run.Rig.{Rig, Setup, Running, After, event_of, view_of, facts_of, awaited, procs}
-use Rattle.rig_model.specs.Run.Serve.{wake, serve_keys, with_fired, after_put, deposit}
-use Rattle.rig_model.specs.Run.Effect.{is_numbered, with_end, withdrawn, begun_by, awaits_by, write_by, stages, puts, returned, fails, kills_by, kills, makes_event, makes_lock, releases, handed_on, effect, effect_of}
+use Rattle.rig_model.specs.Run.Serve.{wake, serve_keys, with_fired, after_put, written, deposit}
+use Rattle.rig_model.specs.Run.Effect.{is_numbered, with_end, withdrawn, begun_by, awaits_by, write_by, stages, puts, returned, fails, kills_by, kills, makes_event, makes_lock, releases, handed_on, makes_queue, sets_if, clears_if, with_put, puts_item, with_get, gets_item, effect, effect_of}
 use Rattle.rig_model.specs.Run.Step.{task_at, stored, taken, stepped, kept, after_event, resumed, chosen, rig_step, Stepped}
 use Rattle.rig_model.proofs.RunLemmas.Starts.{is_start, free_starts_none}
 use Rattle.rig_model.proofs.RunLemmas.Free.{weight, given_count, lasts, nothing_falls, wish_falls}
@@ -129,8 +133,8 @@ serve_keys_mass (k ∷ ks) others c =
 put_mass : (setup : Setup) (e : Event) (c : Rig) → rest_mass (after_put setup e c).rig ≡ rest_mass c
 put_mass setup e c = serve_keys_mass e.fired c.fired (with_fired e.fired (record c { sim = e.state }))
 
-deposit_mass : (setup : Setup) (sig : SigId) (bits : List Digit) (c : Rig) → rest_mass (deposit setup sig bits c).rig ≡ rest_mass c
-deposit_mass setup sig bits c = put_mass setup (put (procs setup) c.sim (set_of (awaited c)) sig bits) c
+deposit_mass : (setup : Setup) (sig : SigId) (act : Write) (c : Rig) → rest_mass (deposit setup sig act c).rig ≡ rest_mass c
+deposit_mass setup sig act c = put_mass setup (written setup c.sim (set_of (awaited c)) sig act) c
 
 granted_length : (l : LockNo) (ws : List Waiting) → length (granted l ws).entries + length (granted l ws).waiting ≡ length ws
 granted_length l [] = refl
@@ -218,6 +222,38 @@ release_within : (b : Bool) (task : TaskNo) (l : LockNo) (c : Rig) → Within 2 
 release_within true task l c = let k : rest_mass (handed_on (is_wanted l c.waiting) l c) ≡ rest_mass c = handed_mass (is_wanted l c.waiting) l c in omega arith
 release_within false task l c = omega arith
 
+queue_within : (b : Bool) (task : TaskNo) (bound : ℕ) (c : Rig) → Within 2 c (makes_queue b task bound c).rig
+queue_within true task bound c = omega arith
+queue_within false task bound c = omega arith
+
+sets_if_mass : (b : Bool) (e : EventNo) (c : Rig) → rest_mass (sets_if b e c) ≡ rest_mass c
+sets_if_mass true e c = wake_mass (cause.Event e) (record c { objects = with_set e c.objects })
+sets_if_mass false e c = refl
+
+clears_if_mass : (b : Bool) (e : EventNo) (c : Rig) → rest_mass (clears_if b e c) ≡ rest_mass c
+clears_if_mass true e c = refl
+clears_if_mass false e c = refl
+
+flags_mass : (a b : Bool) (x y : EventNo) (c : Rig) → rest_mass (clears_if a x (sets_if b y c)) ≡ rest_mass c
+flags_mass a b x y c = clears_if_mass a x (sets_if b y c) ∙ sets_if_mass b y c
+
+put_item_within : (full limit : Bool) (task : TaskNo) (q : QueueNo) (item : Value) (c : Rig) → Within 2 c (puts_item full limit task q item c).rig
+put_item_within true limit task q item c = omega arith
+put_item_within false true task q item c = omega arith
+put_item_within false false task q item c =
+    let old : TaskQueue = queue_at q c.queues in
+    let k : rest_mass (with_put q item c) ≡ rest_mass c = flags_mass (has_no_room (queue_at q (with_item q item c.queues))) (is_empty old.items) old.space_event old.items_event
+    (record c { queues = with_item q item c.queues }) in
+    omega arith
+
+get_item_within : (task : TaskNo) (q : QueueNo) (items : List Value) (c : Rig) → Within 2 c (gets_item task q items c).rig
+get_item_within task q [] c = omega arith
+get_item_within task q (item ∷ items) c =
+    let old : TaskQueue = queue_at q c.queues in
+    let k : rest_mass (with_get q items c) ≡ rest_mass c = flags_mass (is_empty items) (has_no_room old) old.items_event old.space_event
+    (record c { queues = with_items q items c.queues }) in
+    omega arith
+
 -- a task that goes on has a turn and an answer, and one that ends has neither
 abbrev turns_by : Bool → ℕ
 turns_by true = 2
@@ -228,9 +264,9 @@ turns t = turns_by (lasts t)
 
 effect_within : (setup : Setup) (task : TaskNo) (t : Turned) (c : Rig) → is_start t ≡ false → c.running ≡ None → Within (turns t) c (effect setup task t c).rig
 effect_within setup task (turned.Await trig) c s r = awaits_within task (tree_of trig c.sim.time) (check trig c.sim.time c.sim.region) c r
-effect_within setup task (turned.Stage sig bits) c s r = write_within (is_end c.sim.region) sig (stages task sig bits c) c r (omega arith)
-effect_within setup task (turned.Put sig bits) c s r =
-    write_within (is_end c.sim.region) sig (puts setup task sig bits c) c r (let k : rest_mass (deposit setup sig bits c).rig ≡ rest_mass c = deposit_mass setup sig bits c in omega arith)
+effect_within setup task (turned.Stage sig act) c s r = write_within (is_end c.sim.region) sig (stages task sig act c) c r (omega arith)
+effect_within setup task (turned.Put sig act) c s r =
+    write_within (is_end c.sim.region) sig (puts setup task sig act c) c r (let k : rest_mass (deposit setup sig act c).rig ≡ rest_mass c = deposit_mass setup sig act c in omega arith)
 effect_within setup task (turned.Start func args give_way) c s r = cc
 effect_within setup task (turned.Kill other) c s r = kills_within (other.0 == task.0) task other c
 effect_within setup task turned.NewEvent c s r = event_within (nat_le event_limit (length c.objects.events)) task c
@@ -239,6 +275,9 @@ effect_within setup task (turned.SetEvent e) c s r =
 effect_within setup task (turned.ClearEvent e) c s r = omega arith
 effect_within setup task turned.NewLock c s r = lock_within (nat_le lock_limit (length c.objects.locks)) task c
 effect_within setup task (turned.Release l) c s r = release_within (is_held l c.objects) task l c
+effect_within setup task (turned.NewQueue bound) c s r = queue_within (nat_lt event_limit (length c.objects.events + 2)) task bound c
+effect_within setup task (turned.PutNow q item) c s r = put_item_within (has_no_room (queue_at q c.queues)) (is_at_limit (queue_at q c.queues)) task q item c
+effect_within setup task (turned.GetNow q) c s r = get_item_within task q (queue_at q c.queues).items c
 effect_within setup task (turned.Draw low span) c s r = omega arith
 effect_within setup task (turned.Log level text) c s r = omega arith
 effect_within setup task (turned.Done v) c s r =

@@ -102,6 +102,7 @@ ended_empty c = record {
   ready = refl;
   waiting = refl;
   objects = refl;
+  queues = refl;
   staged = refl;
   fired = refl;
   deadline = refl;

@@ -1,20 +1,22 @@
 -- Steps keep what is known of a configuration.
 use Rattle.std.proofs.Common.{◌≡◌, ℕ, zero, suc, ◌+◌, ◌<◌, ◌≤◌, Bool, true, false, List, [], ◌∷◌, ◌++◌, length, map, Option, None, Some, refl, ap, sym, subst, arith, length-append}
-use Rattle.std.specs.Prelude.{◌==◌, nat_le, is_some, IfSome, slice_set, not}
-use Rattle.four_value.specs.declared.Digit.{Digit}
+use Rattle.std.specs.Prelude.{◌==◌, nat_le, nat_lt, is_some, IfSome, slice_set, not}
 use Rattle.gpi.specs.State.{is_end}
 use Rattle.gpi.specs.Keys.{among, set_of}
-use Rattle.gpi.specs.Events.{Event, put}
+use Rattle.gpi.specs.Events.{Event}
 use Rattle.gpi.specs.declared.types.Key.{Key}
 use Rattle.gpi.specs.declared.types.Key.TheVariants.{ReadWrite}
 use Rattle.gpi.specs.declared.types.SigId.{SigId}
+use Rattle.gpi.specs.declared.types.Write.{Write}
 use Rattle.py_value.specs.declared.trigger.TaskNo.{TaskNo}
+use Rattle.py_value.specs.declared.trigger.EventNo.{EventNo}
 use Rattle.py_value.specs.declared.trigger.LockNo.{LockNo}
+use Rattle.py_value.specs.declared.trigger.QueueNo.{QueueNo}
 use Rattle.py_value.specs.declared.value.Value.{Value}
 use Rattle.py_value.specs.declared.value.Value.TheVariants as value
 use Rattle.py_value.specs.declared.value.Fault.{Fault}
 use Rattle.py_evaluate.specs.Attribute.Look.{View}
-use Rattle.py_evaluate.specs.Attribute.Knows.{KnowsAll}
+use Rattle.py_evaluate.specs.Attribute.Knows.{Knows, KnowsAll}
 use Rattle.await_tree.specs.declared.cause.Cause.{Cause}
 use Rattle.await_tree.specs.declared.cause.Cause.TheVariants as cause
 use Rattle.await_tree.specs.declared.cause.Given.{Given}
@@ -27,6 +29,8 @@ use Rattle.await_tree.specs.Steps.{step_of}
 use Rattle.await_tree.specs.Check.{tree_of, check}
 use Rattle.await_tree.specs.EndedTasks.Endings.{is_done, ending_of, joined_given, told_given}
 use Rattle.await_tree.specs.SyncObjects.States.{with_set, is_held, event_limit, lock_limit}
+use Rattle.task_queue.specs.Queues.{TaskQueue, fresh as empty_queue, queue_at, is_full as has_no_room, is_at_limit, is_empty, holding, with_items, with_item}
+use Rattle.run_view.specs.View.{seen}
 use Rattle.run_view.specs.declared.signal_port.staged.Staged.{Staged}
 use Rattle.run_view.specs.SignalPort.Staging.{restaged}
 use Rattle.test_meaning.specs.Body.BodyTrees.{Function}
@@ -41,23 +45,27 @@ use Rattle.await_tree.specs.WaitList.Waiting.{is_wanted, is_joined, granted, wok
 use Rattle.await_tree.specs.declared.ended_tasks.ending.Ending.{Ending}
 use Rattle.await_tree.specs.declared.ended_tasks.ending.Ending.TheVariants.{Returned, Failed, Killed}
 use Rattle.rig_model.specs.Run.Rig.{Rig, Setup, Running, After, event_of, view_of, facts_of, awaited, procs}
-use Rattle.rig_model.specs.Run.Serve.{wake, serve_keys, with_fired, after_put, deposit, flushed, flushed_if, served, ended_if, is_due, serve}
-use Rattle.rig_model.specs.Run.Effect.{goes_on, begun_by, awaits_by, write_by, stages, puts, starts, starter, next_task, with_new_task, is_full, is_numbered, with_end, ends, fails, withdrawn, kills_by, kills, makes_event, makes_lock, releases, handed_on, effect, effect_of}
+use Rattle.rig_model.specs.Run.Serve.{wake, serve_keys, with_fired, after_put, written, deposit, flushed, flushed_if, served, ended_if, is_due, serve}
+use Rattle.rig_model.specs.Run.Effect.{goes_on, begun_by, awaits_by, write_by, stages, puts, starts, starter, next_task, with_new_task, is_full, is_numbered, with_end, ends, fails, withdrawn, kills_by, kills, makes_event, makes_lock, releases, handed_on, new_event, second_event, with_new_queue, makes_queue, sets_if, clears_if, with_put, puts_item, with_get, gets_item, effect, effect_of}
 use Rattle.rig_model.specs.Run.Step.{task_at, taken, stepped, kept, after_event, resumed, chosen, rig_step}
 use Rattle.rig_model.specs.Run.Known.{KnowsTree, KnowsParts, KnowsRunning, KnowsReady, KnowsEnding, KnowsStaged, IsKnown, AreAsWide}
 use Rattle.rig_model.proofs.RunLemmas.Wider.{Wider, node_wider, design_wider, whole_wider, turned_wider, parts_wider}
 use Rattle.rig_model.proofs.RunLemmas.Trees.{KnowsStep, tree_known, begin_known, begin_length, step_known}
-use Rattle.rig_model.proofs.RunLemmas.Lists.{tasks_more, tasks_filtered, tasks_stored, at_known, ready_more, ready_without, waiting_more, waiting_without, woken_known, still_known, granted_known, endings_more, endings_set, ending_known, restaged_known}
+use Rattle.rig_model.proofs.RunLemmas.Lists.{tasks_more, tasks_filtered, tasks_stored, at_known, ready_more, ready_without, waiting_more, waiting_without, woken_known, still_known, granted_known, endings_more, endings_set, ending_known, restaged_known, queues_more, items_more, queue_items_known, with_items_known, events_known}
 
 -- ---- how much was made
 
--- each event, lock and task of the first is one of the second
+-- each event, lock, task and queue of the first is one of the second
 abbrev pub Grows : Rig → Rig → Type 0
-Grows c d = (length c.objects.events ≤ length d.objects.events) × (length c.objects.locks ≤ length d.objects.locks) × (length c.endings ≤ length d.endings)
+Grows c d =
+    (length c.objects.events ≤ length d.objects.events) × (length c.objects.locks ≤ length d.objects.locks) × (length c.endings ≤ length d.endings)
+    × (length c.queues ≤ length d.queues)
 
 -- the view has room for all that was made
 abbrev Covers : View → Rig → Type 0
-Covers v d = (length d.objects.events ≤ length v.events) × (length d.objects.locks ≤ length v.locks) × (length d.endings ≤ length v.ended)
+Covers v d =
+    (length d.objects.events ≤ length v.events) × (length d.objects.locks ≤ length v.locks) × (length d.endings ≤ length v.ended)
+    × (length d.queues ≤ length v.queues)
 
 set_length : {A : Type 0} → (xs : List A) (n : ℕ) (x : A) → length (slice_set xs n x) ≡ length xs
 set_length [] n x = refl
@@ -65,7 +73,7 @@ set_length (y ∷ ys) zero x = refl
 set_length (y ∷ ys) (suc n) x = ap suc (set_length ys n x)
 
 same_grows : (c : Rig) → Grows c c
-same_grows c = (omega arith, omega arith, omega arith)
+same_grows c = (omega arith, omega arith, omega arith, omega arith)
 
 serve_keys_grows : (keys others : List Key) (c : Rig) → Grows c (serve_keys keys others c)
 serve_keys_grows [] others c = same_grows c
@@ -74,17 +82,17 @@ serve_keys_grows (k ∷ ks) others c = serve_keys_grows ks others (record (wake 
 put_grows : (setup : Setup) (e : Event) (c : Rig) → Grows c (after_put setup e c).rig
 put_grows setup e c = serve_keys_grows e.fired c.fired (with_fired e.fired (record c { sim = e.state }))
 
-deposit_grows : (setup : Setup) (sig : SigId) (bits : List Digit) (c : Rig) → Grows c (deposit setup sig bits c).rig
-deposit_grows setup sig bits c = put_grows setup (put (procs setup) c.sim (set_of (awaited c)) sig bits) c
+deposit_grows : (setup : Setup) (sig : SigId) (act : Write) (c : Rig) → Grows c (deposit setup sig act c).rig
+deposit_grows setup sig act c = put_grows setup (written setup c.sim (set_of (awaited c)) sig act) c
 
 through : (b c d : Rig) → Grows b c → Grows c d → Grows b d
-through b c d g h = (omega (arith, g.0, h.0), omega (arith, g.1, h.1), omega (arith, g.2, h.2))
+through b c d g h = (omega (arith, g.0, h.0), omega (arith, g.1, h.1), omega (arith, g.2, h.2), omega (arith, g.3, h.3))
 
 flushed_grows : (setup : Setup) (writes : List Staged) (c : Rig) → Grows c (flushed setup writes c).rig
 flushed_grows setup [] c = same_grows c
 flushed_grows setup (w ∷ ws) c =
-    let d : Rig = (deposit setup w.sig w.bits (record c { staged = ws })).rig in
-    through c d (flushed setup ws d).rig (deposit_grows setup w.sig w.bits (record c { staged = ws })) (flushed_grows setup ws d)
+    let d : Rig = (deposit setup w.sig w.act (record c { staged = ws })).rig in
+    through c d (flushed setup ws d).rig (deposit_grows setup w.sig w.act (record c { staged = ws })) (flushed_grows setup ws d)
 
 flush_grows : (setup : Setup) (b : Bool) (c : Rig) → Grows c (flushed_if setup b c).rig
 flush_grows setup true c = flushed_grows setup c.staged c
@@ -112,7 +120,7 @@ awaits_grows task tree None c =
     let b = begin tree (facts_of c) in
     let d : Rig = record c { objects = record c.objects { locks = b.facts.locks } } in
     let l : length b.facts.locks ≡ length c.objects.locks = begin_length tree (facts_of c) in
-    through c d (begun_by task b.tree (step_of b.tree) d).rig (omega arith, omega arith, omega arith) (begun_grows task b.tree (step_of b.tree) d)
+    through c d (begun_by task b.tree (step_of b.tree) d).rig (omega arith, omega arith, omega arith, omega arith) (begun_grows task b.tree (step_of b.tree) d)
 
 write_grows : (b : Bool) (sig : SigId) (a : After) (c : Rig) → Grows c a.rig → Grows c (write_by b sig a c).rig
 write_grows true sig a c h = same_grows c
@@ -127,7 +135,7 @@ more_length xs x = length-append xs (x ∷ [])
 
 pub new_grows : (function : Function) (args : List Value) (c : Rig) → Grows c (with_new_task function args c)
 new_grows function args c =
-    let n : length (c.endings ++ None ∷ []) ≡ length c.endings + 1 = more_length c.endings None in (omega arith, omega arith, omega arith)
+    let n : length (c.endings ++ None ∷ []) ≡ length c.endings + 1 = more_length c.endings None in (omega arith, omega arith, omega arith, omega arith)
 
 starts_grows : (full : Bool) (task : TaskNo) (function : Function) (args : List Value) (b : Bool) (c : Rig) → Grows c (starts full task function args b c).rig
 starts_grows true task function args b c = same_grows c
@@ -136,7 +144,7 @@ starts_grows false task function args b c =
     (new_grows function args c) (starter_grows task (next_task c) b (with_new_task function args c))
 
 end_grows : (task : TaskNo) (ending : Ending) (c : Rig) → Grows c (with_end task ending c)
-end_grows task ending c = let n : length (slice_set c.endings task.0 (Some ending)) ≡ length c.endings = set_length c.endings task.0 (Some ending) in (omega arith, omega arith, omega arith)
+end_grows task ending c = let n : length (slice_set c.endings task.0 (Some ending)) ≡ length c.endings = set_length c.endings task.0 (Some ending) in (omega arith, omega arith, omega arith, omega arith)
 
 fails_grows : (b : Bool) (task : TaskNo) (fault : Fault) (c : Rig) → Grows c (fails b task fault c).rig
 fails_grows true task fault c = end_grows task (Failed fault) c
@@ -152,27 +160,74 @@ kills_grows false task other c = kill_grows (is_done other c.endings) other c
 
 event_grows : (b : Bool) (task : TaskNo) (c : Rig) → Grows c (makes_event b task c).rig
 event_grows true task c = same_grows c
-event_grows false task c = let n : length (c.objects.events ++ false ∷ []) ≡ length c.objects.events + 1 = more_length c.objects.events false in (omega arith, omega arith, omega arith)
+event_grows false task c = let n : length (c.objects.events ++ false ∷ []) ≡ length c.objects.events + 1 = more_length c.objects.events false in (omega arith, omega arith, omega arith, omega arith)
 
 lock_grows : (b : Bool) (task : TaskNo) (c : Rig) → Grows c (makes_lock b task c).rig
 lock_grows true task c = same_grows c
-lock_grows false task c = let n : length (c.objects.locks ++ false ∷ []) ≡ length c.objects.locks + 1 = more_length c.objects.locks false in (omega arith, omega arith, omega arith)
+lock_grows false task c = let n : length (c.objects.locks ++ false ∷ []) ≡ length c.objects.locks + 1 = more_length c.objects.locks false in (omega arith, omega arith, omega arith, omega arith)
 
 handed_grows : (b : Bool) (l : LockNo) (c : Rig) → Grows c (handed_on b l c)
 handed_grows true l c = same_grows c
-handed_grows false l c = let n : length (slice_set c.objects.locks l.0 false) ≡ length c.objects.locks = set_length c.objects.locks l.0 false in (omega arith, omega arith, omega arith)
+handed_grows false l c = let n : length (slice_set c.objects.locks l.0 false) ≡ length c.objects.locks = set_length c.objects.locks l.0 false in (omega arith, omega arith, omega arith, omega arith)
 
 release_grows : (b : Bool) (task : TaskNo) (l : LockNo) (c : Rig) → Grows c (releases b task l c).rig
 release_grows true task l c = handed_grows (is_wanted l c.waiting) l c
 release_grows false task l c = same_grows c
 
 flag_grows : (n : ℕ) (b : Bool) (c : Rig) → Grows c (record c { objects = record c.objects { events = slice_set c.objects.events n b } })
-flag_grows n b c = let l : length (slice_set c.objects.events n b) ≡ length c.objects.events = set_length c.objects.events n b in (omega arith, omega arith, omega arith)
+flag_grows n b c = let l : length (slice_set c.objects.events n b) ≡ length c.objects.events = set_length c.objects.events n b in (omega arith, omega arith, omega arith, omega arith)
+
+-- a new queue has two events
+new_queue_grows : (bound : ℕ) (c : Rig) → Grows c (with_new_queue bound c)
+new_queue_grows bound c =
+    let events : List Bool = (c.objects.events ++ false ∷ []) ++ false ∷ [] in
+    let l : length (slice_set events (suc (length c.objects.events)) true) ≡ length events = set_length events (suc (length c.objects.events)) true in
+    let m : length events ≡ length (c.objects.events ++ false ∷ []) + 1 = more_length (c.objects.events ++ false ∷ []) false in
+    let n : length (c.objects.events ++ false ∷ []) ≡ length c.objects.events + 1 = more_length c.objects.events false in
+    let q : length (with_new_queue bound c).queues ≡ length c.queues + 1 = more_length c.queues (empty_queue bound (new_event c) (second_event c)) in
+    (omega arith, omega arith, omega arith, omega arith)
+
+queue_grows : (b : Bool) (task : TaskNo) (bound : ℕ) (c : Rig) → Grows c (makes_queue b task bound c).rig
+queue_grows true task bound c = same_grows c
+queue_grows false task bound c = new_queue_grows bound c
+
+sets_if_grows : (b : Bool) (e : EventNo) (c : Rig) → Grows c (sets_if b e c)
+sets_if_grows true e c = flag_grows e.0 true c
+sets_if_grows false e c = same_grows c
+
+clears_if_grows : (b : Bool) (e : EventNo) (c : Rig) → Grows c (clears_if b e c)
+clears_if_grows true e c = flag_grows e.0 false c
+clears_if_grows false e c = same_grows c
+
+items_grow : (q : QueueNo) (items : List Value) (c : Rig) → Grows c (record c { queues = with_items q items c.queues })
+items_grow q items c =
+    let l : length (with_items q items c.queues) ≡ length c.queues = set_length c.queues q.0 (holding items (queue_at q c.queues)) in
+    (omega arith, omega arith, omega arith, omega arith)
+
+-- the one event may be set, and then the other cleared
+flags_grow : (a b : Bool) (x y : EventNo) (q : QueueNo) (items : List Value) (c : Rig)
+    → Grows c (clears_if a x (sets_if b y (record c { queues = with_items q items c.queues })))
+flags_grow a b x y q items c =
+    let d : Rig = record c { queues = with_items q items c.queues } in
+    through c (sets_if b y d) (clears_if a x (sets_if b y d)) (through c d (sets_if b y d) (items_grow q items c) (sets_if_grows b y d)) (clears_if_grows a x (sets_if b y d))
+
+put_item_grows : (full limit : Bool) (task : TaskNo) (q : QueueNo) (item : Value) (c : Rig) → Grows c (puts_item full limit task q item c).rig
+put_item_grows true limit task q item c = same_grows c
+put_item_grows false true task q item c = same_grows c
+put_item_grows false false task q item c =
+    let old : TaskQueue = queue_at q c.queues in
+    flags_grow (has_no_room (queue_at q (with_item q item c.queues))) (is_empty old.items) old.space_event old.items_event q (old.items ++ item ∷ []) c
+
+get_item_grows : (task : TaskNo) (q : QueueNo) (items : List Value) (c : Rig) → Grows c (gets_item task q items c).rig
+get_item_grows task q [] c = same_grows c
+get_item_grows task q (item ∷ items) c =
+    let old : TaskQueue = queue_at q c.queues in
+    flags_grow (is_empty items) (has_no_room old) old.items_event old.space_event q items c
 
 effect_grows : (setup : Setup) (task : TaskNo) (t : Turned) (c : Rig) → Grows c (effect setup task t c).rig
 effect_grows setup task (turned.Await trig) c = awaits_grows task (tree_of trig c.sim.time) (check trig c.sim.time c.sim.region) c
-effect_grows setup task (turned.Stage sig bits) c = write_grows (is_end c.sim.region) sig (stages task sig bits c) c (same_grows c)
-effect_grows setup task (turned.Put sig bits) c = write_grows (is_end c.sim.region) sig (puts setup task sig bits c) c (deposit_grows setup sig bits c)
+effect_grows setup task (turned.Stage sig act) c = write_grows (is_end c.sim.region) sig (stages task sig act c) c (same_grows c)
+effect_grows setup task (turned.Put sig act) c = write_grows (is_end c.sim.region) sig (puts setup task sig act c) c (deposit_grows setup sig act c)
 effect_grows setup task (turned.Start func args give_way) c = starts_grows (is_full c) task (function_at setup.functions func) args give_way c
 effect_grows setup task (turned.Kill other) c = kills_grows (other.0 == task.0) task other c
 effect_grows setup task turned.NewEvent c = event_grows (nat_le event_limit (length c.objects.events)) task c
@@ -180,6 +235,9 @@ effect_grows setup task (turned.SetEvent e) c = flag_grows e.0 true c
 effect_grows setup task (turned.ClearEvent e) c = flag_grows e.0 false c
 effect_grows setup task turned.NewLock c = lock_grows (nat_le lock_limit (length c.objects.locks)) task c
 effect_grows setup task (turned.Release l) c = release_grows (is_held l c.objects) task l c
+effect_grows setup task (turned.NewQueue bound) c = queue_grows (nat_lt event_limit (length c.objects.events + 2)) task bound c
+effect_grows setup task (turned.PutNow q item) c = put_item_grows (has_no_room (queue_at q c.queues)) (is_at_limit (queue_at q c.queues)) task q item c
+effect_grows setup task (turned.GetNow q) c = get_item_grows task q (queue_at q c.queues).items c
 effect_grows setup task (turned.Draw low span) c = same_grows c
 effect_grows setup task (turned.Log level text) c = same_grows c
 effect_grows setup task (turned.Done x) c = end_grows task (Returned x) c
@@ -216,6 +274,8 @@ module _ (functions : List Function) (v : View) where
     running_known = h.running_known;
     endings_known = h.endings_known;
     staged_known = h.staged_known;
+    queues_known = h.queues_known;
+    queues_few = h.queues_few;
     ready_known = ready_more v c.ready (woken on c.waiting) h.ready_known (woken_known v on c.waiting h.waiting_known);
     waiting_known = still_known v on c.waiting h.waiting_known;
   }
@@ -227,8 +287,8 @@ module _ (functions : List Function) (v : View) where
   put_parts : (setup : Setup) (e : Event) (c : Rig) → Parts c → Parts (after_put setup e c).rig
   put_parts setup e c h = serve_keys_parts e.fired c.fired (with_fired e.fired (record c { sim = e.state })) h
 
-  deposit_parts : (setup : Setup) (sig : SigId) (bits : List Digit) (c : Rig) → Parts c → Parts (deposit setup sig bits c).rig
-  deposit_parts setup sig bits c h = put_parts setup (put (procs setup) c.sim (set_of (awaited c)) sig bits) c h
+  deposit_parts : (setup : Setup) (sig : SigId) (act : Write) (c : Rig) → Parts c → Parts (deposit setup sig act c).rig
+  deposit_parts setup sig act c h = put_parts setup (written setup c.sim (set_of (awaited c)) sig act) c h
 
   unstaged : (ws : List Staged) (c : Rig) → KnowsStaged v ws → Parts c → Parts (record c { staged = ws })
   unstaged ws c k h = record {
@@ -238,13 +298,15 @@ module _ (functions : List Function) (v : View) where
     waiting_known = h.waiting_known;
     endings_known = h.endings_known;
     staged_known = k;
+    queues_known = h.queues_known;
+    queues_few = h.queues_few;
   }
 
   flushed_parts : (setup : Setup) (writes : List Staged) (c : Rig) → KnowsStaged v writes → Parts c → Parts (flushed setup writes c).rig
   flushed_parts setup [] c k h = h
   flushed_parts setup (w ∷ ws) c k h =
-      flushed_parts setup ws (deposit setup w.sig w.bits (record c { staged = ws })).rig k.1
-      (deposit_parts setup w.sig w.bits (record c { staged = ws }) (unstaged ws c k.1 h))
+      flushed_parts setup ws (deposit setup w.sig w.act (record c { staged = ws })).rig k.1
+      (deposit_parts setup w.sig w.act (record c { staged = ws }) (unstaged ws c k.1 h))
 
   flush_parts : (setup : Setup) (b : Bool) (c : Rig) → Parts c → Parts (flushed_if setup b c).rig
   flush_parts setup true c h = flushed_parts setup c.staged c h.staged_known h
@@ -270,6 +332,8 @@ module _ (functions : List Function) (v : View) where
     waiting_known = h.waiting_known;
     endings_known = h.endings_known;
     staged_known = h.staged_known;
+    queues_known = h.queues_known;
+    queues_few = h.queues_few;
   }
 
   ended_known : (o : Option Ending) → IfSome o (KnowsEnding v) → KnowsGiven v (joined_given o)
@@ -293,6 +357,8 @@ module _ (functions : List Function) (v : View) where
     waiting_known = waiting_more v c.waiting (record { task = task; tree = tree } ∷ []) h.waiting_known (t, tt);
     endings_known = h.endings_known;
     staged_known = h.staged_known;
+    queues_known = h.queues_known;
+    queues_few = h.queues_few;
   }
 
   awaits_parts : (task : TaskNo) (tree : Tree) (o : Option Fault) (c : Rig) → KnowsTree v tree → Parts c → Parts (awaits_by task tree o c).rig
@@ -309,9 +375,9 @@ module _ (functions : List Function) (v : View) where
   absent : (task : TaskNo) (c : Rig) → Parts c → Parts (goes_on task (Some (given.Value value.Absent)) c)
   absent task c h = with_turn task (Some (given.Value value.Absent)) c tt h
 
-  stages_parts : (task : TaskNo) (sig : SigId) (bits : List Digit) (c : Rig) → KnowsWrite v sig.0 (length bits) → Parts c → Parts (stages task sig bits c).rig
-  stages_parts task sig bits c k h =
-      absent task (record c { staged = restaged sig bits c.staged }) (unstaged (restaged sig bits c.staged) c (restaged_known v sig bits c.staged h.staged_known k) h)
+  stages_parts : (task : TaskNo) (sig : SigId) (act : Write) (c : Rig) → KnowsWrite v sig act → Parts c → Parts (stages task sig act c).rig
+  stages_parts task sig act c k h =
+      absent task (record c { staged = restaged sig act c.staged }) (unstaged (restaged sig act c.staged) c (restaged_known v sig act c.staged h.staged_known k) h)
 
   pub new_parts : (n : ℕ) (args : List Value) (c : Rig) → AreSoundFunctions functions → KnowsAll v args → Parts c → Parts (with_new_task (function_at functions n) args c)
   new_parts n args c s k h = record {
@@ -322,6 +388,8 @@ module _ (functions : List Function) (v : View) where
     waiting_known = h.waiting_known;
     endings_known = endings_more v c.endings (None ∷ []) h.endings_known (tt, tt);
     staged_known = h.staged_known;
+    queues_known = h.queues_known;
+    queues_few = h.queues_few;
   }
 
   starter_parts : (task number : TaskNo) (b : Bool) (c : Rig) → number.0 < length v.ended → Parts c → Parts (starter task number b c).rig
@@ -332,6 +400,8 @@ module _ (functions : List Function) (v : View) where
     waiting_known = h.waiting_known;
     endings_known = h.endings_known;
     staged_known = h.staged_known;
+    queues_known = h.queues_known;
+    queues_few = h.queues_few;
   }
   starter_parts task number false c k h = with_turn task (Some (given.Value (value.Task number))) c k h
 
@@ -355,6 +425,8 @@ module _ (functions : List Function) (v : View) where
     waiting_known = h.waiting_known;
     endings_known = endings_set v c.endings task.0 ending h.endings_known k;
     staged_known = h.staged_known;
+    queues_known = h.queues_known;
+    queues_few = h.queues_few;
   }
 
   ends_parts : (task : TaskNo) (ending : Ending) (failed : Bool) (c : Rig) → KnowsEnding v ending → Parts c → Parts (ends task ending failed c)
@@ -372,6 +444,8 @@ module _ (functions : List Function) (v : View) where
     waiting_known = waiting_without v task c.waiting h.waiting_known;
     endings_known = h.endings_known;
     staged_known = h.staged_known;
+    queues_known = h.queues_known;
+    queues_few = h.queues_few;
   }
 
   kill_parts : (b : Bool) (other : TaskNo) (c : Rig) → Parts c → Parts (kills_by b other c)
@@ -406,6 +480,8 @@ module _ (functions : List Function) (v : View) where
         waiting_known = g.1;
         endings_known = h.endings_known;
         staged_known = h.staged_known;
+        queues_known = h.queues_known;
+        queues_few = h.queues_few;
       }
   handed_parts false l c h = h
 
@@ -413,36 +489,103 @@ module _ (functions : List Function) (v : View) where
   release_parts true task l c h = absent task (handed_on (is_wanted l c.waiting) l c) (handed_parts (is_wanted l c.waiting) l c h)
   release_parts false task l c h = with_turn task (Some (given.Fault _)) c tt h
 
+  -- a queue that is made is covered, and so are its events
+  queue_parts : (b : Bool) (task : TaskNo) (bound : ℕ) (c : Rig) → Covers v (makes_queue b task bound c).rig
+      → length c.queues + length c.queues ≤ length c.objects.events → Parts c → Parts (makes_queue b task bound c).rig
+  queue_parts true task bound c w q h = with_turn task (Some (given.Fault _)) c tt h
+  queue_parts false task bound c w q h =
+      let events : List Bool = (c.objects.events ++ false ∷ []) ++ false ∷ [] in
+      let l : length (slice_set events (suc (length c.objects.events)) true) ≡ length events = set_length events (suc (length c.objects.events)) true in
+      let m : length events ≡ length (c.objects.events ++ false ∷ []) + 1 = more_length (c.objects.events ++ false ∷ []) false in
+      let n : length (c.objects.events ++ false ∷ []) ≡ length c.objects.events + 1 = more_length c.objects.events false in
+      let o : length (with_new_queue bound c).queues ≡ length c.queues + 1 = more_length c.queues (empty_queue bound (new_event c) (second_event c)) in
+      record {
+        tasks_known = h.tasks_known;
+        running_known = omega (arith, w.3);
+        ready_known = h.ready_known;
+        waiting_known = h.waiting_known;
+        endings_known = h.endings_known;
+        staged_known = h.staged_known;
+        queues_known = queues_more v c.queues (empty_queue bound (new_event c) (second_event c) ∷ []) h.queues_known ((tt, (omega (arith, w.0), omega (arith, w.0))), tt);
+        queues_few = omega (arith, w.0, q);
+      }
+
+  sets_if_parts : (b : Bool) (e : EventNo) (c : Rig) → Parts c → Parts (sets_if b e c)
+  sets_if_parts true e c h = wake_parts (cause.Event e) (record c { objects = with_set e c.objects }) h
+  sets_if_parts false e c h = h
+
+  clears_if_parts : (b : Bool) (e : EventNo) (c : Rig) → Parts c → Parts (clears_if b e c)
+  clears_if_parts true e c h = h
+  clears_if_parts false e c h = h
+
+  with_items_parts : (n : QueueNo) (items : List Value) (c : Rig) → KnowsAll v items → Parts c → Parts (record c { queues = with_items n items c.queues })
+  with_items_parts n items c k h =
+      let l : length (with_items n items c.queues) ≡ length c.queues = set_length c.queues n.0 (holding items (queue_at n c.queues)) in
+      record {
+        tasks_known = h.tasks_known;
+        running_known = h.running_known;
+        ready_known = h.ready_known;
+        waiting_known = h.waiting_known;
+        endings_known = h.endings_known;
+        staged_known = h.staged_known;
+        queues_known = with_items_known v n items c.queues k h.queues_known;
+        queues_few = omega (arith, h.queues_few);
+      }
+
+  put_item_parts : (full limit : Bool) (task : TaskNo) (n : QueueNo) (item : Value) (c : Rig) → Knows v item → Parts c → Parts (puts_item full limit task n item c).rig
+  put_item_parts true limit task n item c k h = with_turn task (Some (given.Fault _)) c tt h
+  put_item_parts false true task n item c k h = with_turn task (Some (given.Fault _)) c tt h
+  put_item_parts false false task n item c k h =
+      let old : TaskQueue = queue_at n c.queues in
+      let items : List Value = old.items ++ item ∷ [] in
+      let d : Rig = record c { queues = with_items n items c.queues } in
+      let e : Rig = sets_if (is_empty old.items) old.items_event d in
+      absent task (with_put n item c) (clears_if_parts (has_no_room (queue_at n (with_item n item c.queues))) old.space_event e
+      (sets_if_parts (is_empty old.items) old.items_event d
+      (with_items_parts n items c (items_more v old.items (item ∷ []) (queue_items_known v n c.queues h.queues_known) (k, tt)) h)))
+
+  get_item_parts : (task : TaskNo) (n : QueueNo) (items : List Value) (c : Rig) → KnowsAll v items → Parts c → Parts (gets_item task n items c).rig
+  get_item_parts task n [] c k h = with_turn task (Some (given.Fault _)) c tt h
+  get_item_parts task n (item ∷ items) c k h =
+      let old : TaskQueue = queue_at n c.queues in
+      let d : Rig = record c { queues = with_items n items c.queues } in
+      let e : Rig = sets_if (has_no_room old) old.space_event d in
+      with_turn task (Some (given.Value item)) (with_get n items c) k.0 (clears_if_parts (is_empty items) old.items_event e
+      (sets_if_parts (has_no_room old) old.space_event d (with_items_parts n items c k.1 h)))
+
   effect_parts : (setup : Setup) (task : TaskNo) (t : Turned) (c : Rig) → setup.functions ≡ functions → AreSoundFunctions functions → KnowsTurned functions v t
-      → Covers v (effect setup task t c).rig → Parts c → Parts (effect setup task t c).rig
-  effect_parts setup task (turned.Await trig) c f s k w h =
+      → Covers v (effect setup task t c).rig → length c.queues + length c.queues ≤ length c.objects.events → Parts c → Parts (effect setup task t c).rig
+  effect_parts setup task (turned.Await trig) c f s k w q h =
       awaits_parts task (tree_of trig c.sim.time) (check trig c.sim.time c.sim.region) c (tree_known v trig c.sim.time k) h
-  effect_parts setup task (turned.Stage sig bits) c f s k w h = write_parts (is_end c.sim.region) sig (stages task sig bits c) c (stages_parts task sig bits c k h) h
-  effect_parts setup task (turned.Put sig bits) c f s k w h =
-      write_parts (is_end c.sim.region) sig (puts setup task sig bits c) c (absent task (deposit setup sig bits c).rig (deposit_parts setup sig bits c h)) h
-  effect_parts setup task (turned.Start func args give_way) c f s k w h =
+  effect_parts setup task (turned.Stage sig act) c f s k w q h = write_parts (is_end c.sim.region) sig (stages task sig act c) c (stages_parts task sig act c k h) h
+  effect_parts setup task (turned.Put sig act) c f s k w q h =
+      write_parts (is_end c.sim.region) sig (puts setup task sig act c) c (absent task (deposit setup sig act c).rig (deposit_parts setup sig act c h)) h
+  effect_parts setup task (turned.Start func args give_way) c f s k w q h =
       started (is_full c) setup.functions f w
     where
       started : (full : Bool) (fs : List Function) → fs ≡ functions → Covers v (starts full task (function_at fs func) args give_way c).rig
           → Parts (starts full task (function_at fs func) args give_way c).rig
       started full fs e x = subst (λ (gs : List Function). Parts (starts full task (function_at gs func) args give_way c).rig) (sym e)
           (starts_parts full task func args give_way c s k.1 h (subst (λ (gs : List Function). Covers v (starts full task (function_at gs func) args give_way c).rig) e x))
-  effect_parts setup task (turned.Kill other) c f s k w h = kills_parts (other.0 == task.0) task other c h
-  effect_parts setup task turned.NewEvent c f s k w h = event_parts (nat_le event_limit (length c.objects.events)) task c w h
-  effect_parts setup task (turned.SetEvent e) c f s k w h = absent task (wake (cause.Event e) (record c { objects = with_set e c.objects })) (wake_parts (cause.Event e) (record c { objects = with_set e c.objects }) h)
-  effect_parts setup task (turned.ClearEvent e) c f s k w h = absent task c h
-  effect_parts setup task turned.NewLock c f s k w h = lock_parts (nat_le lock_limit (length c.objects.locks)) task c w h
-  effect_parts setup task (turned.Release l) c f s k w h = release_parts (is_held l c.objects) task l c h
-  effect_parts setup task (turned.Draw low span) c f s k w h = with_turn task (Some (given.Value (value.Whole _))) c tt h
-  effect_parts setup task (turned.Log level text) c f s k w h = absent task c h
-  effect_parts setup task (turned.Done x) c f s k w h = ends_parts task (Returned x) false c k h
-  effect_parts setup task (turned.Raised fault) c f s k w h = fails_parts (is_joined task c.waiting) task fault c h
-  effect_parts setup task turned.Spent c f s k w h = h
+  effect_parts setup task (turned.Kill other) c f s k w q h = kills_parts (other.0 == task.0) task other c h
+  effect_parts setup task turned.NewEvent c f s k w q h = event_parts (nat_le event_limit (length c.objects.events)) task c w h
+  effect_parts setup task (turned.SetEvent e) c f s k w q h = absent task (wake (cause.Event e) (record c { objects = with_set e c.objects })) (wake_parts (cause.Event e) (record c { objects = with_set e c.objects }) h)
+  effect_parts setup task (turned.ClearEvent e) c f s k w q h = absent task c h
+  effect_parts setup task turned.NewLock c f s k w q h = lock_parts (nat_le lock_limit (length c.objects.locks)) task c w h
+  effect_parts setup task (turned.Release l) c f s k w q h = release_parts (is_held l c.objects) task l c h
+  effect_parts setup task (turned.NewQueue bound) c f s k w q h = queue_parts (nat_lt event_limit (length c.objects.events + 2)) task bound c w q h
+  effect_parts setup task (turned.PutNow n item) c f s k w q h = put_item_parts (has_no_room (queue_at n c.queues)) (is_at_limit (queue_at n c.queues)) task n item c k.1 h
+  effect_parts setup task (turned.GetNow n) c f s k w q h = get_item_parts task n (queue_at n c.queues).items c (queue_items_known v n c.queues h.queues_known) h
+  effect_parts setup task (turned.Draw low span) c f s k w q h = with_turn task (Some (given.Value (value.Whole _))) c tt h
+  effect_parts setup task (turned.Log level text) c f s k w q h = absent task c h
+  effect_parts setup task (turned.Done x) c f s k w q h = ends_parts task (Returned x) false c k h
+  effect_parts setup task (turned.Raised fault) c f s k w q h = fails_parts (is_joined task c.waiting) task fault c h
+  effect_parts setup task turned.Spent c f s k w q h = h
 
   wish_parts : (setup : Setup) (task : TaskNo) (o : Option Turned) (c : Rig) → setup.functions ≡ functions → AreSoundFunctions functions → IfSome o (KnowsTurned functions v)
-      → Covers v (effect_of setup task o c).rig → Parts c → Parts (effect_of setup task o c).rig
-  wish_parts setup task None c f s k w h = with_turn task None c tt h
-  wish_parts setup task (Some t) c f s k w h = effect_parts setup task t c f s k w h
+      → Covers v (effect_of setup task o c).rig → length c.queues + length c.queues ≤ length c.objects.events → Parts c → Parts (effect_of setup task o c).rig
+  wish_parts setup task None c f s k w q h = with_turn task None c tt h
+  wish_parts setup task (Some t) c f s k w q h = effect_parts setup task t c f s k w q h
 
   kept_parts : (number : TaskNo) (u : Task) (c : Rig) → KnowsWhole functions v u → Parts c → Parts (kept number u c)
   kept_parts number u c k h = record {
@@ -452,6 +595,8 @@ module _ (functions : List Function) (v : View) where
     waiting_known = h.waiting_known;
     endings_known = h.endings_known;
     staged_known = h.staged_known;
+    queues_known = h.queues_known;
+    queues_few = h.queues_few;
   }
 
 -- ---- steps
@@ -461,13 +606,18 @@ map_length f [] = refl
 map_length f (x ∷ xs) = ap suc (map_length f xs)
 
 view_covers : (setup : Setup) (c : Rig) → Covers (view_of setup c) c
-view_covers setup c = let n : length (map is_some c.endings) ≡ length c.endings = map_length is_some c.endings in (omega arith, omega arith, omega arith)
+view_covers setup c =
+    let n : length (map is_some c.endings) ≡ length c.endings = map_length is_some c.endings in
+    let q : length (map seen c.queues) ≡ length c.queues = map_length seen c.queues in
+    (omega arith, omega arith, omega arith, omega arith)
 
 pub view_wider : (setup : Setup) (c d : Rig) → AreAsWide c d → Grows c d → Wider (view_of setup c) (view_of setup d)
 view_wider setup c d w g =
     let m : length (map is_some c.endings) ≡ length c.endings = map_length is_some c.endings in
     let n : length (map is_some d.endings) ≡ length d.endings = map_length is_some d.endings in
-    record { design = record { places = refl; nodes = refl; widths = w }; events = g.0; locks = g.1; ended = omega (arith, g.2) }
+    let p : length (map seen c.queues) ≡ length c.queues = map_length seen c.queues in
+    let q : length (map seen d.queues) ≡ length d.queues = map_length seen d.queues in
+    record { design = record { places = refl; nodes = refl; widths = w }; events = g.0; locks = g.1; ended = omega (arith, g.2); queues = omega (arith, g.3) }
 
 module _ (setup : Setup) (c d : Rig) (h : IsKnown setup c) (w : AreAsWide c d) (g : Grows c d) where
   wider : Wider (view_of setup c) (view_of setup d)
@@ -497,6 +647,8 @@ turn_known setup b c r None e h k w =
       waiting_known = p.waiting_known;
       endings_known = p.endings_known;
       staged_known = p.staged_known;
+      queues_known = p.queues_known;
+      queues_few = p.queues_few;
     })
 turn_known setup b c r (Some task) e h k w =
     let v : View = view_of setup c in
@@ -506,9 +658,9 @@ turn_known setup b c r (Some task) e h k w =
     let u : View = view_of setup d in
     let x : Wider v u = view_wider setup c d w g in
     let t : KnowsWhole setup.functions v task = subst (λ (q : Option Task). IfSome q (KnowsWhole setup.functions v)) e (at_known setup.functions v r.task c.tasks h.parts.tasks_known) in
-    let a = next_is_known setup.functions task r.given v h.design t k in
+    let a = next_is_known setup.functions task r.given v h.design (events_known setup c h.parts.queues_known) t k in
     known_by setup c d h w g (wish_parts setup.functions u setup r.task n.turned (kept r.task n.task c) refl h.sound
-    (wished setup.functions v u x n.turned a.1) (view_covers setup d)
+    (wished setup.functions v u x n.turned a.1) (view_covers setup d) h.parts.queues_few
     (kept_parts setup.functions u r.task n.task c (whole_wider setup.functions v u x n.task a.0) (before setup c d h w g)))
   where
     wished : (functions : List Function) (v u : View) → Wider v u → (q : Option Turned) → IfSome q (KnowsTurned functions v) → IfSome q (KnowsTurned functions u)
@@ -541,6 +693,8 @@ chosen_known setup None (x ∷ xs) c e s h w =
         waiting_known = h.parts.waiting_known;
         endings_known = h.parts.endings_known;
         staged_known = h.parts.staged_known;
+        queues_known = h.parts.queues_known;
+        queues_few = h.parts.queues_few;
       };
     }) t w
 chosen_known setup None [] c e s h w = event_known setup (event_of setup c) c h w

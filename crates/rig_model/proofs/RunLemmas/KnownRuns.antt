@@ -1,5 +1,5 @@
 -- Steps of a run keep what is known of its configuration.
-use Rattle.std.proofs.Common.{ℕ, List, [], ◌∷◌, Option, None, Some, Ok, Err, refl}
+use Rattle.std.proofs.Common.{ℕ, List, [], ◌∷◌, Option, None, Some, Ok, Err, refl, arith}
 use Rattle.std.specs.Prelude.{IfOk}
 use Rattle.py_syntax.specs.declared.constant.Const.{Const}
 use Rattle.py_value.specs.Answer.{Answer}
@@ -67,7 +67,7 @@ ended_known setup c h = record {
   design = design_wider (view_of setup c) (view_of setup (ended c)) (record { places = refl; nodes = refl; widths = refl }) h.design;
   top = node_wider (view_of setup c) (view_of setup (ended c)) (record { places = refl; nodes = refl; widths = refl }) 0 h.top;
   sound = h.sound;
-  parts = record { tasks_known = tt; running_known = tt; ready_known = tt; waiting_known = tt; endings_known = tt; staged_known = tt };
+  parts = record { tasks_known = tt; running_known = tt; ready_known = tt; waiting_known = tt; endings_known = tt; staged_known = tt; queues_known = tt; queues_few = omega arith };
 }
 
 -- ---- steps

@@ -1,11 +1,16 @@
 -- What is known of the parts of lists is known of the lists.
-use Rattle.std.proofs.Common.{◌≡◌, ℕ, zero, suc, Bool, true, false, List, [], ◌∷◌, ◌++◌, Option, None, Some, refl}
+use Rattle.std.proofs.Common.{◌≡◌, ℕ, zero, suc, ◌<◌, Bool, true, false, List, [], ◌∷◌, ◌++◌, map, Option, None, Some, refl, arith}
 use Rattle.std.specs.Prelude.{IfSome, slice_set, slice_index_or, not, filter, cond}
-use Rattle.four_value.specs.declared.Digit.{Digit}
 use Rattle.gpi.specs.declared.types.SigId.{SigId}
+use Rattle.gpi.specs.declared.types.Write.{Write}
 use Rattle.py_value.specs.declared.trigger.LockNo.{LockNo}
+use Rattle.py_value.specs.declared.trigger.QueueNo.{QueueNo}
 use Rattle.py_value.specs.declared.trigger.TaskNo.{TaskNo}
-use Rattle.py_evaluate.specs.Attribute.Look.{View}
+use Rattle.py_value.specs.declared.value.Value.{Value}
+use Rattle.py_evaluate.specs.Attribute.Look.{View, SeenQueue}
+use Rattle.py_evaluate.specs.Attribute.Knows.{Knows, KnowsAll, KnowsEvents}
+use Rattle.task_queue.specs.Queues.{TaskQueue, fresh, queue_at, holding, with_items, with_item}
+use Rattle.run_view.specs.View.{seen}
 use Rattle.await_tree.specs.declared.cause.Cause.{Cause}
 use Rattle.await_tree.specs.declared.cause.Step.{Step}
 use Rattle.await_tree.specs.declared.cause.Step.TheVariants.{Still, Done}
@@ -22,9 +27,10 @@ use Rattle.await_tree.specs.declared.wait_list.ready.Entry.{Entry}
 use Rattle.await_tree.specs.WaitList.Ring.{is_entry_of, without_entry}
 use Rattle.await_tree.specs.WaitList.Waiting.{Waiting, is_of, without_task, entry_of, left_of, woken, still_waiting, wants, granted}
 use Rattle.await_tree.specs.declared.ended_tasks.ending.Ending.{Ending}
+use Rattle.rig_model.specs.Run.Rig.{Rig, Setup, view_of}
 use Rattle.rig_model.specs.Run.Effect.{is_numbered}
 use Rattle.rig_model.specs.Run.Step.{stored, task_at}
-use Rattle.rig_model.specs.Run.Known.{KnowsTree, KnowsTasks, KnowsReady, KnowsWaiting, KnowsEnding, KnowsEndings, KnowsStaged}
+use Rattle.rig_model.specs.Run.Known.{KnowsTree, KnowsTasks, KnowsReady, KnowsWaiting, KnowsEnding, KnowsEndings, KnowsStaged, KnowsQueues}
 use Rattle.rig_model.proofs.RunLemmas.Trees.{KnowsStep, fire_known, grant_known, step_known}
 
 module _ (functions : List Function) (v : View) where
@@ -158,7 +164,50 @@ module _ (v : View) where
   staged_filtered p [] h = tt
   staged_filtered p (w ∷ ws) h = staged_kept (p w) w (filter p ws) (h.0, staged_filtered p ws h.1) (staged_filtered p ws h.1)
 
-  pub restaged_known : (sig : SigId) (bits : List Digit) (ws : List Staged) → KnowsStaged v ws → KnowsWrite v sig.0 (length bits) → KnowsStaged v (restaged sig bits ws)
-  restaged_known sig bits ws h k =
-      staged_more (filter (λ (w : Staged). not (w.sig.0 == sig.0)) ws) (record { sig = sig; bits = bits } ∷ [])
+  pub restaged_known : (sig : SigId) (act : Write) (ws : List Staged) → KnowsStaged v ws → KnowsWrite v sig act → KnowsStaged v (restaged sig act ws)
+  restaged_known sig act ws h k =
+      staged_more (filter (λ (w : Staged). not (w.sig.0 == sig.0)) ws) (record { sig = sig; act = act } ∷ [])
       (staged_filtered (λ (w : Staged). not (w.sig.0 == sig.0)) ws h) (k, tt)
+
+  -- ---- queues
+
+  pub queues_more : (xs ys : List TaskQueue) → KnowsQueues v xs → KnowsQueues v ys → KnowsQueues v (xs ++ ys)
+  queues_more [] ys h k = k
+  queues_more (x ∷ xs) ys h k = (h.0, queues_more xs ys h.1 k)
+
+  pub items_more : (xs ys : List Value) → KnowsAll v xs → KnowsAll v ys → KnowsAll v (xs ++ ys)
+  items_more [] ys h k = k
+  items_more (x ∷ xs) ys h k = (h.0, items_more xs ys h.1 k)
+
+  items_at : (qs : List TaskQueue) (n : ℕ) (other : TaskQueue) → KnowsAll v other.items → KnowsQueues v qs → KnowsAll v (slice_index_or qs n other).items
+  items_at [] n other k h = k
+  items_at (q ∷ qs) zero other k h = h.0.0
+  items_at (q ∷ qs) (suc n) other k h = items_at qs n other k h.1
+
+  -- the items of a queue
+  pub queue_items_known : (queue : QueueNo) (qs : List TaskQueue) → KnowsQueues v qs → KnowsAll v (queue_at queue qs).items
+  queue_items_known queue qs h = items_at qs queue.0 (fresh 0 (record { 0 = 0 }) (record { 0 = 0 })) tt h
+
+  items_set : (qs : List TaskQueue) (n : ℕ) (items : List Value) (other : TaskQueue) → KnowsAll v items → KnowsQueues v qs
+      → KnowsQueues v (slice_set qs n (holding items (slice_index_or qs n other)))
+  items_set [] n items other k h = tt
+  items_set (q ∷ qs) zero items other k h = ((k, h.0.1), h.1)
+  items_set (q ∷ qs) (suc n) items other k h = (h.0, items_set qs n items other k h.1)
+
+  pub with_items_known : (queue : QueueNo) (items : List Value) (qs : List TaskQueue) → KnowsAll v items → KnowsQueues v qs → KnowsQueues v (with_items queue items qs)
+  with_items_known queue items qs k h = items_set qs queue.0 items (fresh 0 (record { 0 = 0 }) (record { 0 = 0 })) k h
+
+  pub with_item_known : (queue : QueueNo) (item : Value) (qs : List TaskQueue) → Knows v item → KnowsQueues v qs → KnowsQueues v (with_item queue item qs)
+  with_item_known queue item qs k h =
+      with_items_known queue ((queue_at queue qs).items ++ item ∷ []) qs (items_more (queue_at queue qs).items (item ∷ []) (queue_items_known queue qs h) (k, tt)) h
+
+  -- the events of a queue as it is seen
+  pub seen_events : (qs : List TaskQueue) (n : ℕ) (other : SeenQueue) → KnowsQueues v qs → n < length (map seen qs)
+      → ((slice_index_or (map seen qs) n other).items_event.0 < length v.events) × ((slice_index_or (map seen qs) n other).space_event.0 < length v.events)
+  seen_events [] n other h l = absurd (omega (arith, l))
+  seen_events (q ∷ qs) zero other h l = h.0.1
+  seen_events (q ∷ qs) (suc n) other h l = seen_events qs n other h.1 (omega (arith, l))
+
+-- what a task sees of queues that are known
+pub events_known : (setup : Setup) (c : Rig) → KnowsQueues (view_of setup c) c.queues → KnowsEvents (view_of setup c)
+events_known setup c h = λ q l. seen_events (view_of setup c) c.queues q.0 (record { held = 0; is_full = false; items_event = record { 0 = 0 }; space_event = record { 0 = 0 } }) h l

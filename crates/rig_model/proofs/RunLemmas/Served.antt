@@ -1,16 +1,19 @@
 -- After a step no fired key is left to be served.
 use Rattle.std.proofs.Common.{◌≡◌, Bool, true, false, List, [], ◌∷◌, Option, None, Some, refl, ◌∙◌}
-use Rattle.std.specs.Prelude.{◌==◌, nat_le, length}
+use Rattle.std.specs.Prelude.{◌==◌, ◌+◌, ℕ, nat_le, nat_lt, length}
 use Rattle.gpi.specs.Keys.{set_of}
-use Rattle.gpi.specs.Events.{Event, put}
+use Rattle.gpi.specs.Events.{Event}
 use Rattle.gpi.specs.State.{is_end}
 use Rattle.gpi.specs.declared.types.Key.{Key}
 use Rattle.gpi.specs.declared.types.SigId.{SigId}
-use Rattle.four_value.specs.declared.Digit.{Digit}
+use Rattle.gpi.specs.declared.types.Write.{Write}
 use Rattle.py_value.specs.declared.trigger.TaskNo.{TaskNo}
+use Rattle.py_value.specs.declared.trigger.EventNo.{EventNo}
 use Rattle.py_value.specs.declared.trigger.LockNo.{LockNo}
+use Rattle.py_value.specs.declared.trigger.QueueNo.{QueueNo}
 use Rattle.py_value.specs.declared.value.Value.{Value}
 use Rattle.py_value.specs.declared.value.Fault.{Fault}
+use Rattle.task_queue.specs.Queues.{TaskQueue, queue_at, is_full as has_no_room, is_at_limit, is_empty, with_items, with_item}
 use Rattle.await_tree.specs.Tree.{Tree}
 use Rattle.await_tree.specs.Begin.{begin}
 use Rattle.await_tree.specs.Steps.{step_of}
@@ -27,8 +30,8 @@ use Rattle.rig_model.specs.declared.task.task.Turned.TheVariants as turned
 use Rattle.await_tree.specs.declared.wait_list.ready.Entry.{Entry}
 use Rattle.await_tree.specs.WaitList.Waiting.{is_wanted, is_joined}
 use Rattle.rig_model.specs.Run.Rig.{Rig, Setup, Running, After, event_of, view_of, facts_of, awaited, procs}
-use Rattle.rig_model.specs.Run.Serve.{serve_keys, after_put, deposit, ended_if, is_due, serve}
-use Rattle.rig_model.specs.Run.Effect.{begun_by, awaits_by, write_by, stages, puts, starts, starter, next_task, with_new_task, fails, kills_by, kills, makes_event, makes_lock, releases, is_full, handed_on, effect, effect_of}
+use Rattle.rig_model.specs.Run.Serve.{serve_keys, after_put, written, deposit, ended_if, is_due, serve}
+use Rattle.rig_model.specs.Run.Effect.{begun_by, awaits_by, write_by, stages, puts, starts, starter, next_task, with_new_task, fails, kills_by, kills, makes_event, makes_lock, releases, is_full, handed_on, makes_queue, sets_if, clears_if, with_put, puts_item, with_get, gets_item, effect, effect_of}
 use Rattle.rig_model.specs.Run.Step.{task_at, taken, stepped, kept, after_event, resumed, chosen, rig_step}
 
 serve_keys_fired : (keys others : List Key) (c : Rig) → (serve_keys keys others c).fired ≡ others
@@ -38,8 +41,8 @@ serve_keys_fired (k ∷ ks) others c = serve_keys_fired ks others _
 put_fired : (setup : Setup) (e : Event) (c : Rig) → (after_put setup e c).rig.fired ≡ c.fired
 put_fired setup e c = serve_keys_fired e.fired c.fired _
 
-deposit_fired : (setup : Setup) (sig : SigId) (bits : List Digit) (c : Rig) → (deposit setup sig bits c).rig.fired ≡ c.fired
-deposit_fired setup sig bits c = put_fired setup (put (procs setup) c.sim (set_of (awaited c)) sig bits) c
+deposit_fired : (setup : Setup) (sig : SigId) (act : Write) (c : Rig) → (deposit setup sig act c).rig.fired ≡ c.fired
+deposit_fired setup sig act c = put_fired setup (written setup c.sim (set_of (awaited c)) sig act) c
 
 ended_if_fired : (b : Bool) (c : Rig) → (ended_if b c).rig.fired ≡ c.fired
 ended_if_fired true c = refl
@@ -96,10 +99,38 @@ releases_fired : (b : Bool) (task : TaskNo) (l : LockNo) (c : Rig) → (releases
 releases_fired true task l c = handed_fired (is_wanted l c.waiting) l c
 releases_fired false task l c = refl
 
+queue_made_fired : (b : Bool) (task : TaskNo) (bound : ℕ) (c : Rig) → (makes_queue b task bound c).rig.fired ≡ c.fired
+queue_made_fired true task bound c = refl
+queue_made_fired false task bound c = refl
+
+sets_if_fired : (b : Bool) (e : EventNo) (c : Rig) → (sets_if b e c).fired ≡ c.fired
+sets_if_fired true e c = refl
+sets_if_fired false e c = refl
+
+clears_if_fired : (b : Bool) (e : EventNo) (c : Rig) → (clears_if b e c).fired ≡ c.fired
+clears_if_fired true e c = refl
+clears_if_fired false e c = refl
+
+flags_fired : (a b : Bool) (x y : EventNo) (c : Rig) → (clears_if a x (sets_if b y c)).fired ≡ c.fired
+flags_fired a b x y c = clears_if_fired a x (sets_if b y c) ∙ sets_if_fired b y c
+
+put_item_fired : (full limit : Bool) (task : TaskNo) (q : QueueNo) (item : Value) (c : Rig) → (puts_item full limit task q item c).rig.fired ≡ c.fired
+put_item_fired true limit task q item c = refl
+put_item_fired false true task q item c = refl
+put_item_fired false false task q item c =
+    let old : TaskQueue = queue_at q c.queues in
+    flags_fired (has_no_room (queue_at q (with_item q item c.queues))) (is_empty old.items) old.space_event old.items_event (record c { queues = with_item q item c.queues })
+
+get_item_fired : (task : TaskNo) (q : QueueNo) (items : List Value) (c : Rig) → (gets_item task q items c).rig.fired ≡ c.fired
+get_item_fired task q [] c = refl
+get_item_fired task q (item ∷ items) c =
+    let old : TaskQueue = queue_at q c.queues in
+    flags_fired (is_empty items) (has_no_room old) old.items_event old.space_event (record c { queues = with_items q items c.queues })
+
 effect_fired : (setup : Setup) (task : TaskNo) (t : Turned) (c : Rig) → (effect setup task t c).rig.fired ≡ c.fired
 effect_fired setup task (turned.Await trig) c = awaits_fired task (tree_of trig c.sim.time) (check trig c.sim.time c.sim.region) c
-effect_fired setup task (turned.Stage sig bits) c = write_fired (is_end c.sim.region) sig (stages task sig bits c) c refl
-effect_fired setup task (turned.Put sig bits) c = write_fired (is_end c.sim.region) sig (puts setup task sig bits c) c (deposit_fired setup sig bits c)
+effect_fired setup task (turned.Stage sig act) c = write_fired (is_end c.sim.region) sig (stages task sig act c) c refl
+effect_fired setup task (turned.Put sig act) c = write_fired (is_end c.sim.region) sig (puts setup task sig act c) c (deposit_fired setup sig act c)
 effect_fired setup task (turned.Start func args give_way) c = starts_fired (is_full c) task (function_at setup.functions func) args give_way c
 effect_fired setup task (turned.Kill other) c = kills_fired (other.0 == task.0) task other c
 effect_fired setup task turned.NewEvent c = event_made_fired (nat_le event_limit (length c.objects.events)) task c
@@ -107,6 +138,9 @@ effect_fired setup task (turned.SetEvent e) c = refl
 effect_fired setup task (turned.ClearEvent e) c = refl
 effect_fired setup task turned.NewLock c = lock_made_fired (nat_le lock_limit (length c.objects.locks)) task c
 effect_fired setup task (turned.Release l) c = releases_fired (is_held l c.objects) task l c
+effect_fired setup task (turned.NewQueue bound) c = queue_made_fired (nat_lt event_limit (length c.objects.events + 2)) task bound c
+effect_fired setup task (turned.PutNow q item) c = put_item_fired (has_no_room (queue_at q c.queues)) (is_at_limit (queue_at q c.queues)) task q item c
+effect_fired setup task (turned.GetNow q) c = get_item_fired task q (queue_at q c.queues).items c
 effect_fired setup task (turned.Draw low span) c = refl
 effect_fired setup task (turned.Log level text) c = refl
 effect_fired setup task (turned.Done v) c = refl

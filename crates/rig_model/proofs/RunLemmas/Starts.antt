@@ -16,7 +16,7 @@ use Rattle.await_tree.specs.declared.cause.Given.{Given}
 use Rattle.rig_model.specs.Task.Frame.{Todo, Do, Again, Each, Uses, Handles, Bound, Holds, Use, Assigns, Writes, Returns, Times, Limited, Enters, Course, On, Has, Leaves, Frame, Task, Jump, Throw, Return, Break, Continue}
 use Rattle.rig_model.specs.Task.Moves.{Wish, Nothing, Asks, Calls, Ends, Move, At, want, first_do, answered, outcome}
 use Rattle.rig_model.specs.Task.Awaits.{limited, waits}
-use Rattle.rig_model.specs.Task.Values.{write_of, stage, use_value}
+use Rattle.rig_model.specs.Task.Values.{Value', write_of, stage, use_value}
 use Rattle.rig_model.specs.Task.Blocks.{do_first}
 use Rattle.rig_model.specs.Task.Leaving.{find_handler, handle, catches, at_handlers, at_limit, at_loop, drop_mark}
 use Rattle.rig_model.specs.Task.Step.{next_of, step_on, step_with, step, given_to, next, settled, frame_move, at}
@@ -49,8 +49,8 @@ value_quiet o a f g = result_quiet o.answer (record a { next = o.next }) f (λ v
 use_quiet : (u : Use) (v : Value) (a : At) → Quiet (use_value u v a)
 use_quiet (Assigns n) v a = tt
 use_quiet (Writes e) v a =
-    value_quiet (eval a.scope e a.next) a (λ target b. stage target v b) (λ target k.
-    value_quiet (lift (write_of a.scope.view target v) k) (record a { next = k }) (λ w b. want (turned.Stage w.sig w.bits) b) (λ w i. refl))
+    value_quiet (eval a.scope e a.next) a (λ target b. stage target (Value' v) b) (λ target k.
+    value_quiet (lift (write_of a.scope.view target (Value' v)) k) (record a { next = k }) (λ w b. want (turned.Stage w.sig w.act) b) (λ w i. refl))
 use_quiet Returns v a = tt
 use_quiet (Times steps) (value.Task t) a =
     value_quiet (limited a.scope.task (value.Task t) steps a.next) (first_do (Uses (Limited t) ∷ []) a) waits (λ w i. refl)

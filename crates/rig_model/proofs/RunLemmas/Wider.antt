@@ -1,4 +1,4 @@
--- What a view knows, another knows too that is of the same design, and in which as many events, locks and tasks were made, or more.
+-- What a view knows, another knows too that is of the same design, and in which as many events, locks, queues and tasks were made, or more.
 use Rattle.std.proofs.Common.{◌≡◌, ℕ, zero, suc, ◌≤◌, List, [], ◌∷◌, length, Option, None, Some, refl, ap, sym, ◌∙◌, subst, arith}
 use Rattle.std.specs.Prelude.{slice_index_or, IfSome}
 use Rattle.four_value.specs.declared.Digit.{Digit}
@@ -6,6 +6,8 @@ use Rattle.gpi.specs.Terms.{widths_of}
 use Rattle.gpi.specs.declared.design.Spot.{Spot}
 use Rattle.gpi.specs.declared.design.Spot.TheVariants as spot
 use Rattle.gpi.specs.declared.types.SigId.{SigId}
+use Rattle.gpi.specs.declared.types.Write.{Write}
+use Rattle.gpi.specs.declared.types.Write.TheVariants as write
 use Rattle.gpi.specs.declared.types.Key.{Key}
 use Rattle.gpi.specs.declared.types.Key.TheVariants as key
 use Rattle.py_value.specs.Trigger.{Trig, Made, Form, Trigs, NoTrig, Then}
@@ -23,10 +25,11 @@ use Rattle.await_tree.specs.declared.finish.Finish.{Finish}
 use Rattle.await_tree.specs.declared.finish.Finish.TheVariants.{Reached, Ended, TimedOut}
 use Rattle.await_tree.specs.Tree as tree
 use Rattle.await_tree.specs.Tree.{Tree, Trees}
+use Rattle.task_queue.specs.Queues.{TaskQueue}
 use Rattle.run_view.specs.declared.signal_port.staged.Staged.{Staged}
 use Rattle.test_meaning.specs.Body.BodyTrees.{Function}
 use Rattle.rig_model.specs.Task.Frame.{Use, Assigns, Writes, Returns, Times, Limited, Enters, Todo, Do, Again, Each, Uses, Handles, Bound, Holds, Jump, Throw, Return, Break, Continue, Course, On, Has, Leaves, Frame, Task}
-use Rattle.rig_model.specs.Task.Known.{KnowsUse, KnowsTodo, KnowsTodos, KnowsJump, KnowsCourse, KnowsFrames, KnowsWhole, KnowsGiven, KnowsWrite, KnowsTurned}
+use Rattle.rig_model.specs.Task.Known.{KnowsUse, KnowsTodo, KnowsTodos, KnowsJump, KnowsCourse, KnowsFrames, KnowsWhole, KnowsGiven, HasDigits, KnowsWrite, KnowsTurned}
 use Rattle.rig_model.specs.declared.task.task.Turned.{Turned}
 use Rattle.rig_model.specs.declared.task.task.Turned.TheVariants as turned
 use Rattle.await_tree.specs.declared.wait_list.ready.Entry.{Entry}
@@ -34,7 +37,7 @@ use Rattle.await_tree.specs.WaitList.Waiting.{Waiting}
 use Rattle.await_tree.specs.declared.ended_tasks.ending.Ending.{Ending}
 use Rattle.await_tree.specs.declared.ended_tasks.ending.Ending.TheVariants.{Returned, Failed, Killed}
 use Rattle.rig_model.specs.Run.Rig.{Rig, Running}
-use Rattle.rig_model.specs.Run.Known.{KnowsTrigger, KnowsKey, KnowsAwaited, KnowsFinish, KnowsTree, KnowsTrees, KnowsTasks, KnowsRunning, KnowsReady, KnowsWaiting, KnowsEnding, KnowsEndings, KnowsStaged, KnowsParts}
+use Rattle.rig_model.specs.Run.Known.{KnowsTrigger, KnowsKey, KnowsAwaited, KnowsFinish, KnowsTree, KnowsTrees, KnowsTasks, KnowsRunning, KnowsReady, KnowsWaiting, KnowsEnding, KnowsEndings, KnowsStaged, KnowsQueue, KnowsQueues, KnowsParts}
 
 -- the views are of the same design, and of signals of the same widths
 pub record SameDesign (v w : View) : Type 0 where
@@ -47,6 +50,7 @@ pub record Wider (v w : View) : Type 0 where
   pub events : length v.events ≤ length w.events
   pub locks : length v.locks ≤ length w.locks
   pub ended : length v.ended ≤ length w.ended
+  pub queues : length v.queues ≤ length w.queues
 
 -- ---- the design
 
@@ -91,8 +95,14 @@ module _ (v w : View) (s : SameDesign v w) where
   clock_wider : (sig : SigId) (half : ℕ) → KnowsClock v sig half → KnowsClock w sig half
   clock_wider sig half h = record { signal = signal_wider sig.0 h.signal; bit = width_same sig ∙ h.bit; steps = h.steps }
 
-  write_wider : (sig bits : ℕ) → KnowsWrite v sig bits → KnowsWrite w sig bits
-  write_wider sig bits h = record { signal = signal_wider sig h.signal; digits = h.digits ∙ sym (width_same (record { 0 = sig })) }
+  digits_wider : (m n : ℕ) (act : Write) → m ≡ n → HasDigits m act → HasDigits n act
+  digits_wider m n (write.Plain bits) e h = h ∙ e
+  digits_wider m n (write.Force bits) e h = h ∙ e
+  digits_wider m n write.Freeze e h = tt
+  digits_wider m n write.Release e h = tt
+
+  write_wider : (sig : SigId) (act : Write) → KnowsWrite v sig act → KnowsWrite w sig act
+  write_wider sig act h = record { signal = signal_wider sig.0 h.signal; digits = digits_wider (width v sig) (width w sig) act (sym (width_same sig)) h.digits }
 
   key_wider : (k : Key) → KnowsKey v k → KnowsKey w k
   key_wider (key.Rise sig) h = signal_wider sig.0 h
@@ -120,7 +130,7 @@ module _ (v w : View) (s : SameDesign v w) where
 
   staged_wider : (ws : List Staged) → KnowsStaged v ws → KnowsStaged w ws
   staged_wider [] h = tt
-  staged_wider (x ∷ xs) h = (write_wider x.sig.0 (length x.bits) h.0, staged_wider xs h.1)
+  staged_wider (x ∷ xs) h = (write_wider x.sig x.act h.0, staged_wider xs h.1)
 
 -- ---- values
 
@@ -162,6 +172,7 @@ module _ (functions : List Function) (v w : View) (s : Wider v w) where
   value_wider (value.Task t) h = omega (arith, h, s.ended)
   value_wider (value.Event e) h = omega (arith, h, s.events)
   value_wider (value.Lock l) h = omega (arith, h, s.locks)
+  value_wider (value.Queue q) h = omega (arith, h, s.queues)
   value_wider (value.Clock sig half) h = clock_wider v w s.design sig half h
   value_wider (value.Caught fault) h = tt
 
@@ -226,8 +237,8 @@ module _ (functions : List Function) (v w : View) (s : Wider v w) where
 
   pub turned_wider : (t : Turned) → KnowsTurned functions v t → KnowsTurned functions w t
   turned_wider (turned.Await t) h = (trig_wider t h.0, h.1)
-  turned_wider (turned.Stage sig bits) h = write_wider v w s.design sig.0 (length bits) h
-  turned_wider (turned.Put sig bits) h = write_wider v w s.design sig.0 (length bits) h
+  turned_wider (turned.Stage sig act) h = write_wider v w s.design sig act h
+  turned_wider (turned.Put sig act) h = write_wider v w s.design sig act h
   turned_wider (turned.Start n args give_way) h = (h.0, all_wider args h.1)
   turned_wider (turned.Kill t) h = omega (arith, h, s.ended)
   turned_wider turned.NewEvent h = tt
@@ -235,6 +246,9 @@ module _ (functions : List Function) (v w : View) (s : Wider v w) where
   turned_wider (turned.ClearEvent e) h = omega (arith, h, s.events)
   turned_wider turned.NewLock h = tt
   turned_wider (turned.Release l) h = omega (arith, h, s.locks)
+  turned_wider (turned.NewQueue bound) h = h
+  turned_wider (turned.PutNow q x) h = (omega (arith, h.0, s.queues), value_wider x h.1)
+  turned_wider (turned.GetNow q) h = omega (arith, h, s.queues)
   turned_wider (turned.Draw low span) h = h
   turned_wider (turned.Log level text) h = h
   turned_wider (turned.Done x) h = value_wider x h
@@ -302,6 +316,13 @@ module _ (functions : List Function) (v w : View) (s : Wider v w) where
   endings_wider [] h = tt
   endings_wider (e ∷ es) h = (ending_wider e h.0, endings_wider es h.1)
 
+  queue_wider : (q : TaskQueue) → KnowsQueue v q → KnowsQueue w q
+  queue_wider q h = (all_wider q.items h.0, (omega (arith, h.1.0, s.events), omega (arith, h.1.1, s.events)))
+
+  queues_wider : (qs : List TaskQueue) → KnowsQueues v qs → KnowsQueues w qs
+  queues_wider [] h = tt
+  queues_wider (q ∷ qs) h = (queue_wider q h.0, queues_wider qs h.1)
+
   pub parts_wider : (c : Rig) → KnowsParts functions v c → KnowsParts functions w c
   parts_wider c h = record {
     tasks_known = tasks_wider c.tasks h.tasks_known;
@@ -310,4 +331,6 @@ module _ (functions : List Function) (v w : View) (s : Wider v w) where
     waiting_known = waiting_wider c.waiting h.waiting_known;
     endings_known = endings_wider c.endings h.endings_known;
     staged_known = staged_wider v w s.design c.staged h.staged_known;
+    queues_known = queues_wider c.queues h.queues_known;
+    queues_few = omega (arith, h.queues_few, s.events);
   }

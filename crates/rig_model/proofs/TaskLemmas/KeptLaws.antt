@@ -13,24 +13,25 @@ use Rattle.py_syntax.specs.declared.statement.LogLevel.{LogLevel}
 use Rattle.py_value.specs.Answer.{Answer}
 use Rattle.py_value.specs.Trigger as trigger
 use Rattle.py_value.specs.Truth.{truth}
+use Rattle.py_value.specs.declared.trigger.EventNo.{EventNo}
 use Rattle.py_value.specs.declared.trigger.TaskNo.{TaskNo}
 use Rattle.py_value.specs.declared.value.Fault.{Fault}
 use Rattle.py_value.specs.declared.value.Value.{Value}
 use Rattle.py_value.specs.declared.value.Value.TheVariants as value
 use Rattle.py_value.specs.Operator.Identity.{same_kind}
 use Rattle.py_value.specs.Operator.Number.{whole}
-use Rattle.py_evaluate.specs.Attribute.Look.{View, Names, Local}
+use Rattle.py_evaluate.specs.Attribute.Look.{View, Names, Local, SeenQueue, queue}
 use Rattle.py_evaluate.specs.Attribute.Outcome.{Outcome, lift}
 use Rattle.py_evaluate.specs.Function.Making.{as_trigger, new_trigger}
 use Rattle.py_syntax.specs.declared.fault_kind.FaultKind.TheVariants.{AssertionError, SimTimeoutError}
 use Rattle.py_evaluate.specs.Eval.{constant_value, eval}
 use Rattle.test_meaning.specs.Body.BodyTrees as body
-use Rattle.test_meaning.specs.Body.BodyTrees.{Function, Timed, TimedValue, TimedCall, Awaited, AwaitedValue, AwaitedCall, AwaitedStart, WithTimeout, RightSide, RightValue, RightAwait, RightStart, RandomInt, Logger, Statement, Item, Simple, If, While, For, Try, With, Block, NoItem, Handlers, NoHandler, Catch}
+use Rattle.test_meaning.specs.Body.BodyTrees.{Function, Timed, TimedValue, TimedCall, Awaited, AwaitedValue, AwaitedCall, AwaitedStart, AwaitedRoom, AwaitedItem, WithTimeout, RightSide, RightValue, RightAwait, RightStart, RandomInt, NewQueue, GetNow, Logger, Statement, Item, Simple, If, While, For, Try, With, Block, NoItem, Handlers, NoHandler, Catch}
 use Rattle.rig_model.specs.Task.Frame.{Left, Numbers, Listed, Use, Assigns, Writes, Returns, Times, Limited, Enters, Todo, Do, Again, Each, Uses, Handles, Bound, Holds, Jump, Throw, Return, Break, Continue, Course, On, Has, Leaves, Frame, Task, items, with_local}
 use Rattle.rig_model.specs.Task.Moves.{Wish, Nothing, Asks, Calls, Ends, Move, At, moved, go_on, leave, want, first_do, named, answered, outcome, eval_all, eval_some, eval_text, short_text}
 use Rattle.rig_model.specs.Task.Calls.{eval_call, starts}
-use Rattle.rig_model.specs.Task.Awaits.{Time, waits, waitable, wait_for, limited, wait_limited, with_time, time_steps, with_steps, await}
-use Rattle.rig_model.specs.Task.Values.{write_of, stage, put_now, use_value, drawn, right_side}
+use Rattle.rig_model.specs.Task.Awaits.{Time, waits, waitable, wait_for, limited, wait_limited, with_time, time_steps, with_steps, queue_of, wait_for_queue, await}
+use Rattle.rig_model.specs.Task.Values.{Source, Value', write_of, stage, put_now, eval_action, use_value, drawn, queue_bound, right_side}
 use Rattle.rig_model.specs.Task.Statements.{act_of, throw_text, asserted, eval_logger, log_text, log, do_statement}
 use Rattle.rig_model.specs.Task.Blocks.{choose, ask, eval_span, is_before, each, ask_number, ask_next, lock_of, enter, do_item, do_first}
 use Rattle.rig_model.specs.Task.Leaving.{catches, handle, find_handler, at_handlers, at_limit, at_loop, drop_mark}
@@ -113,10 +114,19 @@ module _ (ns : List (List ℕ)) where
       → ((n : ℕ) (k : ℕ) → Kept ns (f n (record a { next = k }))) → Kept ns (with_steps a t f)
   steps_kept a t f h g = value_kept ns (lift (time_steps a.scope.view t) a.next) a f h g
 
+  queue_kept : (event_of : SeenQueue → EventNo) (v : Value) (a : At) → HasNames ns a → Kept ns (wait_for_queue event_of v a)
+  queue_kept event_of v a h =
+      value_kept ns (lift (queue_of v) a.next) a (λ q b. outcome (new_trigger b.scope.task (trigger.Event (event_of (queue b.scope.view q))) b.next) b waits) h (λ q j.
+      value_kept ns (new_trigger a.scope.task (trigger.Event (event_of (queue a.scope.view q))) j) (record a { next = j }) waits h (λ t i. (h, tt)))
+
   await_kept : (w : Awaited) (a : At) → HasNames ns a → Kept ns (await w a)
   await_kept (AwaitedValue e) a h = value_kept ns (eval a.scope e a.next) a wait_for h (λ v k. wait_for_kept v (record a { next = k }) h)
   await_kept (AwaitedCall c) a h = value_kept ns (eval_call a.scope c a.next) a (λ x b. moved b On (Calls x.function x.arguments)) h (λ p k. (h, tt))
   await_kept (AwaitedStart c) a h = value_kept ns (eval_call a.scope c a.next) a (starts true) h (λ p k. (h, tt))
+  await_kept (AwaitedRoom e) a h =
+      value_kept ns (eval a.scope e a.next) a (wait_for_queue (λ q. q.space_event)) h (λ v k. queue_kept (λ q. q.space_event) v (record a { next = k }) h)
+  await_kept (AwaitedItem e) a h =
+      value_kept ns (eval a.scope e a.next) a (wait_for_queue (λ q. q.items_event)) h (λ v k. queue_kept (λ q. q.items_event) v (record a { next = k }) h)
   await_kept (WithTimeout (TimedValue e) time unit) a h =
       value_kept ns (eval a.scope e a.next) a (λ v b. with_time b time unit (λ t c. outcome (lift (waitable v) c.next) c (λ w d. with_steps d t (λ steps f. wait_limited steps w f)))) h (λ v j.
       time_kept (record a { next = j }) time unit (λ t c. outcome (lift (waitable v) c.next) c (λ w d. with_steps d t (λ steps f. wait_limited steps w f))) h (λ t i.
@@ -127,15 +137,15 @@ module _ (ns : List (List ℕ)) where
       time_kept (record a { next = j }) time unit (λ t c. with_steps c t (λ steps d. starts false x (first_do (Uses (Times steps) ∷ []) d))) h (λ t i.
       steps_kept (record a { next = i }) t (λ steps d. starts false x (first_do (Uses (Times steps) ∷ []) d)) h (λ n l. (h, tt))))
 
-  stage_kept : (t v : Value) (a : At) → HasNames ns a → Kept ns (stage t v a)
-  stage_kept t v a h = value_kept ns (lift (write_of a.scope.view t v) a.next) a (λ w b. want (turned.Stage w.sig w.bits) b) h (λ w k. (h, tt))
+  stage_kept : (t : Value) (x : Source) (a : At) → HasNames ns a → Kept ns (stage t x a)
+  stage_kept t x a h = value_kept ns (lift (write_of a.scope.view t x) a.next) a (λ w b. want (turned.Stage w.sig w.act) b) h (λ w k. (h, tt))
 
-  put_kept : (t v : Value) (a : At) → HasNames ns a → Kept ns (put_now t v a)
-  put_kept t v a h = value_kept ns (lift (write_of a.scope.view t v) a.next) a (λ w b. want (turned.Put w.sig w.bits) b) h (λ w k. (h, tt))
+  put_kept : (t : Value) (x : Source) (a : At) → HasNames ns a → Kept ns (put_now t x a)
+  put_kept t x a h = value_kept ns (lift (write_of a.scope.view t x) a.next) a (λ w b. want (turned.Put w.sig w.act) b) h (λ w k. (h, tt))
 
   use_kept : (u : Use) (v : Value) (a : At) → HasNames ns a → Kept ns (use_value u v a)
   use_kept (Assigns n) v a h = (named_kept n (Some v) a h, tt)
-  use_kept (Writes e) v a h = value_kept ns (eval a.scope e a.next) a (λ t b. stage t v b) h (λ t k. stage_kept t v (record a { next = k }) h)
+  use_kept (Writes e) v a h = value_kept ns (eval a.scope e a.next) a (λ t b. stage t (Value' v) b) h (λ t k. stage_kept t (Value' v) (record a { next = k }) h)
   use_kept Returns v a h = (h, tt)
   use_kept (Times steps) (value.Task t) a h = wait_limited_kept steps (value.Task t) (first_do (Uses (Limited t) ∷ []) a) h
   use_kept (Times steps) _ a h = (h, tt)
@@ -148,6 +158,13 @@ module _ (ns : List (List ℕ)) where
   right_kept (RightStart c) u a h = value_kept ns (eval_call a.scope c a.next) (first_do (Uses u ∷ []) a) (starts false) h (λ p k. (h, tt))
   right_kept body.NewEvent u a h = (h, tt)
   right_kept body.NewLock u a h = (h, tt)
+  right_kept (NewQueue None) u a h = (h, tt)
+  right_kept (NewQueue (Some e)) u a h =
+      value_kept ns (eval a.scope e a.next) a (λ v b. outcome (lift (queue_bound v) b.next) b (λ n c. want (turned.NewQueue n) (first_do (Uses u ∷ []) c))) h (λ v j.
+      value_kept ns (lift (queue_bound v) j) (record a { next = j }) (λ n c. want (turned.NewQueue n) (first_do (Uses u ∷ []) c)) h (λ n i. (h, tt)))
+  right_kept (GetNow e) u a h =
+      value_kept ns (eval a.scope e a.next) a (λ v b. outcome (lift (queue_of v) b.next) b (λ q c. want (turned.GetNow q) (first_do (Uses u ∷ []) c))) h (λ v j.
+      value_kept ns (lift (queue_of v) j) (record a { next = j }) (λ q c. want (turned.GetNow q) (first_do (Uses u ∷ []) c)) h (λ q i. (h, tt)))
   right_kept (RandomInt low high) u a h =
       value_kept ns (eval a.scope low a.next) a (λ x b. outcome (eval b.scope high b.next) b (λ y c. outcome (lift (drawn x y) c.next) c (λ d f. want (turned.Draw d.low d.span) (first_do (Uses u ∷ []) f)))) h (λ x j.
       value_kept ns (eval a.scope high j) (record a { next = j }) (λ y c. outcome (lift (drawn x y) c.next) c (λ d f. want (turned.Draw d.low d.span) (first_do (Uses u ∷ []) f))) h (λ y i.
@@ -179,13 +196,23 @@ module _ (ns : List (List ℕ)) where
   statement_kept (body.AugmentedAssign n o e) a h = right_kept (RightValue (Infix (Binary o) (Name n) e)) (Assigns n) a h
   statement_kept (body.AssignValue e s) a h = right_kept s (Writes e) a h
   statement_kept (body.SetImmediateValue e v) a h =
-      value_kept ns (eval a.scope e a.next) a (λ t b. outcome (eval b.scope v b.next) b (λ w c. put_now t w c)) h (λ t j.
-      value_kept ns (eval a.scope v j) (record a { next = j }) (λ w c. put_now t w c) h (λ w i. put_kept t w (record a { next = i }) h))
+      value_kept ns (eval a.scope e a.next) a (λ t b. outcome (eval b.scope v b.next) b (λ w c. put_now t (Value' w) c)) h (λ t j.
+      value_kept ns (eval a.scope v j) (record a { next = j }) (λ w c. put_now t (Value' w) c) h (λ w i. put_kept t (Value' w) (record a { next = i }) h))
   statement_kept (body.Await w) a h = await_kept w a h
   statement_kept (body.Act e act) a h =
       value_kept ns (eval a.scope e a.next) a (λ v b. outcome (lift (act_of act v) b.next) b want) h (λ v j. act_kept (act_of act v) (record a { next = j }) h (act_asked act v))
   statement_kept (body.Log logger level e es) a h = log_kept logger level e es a h
   statement_kept (body.StartSoon c) a h = value_kept ns (eval_call a.scope c a.next) a (starts false) h (λ p k. (h, tt))
+  statement_kept (body.PutNow e x) a h =
+      value_kept ns (eval a.scope e a.next) a (λ v b. outcome (eval b.scope x b.next) b (λ item c. outcome (lift (queue_of v) c.next) c (λ q d. want (turned.PutNow q item) d))) h (λ v j.
+      value_kept ns (eval a.scope x j) (record a { next = j }) (λ item c. outcome (lift (queue_of v) c.next) c (λ q d. want (turned.PutNow q item) d)) h (λ item i.
+      value_kept ns (lift (queue_of v) i) (record a { next = i }) (λ q d. want (turned.PutNow q item) d) h (λ q l. (h, tt))))
+  statement_kept (body.AssignAction e w) a h =
+      value_kept ns (eval_action a.scope w a.next) a (λ x b. outcome (eval b.scope e b.next) b (λ t c. stage t x c)) h (λ x j.
+      value_kept ns (eval a.scope e j) (record a { next = j }) (λ t c. stage t x c) h (λ t i. stage_kept t x (record a { next = i }) h))
+  statement_kept (body.SetImmediateAction e w) a h =
+      value_kept ns (eval a.scope e a.next) a (λ t b. outcome (eval_action b.scope w b.next) b (λ x c. put_now t x c)) h (λ t j.
+      value_kept ns (eval_action a.scope w j) (record a { next = j }) (λ x c. put_now t x c) h (λ x i. put_kept t x (record a { next = i }) h))
 
   choose_kept : (b : Bool) (ts us : List Todo) (a : At) → HasNames ns a → Kept ns (choose b ts us a)
   choose_kept true ts us a h = (h, tt)

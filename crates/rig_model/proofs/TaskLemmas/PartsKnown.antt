@@ -1,5 +1,5 @@
 -- What evaluations, calls, names and marks give is known to a view that knows what goes in.
-use Rattle.std.proofs.Common.{◌≡◌, ℕ, zero, suc, ◌<◌, ◌≤◌, Bool, true, false, List, [], ◌∷◌, ◌++◌, length, refl, ◌∙◌, ap, subst, sym, arith, if◌then◌else◌, Option, None, Some, Ok, Err}
+use Rattle.std.proofs.Common.{◌≡◌, ℕ, zero, suc, ◌+◌, ◌<◌, ◌≤◌, Bool, true, false, List, [], ◌∷◌, ◌++◌, length, refl, ◌∙◌, ap, subst, sym, arith, if◌then◌else◌, Option, None, Some, Ok, Err}
 use Rattle.std.specs.Prelude.{ℤ, pos, negsuc, ◌+ℤ◌, ◌-ℤ◌, ◌&&◌, ◌==◌, nat_le, nat_lt, IfOk, IfSome, IsTrue, slice_get, unsigned_abs, ◌^◌}
 use Rattle.std.specs.Int.{int_rem_euclid}
 use Rattle.std.specs.List.{list_all}
@@ -11,6 +11,8 @@ use Rattle.std.proofs.Math.IntN.{+ℤ_assoc, +ℤ_comm, +ℤ-neg_ℤ_cancel, -�
 use Rattle.four_value.specs.Vector.{vector}
 use Rattle.four_value.proofs.Numbers.{length_vector}
 use Rattle.py_value.specs.Integer.Integer.{held, is_whole, truth_number}
+use Rattle.gpi.specs.declared.types.SigId.{SigId}
+use Rattle.gpi.specs.declared.types.Write.TheVariants as write
 use Rattle.py_syntax.specs.declared.fault_kind.FaultKind.TheVariants.{OverflowError, RuntimeError, TypeError, ValueError}
 use Rattle.py_value.specs.Answer.{Answer, and_then, answer_map}
 use Rattle.py_value.specs.Limits.{text_limit}
@@ -26,16 +28,17 @@ use Rattle.py_evaluate.specs.Attribute.Look.{View, Names, Local, local, width}
 use Rattle.py_evaluate.specs.Attribute.Outcome.{gives}
 use Rattle.py_evaluate.specs.Function.Functions.{unit_or_step}
 use Rattle.py_evaluate.specs.Function.Making.{as_trigger, is_waitable, new_trigger, new_tree, trigger_limit}
+use Rattle.task_queue.specs.Queues.{item_limit}
 use Rattle.run_view.specs.SignalPort.Written.{fits_width, number_bits, written_bits}
 use Rattle.test_meaning.specs.Body.BodyTrees as body
 use Rattle.test_meaning.specs.Body.BodyTrees.{Operand, Call, FunctionCall, ClockStart, Function, Timed, TimedValue, TimedCall, Awaited, AwaitedValue, AwaitedCall, AwaitedStart, WithTimeout, RightSide, RightValue, RightAwait, RightStart, RandomInt, Logger, Statement, Item, Simple, If, While, For, Try, With, Block, NoItem, Handlers, NoHandler, Catch}
 use Rattle.test_meaning.specs.Body.Sound.{item_calls, block_calls, is_sound_call}
 use Rattle.rig_model.specs.Task.Frame.{Todo, items, with_local, locals_of}
 use Rattle.rig_model.specs.Task.Moves.{short_text}
-use Rattle.rig_model.specs.Task.Calls.{Argument, Called, argument, arguments, clock_arguments}
-use Rattle.rig_model.specs.Task.Awaits.{Time, waitable, limit_form, limited, time_steps}
-use Rattle.rig_model.specs.Task.Values.{Write, Draw, target_of, write_of, span_limit, span_of, whole_number, draw_of, drawn}
-use Rattle.rig_model.specs.Task.Known.{AreSoundCalls, KnowsTodo, KnowsTodos, KnowsWrite}
+use Rattle.rig_model.specs.Task.Calls.{Argument, Called, argument, arguments, clock_arguments, queue_arguments}
+use Rattle.rig_model.specs.Task.Awaits.{Time, waitable, limit_form, limited, time_steps, queue_of}
+use Rattle.rig_model.specs.Task.Values.{Source, Value', Force', Freeze', Release', Written, Draw, target_of, act_of, write_of, span_limit, span_of, whole_number, draw_of, drawn, bound_of, queue_bound}
+use Rattle.rig_model.specs.Task.Known.{AreSoundCalls, HasDigits, KnowsTodo, KnowsTodos, KnowsWrite}
 use Rattle.rig_model.proofs.TaskLemmas.EvalKnown.{bind_known, anything}
 
 -- ---- lists of calls
@@ -188,15 +191,23 @@ pub target_known : (view : View) (v : Value) → Knows view v → IfOk (target_o
 target_known view (value.Signal s) h = h
 target_known view _ h = tt
 
-abbrev pub KnownWrite : View → Write → Type 0
-KnownWrite view w = KnowsWrite view w.sig.0 (length w.bits)
+abbrev pub KnownWrite : View → Written → Type 0
+KnownWrite view w = KnowsWrite view w.sig w.act
 
-pub write_known : (view : View) (target v : Value) → Knows view target → IfOk (write_of view target v) (KnownWrite view)
-write_known view target v h =
-    then_ok (λ s. Knows view (value.Signal s)) (KnownWrite view) (target_of target) (λ s. answer_map (λ bits. record { sig = s; bits = bits }) (written_bits (width view s) v))
+pub act_digits : (view : View) (s : SigId) (x : Source) → IfOk (act_of view s x) (HasDigits (width view s))
+act_digits view s (Value' v) =
+    map_ok (λ bits. length bits ≡ width view s) (HasDigits (width view s)) (written_bits (width view s) v) write.Plain (bits_length (width view s) v) (λ bits q. q)
+act_digits view s (Force' v) =
+    map_ok (λ bits. length bits ≡ width view s) (HasDigits (width view s)) (written_bits (width view s) v) write.Force (bits_length (width view s) v) (λ bits q. q)
+act_digits view s Freeze' = tt
+act_digits view s Release' = tt
+
+pub write_known : (view : View) (target : Value) (x : Source) → Knows view target → IfOk (write_of view target x) (KnownWrite view)
+write_known view target x h =
+    then_ok (λ s. Knows view (value.Signal s)) (KnownWrite view) (target_of target) (λ s. answer_map (λ act. record { sig = s; act = act }) (act_of view s x))
     (target_known view target h) (λ s p.
-    map_ok (λ bits. length bits ≡ width view s) (KnownWrite view) (written_bits (width view s) v) (λ bits. record { sig = s; bits = bits })
-    (bits_length (width view s) v) (λ bits q. record { signal = p; digits = q }))
+    map_ok (HasDigits (width view s)) (KnownWrite view) (act_of view s x) (λ act. record { sig = s; act = act })
+    (act_digits view s x) (λ act q. record { signal = p; digits = q }))
 
 -- ---- what is drawn
 
@@ -259,6 +270,31 @@ pub clock_known : (view : View) (c : Value) (xs : List Argument) → Knows view 
 clock_known view (value.Clock sig half) xs h k = (h.signal, (tt, (tt, (argument_known view 0 value.Absent xs tt k, tt))))
 clock_known view _ xs h k = tt
 
+-- ---- queues
+
+pub queue_known : (view : View) (v : Value) → Knows view v → IfOk (queue_of v) (λ q. q.0 < length view.queues)
+queue_known view (value.Queue q) h = h
+queue_known view _ h = tt
+
+pub queue_arguments_known : (view : View) (v : Value) (vs : List Value) → Knows view v → KnowsAll view vs → IfOk (queue_arguments v vs) (KnowsAll view)
+queue_arguments_known view (value.Queue q) vs h k = (h, k)
+queue_arguments_known view _ vs h k = tt
+
+pub bound_small : (z : ℤ) → IfOk (bound_of z) (λ n. n ≤ item_limit)
+bound_small (negsuc n) = omega arith
+bound_small (pos n) = at (nat_le n item_limit) refl
+  where
+    at : (t : Bool) → nat_le n item_limit ≡ t → IfOk (if t then Ok n else Err ValueError) (λ m. m ≤ item_limit)
+    at true e = grind (arith, nat_tests)
+    at false e = tt
+
+pub bound_known : (v : Value) → IfOk (queue_bound v) (λ n. n ≤ item_limit)
+bound_known (value.Whole z) = bound_small z
+bound_known (value.Truth b) = bound_small (truth_number b)
+bound_known _ = tt
+
+-- ---- calls of functions of the file
+
 -- a call of a function of the file, with values that are known
 abbrev pub KnowsCall : List Function → View → Called → Type 0
 KnowsCall functions view c = (c.function < length functions) × KnowsAll view c.arguments
@@ -268,5 +304,6 @@ found_below [] n p h = cc
 found_below (f ∷ fs) zero p h = omega arith
 found_below (f ∷ fs) (suc n) p h = let k = found_below fs n p h in omega (arith, k)
 
-pub last_below : (functions : List Function) (n : ℕ) (b : Bool) → IsTrue ((suc n == length functions) && b) → n < length functions
-last_below functions n b h = let k = (both (suc n == length functions) b h).0 in grind (arith, nat_tests)
+-- the functions of the library are the last ones
+pub last_below : (functions : List Function) (n k : ℕ) → IsTrue (n + suc k == length functions) → n < length functions
+last_below functions n k h = grind (arith, nat_tests)

@@ -1,6 +1,7 @@
 -- A view that knows what a task holds and is given knows what its step leaves and wants.
-use Rattle.std.proofs.Common.{ℕ, zero, suc, ◌≤◌, Bool, true, false, List, [], ◌∷◌, ◌++◌, length, refl, if◌then◌else◌, Option, None, Some, Ok, Err}
-use Rattle.std.specs.Prelude.{ℤ, ◌+ℤ◌, nat_lt, IfOk, IfSome, IsTrue}
+use Rattle.std.proofs.Common.{ℕ, zero, suc, ◌≤◌, Bool, true, false, List, [], ◌∷◌, ◌++◌, length, refl, arith, if◌then◌else◌, Option, None, Some, Ok, Err}
+use Rattle.std.specs.Prelude.{ℤ, ◌+ℤ◌, ◌+◌, ◌<◌, ◌==◌, nat_lt, IfOk, IfSome, IsTrue}
+use Rattle.task_queue.specs.Queues.{item_limit}
 use Rattle.std.specs.List.{list_all}
 use Rattle.py_value.specs.Integer.Integer.{held}
 use Rattle.py_syntax.specs.ExpressionTrees.{Tree, Name, Infix}
@@ -16,26 +17,28 @@ use Rattle.py_value.specs.Limits.{text_limit}
 use Rattle.py_value.specs.Trigger as trigger
 use Rattle.py_value.specs.Trigger.{Trig, Form, AreSteps, IsSound, IsSoundForm, is_small}
 use Rattle.py_value.specs.Truth.{truth}
+use Rattle.py_value.specs.declared.trigger.EventNo.{EventNo}
+use Rattle.py_value.specs.declared.trigger.QueueNo.{QueueNo}
 use Rattle.py_value.specs.declared.trigger.TaskNo.{TaskNo}
 use Rattle.py_value.specs.declared.value.Fault.{Fault}
 use Rattle.py_value.specs.declared.value.Value.{Value}
 use Rattle.py_value.specs.declared.value.Value.TheVariants as value
 use Rattle.py_value.specs.Operator.Identity.{same_kind}
 use Rattle.py_value.specs.Operator.Number.{whole}
-use Rattle.py_evaluate.specs.Attribute.Knows.{Knows, KnowsAll, KnowsDesign, KnowsNames}
-use Rattle.py_evaluate.specs.Attribute.Look.{View}
+use Rattle.py_evaluate.specs.Attribute.Knows.{Knows, KnowsAll, KnowsDesign, KnowsEvents, KnowsNames}
+use Rattle.py_evaluate.specs.Attribute.Look.{View, SeenQueue, queue}
 use Rattle.py_evaluate.specs.Attribute.Outcome.{Outcome, Scope, gives, lift, bind}
 use Rattle.py_evaluate.proofs.AttributeLemmas.Plain.{whole_plain}
 use Rattle.py_evaluate.specs.Function.Making.{as_trigger, new_trigger}
 use Rattle.py_evaluate.specs.Eval.{constant_value, eval}
 use Rattle.test_meaning.specs.Body.BodyTrees as body
-use Rattle.test_meaning.specs.Body.BodyTrees.{Operand, Call, FunctionCall, ClockStart, Function, Timed, TimedValue, TimedCall, Awaited, AwaitedValue, AwaitedCall, AwaitedStart, WithTimeout, RightSide, RightValue, RightAwait, RightStart, RandomInt, Logger, Statement, Item, Simple, If, While, For, Try, With, Block, NoItem, Handlers, NoHandler, Catch}
+use Rattle.test_meaning.specs.Body.BodyTrees.{Operand, Call, FunctionCall, ClockStart, QueuePut, QueueGet, Function, Timed, TimedValue, TimedCall, Awaited, AwaitedValue, AwaitedCall, AwaitedStart, AwaitedRoom, AwaitedItem, WithTimeout, RightSide, RightValue, RightAwait, RightStart, RandomInt, NewQueue, GetNow, WriteAction, Logger, Statement, Item, Simple, If, While, For, Try, With, Block, NoItem, Handlers, NoHandler, Catch}
 use Rattle.test_meaning.specs.Body.Sound.{item_calls, block_calls, handler_calls, statement_calls, right_calls, awaited_calls, is_sound_call, is_sound_function, fill, fill_some}
 use Rattle.rig_model.specs.Task.Frame.{Left, Numbers, Listed, Use, Assigns, Writes, Returns, Times, Limited, Enters, Todo, Do, Again, Each, Uses, Handles, Bound, Holds, Jump, Throw, Return, Break, Continue, Course, On, Has, Leaves, Frame, Task, items, entered, function_at}
 use Rattle.rig_model.specs.Task.Moves.{Wish, Nothing, Asks, Calls, Ends, Move, At, moved, go_on, leave, want, first_do, named, answered, outcome, eval_all, eval_some, eval_text, short_text}
-use Rattle.rig_model.specs.Task.Calls.{Called, calls, arguments, eval_operands, clock_arguments, eval_call, starts}
-use Rattle.rig_model.specs.Task.Awaits.{Time, waits, waitable, wait_for, limited, wait_limited, with_time, time_steps, with_steps, await}
-use Rattle.rig_model.specs.Task.Values.{write_of, stage, put_now, use_value, drawn, right_side}
+use Rattle.rig_model.specs.Task.Calls.{Called, calls, arguments, eval_operands, clock_arguments, queue_arguments, eval_call, starts}
+use Rattle.rig_model.specs.Task.Awaits.{Time, waits, waitable, wait_for, limited, wait_limited, with_time, time_steps, with_steps, queue_of, wait_for_queue, await}
+use Rattle.rig_model.specs.Task.Values.{Source, Value', write_of, stage, put_now, eval_action, use_value, drawn, queue_bound, right_side}
 use Rattle.rig_model.specs.Task.Statements.{act_of, throw_text, asserted, eval_logger, log_text, log, do_statement}
 use Rattle.rig_model.specs.Task.Blocks.{choose, ask, eval_span, is_before, each, ask_number, ask_next, lock_of, enter, do_item, do_first}
 use Rattle.rig_model.specs.Task.Leaving.{catches, handle, find_handler, at_handlers, at_limit, at_loop, drop_mark}
@@ -46,7 +49,7 @@ use Rattle.await_tree.specs.declared.cause.Given.TheVariants as given
 use Rattle.rig_model.specs.declared.task.task.Turned.{Turned}
 use Rattle.rig_model.specs.declared.task.task.Turned.TheVariants as turned
 use Rattle.rig_model.proofs.TaskLemmas.EvalKnown.{bind_known, anything, constant_known, eval_known}
-use Rattle.rig_model.proofs.TaskLemmas.PartsKnown.{both, calls_part, one_call, todos_append, items_known, block_known, names_known, entered_known, short_known, KnownTrig, new_known, trigger_known, limited_known, waitable_known, steps_known, KnownWrite, write_known, KnownDraw, drawn_known, KnowsArguments, arguments_known, clock_known, KnowsCall, found_below, last_below}
+use Rattle.rig_model.proofs.TaskLemmas.PartsKnown.{both, calls_part, one_call, todos_append, items_known, block_known, names_known, entered_known, short_known, KnownTrig, new_known, trigger_known, limited_known, waitable_known, steps_known, KnownWrite, write_known, KnownDraw, drawn_known, KnowsArguments, arguments_known, clock_known, queue_known, queue_arguments_known, bound_known, KnowsCall, found_below, last_below}
 
 -- ---- moves
 
@@ -62,6 +65,7 @@ KnowsMove functions view m = KnowsFrame functions view m.frame × KnowsWish func
 -- where a step stands
 record Stands (functions : List Function) (a : At) : Type 0 where
   design : KnowsDesign a.scope.view
+  events : KnowsEvents a.scope.view
   names : KnowsNames a.scope.view a.scope.names
   rest : KnowsTodos functions a.scope.view a.rest
 
@@ -81,16 +85,16 @@ module _ (functions : List Function) where
 
   -- these are to be done first
   with_first : (ts : List Todo) (a : At) → Stands functions a → KnowsTodos functions a.scope.view ts → Stands functions (first_do ts a)
-  with_first ts a h k = record { design = h.design; names = h.names; rest = todos_append functions a.scope.view ts a.rest k h.rest }
+  with_first ts a h k = record { design = h.design; events = h.events; names = h.names; rest = todos_append functions a.scope.view ts a.rest k h.rest }
 
   with_name : (n : List ℕ) (v : Option Value) (a : At) → Stands functions a → IfSome v (Knows a.scope.view) → Stands functions (named n v a)
-  with_name n v a h k = record { design = h.design; names = names_known a.scope.view a.scope.names n v k h.names; rest = h.rest }
+  with_name n v a h k = record { design = h.design; events = h.events; names = names_known a.scope.view a.scope.names n v k h.names; rest = h.rest }
 
   with_next : (a : At) (k : ℕ) → Stands functions a → Stands functions (record a { next = k })
-  with_next a k h = record { design = h.design; names = h.names; rest = h.rest }
+  with_next a k h = record { design = h.design; events = h.events; names = h.names; rest = h.rest }
 
   with_rest : (a : At) (rest : List Todo) → Stands functions a → KnowsTodos functions a.scope.view rest → Stands functions (record a { rest = rest })
-  with_rest a rest h k = record { design = h.design; names = h.names; rest = k }
+  with_rest a rest h k = record { design = h.design; events = h.events; names = h.names; rest = k }
 
   answer_known : {A : Type 0} (Q : A → Type 0) (r : Answer A) (a : At) (f : A → At → Move)
       → Stands functions a → IfOk r Q → ((v : A) → Q v → KnowsMove functions a.scope.view (f v a)) → KnowsMove functions a.scope.view (answered r a f)
@@ -140,7 +144,19 @@ module _ (functions : List Function) where
       bind_known (KnowsArguments s.view) (KnowsCall functions s.view) (eval_operands s os j) (λ xs i. bind (lift (clock_arguments c xs) i) (λ vs l. gives (calls n vs) l))
       (operands_known s os j d names) (λ xs i q.
       bind_known (KnowsAll s.view) (KnowsCall functions s.view) (lift (clock_arguments c xs) i) (λ vs l. gives (calls n vs) l) (clock_known s.view c xs p q) (λ vs l r.
-      (last_below functions n (fill_some 2 os) h, r))))
+      (last_below functions n 2 (both (n + 3 == length functions) (fill_some 2 os) h).0, r))))
+  call_known s (QueuePut n e x) k d names h =
+      bind_known (Knows s.view) (KnowsCall functions s.view) (eval s e k)
+      (λ q j. bind (eval s x j) (λ v i. bind (lift (queue_arguments q (v ∷ [])) i) (λ vs l. gives (calls n vs) l))) (eval_known s e k d names) (λ q j p.
+      bind_known (Knows s.view) (KnowsCall functions s.view) (eval s x j) (λ v i. bind (lift (queue_arguments q (v ∷ [])) i) (λ vs l. gives (calls n vs) l))
+      (eval_known s x j d names) (λ v i o.
+      bind_known (KnowsAll s.view) (KnowsCall functions s.view) (lift (queue_arguments q (v ∷ [])) i) (λ vs l. gives (calls n vs) l)
+      (queue_arguments_known s.view q (v ∷ []) p (o, tt)) (λ vs l r. (last_below functions n 1 h, r))))
+  call_known s (QueueGet n e) k d names h =
+      bind_known (Knows s.view) (KnowsCall functions s.view) (eval s e k)
+      (λ q j. bind (lift (queue_arguments q []) j) (λ vs i. gives (calls n vs) i)) (eval_known s e k d names) (λ q j p.
+      bind_known (KnowsAll s.view) (KnowsCall functions s.view) (lift (queue_arguments q []) j) (λ vs i. gives (calls n vs) i)
+      (queue_arguments_known s.view q [] p tt) (λ vs i r. (last_below functions n 0 h, r)))
 
   call_then : (c : Call) (a : At) (f : Called → At → Move) → Stands functions a → IsTrue (is_sound_call functions c)
       → ((x : Called) → KnowsCall functions a.scope.view x → (k : ℕ) → Stands functions (record a { next = k }) → KnowsMove functions a.scope.view (f x (record a { next = k })))
@@ -178,11 +194,26 @@ module _ (functions : List Function) where
   starts_known : (b : Bool) (x : Called) (a : At) → Stands functions a → KnowsCall functions a.scope.view x → KnowsMove functions a.scope.view (starts b x a)
   starts_known b x a h k = want_known (turned.Start x.function x.arguments b) a h k
 
+  -- one of the events of a queue
+  queue_wait_known : (event_of : SeenQueue → EventNo) (v : Value) (a : At) → Stands functions a → Knows a.scope.view v
+      → ((q : QueueNo) → q.0 < length a.scope.view.queues → (event_of (queue a.scope.view q)).0 < length a.scope.view.events)
+      → KnowsMove functions a.scope.view (wait_for_queue event_of v a)
+  queue_wait_known event_of v a h k made =
+      value_known (λ q. q.0 < length a.scope.view.queues) (lift (queue_of v) a.next) a
+      (λ q b. outcome (new_trigger b.scope.task (trigger.Event (event_of (queue b.scope.view q))) b.next) b waits) h (queue_known a.scope.view v k) (λ q p j s.
+      value_known (KnownTrig a.scope.view) (new_trigger a.scope.task (trigger.Event (event_of (queue a.scope.view q))) j) (record a { next = j }) waits s
+      (new_known a.scope.view a.scope.task (trigger.Event (event_of (queue a.scope.view q))) j (made q p) tt)
+      (λ t o i u. waits_known t (record a { next = i }) u o))
+
   await_known : (w : Awaited) (a : At) → Stands functions a → AreSoundCalls functions (awaited_calls w) → KnowsMove functions a.scope.view (await w a)
   await_known (AwaitedValue e) a h s = eval_then e a wait_for h (λ v p k q. wait_for_known v (record a { next = k }) q p)
   await_known (AwaitedCall c) a h s =
       call_then c a (λ x b. moved b On (Calls x.function x.arguments)) h (one_call functions c s) (λ x p k q. moved_known (record a { next = k }) On (Calls x.function x.arguments) q tt p.1)
   await_known (AwaitedStart c) a h s = call_then c a (starts true) h (one_call functions c s) (λ x p k q. starts_known true x (record a { next = k }) q p)
+  await_known (AwaitedRoom e) a h s =
+      eval_then e a (wait_for_queue (λ q. q.space_event)) h (λ v p k o. queue_wait_known (λ q. q.space_event) v (record a { next = k }) o p (λ q l. (h.events q l).1))
+  await_known (AwaitedItem e) a h s =
+      eval_then e a (wait_for_queue (λ q. q.items_event)) h (λ v p k o. queue_wait_known (λ q. q.items_event) v (record a { next = k }) o p (λ q l. (h.events q l).0))
   await_known (WithTimeout (TimedValue e) time unit) a h s =
       eval_then e a (λ v b. with_time b time unit (λ t c. outcome (lift (waitable v) c.next) c (λ w d. with_steps d t (λ steps f. wait_limited steps w f)))) h (λ v p j q.
       time_then (record a { next = j }) time unit (λ t c. outcome (lift (waitable v) c.next) c (λ w d. with_steps d t (λ steps f. wait_limited steps w f))) q (λ t i r.
@@ -196,19 +227,19 @@ module _ (functions : List Function) where
 
   -- ---- values
 
-  stage_known : (t v : Value) (a : At) → Stands functions a → Knows a.scope.view t → KnowsMove functions a.scope.view (stage t v a)
-  stage_known t v a h k =
-      value_known (KnownWrite a.scope.view) (lift (write_of a.scope.view t v) a.next) a (λ w b. want (turned.Stage w.sig w.bits) b) h (write_known a.scope.view t v k)
-      (λ w p j q. want_known (turned.Stage w.sig w.bits) (record a { next = j }) q p)
+  stage_known : (t : Value) (x : Source) (a : At) → Stands functions a → Knows a.scope.view t → KnowsMove functions a.scope.view (stage t x a)
+  stage_known t x a h k =
+      value_known (KnownWrite a.scope.view) (lift (write_of a.scope.view t x) a.next) a (λ w b. want (turned.Stage w.sig w.act) b) h (write_known a.scope.view t x k)
+      (λ w p j q. want_known (turned.Stage w.sig w.act) (record a { next = j }) q p)
 
-  put_known : (t v : Value) (a : At) → Stands functions a → Knows a.scope.view t → KnowsMove functions a.scope.view (put_now t v a)
-  put_known t v a h k =
-      value_known (KnownWrite a.scope.view) (lift (write_of a.scope.view t v) a.next) a (λ w b. want (turned.Put w.sig w.bits) b) h (write_known a.scope.view t v k)
-      (λ w p j q. want_known (turned.Put w.sig w.bits) (record a { next = j }) q p)
+  put_known : (t : Value) (x : Source) (a : At) → Stands functions a → Knows a.scope.view t → KnowsMove functions a.scope.view (put_now t x a)
+  put_known t x a h k =
+      value_known (KnownWrite a.scope.view) (lift (write_of a.scope.view t x) a.next) a (λ w b. want (turned.Put w.sig w.act) b) h (write_known a.scope.view t x k)
+      (λ w p j q. want_known (turned.Put w.sig w.act) (record a { next = j }) q p)
 
   use_known : (u : Use) (v : Value) (a : At) → Stands functions a → KnowsUse functions a.scope.view u → Knows a.scope.view v → KnowsMove functions a.scope.view (use_value u v a)
   use_known (Assigns n) v a h u k = go_known (named n (Some v) a) (with_name n (Some v) a h k)
-  use_known (Writes e) v a h u k = eval_then e a (λ t b. stage t v b) h (λ t p j q. stage_known t v (record a { next = j }) q p)
+  use_known (Writes e) v a h u k = eval_then e a (λ t b. stage t (Value' v) b) h (λ t p j q. stage_known t (Value' v) (record a { next = j }) q p)
   use_known Returns v a h u k = leave_known (Return v) a h k
   use_known (Times steps) (value.Task t) a h u k =
       wait_limited_known steps (value.Task t) (first_do (Uses (Limited t) ∷ []) a) (with_first (Uses (Limited t) ∷ []) a h (k, tt)) k u
@@ -226,6 +257,16 @@ module _ (functions : List Function) where
       (λ x p j q. starts_known false x (record (first_do (Uses u ∷ []) a) { next = j }) q p)
   right_known body.NewEvent u a h k s = want_known turned.NewEvent (first_do (Uses u ∷ []) a) (with_first (Uses u ∷ []) a h (k, tt)) tt
   right_known body.NewLock u a h k s = want_known turned.NewLock (first_do (Uses u ∷ []) a) (with_first (Uses u ∷ []) a h (k, tt)) tt
+  right_known (NewQueue None) u a h k s = want_known (turned.NewQueue 0) (first_do (Uses u ∷ []) a) (with_first (Uses u ∷ []) a h (k, tt)) (omega arith)
+  right_known (NewQueue (Some e)) u a h k s =
+      eval_then e a (λ v b. outcome (lift (queue_bound v) b.next) b (λ n c. want (turned.NewQueue n) (first_do (Uses u ∷ []) c))) h (λ v p j q.
+      value_known (λ n. n ≤ item_limit) (lift (queue_bound v) j) (record a { next = j }) (λ n c. want (turned.NewQueue n) (first_do (Uses u ∷ []) c)) q (bound_known v) (λ n o i r.
+      want_known (turned.NewQueue n) (first_do (Uses u ∷ []) (record a { next = i })) (with_first (Uses u ∷ []) (record a { next = i }) r (k, tt)) o))
+  right_known (GetNow e) u a h k s =
+      eval_then e a (λ v b. outcome (lift (queue_of v) b.next) b (λ q c. want (turned.GetNow q) (first_do (Uses u ∷ []) c))) h (λ v p j q.
+      value_known (λ n. n.0 < length a.scope.view.queues) (lift (queue_of v) j) (record a { next = j }) (λ q c. want (turned.GetNow q) (first_do (Uses u ∷ []) c)) q
+      (queue_known a.scope.view v p) (λ n o i r.
+      want_known (turned.GetNow n) (first_do (Uses u ∷ []) (record a { next = i })) (with_first (Uses u ∷ []) (record a { next = i }) r (k, tt)) o))
   right_known (RandomInt low high) u a h k s =
       eval_then low a (λ x b. outcome (eval b.scope high b.next) b (λ y c. outcome (lift (drawn x y) c.next) c (λ d f. want (turned.Draw d.low d.span) (first_do (Uses u ∷ []) f)))) h (λ x p j q.
       eval_then high (record a { next = j }) (λ y c. outcome (lift (drawn x y) c.next) c (λ d f. want (turned.Draw d.low d.span) (first_do (Uses u ∷ []) f))) q (λ y o i r.
@@ -273,8 +314,8 @@ module _ (functions : List Function) where
   statement_known (body.AugmentedAssign n o e) a h s = right_known (RightValue (Infix (Binary o) (Name n) e)) (Assigns n) a h tt refl
   statement_known (body.AssignValue e r) a h s = right_known r (Writes e) a h tt s
   statement_known (body.SetImmediateValue e v) a h s =
-      eval_then e a (λ t b. outcome (eval b.scope v b.next) b (λ w c. put_now t w c)) h (λ t p j q.
-      eval_then v (record a { next = j }) (λ w c. put_now t w c) q (λ w o i r. put_known t w (record a { next = i }) r p))
+      eval_then e a (λ t b. outcome (eval b.scope v b.next) b (λ w c. put_now t (Value' w) c)) h (λ t p j q.
+      eval_then v (record a { next = j }) (λ w c. put_now t (Value' w) c) q (λ w o i r. put_known t (Value' w) (record a { next = i }) r p))
   statement_known (body.Await w) a h s = await_known w a h s
   statement_known (body.Act e act) a h s =
       eval_then e a (λ v b. outcome (lift (act_of act v) b.next) b want) h (λ v p j q.
@@ -282,6 +323,19 @@ module _ (functions : List Function) where
       (λ t o i r. want_known t (record a { next = i }) r o))
   statement_known (body.Log logger level e es) a h s = log_known logger level e es a h
   statement_known (body.StartSoon c) a h s = call_then c a (starts false) h (one_call functions c s) (λ x p j q. starts_known false x (record a { next = j }) q p)
+  statement_known (body.PutNow e x) a h s =
+      eval_then e a (λ v b. outcome (eval b.scope x b.next) b (λ item c. outcome (lift (queue_of v) c.next) c (λ q d. want (turned.PutNow q item) d))) h (λ v p j q.
+      eval_then x (record a { next = j }) (λ item c. outcome (lift (queue_of v) c.next) c (λ q d. want (turned.PutNow q item) d)) q (λ item o i r.
+      value_known (λ n. n.0 < length a.scope.view.queues) (lift (queue_of v) i) (record a { next = i }) (λ q d. want (turned.PutNow q item) d) r (queue_known a.scope.view v p)
+      (λ n u l w. want_known (turned.PutNow n item) (record a { next = l }) w (u, o))))
+  statement_known (body.AssignAction e w) a h s =
+      value_known (λ x. Unit {0}) (eval_action a.scope w a.next) a (λ x b. outcome (eval b.scope e b.next) b (λ t c. stage t x c)) h
+      (anything (eval_action a.scope w a.next).answer) (λ x p j q.
+      eval_then e (record a { next = j }) (λ t c. stage t x c) q (λ t o i r. stage_known t x (record a { next = i }) r o))
+  statement_known (body.SetImmediateAction e w) a h s =
+      eval_then e a (λ t b. outcome (eval_action b.scope w b.next) b (λ x c. put_now t x c)) h (λ t p j q.
+      value_known (λ x. Unit {0}) (eval_action a.scope w j) (record a { next = j }) (λ x c. put_now t x c) q
+      (anything (eval_action a.scope w j).answer) (λ x o i r. put_known t x (record a { next = i }) r p))
 
   -- ---- blocks
 
@@ -498,18 +552,19 @@ module _ (functions : List Function) where
   settled_known view (Calls n vs) f fs task s h k l = (called_frames view (nat_lt (suc (length fs)) frame_limit) n vs f fs s k h l, tt)
   settled_known view (Ends jump) f fs task s h k l = returned_known view jump fs task k l
 
-  frames_known : (view : View) (frames : List Frame) (task : Task) (g : Option Given) → KnowsDesign view → AreSoundFunctions functions → KnowsFrames functions view task.frames
+  frames_known : (view : View) (frames : List Frame) (task : Task) (g : Option Given) → KnowsDesign view → KnowsEvents view → AreSoundFunctions functions → KnowsFrames functions view task.frames
       → KnowsFrames functions view frames → IfSome g (KnowsGiven view) → KnowsNext view (next_of functions frames task g view)
-  frames_known view [] task g d s t h k = (t, tt)
-  frames_known view (f ∷ fs) task g d s t h k =
+  frames_known view [] task g d e s t h k = (t, tt)
+  frames_known view (f ∷ fs) task g d e s t h k =
       let m : Move = frame_move f g task view in
       let a : At = at task.number task.triggers f.names view in
-      let known : KnowsMove functions view m = step_known (given_to g f.course) f.todo a (record { design = d; names = h.0.names; rest = tt }) (given_known view g f.course k h.0.course) h.0.todo in
+      let known : KnowsMove functions view m = step_known (given_to g f.course) f.todo a (record { design = d; events = e; names = h.0.names; rest = tt }) (given_known view g f.course k h.0.course) h.0.todo in
       settled_known view m.wish m.frame fs (record task { triggers = m.next }) s known.0 known.1 h.1
 
 -- what a step leaves is known, and what it wants
-pub next_is_known : (functions : List Function) (task : Task) (g : Option Given) (view : View) → KnowsDesign view → KnowsWhole functions view task → IfSome g (KnowsGiven view)
+pub next_is_known : (functions : List Function) (task : Task) (g : Option Given) (view : View) → KnowsDesign view → KnowsEvents view → KnowsWhole functions view task
+    → IfSome g (KnowsGiven view)
     → KnowsWhole functions view (next functions task g view).task × IfSome (next functions task g view).turned (KnowsTurned functions view)
-next_is_known functions task g view d h k =
-    let known = frames_known functions view task.frames task g d h.sound h.frames h.frames k in
+next_is_known functions task g view d e h k =
+    let known = frames_known functions view task.frames task g d e h.sound h.frames h.frames k in
     (record { sound = h.sound; frames = known.0 }, known.1)

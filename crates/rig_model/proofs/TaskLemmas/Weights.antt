@@ -16,7 +16,7 @@ use Rattle.test_meaning.specs.Body.BodyTrees as body
 use Rattle.rig_model.specs.Task.Frame.{Todo, Do, Again, Each, Uses, Handles, Bound, Holds, Use, Assigns, Writes, Returns, Times, Limited, Enters, Course, On, Has, Leaves, Frame, Task, Jump, Throw, Return, Break, Continue, items}
 use Rattle.rig_model.specs.Task.Moves.{Wish, Nothing, Asks, Calls, Ends, Move, At, want, first_do, answered, outcome}
 use Rattle.rig_model.specs.Task.Awaits.{limited, waits}
-use Rattle.rig_model.specs.Task.Values.{write_of, stage, use_value}
+use Rattle.rig_model.specs.Task.Values.{Value', write_of, stage, use_value}
 use Rattle.rig_model.specs.Task.Blocks.{do_first}
 use Rattle.rig_model.specs.Task.Leaving.{find_handler, handle, catches, at_handlers, at_limit, at_loop, drop_mark}
 use Rattle.rig_model.specs.Task.Step.{next_of, step_on, step_with, step, result_course, given_to, next, settled, frame_move, at}
@@ -62,8 +62,8 @@ value_falls n o a f h g = result_falls n o.answer (record a { next = o.next }) f
 use_falls : (u : Use) (v : Value) (a : At) → Falls (1 + (use_weight u + todos_weight a.rest)) (use_value u v a)
 use_falls (Assigns n) v a = omega arith
 use_falls (Writes e) v a =
-    value_falls _ (eval a.scope e a.next) a (λ target b. stage target v b) (omega arith) (λ target k.
-    value_falls _ (lift (write_of a.scope.view target v) k) (record a { next = k }) (λ w b. want (turned.Stage w.sig w.bits) b) (omega arith) (λ w i. omega arith))
+    value_falls _ (eval a.scope e a.next) a (λ target b. stage target (Value' v) b) (omega arith) (λ target k.
+    value_falls _ (lift (write_of a.scope.view target (Value' v)) k) (record a { next = k }) (λ w b. want (turned.Stage w.sig w.act) b) (omega arith) (λ w i. omega arith))
 use_falls Returns v a = omega arith
 use_falls (Times steps) (value.Task t) a =
     value_falls _ (limited a.scope.task (value.Task t) steps a.next) (first_do (Uses (Limited t) ∷ []) a) waits (omega arith) (λ w i. omega arith)

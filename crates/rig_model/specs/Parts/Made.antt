@@ -22,6 +22,7 @@ pub record IsMadeOf (fired : List Key) (counts : Counts) (q : Queue) (sim : Stat
   pub endings : after.endings ≡ before.endings
   pub running : after.running ≡ before.running
   pub objects : after.objects ≡ before.objects
+  pub queues : after.queues ≡ before.queues
   pub random : after.random ≡ before.random
   pub outcome : after.outcome ≡ before.outcome
 

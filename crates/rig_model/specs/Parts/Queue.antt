@@ -36,7 +36,7 @@ queue_awaited fired q = awaited_keys fired q.waiting (queue_held q)
 -- ---- configurations
 
 -- the configuration of a queue and of a simulator in this state, while these keys have fired and are still to be served; its tasks and their endings,
--- who has the turn, the objects, the random numbers and the outcome are those of c
+-- who has the turn, the objects, the queues of the test, the random numbers and the outcome are those of c
 abbrev pub rig_amid : List Key → Counts → Queue → State → Rig → Rig
 rig_amid fired counts q sim c = record c {
   sim = sim;

@@ -33,6 +33,7 @@ pub record SameRest (d e : Rig) : Type 0 where
   pub endings : d.endings ≡ e.endings
   pub waiting : d.waiting ≡ e.waiting
   pub objects : d.objects ≡ e.objects
+  pub queues : d.queues ≡ e.queues
   pub staged : d.staged ≡ e.staged
   pub fired : d.fired ≡ e.fired
   pub deadline : d.deadline ≡ e.deadline

@@ -71,6 +71,7 @@ emptied sim random counts = record {
   ready = [];
   waiting = [];
   objects = none;
+  queues = [];
   staged = [];
   fired = [];
   deadline = None;

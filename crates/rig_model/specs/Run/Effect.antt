@@ -1,14 +1,15 @@
 -- What each thing that a task wants does, and what the task is given next (cocotb 1.8, "Triggers", `cocotb.start_soon`).
-use Rattle.std.specs.Prelude.{ℕ, ℤ, ◌==◌, ◌||◌, nat_le, Bool, true, false, not, List, [], ◌∷◌, ◌++◌, length, filter, Option, None, Some}
-use Rattle.four_value.specs.declared.Digit.{Digit}
+use Rattle.std.specs.Prelude.{ℕ, suc, ℤ, ◌+◌, ◌==◌, ◌||◌, nat_lt, nat_le, Bool, true, false, not, List, [], ◌∷◌, ◌++◌, length, filter, Option, None, Some}
 use Rattle.gpi.specs.State.{is_end}
 use Rattle.gpi.specs.declared.types.SigId.{SigId}
+use Rattle.gpi.specs.declared.types.Write.{Write}
 use Rattle.py_syntax.specs.declared.fault_kind.FaultKind.{FaultKind}
-use Rattle.py_syntax.specs.declared.fault_kind.FaultKind.TheVariants.{RuntimeError, TriggerException}
+use Rattle.py_syntax.specs.declared.fault_kind.FaultKind.TheVariants.{QueueEmpty, QueueFull, RuntimeError, TriggerException}
 use Rattle.py_value.specs.Answer.{plain_fault}
 use Rattle.py_value.specs.declared.trigger.TaskNo.{TaskNo}
 use Rattle.py_value.specs.declared.trigger.EventNo.{EventNo}
 use Rattle.py_value.specs.declared.trigger.LockNo.{LockNo}
+use Rattle.py_value.specs.declared.trigger.QueueNo.{QueueNo}
 use Rattle.py_value.specs.declared.value.Value.{Value}
 use Rattle.py_value.specs.declared.value.Value.TheVariants as value
 use Rattle.py_value.specs.declared.value.Fault.{Fault}
@@ -23,6 +24,7 @@ use Rattle.await_tree.specs.declared.cause.Given.TheVariants as given
 use Rattle.await_tree.specs.declared.cause.Cause.TheVariants as cause
 use Rattle.await_tree.specs.EndedTasks.Endings.{start_limit, with_task, with_ending, is_done, told_given}
 use Rattle.await_tree.specs.SyncObjects.States.{with_event, with_lock, with_set, with_unset, is_held, with_free, event_limit, lock_limit}
+use Rattle.task_queue.specs.Queues.{fresh as empty_queue, queue_at, is_full as has_no_room, is_at_limit, is_empty, with_items, with_item}
 use Rattle.run_view.specs.SignalPort.Staging.{restaged}
 use Rattle.run_view.specs.RandomStream.Generator.{next, word}
 use Rattle.run_view.specs.RandomStream.Draw.{drawn}
@@ -85,11 +87,11 @@ write_by true sig a c = quiet (record c { outcome = Some (outcome.ReadOnlyWrite 
 write_by false sig a c = a
 
 -- the write is staged: one effect
-abbrev pub stages : TaskNo → SigId → List Digit → Rig → After
-stages task sig bits c = gives_value task value.Absent (counted [] c (record c { staged = restaged sig bits c.staged }))
+abbrev pub stages : TaskNo → SigId → Write → Rig → After
+stages task sig act c = gives_value task value.Absent (counted [] c (record c { staged = restaged sig act c.staged }))
 
-abbrev pub puts : Setup → TaskNo → SigId → List Digit → Rig → After
-puts setup task sig bits c = followed_by (deposit setup sig bits c) (gives_value task value.Absent)
+abbrev pub puts : Setup → TaskNo → SigId → Write → Rig → After
+puts setup task sig act c = followed_by (deposit setup sig act c) (gives_value task value.Absent)
 
 -- ---- starts (cocotb 1.8, "Coroutines and Tasks")
 
@@ -199,6 +201,62 @@ abbrev pub releases : Bool → TaskNo → LockNo → Rig → After
 releases true task lock c = gives_value task value.Absent (counted [] c (handed_on (is_wanted lock c.waiting) lock c))
 releases false task lock c = refuses task TriggerException c
 
+-- ---- queues (cocotb 1.8, `cocotb.queue.Queue`)
+
+-- the number of the queue that is made next
+abbrev pub new_queue : Rig → QueueNo
+new_queue c = record { 0 = length c.queues }
+
+-- the event behind the one that is made next
+abbrev pub second_event : Rig → EventNo
+second_event c = record { 0 = suc (length c.objects.events) }
+
+-- A new queue is empty, and not full: its first event, that of its items, is unset, and its second, that of its room, is set.
+abbrev pub with_new_queue : ℕ → Rig → Rig
+with_new_queue bound c = record c {
+  objects = with_set (second_event c) (with_event (with_event c.objects));
+  queues = c.queues ++ empty_queue bound (new_event c) (second_event c) ∷ [];
+}
+
+abbrev pub makes_queue : Bool → TaskNo → ℕ → Rig → After
+makes_queue true task bound c = refuses task RuntimeError c
+makes_queue false task bound c = gives_value task (value.Queue (new_queue c)) (with_new_queue bound c)
+
+-- where it is so the event is set with its waiters served
+abbrev pub sets_if : Bool → EventNo → Rig → Rig
+sets_if true event c = sets event c
+sets_if false event c = c
+
+-- where it is so the event is cleared
+abbrev pub clears_if : Bool → EventNo → Rig → Rig
+clears_if true event c = record c { objects = with_unset event c.objects }
+clears_if false event c = c
+
+-- The item stands behind the others. The first one sets the event of items, and the one that fills the queue clears that of its room.
+abbrev pub with_put : QueueNo → Value → Rig → Rig
+with_put queue item c =
+    let queues = with_item queue item c.queues in
+    let before = queue_at queue c.queues in
+    clears_if (has_no_room (queue_at queue queues)) before.space_event (sets_if (is_empty before.items) before.items_event (record c { queues = queues }))
+
+-- a put, or the fault of a queue that is full or of the limit of items
+abbrev pub puts_item : Bool → Bool → TaskNo → QueueNo → Value → Rig → After
+puts_item true limit task queue item c = refuses task QueueFull c
+puts_item false true task queue item c = refuses task RuntimeError c
+puts_item false false task queue item c = gives_value task value.Absent (with_put queue item c)
+
+-- These items are left. Of a queue that was full the event of its room is set, and the last item that is taken clears that of items.
+abbrev pub with_get : QueueNo → List Value → Rig → Rig
+with_get queue items c =
+    let before = queue_at queue c.queues in
+    clears_if (is_empty items) before.items_event
+    (sets_if (has_no_room before) before.space_event (record c { queues = with_items queue items c.queues }))
+
+-- the first of these items is given, or the fault of a queue without one
+abbrev pub gets_item : TaskNo → QueueNo → List Value → Rig → After
+gets_item task queue [] c = refuses task QueueEmpty c
+gets_item task queue (item ∷ items) c = gives_value task item (with_get queue items c)
+
 -- ---- random numbers
 
 -- one of so many numbers from the low one on, by the next word
@@ -210,8 +268,8 @@ draws task low span c = gives_value task (value.Whole (drawn low span (word c.ra
 -- What each thing that a task wants does, once the turn is taken from the task.
 abbrev pub effect : Setup → TaskNo → Turned → Rig → After
 effect setup task (turned.Await trig) c = awaits_by task (tree_of trig c.sim.time) (check trig c.sim.time c.sim.region) c
-effect setup task (turned.Stage sig bits) c = write_by (is_end c.sim.region) sig (stages task sig bits c) c
-effect setup task (turned.Put sig bits) c = write_by (is_end c.sim.region) sig (puts setup task sig bits c) c
+effect setup task (turned.Stage sig act) c = write_by (is_end c.sim.region) sig (stages task sig act c) c
+effect setup task (turned.Put sig act) c = write_by (is_end c.sim.region) sig (puts setup task sig act c) c
 effect setup task (turned.Start func args give_way) c = starts (is_full c) task (function_at setup.functions func) args give_way c
 effect setup task (turned.Kill other) c = kills (other.0 == task.0) task other c
 effect setup task turned.NewEvent c = makes_event (nat_le event_limit (length c.objects.events)) task c
@@ -219,6 +277,10 @@ effect setup task (turned.SetEvent event) c = gives_value task value.Absent (set
 effect setup task (turned.ClearEvent event) c = gives_value task value.Absent (record c { objects = with_unset event c.objects })
 effect setup task turned.NewLock c = makes_lock (nat_le lock_limit (length c.objects.locks)) task c
 effect setup task (turned.Release lock) c = releases (is_held lock c.objects) task lock c
+effect setup task (turned.NewQueue bound) c = makes_queue (nat_lt event_limit (length c.objects.events + 2)) task bound c
+effect setup task (turned.PutNow queue item) c =
+    puts_item (has_no_room (queue_at queue c.queues)) (is_at_limit (queue_at queue c.queues)) task queue item c
+effect setup task (turned.GetNow queue) c = gets_item task queue (queue_at queue c.queues).items c
 effect setup task (turned.Draw low span) c = draws task low span c
 effect setup task (turned.Log level text) c = record { rig = goes_on task (Some (given.Value value.Absent)) c; lines = log_line c.sim.time level text ∷ [] }
 effect setup task (turned.Done v) c = returns task v c

@@ -26,6 +26,7 @@ pub record IsEmpty (c : Rig) : Type 0 where
   pub ready : c.ready ≡ []
   pub waiting : c.waiting ≡ []
   pub objects : c.objects ≡ none
+  pub queues : c.queues ≡ []
   pub staged : c.staged ≡ []
   pub fired : c.fired ≡ []
   pub deadline : c.deadline ≡ None

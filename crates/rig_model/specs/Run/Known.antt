@@ -1,17 +1,19 @@
 -- A means of proof: configurations of which all is known, for the proofs of the runner: each value, each trigger and each number in them is
 -- of the design, or was made in the test.
-use Rattle.std.specs.Prelude.{◌≡◌, ◌<◌, List, [], ◌∷◌, length, Option, IfSome}
+use Rattle.std.specs.Prelude.{◌≡◌, ◌+◌, ◌<◌, ◌≤◌, List, [], ◌∷◌, length, Option, IfSome}
 use Rattle.gpi.specs.Terms.{widths_of}
 use Rattle.gpi.specs.declared.types.Key.{Key}
 use Rattle.gpi.specs.declared.types.Key.TheVariants as key
 use Rattle.py_value.specs.Trigger.{Trig, IsSound}
 use Rattle.py_evaluate.specs.Attribute.Look.{View}
-use Rattle.py_evaluate.specs.Attribute.Knows.{Knows, KnowsTrig, KnowsSignal, KnowsNode, KnowsDesign}
+use Rattle.py_evaluate.specs.Attribute.Knows.{Knows, KnowsAll, KnowsTrig, KnowsSignal, KnowsNode, KnowsDesign}
 use Rattle.await_tree.specs.declared.cause.Awaited.{Awaited}
 use Rattle.await_tree.specs.declared.cause.Awaited.TheVariants as awaited
 use Rattle.await_tree.specs.declared.finish.Finish.{Finish}
 use Rattle.await_tree.specs.declared.finish.Finish.TheVariants.{Reached, Ended, TimedOut}
 use Rattle.await_tree.specs.Tree.{Tree, Trees, Over, Leaf, Cycles, First, Combine, Limit, NoTree, Then}
+use Rattle.task_queue.specs.Queues.{TaskQueue}
+use Rattle.run_view.specs.View.{HasEvents}
 use Rattle.run_view.specs.declared.signal_port.staged.Staged.{Staged}
 use Rattle.test_meaning.specs.Body.BodyTrees.{Function}
 use Rattle.rig_model.specs.Task.Frame.{Task}
@@ -86,20 +88,31 @@ KnowsEndings view (e ∷ es) = IfSome e (KnowsEnding view) × KnowsEndings view 
 
 abbrev pub KnowsStaged : View → List Staged → Type 0
 KnowsStaged view [] = Unit {0}
-KnowsStaged view (w ∷ ws) = KnowsWrite view w.sig.0 (length w.bits) × KnowsStaged view ws
+KnowsStaged view (w ∷ ws) = KnowsWrite view w.sig w.act × KnowsStaged view ws
+
+-- the items of a queue are known, and its events were made
+abbrev pub KnowsQueue : View → TaskQueue → Type 0
+KnowsQueue view q = KnowsAll view q.items × HasEvents (length view.events) q
+
+abbrev pub KnowsQueues : View → List TaskQueue → Type 0
+KnowsQueues view [] = Unit {0}
+KnowsQueues view (q ∷ qs) = KnowsQueue view q × KnowsQueues view qs
 
 -- What a configuration holds of tasks and of the runner is known to the view.
 pub record KnowsHeld (functions : List Function) (view : View) (tasks : List Task) (running : Option Running) (ready : List Entry) (waiting : List Waiting)
-    (endings : List (Option Ending)) (staged : List Staged) : Type 0 where
+    (endings : List (Option Ending)) (staged : List Staged) (queues : List TaskQueue) : Type 0 where
   pub tasks_known : KnowsTasks functions view tasks
   pub running_known : IfSome running (KnowsRunning view)
   pub ready_known : KnowsReady view ready
   pub waiting_known : KnowsWaiting view waiting
   pub endings_known : KnowsEndings view endings
   pub staged_known : KnowsStaged view staged
+  pub queues_known : KnowsQueues view queues
+  -- each queue has two events
+  pub queues_few : length queues + length queues ≤ length view.events
 
 abbrev pub KnowsParts : List Function → View → Rig → Type 0
-KnowsParts functions view c = KnowsHeld functions view c.tasks c.running c.ready c.waiting c.endings c.staged
+KnowsParts functions view c = KnowsHeld functions view c.tasks c.running c.ready c.waiting c.endings c.staged c.queues
 
 -- ---- configurations
 

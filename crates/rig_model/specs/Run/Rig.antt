@@ -1,6 +1,6 @@
 -- A configuration of the runner, without what it has written and what it has cost.
-use Rattle.std.specs.Prelude.{ℕ, Bool, true, false, List, [], ◌∷◌, ◌++◌, Option, Some, None}
-use Rattle.gpi.specs.Design.{Proc, procs_of}
+use Rattle.std.specs.Prelude.{ℕ, Bool, true, false, List, [], ◌∷◌, ◌++◌, map, Option, Some, None}
+use Rattle.gpi.specs.Design.{Proc, procs_of, nets_of}
 use Rattle.gpi.specs.Keys.{set_of}
 use Rattle.gpi.specs.State.{State}
 use Rattle.gpi.specs.Events.{Event, event}
@@ -17,6 +17,8 @@ use Rattle.await_tree.specs.Begin.{Facts}
 use Rattle.await_tree.specs.declared.cause.Given.{Given}
 use Rattle.await_tree.specs.EndedTasks.Endings.{Endings, all_done, all_failed}
 use Rattle.await_tree.specs.SyncObjects.States.{States}
+use Rattle.task_queue.specs.Queues.{TaskQueue}
+use Rattle.run_view.specs.View.{seen}
 use Rattle.run_view.specs.declared.signal_port.staged.Staged.{Staged}
 use Rattle.run_view.specs.RandomStream.Generator.{Generator}
 use Rattle.test_meaning.specs.Body.BodyTrees.{Function}
@@ -52,6 +54,8 @@ pub record Rig : Type 0 where
   pub waiting : List Waiting
   -- the events and locks that were made in this test
   pub objects : States
+  -- the queues that were made in this test
+  pub queues : List TaskQueue
   -- the staged writes, the oldest first
   pub staged : List Staged
   -- fired keys that aren't served yet
@@ -85,6 +89,10 @@ awaited c = awaited_keys c.fired c.waiting (held c)
 abbrev pub procs : Setup → List Proc
 procs setup = procs_of setup.flat.processes
 
+-- which signals of the design are nets
+abbrev pub nets : Setup → List Bool
+nets setup = nets_of setup.flat.signals
+
 -- the next event of the simulator, where the awaited keys are registered
 abbrev pub event_of : Setup → Rig → Option Event
 event_of setup c = event (procs setup) c.sim (set_of (awaited c))
@@ -105,6 +113,7 @@ view_of setup c = record {
   events = c.objects.events;
   locks = c.objects.locks;
   ended = all_done c.endings;
+  queues = map seen c.queues;
 }
 
 -- ---- lines

@@ -1,18 +1,20 @@
 -- How fired keys, events and ended tasks are served (cocotb 1.8, "Triggers").
 use Rattle.std.specs.Prelude.{ℕ, Bool, true, false, List, [], ◌∷◌, ◌++◌, Option, None, Some, if◌then◌else◌}
-use Rattle.four_value.specs.declared.Digit.{Digit}
-use Rattle.gpi.specs.Keys.{among, set_of}
-use Rattle.gpi.specs.Events.{Event, put}
+use Rattle.gpi.specs.Keys.{Keys, among, set_of}
+use Rattle.gpi.specs.Events.{Event, put, force, release, value_at}
+use Rattle.gpi.specs.State.{State}
 use Rattle.gpi.specs.declared.types.Key.{Key}
 use Rattle.gpi.specs.declared.types.Key.TheVariants.{ReadWrite, At}
 use Rattle.gpi.specs.declared.types.SigId.{SigId}
+use Rattle.gpi.specs.declared.types.Write.{Write}
+use Rattle.gpi.specs.declared.types.Write.TheVariants as write
 use Rattle.py_syntax.specs.declared.fault_kind.FaultKind.TheVariants.{SimTimeoutError}
 use Rattle.py_value.specs.Answer.{plain_fault}
 use Rattle.await_tree.specs.declared.cause.Cause.{Cause}
 use Rattle.await_tree.specs.declared.cause.Cause.TheVariants as cause
 use Rattle.run_view.specs.declared.signal_port.staged.Staged.{Staged}
 use Rattle.await_tree.specs.WaitList.Waiting.{woken, still_waiting}
-use Rattle.rig_model.specs.Run.Rig.{Rig, Setup, After, quiet, followed_by, awaited, procs, told_lines}
+use Rattle.rig_model.specs.Run.Rig.{Rig, Setup, After, quiet, followed_by, awaited, procs, nets, told_lines}
 use Rattle.rig_model.specs.Run.Counts.{counted}
 use Rattle.rig_model.specs.declared.run.outcome.Outcome.TheVariants as outcome
 
@@ -37,7 +39,15 @@ not_due keys time = if is_due keys time then None else time
 abbrev pub with_fired : List Key → Rig → Rig
 with_fired keys c = record c { fired = c.fired ++ keys; deadline = not_due keys c.deadline; planned = not_due keys c.planned }
 
--- A deposit is done, its change is told, and the keys of that change are served: one effect.
+-- A write that is done: a value is deposited, a force takes its digits or, of a freeze, those that are shown, and a release ends a force (IEEE
+-- 1364-2005, clause 9.3.2).
+abbrev pub written : Setup → State → Keys → SigId → Write → Event
+written setup s keys sig (write.Plain bits) = put (procs setup) s keys sig bits
+written setup s keys sig (write.Force bits) = force (procs setup) s keys sig bits
+written setup s keys sig write.Freeze = force (procs setup) s keys sig (value_at s sig)
+written setup s keys sig write.Release = release (procs setup) (nets setup) s keys sig
+
+-- A write is done, its change is told, and the keys of that change are served: one effect.
 abbrev pub after_put : Setup → Event → Rig → After
 after_put setup e c = record {
   rig = counted e.fired c (serve_keys e.fired c.fired (with_fired e.fired (record c { sim = e.state })));
@@ -45,13 +55,13 @@ after_put setup e c = record {
 }
 
 -- a signal is written at once, where the awaited keys are registered
-abbrev pub deposit : Setup → SigId → List Digit → Rig → After
-deposit setup sig bits c = after_put setup (put (procs setup) c.sim (set_of (awaited c)) sig bits) c
+abbrev pub deposit : Setup → SigId → Write → Rig → After
+deposit setup sig act c = after_put setup (written setup c.sim (set_of (awaited c)) sig act) c
 
 -- the staged writes leave the list and go out one after the other, each with the wakes of its fired keys
 abbrev pub flushed : Setup → List Staged → Rig → After
 flushed setup [] c = quiet c
-flushed setup (write ∷ writes) c = followed_by (deposit setup write.sig write.bits (record c { staged = writes })) (flushed setup writes)
+flushed setup (w ∷ writes) c = followed_by (deposit setup w.sig w.act (record c { staged = writes })) (flushed setup writes)
 
 abbrev pub flushed_if : Setup → Bool → Rig → After
 flushed_if setup true c = flushed setup c.staged c

@@ -8,7 +8,7 @@ use Rattle.py_value.specs.declared.value.Value.TheVariants as value
 use Rattle.py_evaluate.specs.Attribute.Outcome.{Outcome, Scope, gives, lift, bind}
 use Rattle.py_value.specs.Integer.Integer.{truth_number}
 use Rattle.py_evaluate.specs.Eval.{eval}
-use Rattle.test_meaning.specs.Body.BodyTrees.{Operand, Call, FunctionCall, ClockStart}
+use Rattle.test_meaning.specs.Body.BodyTrees.{Operand, Call, FunctionCall, ClockStart, QueuePut, QueueGet}
 use Rattle.rig_model.specs.Task.Moves.{At, Move, want, with_value}
 use Rattle.rig_model.specs.declared.task.task.Turned.TheVariants as turned
 
@@ -42,6 +42,11 @@ clock_arguments (value.Clock sig half) xs =
     Ok (value.Signal sig ∷ value.Whole (pos half) ∷ value.Whole (truth_number (truth (argument 1 (value.Truth true) xs))) ∷ argument 0 value.Absent xs ∷ [])
 clock_arguments _ xs = Err AttributeError
 
+-- what a put or a get is given: the queue, and these
+abbrev pub queue_arguments : Value → List Value → Answer (List Value)
+queue_arguments (value.Queue q) vs = Ok (value.Queue q ∷ vs)
+queue_arguments _ vs = Err AttributeError
+
 -- ---- calls
 
 -- the number of a function, and what it is called with
@@ -55,6 +60,10 @@ calls n vs = record { function = n; arguments = vs }
 -- all operands are evaluated before it is asked whether there is a clock
 abbrev pub eval_call : Scope → Call → ℕ → Outcome Called
 eval_call s (FunctionCall n os) k = bind (eval_operands s os k) (λ xs j. gives (calls n (arguments 0 os xs)) j)
+-- a queue that is put into, and the item
+eval_call s (QueuePut n e x) k =
+    bind (eval s e k) (λ q j. bind (eval s x j) (λ v i. bind (lift (queue_arguments q (v ∷ [])) i) (λ vs l. gives (calls n vs) l)))
+eval_call s (QueueGet n e) k = bind (eval s e k) (λ q j. bind (lift (queue_arguments q []) j) (λ vs i. gives (calls n vs) i))
 eval_call s (ClockStart n e os) k =
     bind (eval s e k) (λ c j. bind (eval_operands s os j) (λ xs i. bind (lift (clock_arguments c xs) i) (λ vs l. gives (calls n vs) l)))
 

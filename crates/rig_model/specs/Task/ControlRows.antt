@@ -1,6 +1,7 @@
 -- A means of proof: worked rows of each rule of control, as in `Rows`, by which the definition of a task is tried.
 use Rattle.std.specs.Prelude.{◌≡◌, true, false, [], ◌∷◌, Some, codes, pos}
 use Rattle.four_value.specs.declared.Digit.TheVariants.{Zero, One}
+use Rattle.gpi.specs.declared.types.Write.TheVariants as write
 use Rattle.py_syntax.specs.ExpressionTrees.{Tree, Constant, FormatString, Name, Attribute, NoPart, TextThen, FormattedThen}
 use Rattle.py_syntax.specs.StatementTrees.{Stop, StartStop, StartStopStep, Constants, All, Kind, KindAs}
 use Rattle.py_syntax.specs.declared.constant.Const.TheVariants as constant
@@ -235,8 +236,8 @@ writes = function_of (codes "dut" ∷ []) [] (
 abbrev pub Writes : Type 0
 Writes =
     drive 40 (writes ∷ []) view (test writes) (Some given.Begin) (nothing ∷ nothing ∷ nothing ∷ []) ≡ record {
-      turned = turned.Stage (record { 0 = 0 }) (One ∷ One ∷ One ∷ One ∷ One ∷ One ∷ One ∷ One ∷ [])
-          ∷ turned.Put (record { 0 = 0 }) (Zero ∷ Zero ∷ Zero ∷ One ∷ Zero ∷ Zero ∷ One ∷ One ∷ [])
+      turned = turned.Stage (record { 0 = 0 }) (write.Plain (One ∷ One ∷ One ∷ One ∷ One ∷ One ∷ One ∷ One ∷ []))
+          ∷ turned.Put (record { 0 = 0 }) (write.Plain (Zero ∷ Zero ∷ Zero ∷ One ∷ Zero ∷ Zero ∷ One ∷ One ∷ []))
           ∷ turned.Log level.Info (codes "wide") ∷ turned.Raised (plain_fault kind.AttributeError) ∷ [];
       cost = 5;
     }

@@ -3,6 +3,9 @@
 -- view knows.
 use Rattle.std.specs.Prelude.{◌≡◌, ℕ, ◌<◌, ◌≤◌, ◌+ℤ◌, ◌-ℤ◌, IsTrue, List, [], ◌∷◌, length, pos}
 use Rattle.std.specs.List.{list_all}
+use Rattle.gpi.specs.declared.types.SigId.{SigId}
+use Rattle.gpi.specs.declared.types.Write.{Write}
+use Rattle.gpi.specs.declared.types.Write.TheVariants as write
 use Rattle.py_value.specs.Integer.Integer.{is_whole}
 use Rattle.py_value.specs.Limits.{text_limit}
 use Rattle.py_value.specs.Trigger.{AreSteps, IsSound}
@@ -10,6 +13,7 @@ use Rattle.py_value.specs.declared.trigger.LockNo.{LockNo}
 use Rattle.py_value.specs.declared.trigger.TaskNo.{TaskNo}
 use Rattle.py_evaluate.specs.Attribute.Knows.{Knows, KnowsAll, KnowsNames, KnowsSignal, KnowsTrig}
 use Rattle.py_evaluate.specs.Attribute.Look.{View, width}
+use Rattle.task_queue.specs.Queues.{item_limit}
 use Rattle.test_meaning.specs.Body.BodyTrees.{Call, Function}
 use Rattle.test_meaning.specs.Body.Sound.{item_calls, block_calls, handler_calls, is_sound_call, is_sound_function}
 use Rattle.rig_model.specs.Task.Frame.{Use, Times, Limited, Enters, Todo, Do, Again, Each, Uses, Handles, Bound, Holds, Jump, Return, Course, On, Has, Leaves, Frame, Task}
@@ -86,15 +90,22 @@ KnowsGiven view (given.Value v) = Knows view v
 KnowsGiven view (given.Joined t) = KnowsTask view t
 KnowsGiven view _ = Unit {0}
 
--- digits for a signal, as many as it has
-pub record KnowsWrite (view : View) (sig bits : ℕ) : Type 0 where
-  pub signal : KnowsSignal view sig
-  pub digits : bits ≡ width view (record { 0 = sig })
+-- as many digits as there should be
+abbrev pub HasDigits : ℕ → Write → Type 0
+HasDigits width (write.Plain bits) = length bits ≡ width
+HasDigits width (write.Force bits) = length bits ≡ width
+HasDigits width write.Freeze = Unit {0}
+HasDigits width write.Release = Unit {0}
+
+-- what is written to a signal, with as many digits as it has
+pub record KnowsWrite (view : View) (sig : SigId) (act : Write) : Type 0 where
+  pub signal : KnowsSignal view sig.0
+  pub digits : HasDigits (width view sig) act
 
 abbrev pub KnowsTurned : List Function → View → Turned → Type 0
 KnowsTurned functions view (turned.Await t) = KnowsTrig view t × IsSound t
-KnowsTurned functions view (turned.Stage sig bits) = KnowsWrite view sig.0 (length bits)
-KnowsTurned functions view (turned.Put sig bits) = KnowsWrite view sig.0 (length bits)
+KnowsTurned functions view (turned.Stage sig act) = KnowsWrite view sig act
+KnowsTurned functions view (turned.Put sig act) = KnowsWrite view sig act
 KnowsTurned functions view (turned.Start n args give_way) = (n < length functions) × KnowsAll view args
 KnowsTurned functions view (turned.Kill t) = KnowsTask view t
 KnowsTurned functions view turned.NewEvent = Unit {0}
@@ -102,6 +113,9 @@ KnowsTurned functions view (turned.SetEvent e) = e.0 < length view.events
 KnowsTurned functions view (turned.ClearEvent e) = e.0 < length view.events
 KnowsTurned functions view turned.NewLock = Unit {0}
 KnowsTurned functions view (turned.Release l) = KnowsLock view l
+KnowsTurned functions view (turned.NewQueue bound) = bound ≤ item_limit
+KnowsTurned functions view (turned.PutNow queue item) = (queue.0 < length view.queues) × Knows view item
+KnowsTurned functions view (turned.GetNow queue) = queue.0 < length view.queues
 -- each number that may be drawn is one that a value can hold
 KnowsTurned functions view (turned.Draw low span) = (1 ≤ span) × IsTrue (is_whole low) × IsTrue (is_whole (low +ℤ pos span -ℤ pos 1))
 KnowsTurned functions view (turned.Log level text) = length text ≤ text_limit

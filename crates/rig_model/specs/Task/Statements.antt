@@ -20,8 +20,8 @@ use Rattle.test_meaning.specs.Body.BodyTrees.{Logger, CocotbLog, HierarchyLog, S
 use Rattle.rig_model.specs.Task.Frame.{Assigns, Writes, Returns, Throw, Return, Break, Continue}
 use Rattle.rig_model.specs.Task.Moves.{At, Move, go_on, leave, want, with_value, with_eval, with_answer, eval_all, eval_text, short_text}
 use Rattle.rig_model.specs.Task.Calls.{with_call, starts}
-use Rattle.rig_model.specs.Task.Awaits.{await}
-use Rattle.rig_model.specs.Task.Values.{put_now, right_side}
+use Rattle.rig_model.specs.Task.Awaits.{await, queue_of}
+use Rattle.rig_model.specs.Task.Values.{Value', stage, put_now, eval_action, right_side}
 use Rattle.rig_model.specs.declared.task.task.Turned.{Turned}
 use Rattle.rig_model.specs.declared.task.task.Turned.TheVariants as turned
 
@@ -97,8 +97,13 @@ do_statement (body.Assign n s) a = right_side s (Assigns n) a
 -- `n += e` is `n = n + e`
 do_statement (body.AugmentedAssign n o e) a = right_side (body.RightValue (Infix (Binary o) (Name n) e)) (Assigns n) a
 do_statement (body.AssignValue e s) a = right_side s (Writes e) a
-do_statement (body.SetImmediateValue e v) a = with_eval a e (λ target b. with_eval b v (λ w c. put_now target w c))
+do_statement (body.SetImmediateValue e v) a = with_eval a e (λ target b. with_eval b v (λ w c. put_now target (Value' w) c))
 do_statement (body.Await w) a = await w a
 do_statement (body.Act e act) a = with_eval a e (λ v b. with_answer b (act_of act v) want)
 do_statement (body.Log logger level e es) a = log logger level e es a
 do_statement (body.StartSoon c) a = with_call a c (starts false)
+do_statement (body.PutNow e x) a = with_eval a e (λ v b. with_eval b x (λ item c. with_answer c (queue_of v) (λ q d. want (turned.PutNow q item) d)))
+-- the action is evaluated before its target
+do_statement (body.AssignAction e w) a = with_value a (λ k. eval_action a.scope w k) (λ x b. with_eval b e (λ target c. stage target x c))
+do_statement (body.SetImmediateAction e w) a =
+    with_eval a e (λ target b. with_value b (λ k. eval_action b.scope w k) (λ x c. put_now target x c))

@@ -111,6 +111,7 @@ view = record {
   events = [];
   locks = false ∷ [];
   ended = [];
+  queues = [];
 }
 
 abbrev pub top : Value

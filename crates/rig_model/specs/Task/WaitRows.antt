@@ -1,6 +1,7 @@
 -- A means of proof: worked rows of times, limits, clocks and locks, as in `Rows`, by which the definition of a task is tried.
 use Rattle.std.specs.Prelude.{◌≡◌, ℕ, false, List, [], ◌∷◌, Some, codes, pos}
 use Rattle.four_value.specs.declared.Digit.TheVariants.{Zero, One}
+use Rattle.gpi.specs.declared.types.Write.TheVariants as write
 use Rattle.py_syntax.specs.ExpressionTrees.{FormatString, Name, Attribute, NoPart, TextThen, FormattedThen}
 use Rattle.py_syntax.specs.StatementTrees.{Stop, Kind, KindAs}
 use Rattle.py_syntax.specs.declared.expression.BinOp.TheVariants as op
@@ -106,7 +107,7 @@ clock_arguments = value.Signal (record { 0 = 1 }) ∷ value.Whole (pos 5) ∷ va
 abbrev pub One_cycle : Type 0
 One_cycle =
     drive 90 (clock_start ∷ []) view (fresh (task 1) clock_start clock_arguments) (Some given.Begin) (nothing ∷ nothing ∷ nothing ∷ nothing ∷ []) ≡ record {
-      turned = turned.Stage (record { 0 = 1 }) (One ∷ []) ∷ turned.Await (trig 1 0 (trigger.Time 5)) ∷ turned.Stage (record { 0 = 1 }) (Zero ∷ [])
+      turned = turned.Stage (record { 0 = 1 }) (write.Plain (One ∷ [])) ∷ turned.Await (trig 1 0 (trigger.Time 5)) ∷ turned.Stage (record { 0 = 1 }) (write.Plain (Zero ∷ []))
           ∷ turned.Await (trig 1 1 (trigger.Time 5)) ∷ ends ∷ [];
       cost = 8;
     }

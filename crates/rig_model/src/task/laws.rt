@@ -17,7 +17,7 @@ ghost use Rattle.rig_model.specs.Task.Cost.{next_cost};
 ghost use Rattle.rig_model.specs.Task.FaultRows.{Clock_starts, Far_numbers, Which_faults};
 ghost use Rattle.rig_model.specs.Task.Frame.{Course, Task, Todo};
 ghost use Rattle.rig_model.specs.Task.Kept.{names_of};
-ghost use Rattle.py_evaluate.specs.Attribute.Knows.{KnowsDesign};
+ghost use Rattle.py_evaluate.specs.Attribute.Knows.{KnowsDesign, KnowsEvents};
 ghost use Rattle.rig_model.specs.Task.Known.{KnowsGiven, KnowsTurned, KnowsWhole};
 ghost use Rattle.rig_model.specs.Task.Moves.{At};
 ghost use Rattle.rig_model.specs.Task.Poll.{Polled};
@@ -89,11 +89,12 @@ pub fn poll_keeps_number()
         → Polled functions view fuel task g turned left rest → rest.number ≡ task.number }
 {}
 
-/// Where a view knows what a task holds and what it is given, and what the names of its design stand for, it knows what a poll leaves of the task,
-/// and what it answers.
+/// Where a view knows what a task holds and what it is given, what the names of its design stand for, and the events of its queues, it knows what a
+/// poll leaves of the task, and what it answers.
 pub fn poll_is_known()
     ensures { (functions : List Function) (view : View) (fuel : ℕ) (task : Task) (g : Option Given) (turned : Turned) (left : ℕ) (rest : Task)
-        → KnowsDesign view → KnowsWhole functions view task → IfSome g (KnowsGiven view) → Polled functions view fuel task g turned left rest
+        → KnowsDesign view → KnowsEvents view → KnowsWhole functions view task → IfSome g (KnowsGiven view)
+        → Polled functions view fuel task g turned left rest
         → KnowsTurned functions view turned × KnowsWhole functions view rest }
 {}
 
