@@ -8,6 +8,7 @@
 mod acts;
 mod awaits;
 mod evaluations;
+mod queues;
 mod right_sides;
 mod signals;
 mod statements;

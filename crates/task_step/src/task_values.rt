@@ -19,4 +19,7 @@ pub use operands::{Argument, eval_operands};
 pub use spans::eval_span;
 pub use texts::{eval_text, short_text};
 pub use times::{Time, eval_time, time_steps};
-pub use waits::{Acquiring, TimedCall, eval_limit, eval_lock, eval_timed_call, eval_wait, limited};
+pub use waits::{
+    Acquiring, TimedCall, eval_items, eval_limit, eval_lock, eval_room, eval_timed_call, eval_wait,
+    limited,
+};

@@ -11,7 +11,7 @@ use Rattle.test_meaning.specs.Body.Views.{block_of, handlers_of, view_item, view
 use Rattle.test_meaning.specs.declared.body.item.Item.{Row_of-Item, end_of-Item, more_of-Item}
 use Rattle.test_meaning.specs.declared.body.item.Handler.{Handler}
 use Rattle.test_meaning.specs.declared.body.item.Handler.TheVariants.{Catch'}
-use Rattle.test_meaning.specs.declared.body.item.Handler.TheBlock.{items-the_row-Item}
+use Rattle.test_meaning.specs.declared.body.item.Branch.TheBlock.{items-the_row-Item}
 use Rattle.rig_model.specs.Task.Frame.{Jump, Throw, Todo, Do, Again, Each, Uses, Handles, Bound, Holds, Assigns, Writes, Returns, Times, Limited, Enters, Leaves, On}
 use Rattle.rig_model.specs.Task.Leaving.{catches, drop_mark, find_handler}
 use Rattle.rig_model.specs.Task.Moves as move

@@ -1,8 +1,13 @@
--- The handlers of a `try` as they stand in the file.
+-- The handlers of a `try`, and each `elif` of an `if`, as they stand in the file.
 use Rattle.std.proofs.Common.{◌≡◌, refl, ap}
-use Rattle.test_meaning.specs.Body.Views.{handlers_of, view_handler_row, with_handler}
-use Rattle.test_meaning.specs.declared.body.item.Item.{Row_of-Handler, end_of-Handler, more_of-Handler}
-use Rattle.test_meaning.specs.declared.body.item.Handler.TheBlock.{items-the_row-Handler}
+use Rattle.test_meaning.specs.Body.BodyTrees.{Block, NoItem, Then}
+use Rattle.test_meaning.specs.Body.Views.{else_of, handlers_of, view_branch, view_branch_row, view_handler_row, with_handler}
+use Rattle.test_meaning.specs.declared.body.item.Item.{Row_of-Branch, end_of-Branch, more_of-Branch, Row_of-Handler, end_of-Handler, more_of-Handler}
+use Rattle.test_meaning.specs.declared.body.item.Branch.TheBlock.{items-the_row-Branch, items-the_row-Handler}
+
+pub row_branches : (n : _) (k : Row_of-Branch n) (other : Block) → view_branch_row k other ≡ else_of (items-the_row-Branch n k) other
+row_branches n end_of-Branch other = refl
+row_branches n (more_of-Branch b rest) other = ap (λ (c : Block). Then (view_branch b c) NoItem) (row_branches _ rest other)
 
 pub row_handlers : (n : _) (k : Row_of-Handler n) → view_handler_row k ≡ handlers_of (items-the_row-Handler n k)
 row_handlers n end_of-Handler = refl

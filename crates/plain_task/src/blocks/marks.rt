@@ -10,7 +10,7 @@ ghost use Rattle.task_step.specs.OpenCall.Parts.{mark_in};
 ghost use Rattle.task_step.specs.OpenCall.Slots.{names_in};
 ghost use Rattle.plain_task.specs.Blocks.Steps.{IsStep};
 
-use crate::blocks::conditions::do_while;
+use crate::blocks::conditions::{do_elif, do_while};
 use crate::blocks::loops::ask_each;
 use port_io::{Name, NoMemory};
 use py_evaluate::attribute::Look;
@@ -46,8 +46,9 @@ fn end_held<'a>(call: &mut OpenCall<'a>, lock: LockNo) -> Wish
     call.want(Turned::Release(lock))
 }
 
-/// A mark that comes to be done, and for which no value was given (the language reference, 8): a loop asks its next question, the name of an
-/// `except` is unassigned, the lock of an `async with` is released, and nothing is done at all others. Only want of memory is an error.
+/// A mark that comes to be done, and for which no value was given (the language reference, 8): a loop asks its next question, an `elif` its
+/// condition, the name of an `except` is unassigned, the lock of an `async with` is released, and nothing is done at all others. Only want of
+/// memory is an error.
 pub fn do_mark<'a, V: Look>(
     alloc: Global,
     call: &mut OpenCall<'a>,
@@ -64,6 +65,16 @@ pub fn do_mark<'a, V: Look>(
     match marked.mark {
         Mark::Again(condition) => do_while(alloc, call, condition, marked.block, view, task, next),
         Mark::Each(name, left) => ask_each(alloc, call, name, left, marked.block),
+        Mark::Elif(branch, elifs) => do_elif(
+            alloc,
+            call,
+            branch,
+            elifs,
+            marked.block,
+            view,
+            task,
+            next,
+        ),
         Mark::Uses(_) | Mark::Enters(_) | Mark::Handles(_) => Ok(call.go_on()),
         Mark::Bound(name) => Ok(end_bound(call, name)),
         Mark::Holds(lock) => Ok(end_held(call, lock)),

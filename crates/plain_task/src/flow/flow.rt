@@ -99,6 +99,7 @@ impl<'a> Flow for TreeFlow<'a> {
         fuel: &mut u64,
     ) -> Result<Turned, NoMemory> {
         view.names_are_known();
+        view.queues_are_known();
         let mut next = Some(given);
         'steps: loop {
             match self.step(alloc, next, view, fuel)? {

@@ -37,8 +37,11 @@ fn begin<'a, V: Look>(
         Item::If {
             condition,
             block,
+            elifs,
             other,
-        } => do_if(alloc, call, condition, block, other, view, task, next),
+        } => do_if(
+            alloc, call, condition, block, elifs, other, view, task, next,
+        ),
         Item::While { condition, block } => do_while(
             alloc, call, condition, block, view, task, next,
         ),

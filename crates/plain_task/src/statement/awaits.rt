@@ -19,7 +19,9 @@ use py_value::{TaskNo, Value};
 use rig_model::task::Turned;
 use std::alloc::Global;
 use task_step::open_call::{OpenCall, Use, Wish};
-use task_step::task_values::{Called, eval_call, eval_limit, eval_timed_call, eval_wait, limited};
+use task_step::task_values::{
+    Called, eval_call, eval_items, eval_limit, eval_room, eval_timed_call, eval_wait, limited,
+};
 use test_meaning::body::{Awaited, Call, Timed};
 
 /// Starts a task of the call (cocotb 1.8, "Coroutines and Tasks"); with `give_way` it runs before this one goes on.
@@ -98,6 +100,42 @@ fn wait_call<'a, V: Look>(
     }
 }
 
+/// Waits for room in a queue.
+fn wait_room<'a, V: Look>(
+    alloc: Global,
+    e: &Expression,
+    call: &mut OpenCall<'a>,
+    view: &V,
+    task: TaskNo,
+    next: &mut u64,
+) -> Result<Wish, NoMemory>
+    requires { KnowsNames (V.view view.now) (names_in call.old.slots) }
+    ensures { Stepped (meaning.await (body.AwaitedRoom (tree.view e.now))) task (V.view view.now) call.old call.new next.old next.new result }
+{
+    match eval_room(alloc, e, &call.slots, view, task, next) {
+        Ok(trig) => Ok(call.want(Turned::Await(trig))),
+        Err(fault) => call.fail(fault),
+    }
+}
+
+/// Waits for an item in a queue.
+fn wait_items<'a, V: Look>(
+    alloc: Global,
+    e: &Expression,
+    call: &mut OpenCall<'a>,
+    view: &V,
+    task: TaskNo,
+    next: &mut u64,
+) -> Result<Wish, NoMemory>
+    requires { KnowsNames (V.view view.now) (names_in call.old.slots) }
+    ensures { Stepped (meaning.await (body.AwaitedItem (tree.view e.now))) task (V.view view.now) call.old call.new next.old next.new result }
+{
+    match eval_items(alloc, e, &call.slots, view, task, next) {
+        Ok(trig) => Ok(call.want(Turned::Await(trig))),
+        Err(fault) => call.fail(fault),
+    }
+}
+
 /// `await with_timeout(e, time, unit)` of a trigger or a task.
 fn wait_limit<'a, V: Look>(
     alloc: Global,
@@ -168,6 +206,8 @@ pub(crate) fn wait<'a, V: Look>(
         Awaited::Value(e) => wait_value(alloc, e, call, view, task, next),
         Awaited::Call(called) => wait_call(alloc, called, call, view, task, next),
         Awaited::Start(started) => start(alloc, started, true, call, view, task, next),
+        Awaited::Room(queue) => wait_room(alloc, queue, call, view, task, next),
+        Awaited::Items(queue) => wait_items(alloc, queue, call, view, task, next),
         Awaited::WithTimeout(Timed::Value(e), time, unit) => {
             wait_limit(alloc, e, time, unit, call, view, task, next)
         }

@@ -1,26 +1,27 @@
 //! What statements evaluate, each as one outcome.
-ghost use Rattle.std.specs.Prelude.{map};
+ghost use Rattle.std.specs.Prelude.{map, option_map};
 ghost use Rattle.py_syntax.specs.ExpressionTrees as tree;
 ghost use Rattle.py_syntax.specs.declared.expression.Operation.TheVariants as operation;
 ghost use Rattle.py_evaluate.specs.Attribute.Knows.{KnowsNames};
 ghost use Rattle.py_evaluate.specs.Eval as meaning;
 ghost use Rattle.py_evaluate.specs.Gives.{scope};
-ghost use Rattle.task_step.specs.StatementValues.Kept.{draw_in, write_in};
-ghost use Rattle.test_meaning.specs.Body.Views.{view_logger};
+ghost use Rattle.task_step.specs.StatementValues.Kept.{draw_in, source_in, write_in};
+ghost use Rattle.rig_model.specs.Task.Values as values;
+ghost use Rattle.test_meaning.specs.Body.Views.{view_logger, view_write_action};
 ghost use Rattle.task_step.specs.TaskValues.Evaluation.{Evaluation};
 ghost use Rattle.plain_task.specs.Statement.Outcomes as outcomes;
 
 use port_io::{Name, boxed};
 use py_evaluate::attribute::{Locals, Look, OperationFault, operated};
 use py_syntax::{Action, BinOp, Expression, FaultKind};
-use py_value::{TaskNo, Value, truth};
+use py_value::{QueueNo, TaskNo, Value, truth};
 use rig_model::task::Turned;
 use std::alloc::Global;
 use task_step::statement_values::{
-    Draw, SignalWrite, act_of, drawn, log_text, logged_for, write_of,
+    Draw, SignalWrite, Source, act_of, drawn, log_text, logged_for, queue_bound, queue_of, write_of,
 };
 use task_step::task_values::{eval, eval_all, short_text};
-use test_meaning::body::Logger;
+use test_meaning::body::{Logger, WriteAction};
 
 /// Whether a condition holds.
 pub(crate) fn eval_truth<N: Locals, V: Look>(
@@ -63,11 +64,11 @@ pub(crate) fn eval_operated<N: Locals, V: Look>(
     }
 }
 
-/// The write of a value that is there: the signal is evaluated.
+/// The write of a value or an action that is there: the signal is evaluated.
 pub(crate) fn eval_stage<N: Locals, V: Look>(
     alloc: Global,
     target: &Expression,
-    value: &Value,
+    source: &Source,
     names: &N,
     view: &V,
     task: TaskNo,
@@ -75,10 +76,51 @@ pub(crate) fn eval_stage<N: Locals, V: Look>(
 ) -> Result<SignalWrite, OperationFault>
     requires { KnowsNames (V.view view.now) (N.names names.now) }
     ensures { Evaluation result write_in next.old next.new
-        (outcomes.eval_stage (scope task (N.names names.now) (V.view view.now)) (tree.view target.now) value.now next.old) }
+        (outcomes.eval_stage (scope task (N.names names.now) (V.view view.now)) (tree.view target.now) (source_in source.now) next.old) }
 {
     let target = eval(alloc, target, names, view, task, next)?;
-    Ok(write_of(view, &target, value)?)
+    Ok(write_of(view, &target, source)?)
+}
+
+/// An action with its operand (cocotb 1.8, `cocotb.handle`).
+fn eval_action<N: Locals, V: Look>(
+    alloc: Global,
+    action: &WriteAction,
+    names: &N,
+    view: &V,
+    task: TaskNo,
+    next: &mut u64,
+) -> Result<Source, OperationFault>
+    requires { KnowsNames (V.view view.now) (N.names names.now) }
+    ensures { Evaluation result source_in next.old next.new
+        (values.eval_action (scope task (N.names names.now) (V.view view.now)) (view_write_action action.now) next.old) }
+{
+    match action {
+        WriteAction::Force(e) => {
+            let v = eval(alloc, e, names, view, task, next)?;
+            Ok(Source::Force(v))
+        }
+        WriteAction::Freeze => Ok(Source::Freeze),
+        WriteAction::Release => Ok(Source::Release),
+    }
+}
+
+/// The write of an action, which is evaluated first, and then the signal.
+pub(crate) fn eval_stage_action<N: Locals, V: Look>(
+    alloc: Global,
+    target: &Expression,
+    action: &WriteAction,
+    names: &N,
+    view: &V,
+    task: TaskNo,
+    next: &mut u64,
+) -> Result<SignalWrite, OperationFault>
+    requires { KnowsNames (V.view view.now) (N.names names.now) }
+    ensures { Evaluation result write_in next.old next.new (outcomes.eval_stage_action (scope task (N.names names.now) (V.view view.now))
+        (tree.view target.now) (view_write_action action.now) next.old) }
+{
+    let source = boxed(alloc, eval_action(alloc, action, names, view, task, next)?)?;
+    eval_stage(alloc, target, &source, names, view, task, next)
 }
 
 /// A write that is done at once: the signal, and then the value.
@@ -96,8 +138,95 @@ pub(crate) fn eval_put<N: Locals, V: Look>(
         (outcomes.eval_put (scope task (N.names names.now) (V.view view.now)) (tree.view target.now) (tree.view value.now) next.old) }
 {
     let target = boxed(alloc, eval(alloc, target, names, view, task, next)?)?;
-    let value = eval(alloc, value, names, view, task, next)?;
-    Ok(write_of(view, &target, &value)?)
+    let source = Source::Value(eval(alloc, value, names, view, task, next)?);
+    Ok(write_of(view, &target, &source)?)
+}
+
+/// An action that is done at once: the signal, and then the action.
+pub(crate) fn eval_put_action<N: Locals, V: Look>(
+    alloc: Global,
+    target: &Expression,
+    action: &WriteAction,
+    names: &N,
+    view: &V,
+    task: TaskNo,
+    next: &mut u64,
+) -> Result<SignalWrite, OperationFault>
+    requires { KnowsNames (V.view view.now) (N.names names.now) }
+    ensures { Evaluation result write_in next.old next.new (outcomes.eval_put_action (scope task (N.names names.now) (V.view view.now))
+        (tree.view target.now) (view_write_action action.now) next.old) }
+{
+    let target = boxed(alloc, eval(alloc, target, names, view, task, next)?)?;
+    let source = eval_action(alloc, action, names, view, task, next)?;
+    Ok(write_of(view, &target, &source)?)
+}
+
+/// A queue (cocotb 1.8, `cocotb.queue.Queue`).
+pub(crate) fn eval_queue<N: Locals, V: Look>(
+    alloc: Global,
+    e: &Expression,
+    names: &N,
+    view: &V,
+    task: TaskNo,
+    next: &mut u64,
+) -> Result<QueueNo, OperationFault>
+    requires { KnowsNames (V.view view.now) (N.names names.now) }
+    ensures { Evaluation result (λ queue. queue) next.old next.new
+        (outcomes.eval_queue (scope task (N.names names.now) (V.view view.now)) (tree.view e.now) next.old) }
+{
+    let v = eval(alloc, e, names, view, task, next)?;
+    Ok(queue_of(view, &v)?)
+}
+
+/// The bound of a new queue, 0 where it has none.
+pub(crate) fn eval_bound<N: Locals, V: Look>(
+    alloc: Global,
+    e: &Option<Expression>,
+    names: &N,
+    view: &V,
+    task: TaskNo,
+    next: &mut u64,
+) -> Result<u32, OperationFault>
+    requires { KnowsNames (V.view view.now) (N.names names.now) }
+    ensures { Evaluation result (λ bound. bound) next.old next.new
+        (outcomes.eval_bound (scope task (N.names names.now) (V.view view.now)) (option_map tree.view e.now) next.old) }
+{
+    match e {
+        Some(e) => {
+            let v = eval(alloc, e, names, view, task, next)?;
+            Ok(queue_bound(&v)?)
+        }
+        None => Ok(0),
+    }
+}
+
+/// An item, and the queue that it is put into.
+#[derive(Drop)]
+pub(crate) struct QueuePut {
+    pub queue: QueueNo,
+    pub item: Value,
+}
+
+/// A queue, and then the item that is put into it.
+pub(crate) fn eval_queue_put<N: Locals, V: Look>(
+    alloc: Global,
+    queue: &Expression,
+    item: &Expression,
+    names: &N,
+    view: &V,
+    task: TaskNo,
+    next: &mut u64,
+) -> Result<QueuePut, OperationFault>
+    requires { KnowsNames (V.view view.now) (N.names names.now) }
+    ensures { Evaluation result outcomes.queue_put_in next.old next.new
+        (outcomes.eval_queue_put (scope task (N.names names.now) (V.view view.now)) (tree.view queue.now) (tree.view item.now) next.old) }
+{
+    let queue = boxed(alloc, eval(alloc, queue, names, view, task, next)?)?;
+    let item = eval(alloc, item, names, view, task, next)?;
+    Ok(QueuePut {
+        queue: queue_of(view, &queue)?,
+        item,
+    })
 }
 
 /// What a method that acts asks for.

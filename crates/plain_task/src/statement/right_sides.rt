@@ -14,6 +14,7 @@ ghost use Rattle.plain_task.specs.Statement.Step.{Stepped, Wanted};
 
 use crate::statement::awaits::{start, wait};
 use crate::statement::evaluations::{eval_draw, eval_operated};
+use crate::statement::queues::{item_side, queue_side};
 use crate::statement::uses::use_value;
 use port_io::{Name, NoMemory};
 use py_evaluate::attribute::Look;
@@ -174,5 +175,7 @@ pub(crate) fn right_side<'a, V: Look>(
         RightSide::RandomInt(low, high) => {
             random_side(alloc, low, high, what, call, view, task, next)
         }
+        RightSide::Queue(bound) => queue_side(alloc, bound, what, call, view, task, next),
+        RightSide::GetNow(queue) => item_side(alloc, queue, what, call, view, task, next),
     }
 }

@@ -7,8 +7,9 @@ ghost use Rattle.plain_task.specs.Statement.Step.{Stepped};
 
 use crate::statement::acts::{act, log};
 use crate::statement::awaits::{start, wait};
+use crate::statement::queues::put_item;
 use crate::statement::right_sides::{assign_operated, right_side};
-use crate::statement::signals::write_now;
+use crate::statement::signals::{act_now, stage_action, write_now};
 use crate::statement::throws::{assert_holds, throw};
 use port_io::NoMemory;
 use py_evaluate::attribute::Look;
@@ -60,5 +61,12 @@ pub fn statement<'a, V: Look>(
             log(alloc, logger, *level, e, es, call, view, task, next)
         }
         Statement::StartSoon(started) => start(alloc, started, false, call, view, task, next),
+        Statement::PutNow(queue, item) => put_item(alloc, queue, item, call, view, task, next),
+        Statement::AssignAction(target, action) => {
+            stage_action(alloc, target, action, call, view, task, next)
+        }
+        Statement::SetImmediateAction(target, action) => {
+            act_now(alloc, target, action, call, view, task, next)
+        }
     }
 }

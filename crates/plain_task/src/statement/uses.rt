@@ -14,6 +14,7 @@ use py_evaluate::attribute::Look;
 use py_value::{TaskNo, Value};
 use std::alloc::Global;
 use task_step::open_call::{Jump, OpenCall, Use, Wish};
+use task_step::statement_values::Source;
 
 /// Does what was to be done with a value, now that it is there (the language reference, 7.2 and 7.6; cocotb 1.8, "Writing values", `with_timeout`):
 /// its mark was taken off the call before. Only want of memory is an error; a fault of the task is raised in the call.
@@ -34,7 +35,9 @@ pub fn use_value<'a, V: Look>(
             call.name(name, Some(value));
             Ok(call.go_on())
         }
-        Use::Writes(target) => stage(alloc, target, &value, call, view, task, next),
+        Use::Writes(target) => {
+            stage(alloc, target, &Source::Value(value), call, view, task, next)
+        }
         Use::Returns => Ok(call.leave(Jump::Return(value))),
         Use::Times(steps) => wait_started(alloc, steps, &value, call, task, next),
         Use::Limited(_) => Ok(call.go_on_with(value)),

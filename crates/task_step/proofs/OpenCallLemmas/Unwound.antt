@@ -1,10 +1,13 @@
 -- The last part of a stack comes first: what is taken off it, what is passed while blocks are left, and what the first thing costs.
 use Rattle.std.proofs.Common.{◌≡◌, ℕ, suc, ◌+◌, ◌-◌, ◌<◌, ◌≤◌, List, [], ◌∷◌, ◌++◌, length, take, drop, get_or, Option, None, Some, refl, sym, ap, ◌∙◌, append_assoc, add-one, drop-cons, arith}
 use Rattle.std.proofs.lemmas.List.{append-nil, drop_all, take_more}
-use Rattle.test_meaning.specs.Body.Views.{block_of, view_item}
+use Rattle.test_meaning.specs.Body.BodyTrees.{Block}
+use Rattle.test_meaning.specs.Body.Views.{block_of, view_branch, view_item}
+use Rattle.test_meaning.specs.declared.body.item.Branch.{Branch}
+use Rattle.test_meaning.specs.declared.body.item.Branch.TheVariants.{Elif'}
 use Rattle.test_meaning.specs.declared.body.item.Item.{Item}
 use Rattle.rig_model.specs.Task.Frame.{Todo, Do}
-use Rattle.rig_model.specs.Task.Cost.{first_cost}
+use Rattle.rig_model.specs.Task.Cost.{first_cost, item_cost}
 use Rattle.task_step.specs.declared.open_call.todo.Mark.{Mark}
 use Rattle.task_step.specs.declared.open_call.todo.Part.{Part}
 use Rattle.task_step.specs.OpenCall.Parts.{block_todo, from_mark, mark_in, marks_in, part_todo, unwound}
@@ -85,6 +88,10 @@ pub passed_none : (ps : List Part) (p : Part) → p.mark ≡ None → from_mark 
 passed_none ps p e = passed_part ps p ∙ ap (λ (o : Option Mark). from_mark (marks_in o (block_of p.block.now) ++ unwound ps)) e
 
 -- ---- what the first thing costs
+
+-- an `elif` is an `if`
+pub branch_cost : (b : Branch) (other : Block) → item_cost (view_branch b other) ≡ 1
+branch_cost (Elif' e shape all) other = refl
 
 front : (ps : List Part) (k : ℕ) (p : Part) → 1 ≤ k → k ≤ length ps → p ≡ get_or ps (k - 1) p → unwound (take k ps) ≡ part_todo p ++ unwound (take (k - 1) ps)
 front ps k p a b e =

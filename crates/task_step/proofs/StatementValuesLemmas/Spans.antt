@@ -1,4 +1,4 @@
--- How many numbers may be drawn.
+-- How many numbers may be drawn, and how many items a queue may hold.
 use Rattle.std.proofs.Common.{◌≡◌, ℕ, suc, zero, ◌+◌, ◌-◌, ◌^◌, ◌<◌, ◌≤◌, Bool, true, false, Some, None, Ok, Err, refl, arith, sym, ap, ◌⊎◌, inl, inr, subst, add-one}
 use Rattle.std.specs.Prelude.{ℤ, pos, negsuc, ◌+ℤ◌, ◌-ℤ◌, ◌<ℤ◌, ◌≤ℤ◌, if◌then◌else◌, Result, IfOk, IsTrue}
 use Rattle.std.specs.Int.{w128, cast_unsigned}
@@ -10,7 +10,7 @@ use Rattle.py_syntax.specs.declared.fault_kind.FaultKind.TheVariants.{ValueError
 use Rattle.py_value.specs.Answer.{Answer, answer_map}
 use Rattle.py_value.specs.declared.value.Value.{Value}
 use Rattle.rig_model.specs.Task.Values as values
-use Rattle.rig_model.specs.Task.Values.{span_limit, span_of}
+use Rattle.rig_model.specs.Task.Values.{bound_of, span_limit, span_of}
 use Rattle.rig_model.proofs.TaskLemmas.PartsKnown.{KnownDraw, drawn_known}
 use Rattle.task_step.specs.StatementValues.Kept.{draw_in}
 use Rattle.task_step.specs.declared.statement_values.draws.Draw.{Draw}
@@ -39,6 +39,20 @@ count_some (pos n) l h = middle n (omega (arith, ints))
 count_some (negsuc n) l h = absurd (omega (arith, ints))
 
 pub ruleset counts = (count_none, count_many, count_some)
+
+pub bound_none : (z : ℤ) → z <ℤ pos 0 → bound_of z ≡ Ok 0
+bound_none (pos n) h = absurd (omega (arith, ints))
+bound_none (negsuc n) h = refl
+
+pub bound_many : (z : ℤ) → pos 65536 <ℤ z → bound_of z ≡ Err ValueError
+bound_many (pos n) h = rw (lt-leb n 65536 (omega (arith, ints))) refl
+bound_many (negsuc n) h = absurd (omega (arith, ints))
+
+pub bound_some : (z : ℤ) → pos 0 ≤ℤ z → z ≤ℤ pos 65536 → bound_of z ≡ Ok (cast_unsigned w128 z)
+bound_some (pos n) l h = rw (le-leb n 65536 (omega (arith, ints))) refl
+bound_some (negsuc n) l h = absurd (omega (arith, ints))
+
+pub ruleset bounds = (bound_none, bound_many, bound_some)
 
 -- ---- differences that no value can hold
 

@@ -4,18 +4,21 @@ use Rattle.std.specs.Prelude.{Option}
 use Rattle.py_syntax.specs.ExpressionTrees.{Tree}
 use Rattle.py_value.specs.Answer.{Answer}
 use Rattle.py_value.specs.Trigger as trigger
+use Rattle.py_value.specs.declared.trigger.EventNo.{EventNo}
+use Rattle.py_value.specs.declared.trigger.QueueNo.{QueueNo}
+use Rattle.py_evaluate.specs.Attribute.Look.{SeenQueue, queue}
 use Rattle.py_evaluate.specs.Attribute.Outcome.{Outcome, after, bind, gives, lift}
 use Rattle.py_evaluate.specs.Eval.{eval}
 use Rattle.py_evaluate.specs.Function.Making.{as_trigger, new_trigger}
 use Rattle.test_meaning.specs.Body.BodyTrees.{Block, Call, AwaitedValue, TimedValue, TimedCall, WithTimeout}
-use Rattle.rig_model.specs.Task.Awaits.{Time, await, waits, wait_for, wait_limited, with_time, with_steps, waitable, limited, time_steps}
+use Rattle.rig_model.specs.Task.Awaits.{Time, await, waits, wait_for, wait_for_queue, queue_of, wait_limited, with_time, with_steps, waitable, limited, time_steps}
 use Rattle.rig_model.specs.Task.Blocks.{enter, lock_of}
 use Rattle.rig_model.specs.Task.Calls.{eval_call, starts}
 use Rattle.rig_model.specs.Task.Frame.{Uses, Times, Enters}
-use Rattle.rig_model.specs.Task.Moves.{At, Move, first_do, with_value, with_answer, outcome, answered, eval_some}
+use Rattle.rig_model.specs.Task.Moves.{At, Move, first_do, with_value, with_eval, with_answer, outcome, answered, eval_some}
 use Rattle.task_step.specs.TaskValues.Times.{eval_time}
 use Rattle.task_step.specs.TaskValues.Waits as own
-use Rattle.task_step.specs.TaskValues.Waits.{eval_wait, eval_limit, eval_timed_call, eval_lock}
+use Rattle.task_step.specs.TaskValues.Waits.{eval_wait, eval_limit, eval_queue, eval_timed_call, eval_lock}
 
 abbrev pub behind : At → ℕ → At
 behind a k = record a { next = k }
@@ -46,6 +49,14 @@ time_step a time unit g more f h = time_is a time unit more ∙ step a (λ k. ev
 
 pub value_is : (e : Tree) (a : At) → await (AwaitedValue e) a ≡ with_value a (λ k. eval_wait a.scope e k) waits
 value_is e a = step a (λ k. eval a.scope e k) (λ v j. as_trigger a.scope.task v j) wait_for waits (λ v i. refl)
+
+pub queue_is : (event_of : SeenQueue → EventNo) (e : Tree) (a : At)
+    → with_eval a e (wait_for_queue event_of) ≡ with_value a (λ k. eval_queue event_of a.scope e k) waits
+queue_is event_of e a =
+    let make = λ (q : QueueNo) (i : ℕ). new_trigger a.scope.task (trigger.Event (event_of (queue a.scope.view q))) i in
+    step a (λ k. eval a.scope e k) (λ v j. bind (lift (queue_of v) j) make) (wait_for_queue event_of) waits (λ v i.
+    step (behind a i) (λ k. lift (queue_of v) k) make
+    (λ q b. with_value b (λ k. new_trigger b.scope.task (trigger.Event (event_of (queue b.scope.view q))) k) waits) waits (λ q j. refl))
 
 pub limit_is : (e time : Tree) (unit : Option Tree) (a : At)
     → await (WithTimeout (TimedValue e) time unit) a ≡ with_value a (λ k. eval_limit a.scope e time unit k) waits

@@ -2,7 +2,7 @@
 use Rattle.std.specs.Prelude.{List, [], ◌∷◌, ◌++◌, drop, Option, None, Some}
 use Rattle.py_syntax.specs.ExpressionTrees.{view}
 use Rattle.test_meaning.specs.Body.BodyTrees.{Block}
-use Rattle.test_meaning.specs.Body.Views.{view_item, block_of, handlers_of}
+use Rattle.test_meaning.specs.Body.Views.{view_branch, view_item, block_of, else_of, handlers_of}
 use Rattle.test_meaning.specs.declared.body.item.Item.{Item}
 use Rattle.task_step.specs.LoopSpan.Span.{left_in}
 use Rattle.rig_model.specs.Task.Frame as frame
@@ -29,6 +29,7 @@ use_in (uses.Limited t) = frame.Limited t
 abbrev pub mark_in : Mark → Block → frame.Todo
 mark_in (mark.Again e) block = frame.Again (view e.now) block
 mark_in (mark.Each n left) block = frame.Each n.now (left_in left) block
+mark_in (mark.Elif b bs) block = frame.Do (view_branch b.now (else_of bs.now block))
 mark_in (mark.Uses u) block = frame.Uses (use_in u)
 mark_in (mark.Enters l) block = frame.Uses (frame.Enters l block)
 mark_in (mark.Handles hs) block = frame.Handles (handlers_of hs.now)

@@ -3,12 +3,14 @@ use Rattle.std.specs.Prelude.{ℕ, Option}
 use Rattle.py_syntax.specs.ExpressionTrees.{Tree}
 use Rattle.py_value.specs.Trigger as trigger
 use Rattle.py_value.specs.Trigger.{Trig}
+use Rattle.py_value.specs.declared.trigger.EventNo.{EventNo}
 use Rattle.py_value.specs.declared.trigger.LockNo.{LockNo}
+use Rattle.py_evaluate.specs.Attribute.Look.{SeenQueue, queue}
 use Rattle.py_evaluate.specs.Attribute.Outcome.{Outcome, Scope, gives, lift, bind}
 use Rattle.py_evaluate.specs.Eval.{eval}
 use Rattle.py_evaluate.specs.Function.Making.{as_trigger, new_trigger}
 use Rattle.test_meaning.specs.Body.BodyTrees.{Call}
-use Rattle.rig_model.specs.Task.Awaits.{waitable, limited, time_steps}
+use Rattle.rig_model.specs.Task.Awaits.{waitable, limited, time_steps, queue_of}
 use Rattle.rig_model.specs.Task.Blocks.{lock_of}
 use Rattle.rig_model.specs.Task.Calls.{Called, eval_call}
 use Rattle.task_step.specs.TaskValues.Arguments.{called_in}
@@ -25,6 +27,10 @@ abbrev pub eval_limit : Scope → Tree → Tree → Option Tree → ℕ → Outc
 eval_limit s e time unit k =
     bind (eval s e k) (λ v j. bind (eval_time s time unit j) (λ t i. bind (lift (waitable v) i) (λ w l. bind (lift (time_steps s.view t) l)
     (λ steps m. limited s.task w steps m))))
+
+-- an event of a queue
+abbrev pub eval_queue : (SeenQueue → EventNo) → Scope → Tree → ℕ → Outcome Trig
+eval_queue event_of s e k = bind (eval s e k) (λ v j. bind (lift (queue_of v) j) (λ q i. new_trigger s.task (trigger.Event (event_of (queue s.view q))) i))
 
 -- a call under a limit of so many steps
 pub record TimedCall : Type 0 where

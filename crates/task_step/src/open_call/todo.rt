@@ -11,7 +11,7 @@ use port_io::{Name, NoMemory};
 use py_syntax::Expression;
 use py_value::{LockNo, TaskNo};
 use std::alloc::Global;
-use test_meaning::body::{Handler, Item};
+use test_meaning::body::{Branch, Handler, Item};
 
 /// What is done with a value that is given, but for the entry of a block.
 #[derive(Clone, Copy)]
@@ -35,6 +35,8 @@ pub enum Mark<'a> {
     Again(&'a Expression),
     /// A `for`, which asks for its next element; it has a block.
     Each(&'a Name, Left<'a>),
+    /// An `elif`, whose condition is asked, with those behind it; its block is that of the `else` behind them.
+    Elif(&'a Branch, &'a [Branch]),
     /// The use of a value that is given.
     Uses(Use<'a>),
     /// The lock of an `async with` was acquired, and its block comes.
@@ -109,19 +111,20 @@ impl<'a> Mark<'a> {
             Mark::Again(condition) => Some(Stop::Again(condition, block)),
             Mark::Each(name, left) => Some(Stop::Each(name, left, block)),
             Mark::Uses(Use::Limited(task)) => Some(Stop::Limit(task)),
-            Mark::Uses(_) | Mark::Enters(_) => None,
+            Mark::Elif(..) | Mark::Uses(_) | Mark::Enters(_) => None,
             Mark::Handles(handlers) => Some(Stop::Handles(handlers)),
             Mark::Bound(name) => Some(Stop::Bound(name)),
             Mark::Holds(lock) => Some(Stop::Holds(lock)),
         }
     }
 
-    /// What it costs as the first thing to do: a question of a loop one, all else nothing.
+    /// What it costs as the first thing to do: a question of a loop and an `elif` one, all else nothing.
+    #[tactic(auto, using(crate::proofs::OpenCallLemmas::Unwound::branch_cost))]
     fn cost(self) -> u64
         ensures { (block : Block) → result ≡ todo_cost (mark_in self.entry block) }
     {
         match self {
-            Mark::Again(_) | Mark::Each(..) => 1,
+            Mark::Again(_) | Mark::Each(..) | Mark::Elif(..) => 1,
             _ => 0,
         }
     }

@@ -1,10 +1,12 @@
 //! Calls with their operands.
-ghost use Rattle.std.specs.Prelude.{◌≡◌, IfOk, Ok, true};
+ghost use Rattle.std.specs.Prelude.{◌≡◌, [], ◌∷◌, IfOk, Ok, true};
+ghost use Rattle.py_syntax.specs.ExpressionTrees as tree;
 ghost use Rattle.py_value.specs.Integer.Integer.{truth_number};
 ghost use Rattle.py_value.specs.Truth as meaning;
 ghost use Rattle.py_value.specs.declared.value.Value.TheVariants as value;
 ghost use Rattle.py_evaluate.specs.Attribute.Knows.{KnowsNames};
 ghost use Rattle.py_evaluate.specs.Gives.{scope};
+ghost use Rattle.test_meaning.specs.Body.BodyTrees.{QueueGet, QueuePut};
 ghost use Rattle.test_meaning.specs.Body.Views.{view_call};
 ghost use Rattle.rig_model.specs.Task.Calls as calls;
 ghost use Rattle.task_step.specs.TaskValues.Evaluation.{Answers, Evaluation};
@@ -17,7 +19,7 @@ use crate::task_values::operands::{
 use gpi::SigId;
 use port_io::{NoMemory, Sequence, boxed};
 use py_evaluate::attribute::{Locals, Look, OperationFault};
-use py_syntax::FaultKind;
+use py_syntax::{Expression, FaultKind};
 use py_value::{TaskNo, Value, truth};
 use std::alloc::Global;
 use test_meaning::body::Call;
@@ -85,8 +87,86 @@ fn clock_arguments(
     }
 }
 
-/// A call with its operands, which are evaluated from left to right (the language reference, 6.3.4), those of a clock's start behind the clock.
-/// The faults are those of [`eval`], and then AttributeError where a clock is to be started that is none.
+/// What the task of a put is given: the queue, and the item. What is no queue is an AttributeError.
+fn put_arguments(
+    alloc: Global,
+    queue: &Value,
+    item: Value,
+) -> Result<Sequence<Value>, OperationFault>
+    ensures { Answers (calls.queue_arguments queue.now (item ∷ [])) result }
+{
+    match queue {
+        Value::Queue(queue) => {
+            let mut values = Sequence::new(alloc);
+            values.push(Value::Queue(*queue))?;
+            values.push(item)?;
+            Ok(values)
+        }
+        _ => Err(OperationFault::Raised(FaultKind::AttributeError)),
+    }
+}
+
+/// What the task of a get is given: the queue. What is none is an AttributeError.
+fn get_arguments(alloc: Global, queue: &Value) -> Result<Sequence<Value>, OperationFault>
+    ensures { Answers (calls.queue_arguments queue.now []) result }
+{
+    match queue {
+        Value::Queue(queue) => {
+            let mut values = Sequence::new(alloc);
+            values.push(Value::Queue(*queue))?;
+            Ok(values)
+        }
+        _ => Err(OperationFault::Raised(FaultKind::AttributeError)),
+    }
+}
+
+/// A put into a queue: the queue, and then the item.
+fn eval_put<N: Locals, V: Look>(
+    alloc: Global,
+    function: u32,
+    queue: &Expression,
+    item: &Expression,
+    names: &N,
+    view: &V,
+    task: TaskNo,
+    next: &mut u64,
+) -> Result<Called, OperationFault>
+    requires { KnowsNames (V.view view.now) (N.names names.now) }
+    ensures { Evaluation result called_in next.old next.new (calls.eval_call (scope task (N.names names.now) (V.view view.now))
+        (QueuePut function (tree.view queue.now) (tree.view item.now)) next.old) }
+{
+    let queue = boxed(alloc, eval(alloc, queue, names, view, task, next)?)?;
+    let item = eval(alloc, item, names, view, task, next)?;
+    Ok(Called {
+        function,
+        arguments: put_arguments(alloc, &queue, item)?,
+    })
+}
+
+/// A get from a queue.
+fn eval_get<N: Locals, V: Look>(
+    alloc: Global,
+    function: u32,
+    queue: &Expression,
+    names: &N,
+    view: &V,
+    task: TaskNo,
+    next: &mut u64,
+) -> Result<Called, OperationFault>
+    requires { KnowsNames (V.view view.now) (N.names names.now) }
+    ensures { Evaluation result called_in next.old next.new
+        (calls.eval_call (scope task (N.names names.now) (V.view view.now)) (QueueGet function (tree.view queue.now)) next.old) }
+{
+    let queue = eval(alloc, queue, names, view, task, next)?;
+    Ok(Called {
+        function,
+        arguments: get_arguments(alloc, &queue)?,
+    })
+}
+
+/// A call with its operands, which are evaluated from left to right (the language reference, 6.3.4), those of a clock's start behind the clock,
+/// and the item of a put behind the queue. The faults are those of [`eval`], and then AttributeError where a clock is to be started or a queue to be
+/// used that is none.
 pub fn eval_call<N: Locals, V: Look>(
     alloc: Global,
     call: &Call,
@@ -115,5 +195,9 @@ pub fn eval_call<N: Locals, V: Look>(
                 arguments: clock_arguments(alloc, &clock, &given)?,
             })
         }
+        Call::Put(function, queue, item) => {
+            eval_put(alloc, *function, queue, item, names, view, task, next)
+        }
+        Call::Get(function, queue) => { eval_get(alloc, *function, queue, names, view, task, next) }
     }
 }

@@ -9,6 +9,7 @@ ghost use Rattle.test_meaning.specs.Body.Views.{view_call};
 ghost use Rattle.task_step.specs.TaskValues.Evaluation.{Evaluation};
 ghost use Rattle.task_step.specs.TaskValues.Waits as waits;
 
+use crate::statement_values::queue_of;
 use crate::task_values::{Called, eval, eval_call, eval_time, time_steps};
 use port_io::boxed;
 use py_evaluate::attribute::{Locals, Look, OperationFault};
@@ -115,6 +116,43 @@ pub fn eval_timed_call<N: Locals, V: Look>(
         called,
         steps: time_steps(view, &time)?,
     })
+}
+
+/// What waits for room in a queue, by a new trigger (cocotb 1.8, `cocotb.queue.Queue.put`). The faults are those of [`eval`], then AttributeError of
+/// what is no queue, and RuntimeError where the task has made 2^63 triggers.
+pub fn eval_room<N: Locals, V: Look>(
+    alloc: Global,
+    e: &Expression,
+    names: &N,
+    view: &V,
+    task: TaskNo,
+    next: &mut u64,
+) -> Result<Trig, OperationFault>
+    requires { KnowsNames (V.view view.now) (N.names names.now) }
+    ensures { Evaluation result (λ t. t) next.old next.new
+        (waits.eval_queue (λ q. q.space_event) (scope task (N.names names.now) (V.view view.now)) (tree.view e.now) next.old) }
+{
+    let v = eval(alloc, e, names, view, task, next)?;
+    let event = view.queue_space(queue_of(view, &v)?);
+    Ok(new_trigger(task, Form::Event(event), next)?)
+}
+
+/// What waits for an item in a queue, likewise (cocotb 1.8, `cocotb.queue.Queue.get`).
+pub fn eval_items<N: Locals, V: Look>(
+    alloc: Global,
+    e: &Expression,
+    names: &N,
+    view: &V,
+    task: TaskNo,
+    next: &mut u64,
+) -> Result<Trig, OperationFault>
+    requires { KnowsNames (V.view view.now) (N.names names.now) }
+    ensures { Evaluation result (λ t. t) next.old next.new
+        (waits.eval_queue (λ q. q.items_event) (scope task (N.names names.now) (V.view view.now)) (tree.view e.now) next.old) }
+{
+    let v = eval(alloc, e, names, view, task, next)?;
+    let event = view.queue_items(queue_of(view, &v)?);
+    Ok(new_trigger(task, Form::Event(event), next)?)
 }
 
 /// The lock that a value is. What is none is a TypeError. It takes no memory.

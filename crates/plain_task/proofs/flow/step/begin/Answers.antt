@@ -1,12 +1,12 @@
 use Rattle.std.proofs.Common.{rules}
 use Rattle.std.proofs.lemmas.Result.{IfOk-weaker}
-use Rattle.test_meaning.specs.declared.body.item.Handler.TheViews.{the_lemmas}
+use Rattle.test_meaning.specs.declared.body.item.Branch.TheViews.{the_lemmas}
 use Rattle.plain_task.proofs.BlocksLemmas.Passed.{row_items}
-use Rattle.plain_task.proofs.FlowLemmas.Rows.{row_handlers}
+use Rattle.plain_task.proofs.FlowLemmas.Rows.{row_branches, row_handlers}
 use Rattle.plain_task.proofs.flow.step.begin.Goals as goal
 
 pub returns-in-If : goal.returns-in-If
-returns-in-If g c = search (rules, the_lemmas, row_items)
+returns-in-If g c = search (rules, the_lemmas, row_items, row_branches)
 
 pub returns-in-While : goal.returns-in-While
 returns-in-While g c = search (rules, the_lemmas, row_items)

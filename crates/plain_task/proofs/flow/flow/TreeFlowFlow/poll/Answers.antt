@@ -26,7 +26,7 @@ returns-in-Some g c =
       falls = omega (arith, falls, before);
       polled = p;
       known = poll_is_known (functions_in c.args.self.now) view c.args.fuel.now (task_in c.args.self.now) (Some c.args.given) c.in-Some.turned c.step.new.fuel
-          (task_in c.step.new.self) c.names_are_known.ensures c.requires.task c.requires.answer p;
+          (task_in c.step.new.self) c.names_are_known.ensures c.queues_are_known.ensures c.requires.task c.requires.answer p;
     }
 
 pub steps-preserved : goal.steps-preserved
@@ -45,7 +45,7 @@ steps-preserved g c =
       falls = omega (arith, falls, before);
       known = subst (λ (fs : List Function). KnowsWhole fs view (task_in c.step.new.self)) (sym file)
           (subst (λ (t : Task). KnowsWhole (functions_in c.steps.self) view t) (sym s.2)
-          (next_is_known (functions_in c.steps.self) (task_in c.steps.self) c.steps.next view c.names_are_known.ensures c.steps.invariant.known c.steps.invariant.given).0);
+          (next_is_known (functions_in c.steps.self) (task_in c.steps.self) c.steps.next view c.names_are_known.ensures c.queues_are_known.ensures c.steps.invariant.known c.steps.invariant.given).0);
       given = tt;
       polls = λ turned fuel task p. c.steps.invariant.polls turned fuel task
           (polled_more (functions_in c.steps.self) view c.steps.fuel (task_in c.steps.self) c.steps.next turned fuel task s.0 (rw (← s.1, ← s.2, sym file) p));
