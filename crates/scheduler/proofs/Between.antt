@@ -1,17 +1,17 @@
 -- A turn in which no task runs and none is ready is one event.
 use Rattle.std.proofs.Common.{◌≡◌, ℕ, zero, suc, Bool, true, false, List, [], ◌∷◌, ◌++◌, Option, None, Some, refl, ap, sym, ◌∙◌}
 use Rattle.std.specs.Prelude.{is_some}
-use Rattle.four_value.specs.declared.Digit.{Digit}
 use Rattle.gpi.specs.Keys.{among, set_of}
-use Rattle.gpi.specs.Events.{Event, put}
+use Rattle.gpi.specs.Events.{Event}
 use Rattle.gpi.specs.declared.types.SigId.{SigId}
+use Rattle.gpi.specs.declared.types.Write.{Write}
 use Rattle.gpi.specs.declared.types.Key.{Key}
 use Rattle.gpi.specs.declared.types.Key.TheVariants.{ReadWrite}
 use Rattle.await_tree.specs.declared.cause.Cause.TheVariants as cause
 use Rattle.run_view.specs.declared.signal_port.staged.Staged.{Staged}
 use Rattle.await_tree.specs.declared.wait_list.ready.Entry.{Entry}
-use Rattle.rig_model.specs.Run.Rig.{Rig, Setup, Running, event_of, awaited, procs}
-use Rattle.rig_model.specs.Run.Serve.{wake, serve_keys, with_fired, after_put, deposit, flushed, flushed_if, ended_if, is_due, serve}
+use Rattle.rig_model.specs.Run.Rig.{Rig, Setup, Running, event_of, awaited}
+use Rattle.rig_model.specs.Run.Serve.{wake, serve_keys, with_fired, after_put, deposit, flushed, flushed_if, ended_if, is_due, serve, written}
 use Rattle.rig_model.specs.Run.Step.{chosen, after_event, rig_step}
 use Rattle.rig_model.specs.Parts.Steps.{FitSteps, TurnSteps, in_turn}
 
@@ -22,13 +22,13 @@ serve_keys_running (k ∷ ks) others c = serve_keys_running ks others (record (w
 put_running : (setup : Setup) (e : Event) (c : Rig) → (after_put setup e c).rig.running ≡ c.running
 put_running setup e c = serve_keys_running e.fired c.fired (with_fired e.fired (record c { sim = e.state }))
 
-deposit_running : (setup : Setup) (sig : SigId) (bits : List Digit) (c : Rig) → (deposit setup sig bits c).rig.running ≡ c.running
-deposit_running setup sig bits c = put_running setup (put (procs setup) c.sim (set_of (awaited c)) sig bits) c
+deposit_running : (setup : Setup) (sig : SigId) (act : Write) (c : Rig) → (deposit setup sig act c).rig.running ≡ c.running
+deposit_running setup sig act c = put_running setup (written setup c.sim (set_of (awaited c)) sig act) c
 
 flushed_running : (setup : Setup) (writes : List Staged) (c : Rig) → (flushed setup writes c).rig.running ≡ c.running
 flushed_running setup [] c = refl
 flushed_running setup (w ∷ ws) c =
-    flushed_running setup ws (deposit setup w.sig w.bits (record c { staged = ws })).rig ∙ deposit_running setup w.sig w.bits (record c { staged = ws })
+    flushed_running setup ws (deposit setup w.sig w.act (record c { staged = ws })).rig ∙ deposit_running setup w.sig w.act (record c { staged = ws })
 
 flushed_if_running : (setup : Setup) (b : Bool) (c : Rig) → (flushed_if setup b c).rig.running ≡ c.running
 flushed_if_running setup true c = flushed_running setup c.staged c

@@ -1,5 +1,5 @@
 -- A write is done at once, and its keys are served.
-use Rattle.std.proofs.Common.{◌≡◌, ℕ, ◌<◌, ◌==◌, ◌||◌, ◌&&◌, Bool, true, false, not, if◌then◌else◌, List, [], ◌∷◌, ◌++◌, length, Option, None, Some, refl, sym, ap, subst, ◌∙◌}
+use Rattle.std.proofs.Common.{◌≡◌, ℕ, ◌<◌, ◌==◌, ◌||◌, ◌&&◌, Bool, true, false, not, if◌then◌else◌, List, [], ◌∷◌, ◌++◌, length, Option, None, Some, get_or, refl, sym, ap, subst, ◌∙◌}
 use Rattle.std.proofs.lemmas.List.{get_or-set_same}
 use Rattle.std.specs.Prelude.{slice_set}
 use Rattle.port_io.specs.Means.{SinkMeans}
@@ -9,8 +9,8 @@ use Rattle.four_value.specs.declared.Digit.TheVariants.{Zero, One, X, Z}
 use Rattle.four_value.specs.Vector.{same_digits}
 use Rattle.gpi.specs.Content.{Content, Does}
 use Rattle.gpi.specs.Design.{Proc}
-use Rattle.gpi.specs.Events.{Event, edge_keys, hidden_at, put, put_over, tells, unseen, value_at}
-use Rattle.gpi.specs.Keys.{Keys, has, among, holds, set_of, times_of, fired_of}
+use Rattle.gpi.specs.Events.{Event, edge_keys, force, hidden_at, put, put_over, release, release_over, show, stored_at, tells, unseen, value_at, with_hidden}
+use Rattle.gpi.specs.Keys.{AreSame, Keys, has, among, holds, set_of, times_of, fired_of}
 use Rattle.gpi.specs.State.{State, woken}
 use Rattle.gpi.specs.Terms.{widths_of}
 use Rattle.gpi.specs.declared.design.Flat.{Flat}
@@ -21,7 +21,9 @@ use Rattle.gpi.specs.declared.types.Key.TheVariants as key
 use Rattle.gpi.specs.declared.types.Report.{Report}
 use Rattle.gpi.specs.declared.types.SigId.{SigId}
 use Rattle.gpi.specs.declared.types.Told.{Told}
-use Rattle.gpi.proofs.SameKeys.{put_same}
+use Rattle.gpi.specs.declared.types.Write.{Write}
+use Rattle.gpi.specs.declared.types.Write.TheVariants.{Plain, Force, Freeze, Release}
+use Rattle.gpi.proofs.SameKeys.{force_same, put_same, release_same}
 use Rattle.run_view.specs.declared.signal_port.staged.Staged.{Staged}
 use Rattle.test_meaning.specs.Body.BodyTrees.{Function}
 use Rattle.await_tree.specs.WaitList.Counts.{counts_after, primed_keys, raised_times, removed_keys}
@@ -29,8 +31,8 @@ use Rattle.await_tree.specs.WaitList.Keys.{AreAlike, AreFired, AreKeys, AreKeysB
 use Rattle.await_tree.specs.WaitList.Waiting.{Waiting, all_waiting, all_woken, fired_keys, keys_of, named, phase_key, time_key}
 use Rattle.await_tree.specs.declared.wait_list.ready.Entry.{Entry}
 use Rattle.rig_model.specs.Run.Counts.{counted}
-use Rattle.rig_model.specs.Run.Rig.{Rig, Setup, is_any, procs, told_lines}
-use Rattle.rig_model.specs.Run.Serve.{after_put, deposit, not_due, serve_keys, with_fired}
+use Rattle.rig_model.specs.Run.Rig.{Rig, Setup, is_any, nets, procs, told_lines}
+use Rattle.rig_model.specs.Run.Serve.{after_put, deposit, not_due, serve_keys, with_fired, written}
 use Rattle.rig_model.specs.Parts.Fits.{IsSoundWrite, ahead}
 use Rattle.rig_model.specs.Parts.Queue.{Queue, queue_awaited, queue_held, rig_amid}
 use Rattle.run_state.specs.Queue.Still.{AreStill}
@@ -41,7 +43,8 @@ use Rattle.run_state.proofs.QueueLemmas.Tests.{and_false, left_of_and, right_of_
 use Rattle.scheduler.specs.Amid.{IsAmidHeld, Serves, StandsAmid}
 use Rattle.scheduler.specs.Fires.{IsEdge, PutFires}
 use Rattle.scheduler.specs.Puts.{PutsOn}
-use Rattle.scheduler.proofs.FireLaws.{put_fires, told_back}
+use Rattle.scheduler.specs.Written.{written_in}
+use Rattle.scheduler.proofs.FireLaws.{act_fires, told_back}
 use Rattle.scheduler.proofs.ServeLaws.{ahead_both, all_fit, among_awaited, are_named, not_true, serve_keys_is, served_keys, were_named}
 use Rattle.scheduler.proofs.SignalLaws.{is_inside}
 
@@ -136,34 +139,67 @@ change_by b ps s keys c =
       fired = edge_keys c keys;
     }
 
-module _ (ps : List Proc) (s : State) (keys : Keys) (sig : SigId) (bits : List Digit) (inside : sig.0 < length s.signals) where
-  abbrev TellsChange : Event → Type 0
-  TellsChange e = e.told ≡ shown_change sig (value_at s sig) (value_at e.state sig)
+-- what is told is the change of the signal from the value that it showed
+abbrev TellsChange : State → SigId → Event → Type 0
+TellsChange s sig e = e.told ≡ shown_change sig (value_at s sig) (value_at e.state sig)
 
-  show_tells : (b : Bool) → same_digits (value_at s sig) bits ≡ b → TellsChange (change_by b ps s keys (record { sig = sig; before = value_at s sig; after = bits }))
-  show_tells true h = sym (unchanged sig (value_at s sig))
-  show_tells false h =
-      sym (changed sig (value_at s sig) bits h) ∙ ap (shown_change sig (value_at s sig)) (sym (get_or-set_same s.signals sig.0 bits [] inside))
+module _ (ps : List Proc) (s : State) (keys : Keys) (sig : SigId) (inside : sig.0 < length s.signals) where
+  show_tells : (bits : List Digit) → TellsChange s sig (show ps s keys sig bits)
+  show_tells bits = by_test (same_digits (value_at s sig) bits) refl
+    where
+      by_test : (b : Bool) → same_digits (value_at s sig) bits ≡ b → TellsChange s sig (change_by b ps s keys (record { sig = sig; before = value_at s sig; after = bits }))
+      by_test true h = sym (unchanged sig (value_at s sig))
+      by_test false h =
+          sym (changed sig (value_at s sig) bits h) ∙ ap (shown_change sig (value_at s sig)) (sym (get_or-set_same s.signals sig.0 bits [] inside))
 
-  put_over_tells : (o : Option (List Digit)) → TellsChange (put_over o ps s keys sig bits)
-  put_over_tells None = show_tells (same_digits (value_at s sig) bits) refl
-  put_over_tells (Some ds) = sym (unchanged sig (value_at s sig))
+  put_over_tells : (bits : List Digit) (o : Option (List Digit)) → TellsChange s sig (put_over o ps s keys sig bits)
+  put_over_tells bits None = show_tells bits
+  put_over_tells bits (Some ds) = sym (unchanged sig (value_at s sig))
 
-  put_tells : TellsChange (put ps s keys sig bits)
-  put_tells = put_over_tells (hidden_at s sig)
+-- where the hidden value alone has changed before
+hidden_tells : (ps : List Proc) (s : State) (keys : Keys) (sig : SigId) (o : Option (List Digit)) (bits : List Digit) → sig.0 < length s.signals
+    → TellsChange s sig (show ps (with_hidden s sig o) keys sig bits)
+hidden_tells ps s keys sig o bits inside = show_tells ps (with_hidden s sig o) keys sig inside bits
+
+release_tells : (ps : List Proc) (s : State) (keys : Keys) (sig : SigId) (o : Option (List Digit)) (net : Bool) → sig.0 < length s.signals
+    → TellsChange s sig (release_over o net ps s keys sig)
+release_tells ps s keys sig None net inside = sym (unchanged sig (value_at s sig))
+release_tells ps s keys sig (Some ds) true inside = hidden_tells ps s keys sig None ds inside
+release_tells ps s keys sig (Some ds) false inside = sym (unchanged sig (value_at s sig))
+
+write_tells : (k : Content) (sig : SigId) → sig.0 < length k.state.signals → (act : Write) → TellsChange k.state sig (written_in k sig act)
+write_tells k sig inside (Plain bits) = put_over_tells k.procs k.state k.keys sig inside bits (hidden_at k.state sig)
+write_tells k sig inside (Force bits) = hidden_tells k.procs k.state k.keys sig (Some (stored_at k.state sig)) bits inside
+write_tells k sig inside Freeze = hidden_tells k.procs k.state k.keys sig (Some (stored_at k.state sig)) (value_at k.state sig) inside
+write_tells k sig inside Release = release_tells k.procs k.state k.keys sig (hidden_at k.state sig) (get_or k.nets sig.0 false) inside
 
 -- the lines of the change that a write tells
-pub told_same : (setup : Setup) (k k1 : Content) (sig : SigId) (bits old new : List Digit) (time : ℕ) (change : Option Told) → sig.0 < length k.state.signals → time ≡ k.state.time
-    → old ≡ value_at k.state sig → new ≡ value_at k1.state sig → k1.state ≡ (put k.procs k.state k.keys sig bits).state
+pub told_same : (setup : Setup) (k k1 : Content) (sig : SigId) (act : Write) (old new : List Digit) (time : ℕ) (change : Option Told) → sig.0 < length k.state.signals → time ≡ k.state.time
+    → old ≡ value_at k.state sig → new ≡ value_at k1.state sig → k1.state ≡ (written_in k sig act).state
     → change ≡ (if same_digits old new then None else Some (record { sig = sig; bits = new }))
-    → told_lines setup time change ≡ told_lines setup k.state.time (put k.procs k.state k.keys sig bits).told
-told_same setup k k1 sig bits old new time change inside t o n done h =
+    → told_lines setup time change ≡ told_lines setup k.state.time (written_in k sig act).told
+told_same setup k k1 sig act old new time change inside t o n done h =
     ap (λ (m : ℕ). told_lines setup m change) t
     ∙ ap (told_lines setup k.state.time)
     (h
     ∙ ap (λ (ds : List Digit). shown_change sig ds new) o
     ∙ ap (shown_change sig (value_at k.state sig)) (n ∙ ap (λ (s : State). value_at s sig) done)
-    ∙ sym (put_tells k.procs k.state k.keys sig bits inside))
+    ∙ sym (write_tells k sig inside act))
+
+-- ---- what the simulator does is what is done for the configuration
+
+written_is : (setup : Setup) (k : Content) (keys : Keys) (sig : SigId) → k.procs ≡ procs setup → k.nets ≡ nets setup → AreSame k.keys keys → (act : Write)
+    → written_in k sig act ≡ written setup k.state keys sig act
+written_is setup k keys sig p n h (Plain bits) =
+    ap (λ (ps : List Proc). put ps k.state k.keys sig bits) p ∙ put_same (procs setup) k.state k.keys keys h sig bits
+written_is setup k keys sig p n h (Force bits) =
+    ap (λ (ps : List Proc). force ps k.state k.keys sig bits) p ∙ force_same (procs setup) k.state k.keys keys h sig bits
+written_is setup k keys sig p n h Freeze =
+    ap (λ (ps : List Proc). force ps k.state k.keys sig (value_at k.state sig)) p ∙ force_same (procs setup) k.state k.keys keys h sig (value_at k.state sig)
+written_is setup k keys sig p n h Release =
+    ap (λ (ps : List Proc). release ps k.nets k.state k.keys sig) p
+    ∙ ap (λ (ns : List Bool). release (procs setup) ns k.state k.keys sig) n
+    ∙ release_same (procs setup) (nets setup) k.state k.keys keys h sig
 
 -- ---- registered keys
 
@@ -221,13 +257,13 @@ but_fewer keys keys' gone others ks d b = record {
 
 -- the write is done, and its keys are told
 module _ (flat : Flat) (room : ℕ) (held : List Key) (q : Queue) (k k1 : Content) (write : Staged) (fired : Fired)
-    (fired_is : fired ≡ fired_of (put k.procs k.state k.keys write.sig write.bits).fired) (done : Does k (put k.procs k.state k.keys write.sig write.bits) k1)
+    (fired_is : fired ≡ fired_of (written_in k write.sig write.act).fired) (done : Does k (written_in k write.sig write.act) k1)
     (as_wide : widths_of k1.state.signals ≡ widths_of k.state.signals) where
   abbrev e : Event
-  e = put k.procs k.state k.keys write.sig write.bits
+  e = written_in k write.sig write.act
 
   fires : PutFires k.keys write.sig e
-  fires = put_fires k.procs k.state k.keys write.sig write.bits
+  fires = act_fires k write.sig write.act
 
   told_keys : fired_keys fired ≡ e.fired
   told_keys = ap fired_keys fired_is ∙ told_back e.fired fires.few
@@ -254,18 +290,18 @@ module _ (flat : Flat) (room : ℕ) (held : List Key) (q : Queue) (k k1 : Conten
 -- ---- its keys are served
 
 module _ (flat : Flat) (room : ℕ) (held held' : List Key) (q : Queue) (k k1 k2 : Content) (write : Staged) (fired : Fired) (ready' : List Entry) (waiting' : List Waiting)
-    (fired_is : fired ≡ fired_of (put k.procs k.state k.keys write.sig write.bits).fired) (done : Does k (put k.procs k.state k.keys write.sig write.bits) k1)
+    (fired_is : fired ≡ fired_of (written_in k write.sig write.act).fired) (done : Does k (written_in k write.sig write.act) k1)
     (as_wide : widths_of k1.state.signals ≡ widths_of k.state.signals)
     (waiting_is : waiting' ≡ all_waiting (fired_keys fired) q.waiting) (held_is : AreAlike held' (without_all (fired_keys fired) held))
     (ready_is : ready' ≡ q.ready ++ all_woken (fired_keys fired) q.waiting) (r : Rekeyed k1 k2 (fired_keys fired) (named q.waiting held) (named waiting' held')) where
   abbrev own : Event
-  own = put k.procs k.state k.keys write.sig write.bits
+  own = written_in k write.sig write.act
 
   abbrev q' : Queue
   q' = record q { ready = ready'; waiting = waiting' }
 
   own_fires : PutFires k.keys write.sig own
-  own_fires = put_fires k.procs k.state k.keys write.sig write.bits
+  own_fires = act_fires k write.sig write.act
 
   keys_are : fired_keys fired ≡ own.fired
   keys_are = ap fired_keys fired_is ∙ told_back own.fired own_fires.few
@@ -329,6 +365,7 @@ module _ (flat : Flat) (room : ℕ) (held held' : List Key) (q : Queue) (k k1 k2
     stands_then : StandsAmid flat room others after held' q' k2
     stands_then = record {
       procs_are = r.procs ∙ done.procs ∙ s.procs_are;
+      nets_are = r.nets ∙ done.nets ∙ s.nets_are;
       signals = ap (λ (st : State). widths_of st.signals) r.state ∙ as_wide ∙ s.signals;
       keys_are = keys_then;
       held_are = λ x o. put_held x ∙ s.held_are x o;
@@ -343,10 +380,8 @@ module _ (flat : Flat) (room : ℕ) (held held' : List Key) (q : Queue) (k k1 k2
       setup = record { functions = functions; flat = flat; trace = trace }
 
       -- a write does what it does for the configuration
-      put_is : own ≡ put (procs setup) k.state (set_of (queue_awaited others q)) write.sig write.bits
-      put_is =
-          ap (λ (ps : List Proc). put ps k.state k.keys write.sig write.bits) s.procs_are
-          ∙ put_same (procs setup) k.state k.keys (set_of (queue_awaited others q)) (λ x. s.keys_are x ∙ sym (has_set (queue_awaited others q) x)) write.sig write.bits
+      put_is : own ≡ written setup k.state (set_of (queue_awaited others q)) write.sig write.act
+      put_is = written_is setup k (set_of (queue_awaited others q)) write.sig s.procs_are s.nets_are (λ x. s.keys_are x ∙ sym (has_set (queue_awaited others q) x)) write.act
 
       module _ (c : Rig) where
         abbrev begun : Rig
@@ -368,16 +403,16 @@ module _ (flat : Flat) (room : ℕ) (held held' : List Key) (q : Queue) (k k1 k2
         put_leads : (after_put setup own begun).rig ≡ rig_amid others after q' k2.state c
         put_leads = ap (λ (d : Rig). counted own.fired begun d) served_rig
 
-        pub deposit_leads : (deposit setup write.sig write.bits begun).rig ≡ rig_amid others after q' k2.state c
+        pub deposit_leads : (deposit setup write.sig write.act begun).rig ≡ rig_amid others after q' k2.state c
         deposit_leads = ap (λ (x : Event). (after_put setup x begun).rig) (sym put_is) ∙ put_leads
 
-        pub deposit_lines : told_lines setup k.state.time own.told ≡ (deposit setup write.sig write.bits begun).lines
+        pub deposit_lines : told_lines setup k.state.time own.told ≡ (deposit setup write.sig write.act begun).lines
         deposit_lines = ap (λ (x : Event). (after_put setup x begun).lines) put_is
 
     -- the write is done, its change is told, and its keys are served
     pub put_serves : {O : Type 0} (sink : SinkMeans O) (functions : List Function) (trace : Bool) (fault : Option SinkFault) (out : O) (fault' : Option SinkFault) (out' : O)
         → PutsOn sink fault out (told_lines (record { functions = functions; flat = flat; trace = trace }) k.state.time own.told) fault' out'
-        → Serves sink (deposit (record { functions = functions; flat = flat; trace = trace }) write.sig write.bits) flat room others counts q k held' q' k2 fault out fault' out'
+        → Serves sink (deposit (record { functions = functions; flat = flat; trace = trace }) write.sig write.act) flat room others counts q k held' q' k2 fault out fault' out'
     put_serves sink functions trace fault out fault' out' p = record {
       after = after;
       stands = stands_then;

@@ -1,16 +1,18 @@
 -- What is served, and what tasks want, keeps all times within the bound.
 use Rattle.std.proofs.Common.{◌≡◌, ℕ, ◌≤◌, Bool, true, false, List, [], ◌∷◌, ◌++◌, Option, None, Some, refl, arith}
-use Rattle.std.specs.Prelude.{◌==◌, nat_le, length, IfSome, if◌then◌else◌}
-use Rattle.four_value.specs.declared.Digit.{Digit}
+use Rattle.std.specs.Prelude.{◌==◌, ◌+◌, nat_lt, nat_le, length, IfSome, if◌then◌else◌}
 use Rattle.gpi.specs.State.{State, is_end}
 use Rattle.gpi.specs.Keys.{among, set_of}
-use Rattle.gpi.specs.Events.{Event, put}
+use Rattle.gpi.specs.Events.{Event}
 use Rattle.gpi.specs.declared.types.Key.{Key}
 use Rattle.gpi.specs.declared.types.Key.TheVariants.{ReadWrite}
 use Rattle.gpi.specs.declared.types.SigId.{SigId}
+use Rattle.gpi.specs.declared.types.Write.{Write}
 use Rattle.py_value.specs.Trigger.{Trig}
 use Rattle.py_value.specs.declared.trigger.TaskNo.{TaskNo}
+use Rattle.py_value.specs.declared.trigger.EventNo.{EventNo}
 use Rattle.py_value.specs.declared.trigger.LockNo.{LockNo}
+use Rattle.py_value.specs.declared.trigger.QueueNo.{QueueNo}
 use Rattle.py_value.specs.declared.value.Value.{Value}
 use Rattle.py_value.specs.declared.value.Fault.{Fault}
 use Rattle.await_tree.specs.Tree.{Tree, leaves}
@@ -26,18 +28,19 @@ use Rattle.await_tree.specs.declared.ended_tasks.ending.Ending.{Ending}
 use Rattle.await_tree.specs.declared.ended_tasks.ending.Ending.TheVariants.{Returned, Failed, Killed}
 use Rattle.await_tree.specs.SyncObjects.States.{with_set, is_held, event_limit, lock_limit}
 use Rattle.run_view.specs.declared.signal_port.staged.Staged.{Staged}
+use Rattle.task_queue.specs.Queues.{queue_at, is_full as has_no_room, is_at_limit, is_empty, with_items, with_item}
 use Rattle.test_meaning.specs.Body.BodyTrees.{Function}
 use Rattle.rig_model.specs.Task.Frame.{function_at}
 use Rattle.rig_model.specs.declared.task.task.Turned.{Turned}
 use Rattle.rig_model.specs.declared.task.task.Turned.TheVariants as turned
 use Rattle.await_tree.specs.WaitList.Waiting.{Waiting, tree_keys, keys_of, is_wanted, is_joined, granted}
-use Rattle.rig_model.specs.Run.Rig.{Rig, Setup, After, facts_of, awaited, procs}
-use Rattle.rig_model.specs.Run.Serve.{wake, serve_keys, is_due, not_due, with_fired, after_put, deposit, flushed, flushed_if, served, ended_if, serve}
-use Rattle.rig_model.specs.Run.Effect.{begun_by, awaits_by, write_by, stages, puts, starts, starter, next_task, with_new_task, with_end, withdrawn, fails, kills_by, kills, makes_event, makes_lock, releases, is_full, handed_on, effect, effect_of}
+use Rattle.rig_model.specs.Run.Rig.{Rig, Setup, After, facts_of, awaited}
+use Rattle.rig_model.specs.Run.Serve.{wake, serve_keys, is_due, not_due, with_fired, after_put, deposit, flushed, flushed_if, served, ended_if, serve, written}
+use Rattle.rig_model.specs.Run.Effect.{begun_by, awaits_by, write_by, stages, puts, starts, starter, next_task, with_new_task, with_end, withdrawn, fails, kills_by, kills, makes_event, makes_lock, makes_queue, sets_if, clears_if, with_put, puts_item, with_get, gets_item, releases, is_full, handed_on, effect, effect_of}
 use Rattle.scheduler.specs.Timely.{AreTimely, IsEarly, IsTimely}
 use Rattle.scheduler.proofs.Keys.{allowed_timely}
 use Rattle.scheduler.proofs.TimeWaits.{waits_more, one_waits, waits_without, still_waits, granted_waits, begun_timely}
-use Rattle.scheduler.proofs.Events.{kept_early, put_time}
+use Rattle.scheduler.proofs.Events.{kept_early, written_time}
 
 module _ (bound : ℕ) where
   abbrev Timely : Rig → Type 0
@@ -80,16 +83,16 @@ module _ (bound : ℕ) where
   put_timely setup e c k h =
       let d : Rig = record c { sim = e.state } in serve_keys_timely e.fired c.fired (with_fired e.fired d) (fired_timely e.fired d (at_state e.state c k h))
 
-  pub deposit_timely : (setup : Setup) (sig : SigId) (bits : List Digit) (c : Rig) → Timely c → Timely (deposit setup sig bits c).rig
-  deposit_timely setup sig bits c h =
-      let e : Event = put (procs setup) c.sim (set_of (awaited c)) sig bits in
+  pub deposit_timely : (setup : Setup) (sig : SigId) (act : Write) (c : Rig) → Timely c → Timely (deposit setup sig act c).rig
+  deposit_timely setup sig act c h =
+      let e : Event = written setup c.sim (set_of (awaited c)) sig act in
       put_timely setup e c
-      (kept_early bound c.sim e.state (put_time (procs setup) c.sim (set_of (awaited c)) sig bits) (record { time = h.time; updates = h.updates })) h
+      (kept_early bound c.sim e.state (written_time setup c.sim (set_of (awaited c)) sig act) (record { time = h.time; updates = h.updates })) h
 
   flushed_timely : (setup : Setup) (writes : List Staged) (c : Rig) → Timely c → Timely (flushed setup writes c).rig
   flushed_timely setup [] c h = h
   flushed_timely setup (w ∷ ws) c h =
-      flushed_timely setup ws (deposit setup w.sig w.bits (record c { staged = ws })).rig (deposit_timely setup w.sig w.bits (record c { staged = ws }) h)
+      flushed_timely setup ws (deposit setup w.sig w.act (record c { staged = ws })).rig (deposit_timely setup w.sig w.act (record c { staged = ws }) h)
 
   flush_timely : (setup : Setup) (b : Bool) (c : Rig) → Timely c → Timely (flushed_if setup b c).rig
   flush_timely setup true c h = flushed_timely setup c.staged c h
@@ -159,6 +162,41 @@ module _ (bound : ℕ) where
   lock_timely true task c h = h
   lock_timely false task c h = h
 
+  queue_timely : (b : Bool) (task : TaskNo) (n : ℕ) (c : Rig) → Timely c → Timely (makes_queue b task n c).rig
+  queue_timely true task n c h = h
+  queue_timely false task n c h = h
+
+  set_timely : (b : Bool) (e : EventNo) (c : Rig) → Timely c → Timely (sets_if b e c)
+  set_timely true e c h = wake_timely (cause.Event e) (record c { objects = with_set e c.objects }) h
+  set_timely false e c h = h
+
+  cleared_timely : (b : Bool) (e : EventNo) (c : Rig) → Timely c → Timely (clears_if b e c)
+  cleared_timely true e c h = h
+  cleared_timely false e c h = h
+
+  item_put_timely : (queue : QueueNo) (item : Value) (c : Rig) → Timely c → Timely (with_put queue item c)
+  item_put_timely queue item c h =
+      let queues = with_item queue item c.queues in
+      let before = queue_at queue c.queues in
+      cleared_timely (has_no_room (queue_at queue queues)) before.space_event (sets_if (is_empty before.items) before.items_event (record c { queues = queues }))
+      (set_timely (is_empty before.items) before.items_event (record c { queues = queues }) h)
+
+  puts_item_timely : (full limit : Bool) (task : TaskNo) (queue : QueueNo) (item : Value) (c : Rig) → Timely c → Timely (puts_item full limit task queue item c).rig
+  puts_item_timely true limit task queue item c h = h
+  puts_item_timely false true task queue item c h = h
+  puts_item_timely false false task queue item c h = item_put_timely queue item c h
+
+  item_got_timely : (queue : QueueNo) (items : List Value) (c : Rig) → Timely c → Timely (with_get queue items c)
+  item_got_timely queue items c h =
+      let queues = with_items queue items c.queues in
+      let before = queue_at queue c.queues in
+      cleared_timely (is_empty items) before.items_event (sets_if (has_no_room before) before.space_event (record c { queues = queues }))
+      (set_timely (has_no_room before) before.space_event (record c { queues = queues }) h)
+
+  gets_item_timely : (task : TaskNo) (queue : QueueNo) (items : List Value) (c : Rig) → Timely c → Timely (gets_item task queue items c).rig
+  gets_item_timely task queue [] c h = h
+  gets_item_timely task queue (item ∷ items) c h = item_got_timely queue items c h
+
   handed_timely : (b : Bool) (l : LockNo) (c : Rig) → Timely c → Timely (handed_on b l c)
   handed_timely true l c h = with_waiting (granted l c.waiting).waiting c (granted_waits last_time l c.waiting h.leaves) h
   handed_timely false l c h = h
@@ -169,8 +207,8 @@ module _ (bound : ℕ) where
 
   pub effect_timely : (setup : Setup) (task : TaskNo) (t : Turned) (c : Rig) → Timely c → Timely (effect setup task t c).rig
   effect_timely setup task (turned.Await trig) c h = awaits_timely task trig (check trig c.sim.time c.sim.region) c refl h
-  effect_timely setup task (turned.Stage sig bits) c h = write_timely (is_end c.sim.region) sig (stages task sig bits c) c h h
-  effect_timely setup task (turned.Put sig bits) c h = write_timely (is_end c.sim.region) sig (puts setup task sig bits c) c h (deposit_timely setup sig bits c h)
+  effect_timely setup task (turned.Stage sig act) c h = write_timely (is_end c.sim.region) sig (stages task sig act c) c h h
+  effect_timely setup task (turned.Put sig act) c h = write_timely (is_end c.sim.region) sig (puts setup task sig act c) c h (deposit_timely setup sig act c h)
   effect_timely setup task (turned.Start func args give_way) c h = starts_timely (is_full c) task (function_at setup.functions func) args give_way c h
   effect_timely setup task (turned.Kill other) c h = kills_timely (other.0 == task.0) task other c h
   effect_timely setup task turned.NewEvent c h = event_timely (nat_le event_limit (length c.objects.events)) task c h
@@ -178,6 +216,10 @@ module _ (bound : ℕ) where
   effect_timely setup task (turned.ClearEvent e) c h = h
   effect_timely setup task turned.NewLock c h = lock_timely (nat_le lock_limit (length c.objects.locks)) task c h
   effect_timely setup task (turned.Release l) c h = release_timely (is_held l c.objects) task l c h
+  effect_timely setup task (turned.NewQueue n) c h = queue_timely (nat_lt event_limit (length c.objects.events + 2)) task n c h
+  effect_timely setup task (turned.PutNow queue item) c h =
+      puts_item_timely (has_no_room (queue_at queue c.queues)) (is_at_limit (queue_at queue c.queues)) task queue item c h
+  effect_timely setup task (turned.GetNow queue) c h = gets_item_timely task queue (queue_at queue c.queues).items c h
   effect_timely setup task (turned.Draw low span) c h = h
   effect_timely setup task (turned.Log level text) c h = h
   effect_timely setup task (turned.Done v) c h = end_timely task (Returned v) false c h

@@ -55,6 +55,7 @@ put_leads sink effect flat room q k held' q' k' out fault' out' s c = s.leads c 
 pub fits_amid : (flat : Flat) (room : ℕ) (held : List Key) (q : Queue) (k : Content) → FitsQueue flat room held q k → AreStill q.waiting → StandsAmid flat room [] k.counts held q k
 fits_amid flat room held q k f still = record {
   procs_are = f.procs_are;
+  nets_are = f.nets_are;
   signals = f.signals;
   keys_are = keys_awaited held q k (record { keys_are = f.keys_are; held_are = f.held_are });
   held_are = λ x h. f.held_are x;
@@ -68,6 +69,7 @@ fits_amid flat room held q k f still = record {
 pub amid_fits : (flat : Flat) (room : ℕ) (counts : Counts) (held : List Key) (q : Queue) (k : Content) → StandsAmid flat room [] counts held q k → FitsQueue flat room held q k
 amid_fits flat room counts held q k s = record {
   procs_are = s.procs_are;
+  nets_are = s.nets_are;
   signals = s.signals;
   keys_are = λ x.
       s.keys_are x
@@ -185,6 +187,7 @@ module _ (flat : Flat) (room : ℕ) (held : List Key) (q : Queue) (k k1 : Conten
   pub event_amid : StandsAmid flat room own k.counts held (taken own q) k1
   event_amid = record {
     procs_are = a.done.procs ∙ f.procs_are;
+    nets_are = a.done.nets ∙ f.nets_are;
     signals = as_wide ∙ f.signals;
     keys_are = λ x.
         a.done.keys x
@@ -298,6 +301,7 @@ module _ (flat : Flat) (room : ℕ) (held : List Key) (q : Queue) (k k1 : Conten
       stands_then : StandsAmid flat room [] after held3 q3 k3
       stands_then = record {
         procs_are = r.procs ∙ s.procs_are;
+        nets_are = r.nets ∙ s.nets_are;
         signals = ap (λ (st : State). widths_of st.signals) r.state ∙ s.signals;
         keys_are = keys_then;
         held_are = λ x h. held_then x;

@@ -1,5 +1,5 @@
 -- The time after an event: the time before it, a registered time, or that of an update that waited for it.
-use Rattle.std.proofs.Common.{◌≡◌, ℕ, ◌+◌, ◌≤◌, Bool, true, false, List, [], ◌∷◌, ◌++◌, Option, None, Some, refl, sym, subst, arith, rules}
+use Rattle.std.proofs.Common.{◌≡◌, ℕ, ◌+◌, ◌≤◌, Bool, true, false, List, [], ◌∷◌, ◌++◌, Option, None, Some, get_or, refl, sym, subst, arith, rules}
 use Rattle.std.specs.Prelude.{IfSome, ◌&&◌, ◌==◌, not, cond, filter, nat_le, nat_lt, if◌then◌else◌, slice_get}
 use Rattle.four_value.specs.declared.Digit.{Digit}
 use Rattle.four_value.specs.Vector.{same_digits}
@@ -8,7 +8,7 @@ use Rattle.gpi.specs.Activation.{with_part}
 use Rattle.gpi.specs.Keys.{Keys, has, least, times_of, set_of}
 use Rattle.gpi.specs.Limits.{latest_update}
 use Rattle.gpi.specs.State.{State, is_end, with_delayed, delaying, all_delaying, delayed_times}
-use Rattle.gpi.specs.Events.{Event, value_at, hidden_at, stored_at, write_change, put_over, put, report_case, due_case, activate, active_case, later_case, settle_case, end_case, time_case, or_else, event}
+use Rattle.gpi.specs.Events.{Event, value_at, hidden_at, stored_at, with_hidden, write_change, show, put_over, put, release_over, report_case, due_case, activate, active_case, later_case, settle_case, end_case, time_case, or_else, event}
 use Rattle.gpi.specs.declared.types.Delayed.{Delayed}
 use Rattle.gpi.specs.declared.types.Key.{Key}
 use Rattle.gpi.specs.declared.types.Key.TheVariants.{ReadWrite, ReadOnly}
@@ -16,6 +16,10 @@ use Rattle.gpi.specs.declared.types.Region.TheVariants as region
 use Rattle.gpi.specs.declared.types.Report.{Report}
 use Rattle.gpi.specs.declared.types.SigId.{SigId}
 use Rattle.gpi.specs.declared.types.Update.{Update}
+use Rattle.gpi.specs.declared.types.Write.{Write}
+use Rattle.gpi.specs.declared.types.Write.TheVariants.{Plain, Force, Freeze, Release}
+use Rattle.rig_model.specs.Run.Rig.{Setup, nets, procs}
+use Rattle.rig_model.specs.Run.Serve.{written}
 use Rattle.scheduler.specs.Timely.{AreTimely, AreEarly, IsEarly}
 use Rattle.scheduler.proofs.Keys.{least_within, lesser_within}
 
@@ -31,13 +35,34 @@ change_time ps s keys c = decided (same_digits c.before c.after) refl
     decided true e = rw e (record { time = refl; delayed = refl })
     decided false e = rw e (record { time = refl; delayed = refl })
 
+show_time : (ps : List Proc) (s : State) (keys : Keys) (sig : SigId) (bits : List Digit) → KeepsTimes s (show ps s keys sig bits).state
+show_time ps s keys sig bits = change_time ps s keys (record { sig = sig; before = value_at s sig; after = bits })
+
 put_over_time : (o : Option (List Digit)) (ps : List Proc) (s : State) (keys : Keys) (sig : SigId) (bits : List Digit) → KeepsTimes s (put_over o ps s keys sig bits).state
-put_over_time None ps s keys sig bits = change_time ps s keys (record { sig = sig; before = value_at s sig; after = bits })
+put_over_time None ps s keys sig bits = show_time ps s keys sig bits
 put_over_time (Some ds) ps s keys sig bits = record { time = refl; delayed = refl }
 
 -- a deposit takes no time, and delays nothing
 pub put_time : (ps : List Proc) (s : State) (keys : Keys) (sig : SigId) (bits : List Digit) → KeepsTimes s (put ps s keys sig bits).state
 put_time ps s keys sig bits = put_over_time (hidden_at s sig) ps s keys sig bits
+
+-- neither does it where a hidden value has changed before
+hidden_time : (ps : List Proc) (s : State) (keys : Keys) (sig : SigId) (o : Option (List Digit)) (bits : List Digit) → KeepsTimes s (show ps (with_hidden s sig o) keys sig bits).state
+hidden_time ps s keys sig o bits =
+    let t : KeepsTimes (with_hidden s sig o) (show ps (with_hidden s sig o) keys sig bits).state = show_time ps (with_hidden s sig o) keys sig bits in
+    record { time = t.time; delayed = t.delayed }
+
+release_time : (o : Option (List Digit)) (net : Bool) (ps : List Proc) (s : State) (keys : Keys) (sig : SigId) → KeepsTimes s (release_over o net ps s keys sig).state
+release_time None net ps s keys sig = record { time = refl; delayed = refl }
+release_time (Some ds) true ps s keys sig = hidden_time ps s keys sig None ds
+release_time (Some ds) false ps s keys sig = record { time = refl; delayed = refl }
+
+-- and so each write
+pub written_time : (setup : Setup) (s : State) (keys : Keys) (sig : SigId) (act : Write) → KeepsTimes s (written setup s keys sig act).state
+written_time setup s keys sig (Plain bits) = put_time (procs setup) s keys sig bits
+written_time setup s keys sig (Force bits) = hidden_time (procs setup) s keys sig (Some (stored_at s sig)) bits
+written_time setup s keys sig Freeze = hidden_time (procs setup) s keys sig (Some (stored_at s sig)) (value_at s sig)
+written_time setup s keys sig Release = release_time (hidden_at s sig) (get_or (nets setup) sig.0 false) (procs setup) s keys sig
 
 -- ---- updates that wait for a time
 

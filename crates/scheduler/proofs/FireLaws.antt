@@ -1,5 +1,5 @@
 -- What events and writes fire.
-use Rattle.std.proofs.Common.{◌≡◌, ℕ, ◌<◌, ◌≤◌, ◌==◌, ◌||◌, ◌&&◌, Bool, true, false, not, if◌then◌else◌, List, [], ◌∷◌, ◌++◌, length, Option, None, Some, refl, sym, subst, arith}
+use Rattle.std.proofs.Common.{◌≡◌, ℕ, ◌<◌, ◌≤◌, ◌==◌, ◌||◌, ◌&&◌, Bool, true, false, not, if◌then◌else◌, List, [], ◌∷◌, ◌++◌, length, Option, None, Some, get_or, refl, sym, subst, arith}
 use Rattle.std.specs.Prelude.{slice_set}
 use Rattle.four_value.specs.declared.Digit.{Digit}
 use Rattle.four_value.specs.declared.Digit.TheVariants.{Zero, One, X, Z}
@@ -7,7 +7,7 @@ use Rattle.four_value.specs.Vector.{digit_at, same_digits}
 use Rattle.gpi.specs.Activation.{with_part}
 use Rattle.gpi.specs.Content.{Content}
 use Rattle.gpi.specs.Design.{Proc}
-use Rattle.gpi.specs.Events.{Event, event, put_over, put, or_else, if_has, level_keys, edge_keys, tells, unseen, value_at, hidden_at, stored_at, with_hidden, write_change, report_case, due_case, active_case, later_case, settle_case, end_case, time_case}
+use Rattle.gpi.specs.Events.{Event, event, put_over, put, release_over, show, or_else, if_has, level_keys, edge_keys, tells, unseen, value_at, hidden_at, stored_at, with_hidden, write_change, report_case, due_case, active_case, later_case, settle_case, end_case, time_case}
 use Rattle.gpi.specs.Keys.{Keys, has, among, least, same_key, fired_of}
 use Rattle.gpi.specs.State.{State, is_end, woken, arriving, waiting_on, delayed_times}
 use Rattle.gpi.specs.declared.types.Key.{Key}
@@ -16,10 +16,13 @@ use Rattle.gpi.specs.declared.types.Region.TheVariants as region
 use Rattle.gpi.specs.declared.types.Report.{Report}
 use Rattle.gpi.specs.declared.types.SigId.{SigId}
 use Rattle.gpi.specs.declared.types.Update.{Update}
+use Rattle.gpi.specs.declared.types.Write.{Write}
+use Rattle.gpi.specs.declared.types.Write.TheVariants.{Plain, Force, Freeze, Release}
 use Rattle.await_tree.specs.WaitList.Keys.{AreApart, IsOfDesign}
 use Rattle.await_tree.specs.WaitList.Waiting.{fired_keys}
 use Rattle.run_state.proofs.QueueLemmas.KeyLaws.{same_is}
 use Rattle.scheduler.specs.Fires.{Fires, IsEdge, PutFires}
+use Rattle.scheduler.specs.Written.{written_in}
 
 -- at most two keys are told whole
 pub told_back : (ks : List Key) → length ks ≤ 2 → fired_keys (fired_of ks) ≡ ks
@@ -135,9 +138,9 @@ put_change ps s keys c = decided (same_digits c.before c.after) (change_edges c 
       signals = λ content n k m. of_design c.sig content k n (h.own k m).0;
     }
 
-put_over_fires : (o : Option (List Digit)) (ps : List Proc) (s : State) (keys : Keys) (sig : SigId) (bits : List Digit) → PutFires keys sig (put_over o ps s keys sig bits)
-put_over_fires None ps s keys sig bits = put_change ps s keys (record { sig = sig; before = value_at s sig; after = bits })
-put_over_fires (Some ds) ps s keys sig bits = record {
+-- nothing fires
+unseen_fires : (keys : Keys) (sig : SigId) (s : State) → PutFires keys sig (unseen s)
+unseen_fires keys sig s = record {
   few = omega arith;
   apart = tt;
   edges = all_none IsEdge;
@@ -145,9 +148,54 @@ put_over_fires (Some ds) ps s keys sig bits = record {
   signals = λ content n. all_none (IsOfDesign content);
 }
 
--- what a write fires
+show_fires : (ps : List Proc) (s : State) (keys : Keys) (sig : SigId) (bits : List Digit) → PutFires keys sig (show ps s keys sig bits)
+show_fires ps s keys sig bits = put_change ps s keys (record { sig = sig; before = value_at s sig; after = bits })
+
+put_over_fires : (o : Option (List Digit)) (ps : List Proc) (s : State) (keys : Keys) (sig : SigId) (bits : List Digit) → PutFires keys sig (put_over o ps s keys sig bits)
+put_over_fires None ps s keys sig bits = show_fires ps s keys sig bits
+put_over_fires (Some ds) ps s keys sig bits = unseen_fires keys sig (with_hidden s sig (Some bits))
+
+-- ---- the region stays
+
+show_region : (ps : List Proc) (s : State) (keys : Keys) (sig : SigId) (bits : List Digit) → (show ps s keys sig bits).state.region ≡ s.region
+show_region ps s keys sig bits = decided (same_digits (value_at s sig) bits) refl
+  where
+    decided : (b : Bool) → same_digits (value_at s sig) bits ≡ b → (show ps s keys sig bits).state.region ≡ s.region
+    decided true e = rw e refl
+    decided false e = rw e refl
+
+put_region : (o : Option (List Digit)) (ps : List Proc) (s : State) (keys : Keys) (sig : SigId) (bits : List Digit) → (put_over o ps s keys sig bits).state.region ≡ s.region
+put_region None ps s keys sig bits = show_region ps s keys sig bits
+put_region (Some ds) ps s keys sig bits = refl
+
+release_region : (o : Option (List Digit)) (net : Bool) (ps : List Proc) (s : State) (keys : Keys) (sig : SigId) → (release_over o net ps s keys sig).state.region ≡ s.region
+release_region None net ps s keys sig = refl
+release_region (Some ds) true ps s keys sig = show_region ps (with_hidden s sig None) keys sig ds
+release_region (Some ds) false ps s keys sig = refl
+
+pub write_region : (k : Content) (sig : SigId) (act : Write) → (written_in k sig act).state.region ≡ k.state.region
+write_region k sig (Plain bits) = put_region (hidden_at k.state sig) k.procs k.state k.keys sig bits
+write_region k sig (Force bits) = show_region k.procs (with_hidden k.state sig (Some (stored_at k.state sig))) k.keys sig bits
+write_region k sig Freeze = show_region k.procs (with_hidden k.state sig (Some (stored_at k.state sig))) k.keys sig (value_at k.state sig)
+write_region k sig Release = release_region (hidden_at k.state sig) (get_or k.nets sig.0 false) k.procs k.state k.keys sig
+
+-- ---- what writes fire
+
+-- what a deposit fires
 pub put_fires : (ps : List Proc) (s : State) (keys : Keys) (sig : SigId) (bits : List Digit) → PutFires keys sig (put ps s keys sig bits)
 put_fires ps s keys sig bits = put_over_fires (hidden_at s sig) ps s keys sig bits
+
+release_fires : (o : Option (List Digit)) (net : Bool) (ps : List Proc) (s : State) (keys : Keys) (sig : SigId) → PutFires keys sig (release_over o net ps s keys sig)
+release_fires None net ps s keys sig = unseen_fires keys sig s
+release_fires (Some ds) true ps s keys sig = show_fires ps (with_hidden s sig None) keys sig ds
+release_fires (Some ds) false ps s keys sig = unseen_fires keys sig (with_hidden s sig None)
+
+-- what a write fires
+pub act_fires : (k : Content) (sig : SigId) (act : Write) → PutFires k.keys sig (written_in k sig act)
+act_fires k sig (Plain bits) = put_fires k.procs k.state k.keys sig bits
+act_fires k sig (Force bits) = show_fires k.procs (with_hidden k.state sig (Some (stored_at k.state sig))) k.keys sig bits
+act_fires k sig Freeze = show_fires k.procs (with_hidden k.state sig (Some (stored_at k.state sig))) k.keys sig (value_at k.state sig)
+act_fires k sig Release = release_fires (hidden_at k.state sig) (get_or k.nets sig.0 false) k.procs k.state k.keys sig
 
 -- ---- events
 

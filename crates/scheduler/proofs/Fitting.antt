@@ -1,5 +1,5 @@
 -- When an engine and a simulator fit, from what holds of their parts.
-use Rattle.std.proofs.Common.{◌≡◌, ℕ, suc, ◌≤◌, Bool, List, [], ◌∷◌, length, None, Some, Result, refl, ap, sym, subst, ◌∙◌, arith}
+use Rattle.std.proofs.Common.{◌≡◌, ℕ, suc, ◌≤◌, Bool, List, [], ◌∷◌, length, Option, None, Some, Result, refl, ap, sym, subst, ◌∙◌, arith}
 use Rattle.std.proofs.lemmas.List.{length-replicate}
 use Rattle.gpi.specs.Content.{Content, opening}
 use Rattle.gpi.specs.Design.{widths, start_map}
@@ -46,7 +46,7 @@ use Rattle.run_view.specs.View.{IsOf}
 use Rattle.scheduler.specs.Setups as events
 use Rattle.scheduler.specs.EffectLaws.Stands.{StandsIn}
 use Rattle.scheduler.proofs.EffectLawsLemmas.Effects.{over_stands, rest_stands}
-use Rattle.scheduler.specs.TestFits.{HasRoom}
+use Rattle.scheduler.specs.TestFits.{HasQueues, HasRoom}
 use Rattle.scheduler.specs.Parts.{Means, Parts, rig_by, parts_of}
 use Rattle.scheduler.specs.Parts as parts
 use Rattle.scheduler.specs.declared.test.RunningTest.{RunningTest}
@@ -54,6 +54,7 @@ use Rattle.scheduler.specs.Engine.{rig_of, setup_of}
 use Rattle.scheduler.specs.Fits.{FitsAt, FitsKernel, KeepsAll}
 use Rattle.scheduler.specs.declared.engine.Engine.{Engine}
 use Rattle.scheduler.proofs.EventTurns.{event_known, event_stands, event_timely}
+use Rattle.scheduler.proofs.QueueLaws.{queues_made}
 use Rattle.scheduler.proofs.Known.{bare_known, first_given, kept_known, told_known}
 
 -- ---- signals of the design
@@ -85,7 +86,7 @@ no_keys_are key.NextStep = refl
 
 -- a simulator that has just loaded the design
 pub opening_bare : (flat : Flat) → IsBare flat (opening flat)
-opening_bare flat = record { procs_are = refl; signals = start_widths flat.signals; keys_are = no_keys_are }
+opening_bare flat = record { procs_are = refl; nets_are = refl; signals = start_widths flat.signals; keys_are = no_keys_are }
 
 -- ---- nothing of a test is left
 
@@ -114,9 +115,9 @@ module _ {M W F : Type 0} (m : Means M W F) where
   -- ---- the end of a test
 
   module _ (e : Engine M W F) (k k' : Content) (t : RunningTest M W F)
-      (parts_are : parts_of m t ≡ record { tasks = []; endings = []; objects = none; random = e.test.random }) (queue_is : queue_of m.waiting t.queue ≡ nothing_queued) where
+      (parts_are : parts_of m t ≡ record { tasks = []; endings = []; objects = none; queues = []; random = e.test.random }) (queue_is : queue_of m.waiting t.queue ≡ nothing_queued) where
     abbrev cleared : Parts
-    cleared = record { tasks = []; endings = []; objects = none; random = e.test.random }
+    cleared = record { tasks = []; endings = []; objects = none; queues = []; random = e.test.random }
 
     -- all is dropped
     pub cleared_is : Leads dropping (queue_of m.waiting e.test.queue) k nothing_queued k' → parts.rig_of m t k' ≡ ended (rig_of m e k)
@@ -247,6 +248,13 @@ module _ {M W F : Type 0} (m : Means M W F) where
           known = after_known;
           timely = after_timely;
         }
+
+-- the events of the queues were made
+pub has_queues : {M W F : Type 0} (m : Means M W F) (turn : Option TaskNo) (e : Engine M W F) (k : Content) → FitsAt turn m e k → HasQueues e.test
+has_queues m turn e k f = record {
+  made = queues_made (view_of (setup_of m e) (rig_of m e k)) e.test.queues f.known.parts.queues_known;
+  few = f.known.parts.queues_few;
+}
 
 -- what a turn keeps, where queue and simulator fit and what the tests share is the same
 pub keeps_all : {M W F K : Type 0} (m : Means M W F) (gpi : GpiGhosts K) (flat : Flat) (d e : Engine M W F) (kernel : K)

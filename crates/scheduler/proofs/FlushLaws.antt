@@ -49,6 +49,7 @@ module _ (flat : Flat) (room : ℕ) (counts : Counts) (held : List Key) (q : Que
   pub unstaged : (ws : List Staged) → AreSoundWrites flat.signals ws → StandsAmid flat room rw_key counts held (record q { staged = ws }) k
   unstaged ws sound = record {
     procs_are = s.procs_are;
+    nets_are = s.nets_are;
     signals = s.signals;
     keys_are = λ x. s.keys_are x
         ∙ among_awaited x rw_key q
@@ -131,20 +132,20 @@ module _ {O : Type 0} (sink : SinkMeans O) (flat : Flat) (room : ℕ) (setup : S
       → (m : Flushing start n0 q0 k0 f0 o0 held q k f o) → (write : Staged) (writes : List Staged) → q.staged ≡ write ∷ writes
       → (held' : List Key) (q' : Queue) (k' : Content) (g : Option SinkFault) (p : O) → q'.staged ≡ writes
       → ((counts : Counts) → StandsAmid flat room rw_key counts held (record q { staged = writes }) k
-      → Serves sink (deposit setup write.sig write.bits) flat room rw_key counts (record q { staged = writes }) k held' q' k' f o g p)
+      → Serves sink (deposit setup write.sig write.act) flat room rw_key counts (record q { staged = writes }) k held' q' k' f o g p)
       → Flushing start n0 q0 k0 f0 o0 held' q' k' g p
   unfolding taken_out
   flushing_more start n0 q0 k0 f0 o0 held q k f o m write writes e held' q' k' g p e' put =
-      let s : Serves sink (deposit setup write.sig write.bits) flat room rw_key m.counts (record q { staged = writes }) k held' q' k' f o g p
+      let s : Serves sink (deposit setup write.sig write.act) flat room rw_key m.counts (record q { staged = writes }) k held' q' k' f o g p
       = put m.counts (unstaged flat room m.counts held q k m.stands writes (first_sound flat q.staged write writes m.stands.writes e).1) in
-      let t : Serves sink (λ c. deposit setup write.sig write.bits (record c { staged = writes })) flat room rw_key m.counts q k held' q' k' f o g p
-      = taken_out (deposit setup write.sig write.bits) m.counts q k writes held' q' k' f o g p s in
+      let t : Serves sink (λ c. deposit setup write.sig write.act (record c { staged = writes })) flat room rw_key m.counts q k held' q' k' f o g p
+      = taken_out (deposit setup write.sig write.act) m.counts q k writes held' q' k' f o g p s in
       record {
         counts = s.after;
         stands = s.stands;
         rest = λ held'' q'' k'' h r u. m.rest held'' q'' k'' h r
             (subst (λ (ws : List Staged). Serves sink (flushed setup ws) flat room rw_key m.counts q k held'' q'' k'' f o h r) (sym e)
-            (serves_then sink flat room rw_key (λ c. deposit setup write.sig write.bits (record c { staged = writes })) (flushed setup writes) m.counts q k held' q' k' held'' q'' k'' f o g p h r t
+            (serves_then sink flat room rw_key (λ c. deposit setup write.sig write.act (record c { staged = writes })) (flushed setup writes) m.counts q k held' q' k' held'' q'' k'' f o g p h r t
             (subst (λ (ws : List Staged). Serves sink (flushed setup ws) flat room rw_key s.after q' k' held'' q'' k'' g p h r) e' u)));
       }
 

@@ -14,6 +14,7 @@ use Rattle.await_tree.specs.declared.cause.Given.{Given}
 use Rattle.await_tree.specs.declared.cause.Given.TheVariants as given
 use Rattle.await_tree.specs.SyncObjects.States.{States}
 use Rattle.run_view.specs.RandomStream.Generator.{Generator}
+use Rattle.task_queue.specs.Queues.{TaskQueue}
 use Rattle.await_tree.specs.EndedTasks.Endings.{Endings, told_given, joined_given, ending_of}
 use Rattle.await_tree.specs.declared.ended_tasks.ending.Ending.{Ending}
 use Rattle.await_tree.specs.declared.ended_tasks.ending.Ending.TheVariants.{Returned, Failed, Killed}
@@ -35,9 +36,9 @@ use Rattle.run_view.proofs.Known.{names_known}
 -- ---- the names of the design
 
 -- node 0 is one of the nodes
-top_known : (flat : Flat) (nodes : List Node) (state : State) (objects : States) (endings : Endings) → IsOf flat nodes state
-    → KnowsNode (view.view_of flat state objects endings) 0
-top_known flat nodes state objects endings h =
+top_known : (flat : Flat) (nodes : List Node) (state : State) (objects : States) (queues : List TaskQueue) (endings : Endings) → IsOf flat nodes state
+    → KnowsNode (view.view_of flat state objects queues endings) 0
+top_known flat nodes state objects queues endings h =
     let root : 0 < length flat.nodes = h.sound.tree.root in
     (omega (arith, length-map flat.nodes (λ (n : Node). n.children)), omega (arith, length-map flat.nodes (λ (n : Node). n.path)))
 
@@ -45,8 +46,8 @@ module _ (setup : Setup) where
   -- where a simulator of the design has a value for each of its signals
   pub known_of : (nodes : List Node) (c : Rig) → IsOf setup.flat nodes c.sim → AreSoundFunctions setup.functions → KnowsParts setup.functions (view_of setup c) c → IsKnown setup c
   known_of nodes c h s p = record {
-    design = names_known setup.flat nodes c.sim c.objects c.endings h;
-    top = top_known setup.flat nodes c.sim c.objects c.endings h;
+    design = names_known setup.flat nodes c.sim c.objects c.queues c.endings h;
+    top = top_known setup.flat nodes c.sim c.objects c.queues c.endings h;
     sound = s;
     parts = p;
   }
@@ -56,7 +57,7 @@ module _ (setup : Setup) where
       → IsKnown setup (emptied state random counts)
   bare_known nodes state random counts h s =
       known_of nodes (emptied state random counts) h s
-      (record { tasks_known = tt; running_known = tt; ready_known = tt; waiting_known = tt; endings_known = tt; staged_known = tt })
+      (record { tasks_known = tt; running_known = tt; ready_known = tt; waiting_known = tt; endings_known = tt; staged_known = tt; queues_known = tt; queues_few = omega arith })
 
   -- a test's own task is there
   pub first_task_known : (nodes : List Node) (state : State) (random : Generator) (counts : Counts) (n : ℕ) (args : List Value) → IsOf setup.flat nodes state → AreSoundFunctions setup.functions
@@ -65,8 +66,8 @@ module _ (setup : Setup) where
       let d : Rig = with_new_task (function_at setup.functions n) args (emptied state random counts) in
       let v : View = view_of setup d in
       known_of nodes d h s
-      (new_parts setup.functions v n args (emptied state random counts) s (k v (top_known setup.flat nodes d.sim d.objects d.endings h))
-      (record { tasks_known = tt; running_known = tt; ready_known = tt; waiting_known = tt; endings_known = tt; staged_known = tt }))
+      (new_parts setup.functions v n args (emptied state random counts) s (k v (top_known setup.flat nodes d.sim d.objects d.queues d.endings h))
+      (record { tasks_known = tt; running_known = tt; ready_known = tt; waiting_known = tt; endings_known = tt; staged_known = tt; queues_known = tt; queues_few = omega arith }))
 
   -- ---- other parts
 
@@ -84,6 +85,8 @@ module _ (setup : Setup) where
       waiting_known = k.parts.waiting_known;
       endings_known = k.parts.endings_known;
       staged_known = k.parts.staged_known;
+      queues_known = k.parts.queues_known;
+      queues_few = k.parts.queues_few;
     };
   }
 
@@ -104,6 +107,8 @@ module _ (setup : Setup) where
       waiting_known = k.parts.waiting_known;
       endings_known = k.parts.endings_known;
       staged_known = k.parts.staged_known;
+      queues_known = k.parts.queues_known;
+      queues_few = k.parts.queues_few;
     };
   }
 
@@ -120,6 +125,8 @@ module _ (setup : Setup) where
       waiting_known = k.parts.waiting_known;
       endings_known = k.parts.endings_known;
       staged_known = k.parts.staged_known;
+      queues_known = k.parts.queues_known;
+      queues_few = k.parts.queues_few;
     };
   }
 

@@ -31,6 +31,8 @@ goes_known setup task g c k h = record {
     waiting_known = k.parts.waiting_known;
     endings_known = k.parts.endings_known;
     staged_known = k.parts.staged_known;
+    queues_known = k.parts.queues_known;
+    queues_few = k.parts.queues_few;
   };
 }
 

@@ -1,11 +1,11 @@
 -- Where the effects of a task lead.
 use Rattle.std.proofs.Common.{◌≡◌, ℕ, Bool, true, false, List, [], ◌∷◌, ◌++◌, length, Some, refl, ap, sym, ◌∙◌}
 use Rattle.std.specs.Prelude.{◌==◌}
-use Rattle.four_value.specs.declared.Digit.{Digit}
 use Rattle.gpi.specs.Content.{Content}
 use Rattle.gpi.specs.State.{State, is_end}
 use Rattle.gpi.specs.declared.types.Counts.{Counts}
 use Rattle.gpi.specs.declared.types.SigId.{SigId}
+use Rattle.gpi.specs.declared.types.Write.{Write}
 use Rattle.py_value.specs.declared.trigger.TaskNo.{TaskNo}
 use Rattle.py_value.specs.declared.trigger.EventNo.{EventNo}
 use Rattle.py_value.specs.declared.trigger.LockNo.{LockNo}
@@ -61,21 +61,21 @@ counted_same c d e h =
 module _ (setup : Setup) (task : TaskNo) (p : Parts) (q : Queue) (k : Content) where
   -- ---- writes
 
-  pub put_lines : (sig : SigId) (bits : List Digit) → is_end k.state.region ≡ false
-      → (effect setup task (turned.Put sig bits) (rig_by p q k)).lines ≡ (deposit setup sig bits (rig_by p q k)).lines
-  put_lines sig bits e =
-      ap (λ (x : Bool). (write_by x sig (puts setup task sig bits (rig_by p q k)) (rig_by p q k)).lines) e ∙ append_none (deposit setup sig bits (rig_by p q k)).lines
+  pub put_lines : (sig : SigId) (act : Write) → is_end k.state.region ≡ false
+      → (effect setup task (turned.Put sig act) (rig_by p q k)).lines ≡ (deposit setup sig act (rig_by p q k)).lines
+  put_lines sig act e =
+      ap (λ (x : Bool). (write_by x sig (puts setup task sig act (rig_by p q k)) (rig_by p q k)).lines) e ∙ append_none (deposit setup sig act (rig_by p q k)).lines
 
   module _ (q' : Queue) (k' : Content) where
-    pub stage_leads : (sig : SigId) (bits : List Digit) → is_end k.state.region ≡ false → Leads (staging sig bits) q k q' k'
-        → (effect setup task (turned.Stage sig bits) (rig_by p q k)).rig ≡ goes_on task (Some Absent) (rig_by p q' k')
-    stage_leads sig bits e l =
-        ap (λ (x : Bool). (write_by x sig (stages task sig bits (rig_by p q k)) (rig_by p q k)).rig) e ∙ ap (goes_on task (Some Absent)) (l (rig_by p q k))
+    pub stage_leads : (sig : SigId) (act : Write) → is_end k.state.region ≡ false → Leads (staging sig act) q k q' k'
+        → (effect setup task (turned.Stage sig act) (rig_by p q k)).rig ≡ goes_on task (Some Absent) (rig_by p q' k')
+    stage_leads sig act e l =
+        ap (λ (x : Bool). (write_by x sig (stages task sig act (rig_by p q k)) (rig_by p q k)).rig) e ∙ ap (goes_on task (Some Absent)) (l (rig_by p q k))
 
-    pub put_leads : (sig : SigId) (bits : List Digit) → is_end k.state.region ≡ false → Leads (λ c. (deposit setup sig bits c).rig) q k q' k'
-        → (effect setup task (turned.Put sig bits) (rig_by p q k)).rig ≡ goes_on task (Some Absent) (rig_by p q' k')
-    put_leads sig bits e l =
-        ap (λ (x : Bool). (write_by x sig (puts setup task sig bits (rig_by p q k)) (rig_by p q k)).rig) e ∙ ap (goes_on task (Some Absent)) (l (rig_by p q k))
+    pub put_leads : (sig : SigId) (act : Write) → is_end k.state.region ≡ false → Leads (λ c. (deposit setup sig act c).rig) q k q' k'
+        → (effect setup task (turned.Put sig act) (rig_by p q k)).rig ≡ goes_on task (Some Absent) (rig_by p q' k')
+    put_leads sig act e l =
+        ap (λ (x : Bool). (write_by x sig (puts setup task sig act (rig_by p q k)) (rig_by p q k)).rig) e ∙ ap (goes_on task (Some Absent)) (l (rig_by p q k))
 
   -- ---- kills and ends
 

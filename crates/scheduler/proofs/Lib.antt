@@ -24,6 +24,7 @@ pub mod FlushLaws
 pub mod EventLaws
 pub mod Nexts
 pub mod Leading
+pub mod QueueLaws
 pub mod Waiting
 pub mod Quiet
 pub mod Known

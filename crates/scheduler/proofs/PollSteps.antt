@@ -104,6 +104,7 @@ module _ (setup : Setup) (number : TaskNo) where
             endings = refl;
             waiting = refl;
             objects = refl;
+            queues = refl;
             staged = refl;
             fired = refl;
             deadline = refl;

@@ -44,7 +44,7 @@ no_fault (Err x) h o = cc
 
 module _ {M W F : Type 0} (m : Means M W F) (e : Engine M W F) (k : Content) (number : TaskNo) (fits : FitsAt (Some number) m e k) (none : e.test.queue.planned ≡ None)
     (g : Given) (given_known : KnowsGiven (view_of (setup_of m e) (rig_of m e k)) g) (fuel : ℕ) (t : RunningTest M W F) (wish : Turned) (f : ℕ)
-    (polls : PollsOne (m.functions e.test.tasks.maker) (view.view_of e.teller.flat.now k.state e.test.objects e.test.tasks.ended) fuel (live_in m.task e.test.tasks) number g wish f (live_in m.task t.tasks))
+    (polls : PollsOne (m.functions e.test.tasks.maker) (view.view_of e.teller.flat.now k.state e.test.objects e.test.queues e.test.tasks.ended) fuel (live_in m.task e.test.tasks) number g wish f (live_in m.task t.tasks))
     (queue_is : t.queue ≡ e.test.queue) (rest_is : parts_of m t ≡ record (parts_of m e.test) { tasks = live_in m.task t.tasks })
     (maker_is : t.tasks.maker ≡ e.test.tasks.maker) (room : HasRoom m t) where
   abbrev b : Rig

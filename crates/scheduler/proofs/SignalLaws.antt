@@ -1,5 +1,5 @@
 -- Signals, and writes that are of their width.
-use Rattle.std.proofs.Common.{◌≡◌, ℕ, suc, ◌<◌, get_or, List, [], ◌∷◌, length, refl, sym, ap, ◌∙◌, arith}
+use Rattle.std.proofs.Common.{◌≡◌, ℕ, suc, ◌<◌, get_or, List, [], ◌∷◌, length, refl, sym, ap, subst, ◌∙◌, arith}
 use Rattle.four_value.specs.declared.Digit.{Digit}
 use Rattle.gpi.specs.Design.{widths}
 use Rattle.gpi.specs.Terms.{widths_of}
@@ -7,6 +7,7 @@ use Rattle.gpi.specs.declared.design.Signal.{Signal}
 use Rattle.gpi.specs.declared.types.SigId.{SigId}
 use Rattle.gpi.proofs.Widths.{length_widths, get_or_widths}
 use Rattle.run_view.specs.declared.signal_port.staged.Staged.{Staged}
+use Rattle.rig_model.specs.Task.Known.{HasDigits}
 use Rattle.rig_model.specs.Parts.Fits.{IsSoundWrite}
 
 count_widths : (ss : List Signal) → length (widths ss) ≡ length ss
@@ -32,7 +33,7 @@ same_width m n ss sig e w h =
     ∙ ap (λ (ws : List ℕ). get_or ws sig.0 0) (sym w)
     ∙ get_or_widths n sig.0 [] (is_inside n ss sig (w ∙ e) h)
 
--- digits of the width of a signal of the design are as many as its value has
-pub written_fits : (m : List (List Digit)) (ss : List Signal) (w : Staged) → widths_of m ≡ widths ss → IsSoundWrite ss w → length w.bits ≡ length (get_or m w.sig.0 [])
+-- what is written of the width of a signal of the design has as many digits as its value
+pub written_fits : (m : List (List Digit)) (ss : List Signal) (w : Staged) → widths_of m ≡ widths ss → IsSoundWrite ss w → HasDigits (length (get_or m w.sig.0 [])) w.act
 written_fits m ss w e s =
-    s.1 ∙ ap (λ (ws : List ℕ). get_or ws w.sig.0 0) (sym e) ∙ get_or_widths m w.sig.0 [] (is_inside m ss w.sig e s.0)
+    subst (λ (n : ℕ). HasDigits n w.act) (ap (λ (ws : List ℕ). get_or ws w.sig.0 0) (sym e) ∙ get_or_widths m w.sig.0 [] (is_inside m ss w.sig e s.0)) s.1

@@ -69,6 +69,7 @@ same_rest c = record {
   endings = refl;
   waiting = refl;
   objects = refl;
+  queues = refl;
   staged = refl;
   fired = refl;
   deadline = refl;
@@ -124,6 +125,7 @@ module _ (setup : Setup) (c : Rig) (e : Entry) (es : List Entry) (runs : c.runni
                 endings = g.rest.endings;
                 waiting = g.rest.waiting;
                 objects = g.rest.objects;
+                queues = g.rest.queues;
                 staged = g.rest.staged;
                 fired = g.rest.fired;
                 deadline = g.rest.deadline;

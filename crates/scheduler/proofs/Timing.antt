@@ -1,16 +1,16 @@
 -- How late steps come, and whether a start is planned.
 use Rattle.std.proofs.Common.{◌≡◌, ℕ, zero, suc, ◌-◌, ◌≤◌, Bool, true, false, List, [], ◌∷◌, Option, None, Some, refl, sym, subst, ◌∙◌, arith}
-use Rattle.four_value.specs.declared.Digit.{Digit}
-use Rattle.gpi.specs.Events.{Event, put}
+use Rattle.gpi.specs.Events.{Event}
 use Rattle.gpi.specs.Keys.{among, set_of}
 use Rattle.gpi.specs.Limits.{latest_time}
 use Rattle.gpi.specs.declared.types.Key.{Key}
 use Rattle.gpi.specs.declared.types.Key.TheVariants.{ReadWrite}
 use Rattle.gpi.specs.declared.types.SigId.{SigId}
+use Rattle.gpi.specs.declared.types.Write.{Write}
 use Rattle.await_tree.specs.Check.{last_time}
 use Rattle.run_view.specs.declared.signal_port.staged.Staged.{Staged}
-use Rattle.rig_model.specs.Run.Rig.{Rig, Setup, procs, awaited}
-use Rattle.rig_model.specs.Run.Serve.{with_fired, not_due, is_due, deposit, flushed, flushed_if, ended_if, served}
+use Rattle.rig_model.specs.Run.Rig.{Rig, Setup, awaited}
+use Rattle.rig_model.specs.Run.Serve.{with_fired, not_due, is_due, deposit, flushed, flushed_if, ended_if, served, written}
 use Rattle.rig_model.specs.Run.Step.{rig_step, evented}
 use Rattle.rig_model.specs.Parts.Steps.{FitSteps, Moves}
 use Rattle.scheduler.specs.Timely.{IsTimely}
@@ -39,15 +39,15 @@ not_due_none : (keys : List Key) (time : Option ℕ) → time ≡ None → not_d
 not_due_none keys None h = refl
 not_due_none keys (Some t) h = cc
 
-deposit_planned : (setup : Setup) (sig : SigId) (bits : List Digit) (c : Rig) → c.planned ≡ None → (deposit setup sig bits c).rig.planned ≡ None
-deposit_planned setup sig bits c h =
-    let e : Event = put (procs setup) c.sim (set_of (awaited c)) sig bits in
+deposit_planned : (setup : Setup) (sig : SigId) (act : Write) (c : Rig) → c.planned ≡ None → (deposit setup sig act c).rig.planned ≡ None
+deposit_planned setup sig act c h =
+    let e : Event = written setup c.sim (set_of (awaited c)) sig act in
     serve_keys_planned e.fired c.fired (with_fired e.fired (record c { sim = e.state })) ∙ not_due_none e.fired c.planned h
 
 flushed_planned : (setup : Setup) (ws : List Staged) (c : Rig) → c.planned ≡ None → (flushed setup ws c).rig.planned ≡ None
 flushed_planned setup [] c h = h
 flushed_planned setup (w ∷ ws) c h =
-    flushed_planned setup ws (deposit setup w.sig w.bits (record c { staged = ws })).rig (deposit_planned setup w.sig w.bits (record c { staged = ws }) h)
+    flushed_planned setup ws (deposit setup w.sig w.act (record c { staged = ws })).rig (deposit_planned setup w.sig w.act (record c { staged = ws }) h)
 
 flush_planned : (setup : Setup) (b : Bool) (c : Rig) → c.planned ≡ None → (flushed_if setup b c).rig.planned ≡ None
 flush_planned setup true c h = flushed_planned setup c.staged c h

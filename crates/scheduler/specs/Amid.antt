@@ -3,7 +3,7 @@ use Rattle.std.specs.Prelude.{◌≡◌, ℕ, ◌≤◌, ◌+◌, true, false, L
 use Rattle.port_io.specs.Means.{SinkMeans}
 use Rattle.port_io.specs.declared.ports.SinkFault.{SinkFault}
 use Rattle.gpi.specs.Content.{Content}
-use Rattle.gpi.specs.Design.{procs_of, widths}
+use Rattle.gpi.specs.Design.{nets_of, procs_of, widths}
 use Rattle.gpi.specs.Keys.{among}
 use Rattle.gpi.specs.Terms.{widths_of}
 use Rattle.gpi.specs.declared.design.Flat.{Flat}
@@ -21,6 +21,7 @@ use Rattle.scheduler.specs.Puts.{PutsOn}
 -- `run_state::queue` has it.
 pub record StandsAmid (flat : Flat) (room : ℕ) (fired : List Key) (counts : Counts) (held : List Key) (q : Queue) (content : Content) : Type 0 where
   pub procs_are : content.procs ≡ procs_of flat.processes
+  pub nets_are : content.nets ≡ nets_of flat.signals
   pub signals : widths_of content.state.signals ≡ widths flat.signals
   pub keys_are : AreKeys content.keys (queue_awaited fired q)
   pub held_are : (k : Key) → among k fired ≡ false → among k held ≡ among k (queue_held q)

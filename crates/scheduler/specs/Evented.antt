@@ -17,8 +17,8 @@ use Rattle.scheduler.specs.Setups.{setup_of}
 -- A signal was written at once: that leads from the one queue and simulator to the other, and its lines were put.
 pub record IsPut {O : Type 0} (sink : SinkMeans O) (t : Teller) (write : Staged) (q : Queue) (content : Content) (q' : Queue) (content' : Content)
     (out : O) (fault : Option SinkFault) (out' : O) : Type 0 where
-  pub leads : (functions : List Function) → Leads (λ c. (deposit (setup_of functions t) write.sig write.bits c).rig) q content q' content'
-  pub puts : (functions : List Function) (c : Rig) → PutsTo sink out (deposit (setup_of functions t) write.sig write.bits (rig_at q content c)).lines fault out'
+  pub leads : (functions : List Function) → Leads (λ c. (deposit (setup_of functions t) write.sig write.act c).rig) q content q' content'
+  pub puts : (functions : List Function) (c : Rig) → PutsTo sink out (deposit (setup_of functions t) write.sig write.act (rig_at q content c)).lines fault out'
 
 -- The next event of the simulator was done, and what it fired was served: that leads from the one queue and simulator to the other, its lines were put,
 -- and the test is given up where its time was over.

@@ -7,6 +7,8 @@ pub mod Evented
 pub mod Fires
 pub mod Puts
 pub mod Setups
+pub mod Written
+pub mod QueueEffects
 pub mod Parts
 pub mod TestFits
 pub mod Waits

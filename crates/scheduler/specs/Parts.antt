@@ -5,6 +5,7 @@ use Rattle.gpi.specs.declared.interface.Gpi.{Ghosts as GpiGhosts}
 use Rattle.gpi.specs.declared.types.Key.{Key}
 use Rattle.await_tree.specs.EndedTasks.Endings.{Endings}
 use Rattle.run_view.specs.RandomStream.Generator.{Generator}
+use Rattle.task_queue.specs.Queues.{TaskQueue}
 use Rattle.await_tree.specs.SyncObjects.States.{States}
 use Rattle.test_meaning.specs.Body.BodyTrees.{Function}
 use Rattle.rig_model.specs.Task.Frame.{Task}
@@ -36,6 +37,7 @@ pub record Parts : Type 0 where
   pub tasks : List Task
   pub endings : Endings
   pub objects : States
+  pub queues : List TaskQueue
   pub random : Generator
 
 -- the configuration of these parts, of a queue and of what a simulator holds, in which no task has its turn
@@ -48,6 +50,7 @@ rig_by p q content = record {
   ready = q.ready;
   waiting = q.waiting;
   objects = p.objects;
+  queues = p.queues;
   staged = q.staged;
   fired = [];
   deadline = q.deadline;
@@ -58,7 +61,7 @@ rig_by p q content = record {
 }
 
 abbrev pub parts_of : {M W F : Type 0} → Means M W F → RunningTest M W F → Parts
-parts_of m t = record { tasks = live_in m.task t.tasks; endings = t.tasks.ended; objects = t.objects; random = t.random }
+parts_of m t = record { tasks = live_in m.task t.tasks; endings = t.tasks.ended; objects = t.objects; queues = t.queues; random = t.random }
 
 -- The configuration between the things that tasks want, where the turn is taken from the task that wanted the last one.
 abbrev pub rig_of : {M W F : Type 0} → Means M W F → RunningTest M W F → Content → Rig

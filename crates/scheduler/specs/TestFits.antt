@@ -1,11 +1,12 @@
 -- A means of proof: when a running test and a simulator fit, for the proofs of the runner's turns.
-use Rattle.std.specs.Prelude.{◌≡◌, ◌≤◌, length, Option, None, Some, Ok}
+use Rattle.std.specs.Prelude.{◌≡◌, ◌≤◌, ◌+◌, length, Option, None, Some, Ok}
 use Rattle.gpi.specs.Content.{Content}
 use Rattle.gpi.specs.declared.design.Flat.{Flat}
 use Rattle.gpi.specs.declared.interface.Gpi.{Ghosts as GpiGhosts}
 use Rattle.py_value.specs.declared.trigger.TaskNo.{TaskNo}
 use Rattle.run_state.specs.LiveTasks.Flows.{meanings}
 use Rattle.run_state.specs.TestTasks.Tasks.{IsWhole, live_in}
+use Rattle.run_view.specs.View.{HaveEvents}
 use Rattle.rig_model.specs.declared.task.task.Turned.{Turned}
 use Rattle.rig_model.specs.Run.Rig.{Setup}
 use Rattle.scheduler.specs.EffectLaws.Stands.{StandsIn}
@@ -47,6 +48,11 @@ pub record Kept {M W F K : Type 0} (m : Means M W F) (gpi : GpiGhosts K) (before
   pub loaded : gpi.is_loaded kernel
   pub keeps : Keeps m.waiting m.held after.queue (gpi.content kernel)
   pub maker : after.tasks.maker ≡ before.tasks.maker
+
+-- Both events of each queue were made, and there are two events for each queue.
+pub record HasQueues {M W F : Type 0} (t : RunningTest M W F) : Type 0 where
+  pub made : HaveEvents t.objects t.queues
+  pub few : length t.queues + length t.queues ≤ length t.objects.events
 
 -- where queue and simulator fitted on a design they still do
 abbrev pub StaysFit : {M W F : Type 0} → Means M W F → RunningTest M W F → Content → RunningTest M W F → Content → Type 0

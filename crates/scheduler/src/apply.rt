@@ -22,7 +22,7 @@ use std::alloc::Global;
 use std::sync::ledger::Ledger;
 
 impl<M: FlowMaker + Drop, W: Awaits> RunningTest<M, W> {
-    ghost use Rattle.scheduler.specs.TestFits.{FitsAt, FitsNext, Kept};
+    ghost use Rattle.scheduler.specs.TestFits.{FitsAt, FitsNext, HasQueues, Kept};
     ghost use Rattle.scheduler.specs.Parts.{Relates, means, rig_of};
 
     /// What the task wants that has its turn is done, once the turn is taken from it. What tasks see must know what it wants. The task goes on and
@@ -43,6 +43,7 @@ impl<M: FlowMaker + Drop, W: Awaits> RunningTest<M, W> {
         requires time { (K.content kernel.old).state.time ≤ latest_time }
         requires known { KnowsTurned (M.functions self.old.tasks.maker) (view_of (setup_of (M.functions self.old.tasks.maker) teller.now)
             (rig_of (means M.FlowMaker M.Flow.Flow W.Awaits) self.old (K.content kernel.old))) turned }
+        requires queues { HasQueues self.old }
         requires wanted { turned ≢ Turned.Spent }
         ensures leads { IfOk result (λ next. Relates (means M.FlowMaker M.Flow.Flow W.Awaits) K.Gpi
             (λ c d. LeadsTo (setup_of (M.functions self.old.tasks.maker) teller.now) task turned c next d) self.old kernel.old self.new kernel.new) }
@@ -55,12 +56,12 @@ impl<M: FlowMaker + Drop, W: Awaits> RunningTest<M, W> {
     {
         match turned {
             Turned::Await(trig) => self.wait(alloc, kernel, task, trig, steps),
-            Turned::Stage { sig, bits } => self.stage_write(kernel, sig, bits, steps),
-            Turned::Put { sig, bits } => self.put_write(
+            Turned::Stage { sig, act } => self.stage_write(kernel, sig, act, steps),
+            Turned::Put { sig, act } => self.put_write(
                 alloc,
                 kernel,
                 teller,
-                Staged { sig, bits },
+                Staged { sig, act },
                 out,
                 steps,
             ),
@@ -75,6 +76,9 @@ impl<M: FlowMaker + Drop, W: Awaits> RunningTest<M, W> {
             Turned::ClearEvent(event) => Ok(self.clear_event(event)),
             Turned::NewLock => self.new_lock(),
             Turned::Release(lock) => Ok(self.release(kernel, task, lock, steps)),
+            Turned::NewQueue(bound) => self.new_queue(bound),
+            Turned::PutNow { queue, item } => self.put_item(kernel, task, queue, item, steps),
+            Turned::GetNow(queue) => Ok(self.get_item(kernel, task, queue, steps)),
             Turned::Draw { low, span } => Ok(self.draw(low, span)),
             Turned::Log { level, text } => write_log(alloc, kernel.now(), level, &text, out),
             Turned::Done(value) => Ok(self.finish(kernel, task, value, steps)),

@@ -15,8 +15,7 @@ ghost use Rattle.run_state.specs.Queue.Fits.{Fits, queue_of};
 
 use crate::teller::Teller;
 use await_tree::wait_list::{Awaits, Steps};
-use four_value::Bits;
-use gpi::{Advance, Fired, Gpi, Key, SigId};
+use gpi::{Advance, Fired, Gpi, Key, SigId, Write};
 use port_io::{NoMemory, Sink, SinkFault};
 use run_state::queue::RunQueue;
 use run_view::signal_port::Staged;
@@ -77,12 +76,12 @@ fn take_due(time: &mut Option<u64>, fired: Fired) -> bool
     }
 }
 
-/// A signal and its digits, as a staged write.
-fn staged_of(write: (SigId, Bits)) -> Staged
-    ensures { result ≡ record { sig = write.0; bits = write.1 } }
+/// A signal and what is written to it, as a staged write.
+fn staged_of(write: (SigId, Write)) -> Staged
+    ensures { result ≡ record { sig = write.0; act = write.1 } }
 {
-    let (sig, bits) = write;
-    Staged { sig, bits }
+    let (sig, act) = write;
+    Staged { sig, act }
 }
 
 impl<'a> Teller<'a> {

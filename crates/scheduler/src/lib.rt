@@ -3,8 +3,8 @@
 //!
 //! Begin with [`Engine::new`]. What a turn came to is a [`Turn`], and [`Next`] what becomes of a turn after something that its task wanted. The
 //! lines of verdicts, and which test follows which, are left to the crates above. Inside,
-//! - `test` is a test that runs: its tasks, what is ready, waits and is awaited, its events and locks, and its random numbers; `apply` does what a
-//! task wants;
+//! - `test` is a test that runs: its tasks, what is ready, waits and is awaited, its events, locks and queues, and its random numbers; `apply` does what
+//! a task wants;
 //! - `teller` has the simulator do its next event or a write at once: what changes is told, and whom the fired keys wake goes into the ring of ready
 //! tasks;
 //! - `starts` and `limits` are what a test begins with: the values of its arguments, and its limit of time;
@@ -30,6 +30,7 @@ mod limits;
 mod locks;
 mod put;
 mod puts;
+mod queues;
 mod starting;
 mod starts;
 mod teller;

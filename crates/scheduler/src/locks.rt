@@ -18,13 +18,13 @@ use rig_model::task::FlowMaker;
 use std::sync::ledger::Ledger;
 
 /// How many events may be made in a test.
-const EVENT_LIMIT: u32 = 65_536;
+pub(crate) const EVENT_LIMIT: u32 = 65_536;
 
 /// How many locks may be made in a test.
 const LOCK_LIMIT: u32 = 65_536;
 
 /// The task goes on, and a fault of that kind is raised in it.
-fn refused(kind: FaultKind) -> Next
+pub(crate) fn refused(kind: FaultKind) -> Next
     ensures { result ≡ Next.GoesOn (Given.Fault (plain_fault kind)) }
 {
     Next::GoesOn(Given::Fault(Fault::plain(kind)))

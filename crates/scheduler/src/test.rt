@@ -9,7 +9,7 @@ ghost use Rattle.rig_model.specs.Run.Step.{task_at};
 ghost use Rattle.rig_model.specs.Parts.Queue.{Leads, nothing_queued};
 ghost use Rattle.run_state.specs.Queue.Effects.{dropping};
 ghost use Rattle.run_state.specs.Queue.Fits.{Fits, IsBare, Keeps, Stays, queue_of};
-ghost use Rattle.run_view.specs.View.{view_of, IsOf};
+ghost use Rattle.run_view.specs.View.{view_of, HaveEvents, IsOf};
 ghost use Rattle.await_tree.specs.SyncObjects.States.{none};
 ghost use Rattle.rig_model.specs.Task.Known.{KnowsGiven};
 ghost use Rattle.run_state.specs.TestTasks.Live.{LeavesOne, PollsOne};
@@ -29,15 +29,17 @@ use run_view::design_names::DesignNames;
 use run_view::random_stream::RandomStream;
 use std::alloc::Global;
 use std::sync::ledger::Ledger;
+use task_queue::Queues;
 
-/// A test that runs, or none: its tasks, what is ready, waits and is awaited, its events and locks, and the random numbers of the run. Contracts see
-/// it, together with a simulator, as the configuration `rig_of` of `specs/Parts.antt`.
+/// A test that runs, or none: its tasks, what is ready, waits and is awaited, its events, locks and queues, and the random numbers of the run.
+/// Contracts see it, together with a simulator, as the configuration `rig_of` of `specs/Parts.antt`.
 #[derive(Drop)]
 pub struct RunningTest<M: FlowMaker + Drop, W: Awaits> {
     /// What is ready, waits and is awaited.
     pub queue: RunQueue<W>,
     pub(crate) tasks: TestTasks<M>,
     pub(crate) objects: Objects,
+    pub(crate) queues: Queues,
     pub(crate) random: RandomStream,
 }
 
@@ -51,7 +53,7 @@ impl<M: FlowMaker + Drop, W: Awaits> RunningTest<M, W> {
         requires held { AreAlike (W.held awaits) [] }
         ensures maker { IfOk result (λ test. test.tasks.maker ≡ maker) }
         ensures parts { IfOk result (λ test. parts_of (means M.FlowMaker M.Flow.Flow W.Awaits) test
-            ≡ record { tasks = []; endings = []; objects = none; random = seeded seed }) }
+            ≡ record { tasks = []; endings = []; objects = none; queues = []; random = seeded seed }) }
         ensures queue { IfOk result (λ test. queue_of W.waiting test.queue ≡ nothing_queued) }
         ensures room { IfOk result (λ test. HasRoom (means M.FlowMaker M.Flow.Flow W.Awaits) test) }
         ensures fits { IfOk result
@@ -61,6 +63,7 @@ impl<M: FlowMaker + Drop, W: Awaits> RunningTest<M, W> {
             queue: RunQueue::new(alloc, awaits)?,
             tasks: TestTasks::new(alloc, maker),
             objects: Objects::new(alloc),
+            queues: Queues::new(alloc),
             random: RandomStream::new(seed),
         })
     }
@@ -88,14 +91,17 @@ impl<M: FlowMaker + Drop, W: Awaits> RunningTest<M, W> {
         requires room { HasRoom (means M.FlowMaker M.Flow.Flow W.Awaits) self.old }
         requires loaded { K.is_loaded kernel.now }
         requires design { IsOf flat.now names.now (K.content kernel.now).state }
+        requires events { HaveEvents self.old.objects self.old.queues }
         requires lives { IsSome (task_at task (live_in M.Flow.meaning self.old.tasks)) }
         requires known { KnowsTasks (M.functions self.old.tasks.maker)
-            (view_of flat.now (K.content kernel.now).state self.old.objects self.old.tasks.ended) (live_in M.Flow.meaning self.old.tasks) }
-        requires answer { KnowsGiven (view_of flat.now (K.content kernel.now).state self.old.objects self.old.tasks.ended) given }
+            (view_of flat.now (K.content kernel.now).state self.old.objects self.old.queues self.old.tasks.ended)
+            (live_in M.Flow.meaning self.old.tasks) }
+        requires answer { KnowsGiven
+            (view_of flat.now (K.content kernel.now).state self.old.objects self.old.queues self.old.tasks.ended) given }
         ensures falls { fuel.new ≤ fuel.old }
         ensures left { LeavesOne (live_in M.Flow.meaning self.old.tasks) task (live_in M.Flow.meaning self.new.tasks) }
         ensures polls { IfOk result (λ turned. PollsOne (M.functions self.old.tasks.maker)
-            (view_of flat.now (K.content kernel.now).state self.old.objects self.old.tasks.ended) fuel.old
+            (view_of flat.now (K.content kernel.now).state self.old.objects self.old.queues self.old.tasks.ended) fuel.old
             (live_in M.Flow.meaning self.old.tasks) task given turned fuel.new (live_in M.Flow.meaning self.new.tasks)) }
         ensures rest { parts_of (means M.FlowMaker M.Flow.Flow W.Awaits) self.new
             ≡ record (parts_of (means M.FlowMaker M.Flow.Flow W.Awaits) self.old)
@@ -104,16 +110,26 @@ impl<M: FlowMaker + Drop, W: Awaits> RunningTest<M, W> {
         ensures maker { self.new.tasks.maker ≡ self.old.tasks.maker }
         ensures queue { self.new.queue ≡ self.old.queue }
     {
-        self.tasks.poll(alloc, kernel, flat, names, &self.objects, task, given, fuel)
+        self.tasks.poll(
+            alloc,
+            kernel,
+            flat,
+            names,
+            &self.objects,
+            &self.queues,
+            task,
+            given,
+            fuel,
+        )
     }
 
-    /// Drops all of the test: its tasks, its events and locks, and all that is queued; no key is registered any more. The random numbers go on where
-    /// they are. It takes no memory.
+    /// Drops all of the test: its tasks, its events, locks and queues, and all that is ready, waits or is awaited; no key is registered any more.
+    /// The random numbers go on where they are. It takes no memory.
     pub fn clear<K: Gpi, L: Ledger>(&mut self, kernel: &mut K, steps: &mut Steps<L>)
         requires loaded { K.is_loaded kernel.old }
         requires keeps { Keeps W.waiting W.held self.old.queue (K.content kernel.old) }
         ensures parts { parts_of (means M.FlowMaker M.Flow.Flow W.Awaits) self.new
-            ≡ record { tasks = []; endings = []; objects = none; random = self.old.random } }
+            ≡ record { tasks = []; endings = []; objects = none; queues = []; random = self.old.random } }
         ensures queue { queue_of W.waiting self.new.queue ≡ nothing_queued }
         ensures leads { Leads dropping (queue_of W.waiting self.old.queue) (K.content kernel.old) nothing_queued (K.content kernel.new) }
         ensures bare { AreKeys (K.content kernel.new).keys [] }
@@ -128,5 +144,6 @@ impl<M: FlowMaker + Drop, W: Awaits> RunningTest<M, W> {
         self.queue.clear(kernel, steps);
         self.tasks.clear();
         self.objects.clear();
+        self.queues.clear();
     }
 }

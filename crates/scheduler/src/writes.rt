@@ -17,8 +17,7 @@ use crate::test::RunningTest;
 use crate::turned::{Next, Turn};
 use await_tree::Given;
 use await_tree::wait_list::{Awaits, Steps};
-use four_value::Bits;
-use gpi::{Gpi, Region, SigId};
+use gpi::{Gpi, Region, SigId, Write};
 use port_io::{Name, NoMemory, Sink, SinkFault};
 use py_syntax::LogLevel;
 use py_value::Value;
@@ -76,22 +75,22 @@ impl<M: FlowMaker + Drop, W: Awaits> RunningTest<M, W> {
         &mut self,
         kernel: &mut K,
         sig: SigId,
-        bits: Bits,
+        act: Write,
         steps: &mut Steps<L>,
     ) -> Result<Next, NoMemory>
         requires loaded { K.is_loaded kernel.old }
         requires keeps { Keeps W.waiting W.held self.old.queue (K.content kernel.old) }
         requires room { HasRoom (means M.FlowMaker M.Flow.Flow W.Awaits) self.old }
         ensures leads { IfOk result (λ next. (task : TaskNo)
-            → LeadsOn (means M.FlowMaker M.Flow.Flow W.Awaits) K.Gpi task (turned.Stage sig bits) self.old kernel.old next self.new kernel.new) }
-        ensures fits { (flat : Flat) → IsSoundWrite flat.signals (record { sig = sig; bits = bits })
+            → LeadsOn (means M.FlowMaker M.Flow.Flow W.Awaits) K.Gpi task (turned.Stage sig act) self.old kernel.old next self.new kernel.new) }
+        ensures fits { (flat : Flat) → IsSoundWrite flat.signals (record { sig = sig; act = act })
             → Fits flat W.waiting W.held self.old.queue (K.content kernel.old) → Fits flat W.waiting W.held self.new.queue (K.content kernel.new) }
         ensures kept { Kept (means M.FlowMaker M.Flow.Flow W.Awaits) K.Gpi self.old self.new kernel.new }
     {
         if kernel.region() == Region::End {
             return Ok(Next::Ends(Turn::Over(Outcome::ReadOnlyWrite(sig))));
         }
-        self.queue.stage(kernel, sig, bits, steps)?;
+        self.queue.stage(kernel, sig, act, steps)?;
         Ok(Next::GoesOn(Given::Value(Value::Absent)))
     }
 
@@ -110,10 +109,10 @@ impl<M: FlowMaker + Drop, W: Awaits> RunningTest<M, W> {
         requires sound { IsSoundWrite teller.now.flat.now.signals write }
         requires room { HasRoom (means M.FlowMaker M.Flow.Flow W.Awaits) self.old }
         ensures leads { IfOk result (λ next. (functions : List Function) → (task : TaskNo) → Relates (means M.FlowMaker M.Flow.Flow W.Awaits) K.Gpi
-            (λ c d. LeadsTo (setup_of functions teller.now) task (turned.Put write.sig write.bits) c next d)
+            (λ c d. LeadsTo (setup_of functions teller.now) task (turned.Put write.sig write.act) c next d)
             self.old kernel.old self.new kernel.new) }
         ensures puts { (functions : List Function) → (task : TaskNo)
-            → PutsTo (sink_means O.Sink) out.old (effect (setup_of functions teller.now) task (turned.Put write.sig write.bits)
+            → PutsTo (sink_means O.Sink) out.old (effect (setup_of functions teller.now) task (turned.Put write.sig write.act)
             (rig_of (means M.FlowMaker M.Flow.Flow W.Awaits) self.old (K.content kernel.old))).lines
             (next_fault result) out.new }
         ensures room { OnOk result (HasRoom (means M.FlowMaker M.Flow.Flow W.Awaits) self.new) }

@@ -1,7 +1,6 @@
 -- What staging, times and the drop of all do, each as one effect.
 use Rattle.std.proofs.Common.{◌≡◌, ◌+◌, ◌≤◌, ℕ, Bool, true, false, not, List, [], ◌∷◌, length, refl, sym, ap, ◌∙◌, subst, arith}
 use Rattle.std.specs.Prelude.{Option, None, Some}
-use Rattle.four_value.specs.declared.Digit.{Digit}
 use Rattle.gpi.specs.Content.{Content}
 use Rattle.gpi.specs.Keys.{has, among, same_key}
 use Rattle.gpi.specs.State.{State}
@@ -10,6 +9,7 @@ use Rattle.gpi.specs.declared.design.Flat.{Flat}
 use Rattle.gpi.specs.declared.types.Key.{Key}
 use Rattle.gpi.specs.declared.types.Key.TheVariants.{At, ReadWrite}
 use Rattle.gpi.specs.declared.types.SigId.{SigId}
+use Rattle.gpi.specs.declared.types.Write.{Write}
 use Rattle.run_view.specs.SignalPort.Staging.{restaged}
 use Rattle.run_view.specs.declared.signal_port.staged.Staged.{Staged}
 use Rattle.await_tree.specs.WaitList.Keys.{AreAlike, AreKeys, Rekeyed, without}
@@ -46,28 +46,28 @@ without_planned ws q = record q { planned = None; waiting = ws }
 pub phase_free : (held : List Key) (q : Queue) (k : Content) → KeepsQueue held q k → q.staged ≡ [] → among ReadWrite held ≡ false
 phase_free held q k p e = p.held_are ReadWrite ∙ phase_held (is_any q.staged) q.deadline q.planned ∙ ap is_any e
 
-module _ (q : Queue) (ss : List Staged) (ws : List Waiting) (sig : SigId) (bits : List Digit) (held held' : List Key) (k k' : Content) (p : KeepsQueue held q k)
-    (none : q.staged ≡ []) (s : ss ≡ restaged sig bits q.staged) (w : ws ≡ q.waiting) (more : AreAlike held' (ReadWrite ∷ held))
+module _ (q : Queue) (ss : List Staged) (ws : List Waiting) (sig : SigId) (act : Write) (held held' : List Key) (k k' : Content) (p : KeepsQueue held q k)
+    (none : q.staged ≡ []) (s : ss ≡ restaged sig act q.staged) (w : ws ≡ q.waiting) (more : AreAlike held' (ReadWrite ∷ held))
     (r : Rekeyed k k' (ReadWrite ∷ []) (named q.waiting held) (named ws held')) where
   first_alike : AreAlike (queue_held (with_writes ss ws q)) (ReadWrite ∷ queue_held q)
   first_alike x =
-      ap (λ (b : Bool). among x (held_keys b q.deadline q.planned)) (ap is_any s ∙ any_restaged sig bits q.staged)
+      ap (λ (b : Bool). among x (held_keys b q.deadline q.planned)) (ap is_any s ∙ any_restaged sig act q.staged)
       ∙ staged_held q.deadline q.planned x
       ∙ ap (λ (ts : List Staged). among x (ReadWrite ∷ held_keys (is_any ts) q.deadline q.planned)) (sym none)
 
   pub first_keeps : KeepsQueue held' (with_writes ss ws q) k'
   first_keeps = holds_keeps q (with_writes ss ws q) ReadWrite held held' k k' p w more first_alike r
 
-  pub first_leads : Leads (staging sig bits) q k (with_writes ss ws q) k'
+  pub first_leads : Leads (staging sig act) q k (with_writes ss ws q) k'
   first_leads = holds_leads q (with_writes ss ws q) ReadWrite held held' k k' p w more first_alike r
-      (λ c. record c { staged = restaged sig bits c.staged })
+      (λ c. record c { staged = restaged sig act c.staged })
       (λ c. ap (λ (ts : List Staged). rig_amid [] k.counts (with_writes ts q.waiting q) k.state c) (sym s)
       ∙ ap (λ (vs : List Waiting). rig_amid [] k.counts (with_writes ss vs q) k.state c) (sym w))
 
-  pub first_fits : (flat : Flat) (room : ℕ) → IsSoundWrite flat.signals (record { sig = sig; bits = bits }) → FitsQueue flat room held q k
+  pub first_fits : (flat : Flat) (room : ℕ) → IsSoundWrite flat.signals (record { sig = sig; act = act }) → FitsQueue flat room held q k
       → FitsQueue flat room held' (with_writes ss ws q) k'
   first_fits flat room sound f = holds_fits q (with_writes ss ws q) ReadWrite held held' k k' p w more first_alike r flat room f refl
-      (subst (AreSoundWrites flat.signals) (sym s) (sound_restaged flat.signals sig bits q.staged sound f.writes))
+      (subst (AreSoundWrites flat.signals) (sym s) (sound_restaged flat.signals sig act q.staged sound f.writes))
 
 -- the phase is held, and is let go again where memory is wanting for the write
 module _ (q : Queue) (ws : List Waiting) (held held1 : List Key) (k k1 : Content) (p : KeepsQueue held q k) (w : ws ≡ q.waiting) (more : AreAlike held1 (ReadWrite ∷ held))
@@ -98,6 +98,7 @@ module _ (q : Queue) (ws : List Waiting) (held held1 : List Key) (k k1 : Content
     pub again_fits : (flat : Flat) (room : ℕ) → FitsQueue flat room held q k → FitsQueue flat room held2 (with_writes ss vs q) k2
     again_fits flat room f = record {
       procs_are = b.procs ∙ r.procs ∙ f.procs_are;
+      nets_are = b.nets ∙ r.nets ∙ f.nets_are;
       signals = ap (λ (t : State). widths_of t.signals) (b.state ∙ r.state) ∙ f.signals;
       keys_are = again_keeps.keys_are;
       held_are = again_keeps.held_are;
@@ -107,28 +108,29 @@ module _ (q : Queue) (ws : List Waiting) (held held1 : List Key) (k k1 : Content
 
 -- ---- a further write is staged
 
-module _ (q : Queue) (ss : List Staged) (sig : SigId) (bits : List Digit) (held : List Key) (k : Content) (p : KeepsQueue held q k)
-    (some : is_any q.staged ≡ true) (s : ss ≡ restaged sig bits q.staged) where
+module _ (q : Queue) (ss : List Staged) (sig : SigId) (act : Write) (held : List Key) (k : Content) (p : KeepsQueue held q k)
+    (some : is_any q.staged ≡ true) (s : ss ≡ restaged sig act q.staged) where
   more_held : queue_held (with_writes ss q.waiting q) ≡ queue_held q
-  more_held = ap (λ (b : Bool). held_keys b q.deadline q.planned) (ap is_any s ∙ any_restaged sig bits q.staged ∙ sym some)
+  more_held = ap (λ (b : Bool). held_keys b q.deadline q.planned) (ap is_any s ∙ any_restaged sig act q.staged ∙ sym some)
 
   pub more_keeps : KeepsQueue held (with_writes ss q.waiting q) k
   more_keeps = record { keys_are = p.keys_are; held_are = λ x. p.held_are x ∙ ap (among x) (sym more_held) }
 
-  pub more_leads : Leads (staging sig bits) q k (with_writes ss q.waiting q) k
-  more_leads = counted_leads (λ c. record c { staged = restaged sig bits c.staged }) q (with_writes ss q.waiting q) k k refl
+  pub more_leads : Leads (staging sig act) q k (with_writes ss q.waiting q) k
+  more_leads = counted_leads (λ c. record c { staged = restaged sig act c.staged }) q (with_writes ss q.waiting q) k k refl
       (sym (counts_still (queue_awaited [] q) (queue_awaited [] (with_writes ss q.waiting q)) k.counts
       (λ x. ap (among x) (awaited_named q ∙ ap (named q.waiting) (sym more_held) ∙ sym (awaited_named (with_writes ss q.waiting q))))))
       (λ c. ap (λ (ts : List Staged). rig_amid [] k.counts (with_writes ts q.waiting q) k.state c) (sym s))
 
-  pub more_fits : (flat : Flat) (room : ℕ) → IsSoundWrite flat.signals (record { sig = sig; bits = bits }) → FitsQueue flat room held q k
+  pub more_fits : (flat : Flat) (room : ℕ) → IsSoundWrite flat.signals (record { sig = sig; act = act }) → FitsQueue flat room held q k
       → FitsQueue flat room held (with_writes ss q.waiting q) k
   more_fits flat room sound f = record {
     procs_are = f.procs_are;
+    nets_are = f.nets_are;
     signals = f.signals;
     keys_are = more_keeps.keys_are;
     held_are = more_keeps.held_are;
-    writes = subst (AreSoundWrites flat.signals) (sym s) (sound_restaged flat.signals sig bits q.staged sound f.writes);
+    writes = subst (AreSoundWrites flat.signals) (sym s) (sound_restaged flat.signals sig act q.staged sound f.writes);
     room_is = f.room_is;
   }
 
@@ -265,6 +267,7 @@ module _ (q q' : Queue) (held held' : List Key) (k k' : Content) (p : KeepsQueue
   pub dropped_fits : (flat : Flat) (room : ℕ) → FitsQueue flat room held q k → FitsQueue flat room held' q' k'
   dropped_fits flat room f = record {
     procs_are = s.rekeyed.procs ∙ f.procs_are;
+    nets_are = s.rekeyed.nets ∙ f.nets_are;
     signals = ap (λ (t : State). widths_of t.signals) s.rekeyed.state ∙ f.signals;
     keys_are = p'.keys_are;
     held_are = p'.held_are;

@@ -1,7 +1,6 @@
 -- A queue and a simulator fit, before and after calls.
 use Rattle.std.proofs.Common.{◌≡◌, ◌==◌, ◌+◌, ◌≤◌, ℕ, Bool, true, false, not, if◌then◌else◌, List, [], ◌∷◌, ◌++◌, length, sym, ap, ◌∙◌, subst}
 use Rattle.std.specs.Prelude.{filter, Result, Ok, Err, OnErr}
-use Rattle.four_value.specs.declared.Digit.{Digit}
 use Rattle.gpi.specs.Content.{Content}
 use Rattle.gpi.specs.Keys.{has, among}
 use Rattle.gpi.specs.Terms.{widths_of}
@@ -9,6 +8,7 @@ use Rattle.gpi.specs.declared.design.Flat.{Flat}
 use Rattle.gpi.specs.declared.design.Signal.{Signal}
 use Rattle.gpi.specs.declared.types.Key.{Key}
 use Rattle.gpi.specs.declared.types.SigId.{SigId}
+use Rattle.gpi.specs.declared.types.Write.{Write}
 use Rattle.run_view.specs.SignalPort.Staging.{restaged}
 use Rattle.run_view.specs.declared.signal_port.staged.Staged.{Staged}
 use Rattle.await_tree.specs.WaitList.Keys.{AreAlike, AreKeysBut, Rekeyed}
@@ -43,6 +43,7 @@ pub fits_kept : (flat : Flat) (room : ℕ) (held held' : List Key) (q : Queue) (
     → Stays k k' → KeepsQueue held' (record q { waiting = ws }) k' → FitsQueue flat room held q k → FitsQueue flat room held' (record q { waiting = ws }) k'
 fits_kept flat room held held' q k k' ws e s p f = record {
   procs_are = s.procs ∙ f.procs_are;
+  nets_are = s.nets ∙ f.nets_are;
   signals = ap (λ (t : _). widths_of t.signals) s.state ∙ f.signals;
   keys_are = p.keys_are;
   held_are = p.held_are;
@@ -64,10 +65,10 @@ sound_last : (signals : List Signal) (ws : List Staged) (w : Staged) → AreSoun
 sound_last signals [] w h k = (k, tt)
 sound_last signals (x ∷ xs) w h k = (h.0, sound_last signals xs w h.1 k)
 
-pub sound_restaged : (signals : List Signal) (sig : SigId) (bits : List Digit) (ws : List Staged) → IsSoundWrite signals (record { sig = sig; bits = bits }) → AreSoundWrites signals ws
-    → AreSoundWrites signals (restaged sig bits ws)
-sound_restaged signals sig bits ws k h =
-    sound_last signals (filter (λ (w : Staged). not (w.sig.0 == sig.0)) ws) (record { sig = sig; bits = bits })
+pub sound_restaged : (signals : List Signal) (sig : SigId) (act : Write) (ws : List Staged) → IsSoundWrite signals (record { sig = sig; act = act }) → AreSoundWrites signals ws
+    → AreSoundWrites signals (restaged sig act ws)
+sound_restaged signals sig act ws k h =
+    sound_last signals (filter (λ (w : Staged). not (w.sig.0 == sig.0)) ws) (record { sig = sig; act = act })
     (sound_filter signals (λ (w : Staged). not (w.sig.0 == sig.0)) ws h) k
 
 -- ---- calls that remove keys alone

@@ -1,10 +1,10 @@
 -- The keys that the runner itself holds.
 use Rattle.std.proofs.Common.{◌≡◌, ◌==◌, ℕ, ◌||◌, ◌&&◌, Bool, true, false, not, List, [], ◌∷◌, ◌++◌, length, refl, sym, ap, ◌∙◌, arith, eqb-true}
 use Rattle.std.specs.Prelude.{Option, None, Some, filter}
-use Rattle.four_value.specs.declared.Digit.{Digit}
 use Rattle.gpi.specs.declared.types.Key.{Key}
 use Rattle.gpi.specs.declared.types.Key.TheVariants.{At, ReadWrite}
 use Rattle.gpi.specs.declared.types.SigId.{SigId}
+use Rattle.gpi.specs.declared.types.Write.{Write}
 use Rattle.gpi.specs.Keys.{among, same_key}
 use Rattle.run_view.specs.SignalPort.Staging.{restaged}
 use Rattle.run_view.specs.declared.signal_port.staged.Staged.{Staged}
@@ -115,8 +115,8 @@ pub any_last : (ws : List Staged) (w : Staged) → is_any (ws ++ w ∷ []) ≡ t
 any_last [] w = refl
 any_last (x ∷ xs) w = refl
 
-pub any_restaged : (sig : SigId) (bits : List Digit) (ws : List Staged) → is_any (restaged sig bits ws) ≡ true
-any_restaged sig bits ws = any_last (filter (λ (w : Staged). not (w.sig.0 == sig.0)) ws) (record { sig = sig; bits = bits })
+pub any_restaged : (sig : SigId) (act : Write) (ws : List Staged) → is_any (restaged sig act ws) ≡ true
+any_restaged sig act ws = any_last (filter (λ (w : Staged). not (w.sig.0 == sig.0)) ws) (record { sig = sig; act = act })
 
 pub none_staged : (ws : List Staged) → (length ws == 0) ≡ true → ws ≡ []
 none_staged [] h = refl

@@ -89,6 +89,7 @@ rekeyed_counts before after asked old new fired had has' r out are within among_
 pub still_rekeyed : (k : Content) (asked old new : List Key) → AreKeys k.keys new → Rekeyed k k asked old new
 still_rekeyed k asked old new a = record {
   procs = refl;
+  nets = refl;
   state = refl;
   keys = λ x. a x ∙ sym (ap (λ (h : Bool). among x new && (h || among x asked)) (a x) ∙ and_follows (among x new) (among x new || among x asked) (or_left (among x new) (among x asked)));
   counts = rw (none new, none old) refl;
@@ -101,6 +102,7 @@ still_rekeyed k asked old new a = record {
 pub rekeyed_alike : (k k' : Content) (asked old new new' : List Key) → AreAlike new new' → Rekeyed k k' asked old new → Rekeyed k k' asked old new'
 rekeyed_alike k k' asked old new new' e r = record {
   procs = r.procs;
+  nets = r.nets;
   state = r.state;
   keys = λ x. r.keys x ∙ ap (λ (b : Bool). b && (has x k.keys || among x asked)) (e x);
   counts = r.counts ∙ rw (members) refl;
@@ -116,6 +118,7 @@ pub sheds_both : (k mid k' : Content) (old between new : List Key) → Sheds k m
 sheds_both k mid k' old between new f g = record {
   rekeyed = record {
     procs = g.rekeyed.procs ∙ f.rekeyed.procs;
+    nets = g.rekeyed.nets ∙ f.rekeyed.nets;
     state = g.rekeyed.state ∙ f.rekeyed.state;
     keys = λ x. g.rekeyed.keys x ∙ ap (λ (h : Bool). among x new && (h || false)) (f.rekeyed.keys x) ∙ meets (among x new) (among x between) (has x k.keys) (g.less x);
     counts = g.rekeyed.counts ∙ ap (λ (c : Counts). let d : Counts = record c {
@@ -252,6 +255,7 @@ module _ (q q' : Queue) (held held' : List Key) (k k' : Content) (asked : List K
       → FitsQueue flat room held' q' k'
   fits_on flat room f w l = record {
     procs_are = r.procs ∙ f.procs_are;
+    nets_are = r.nets ∙ f.nets_are;
     signals = ap (λ (s : State). widths_of s.signals) r.state ∙ f.signals;
     keys_are = keeps_on.keys_are;
     held_are = alike;

@@ -1,7 +1,7 @@
 -- A means of proof: what the calls do to a queue, and to a configuration, for the proofs of the runner's queue.
 use Rattle.std.specs.Prelude.{ℕ, true, false, List, [], ◌∷◌, ◌++◌, None, Some}
-use Rattle.four_value.specs.declared.Digit.{Digit}
 use Rattle.gpi.specs.declared.types.SigId.{SigId}
+use Rattle.gpi.specs.declared.types.Write.{Write}
 use Rattle.py_value.specs.declared.trigger.LockNo.{LockNo}
 use Rattle.py_value.specs.declared.trigger.TaskNo.{TaskNo}
 use Rattle.await_tree.specs.declared.cause.Cause.{Cause}
@@ -31,8 +31,8 @@ with_first task given q = record q { ready = entry task given ∷ q.ready }
 -- ---- of a configuration, each one effect
 
 -- a write is staged
-abbrev pub staging : SigId → List Digit → Rig → Rig
-staging sig bits c = counted [] c (record c { staged = restaged sig bits c.staged })
+abbrev pub staging : SigId → Write → Rig → Rig
+staging sig act c = counted [] c (record c { staged = restaged sig act c.staged })
 
 -- all leaves on the cause are reached
 abbrev pub waking : Cause → Rig → Rig

@@ -1,7 +1,7 @@
 -- A means of proof: the queue that a `RunQueue` keeps, and when it and a simulator fit, for the proofs of the runner's queue.
 use Rattle.std.specs.Prelude.{◌≡◌, List, []}
 use Rattle.gpi.specs.Content.{Content}
-use Rattle.gpi.specs.Design.{procs_of, widths}
+use Rattle.gpi.specs.Design.{nets_of, procs_of, widths}
 use Rattle.gpi.specs.Terms.{widths_of}
 use Rattle.gpi.specs.declared.design.Flat.{Flat}
 use Rattle.gpi.specs.declared.types.Key.{Key}
@@ -34,10 +34,12 @@ Keeps waiting held q content = KeepsQueue (held q.awaits) (queue_of waiting q) c
 -- A simulator of the design in which no key is registered.
 pub record IsBare (flat : Flat) (content : Content) : Type 0 where
   pub procs_are : content.procs ≡ procs_of flat.processes
+  pub nets_are : content.nets ≡ nets_of flat.signals
   pub signals : widths_of content.state.signals ≡ widths flat.signals
   pub keys_are : AreKeys content.keys []
 
 -- Of what a simulator holds only the registered keys and the counts have changed.
 pub record Stays (before after : Content) : Type 0 where
   pub procs : after.procs ≡ before.procs
+  pub nets : after.nets ≡ before.nets
   pub state : after.state ≡ before.state

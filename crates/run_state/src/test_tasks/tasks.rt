@@ -5,7 +5,7 @@ ghost use Rattle.await_tree.specs.EndedTasks.Memory as memory;
 ghost use Rattle.run_state.specs.LiveTasks.Flows.{meanings};
 ghost use Rattle.rig_model.specs.Run.Known.{KnowsTasks};
 ghost use Rattle.rig_model.specs.Run.Step.{task_at};
-ghost use Rattle.run_view.specs.View.{view_of, IsOf};
+ghost use Rattle.run_view.specs.View.{view_of, HaveEvents, IsOf};
 ghost use Rattle.rig_model.specs.Task.Frame.{fresh, function_at};
 ghost use Rattle.rig_model.specs.Task.Known.{KnowsGiven};
 ghost use Rattle.run_state.specs.TestTasks.Live.{LeavesOne, PollsOne};
@@ -21,6 +21,7 @@ use rig_model::task::{FlowMaker, Turned};
 use run_view::RunView;
 use run_view::design_names::DesignNames;
 use std::alloc::Global;
+use task_queue::Queues;
 
 /// How many tasks may live at once.
 const LIVE_LIMIT: u32 = 65_536;
@@ -121,7 +122,7 @@ impl<M: FlowMaker + Drop> TestTasks<M> {
     }
 
     /// Polls the live task of that number, where it is given the answer to what it wanted last. It sees the simulator, which runs this design with
-    /// these names, the events and locks, and how tasks have ended, and must know there what the tasks hold and what this one is given. The fuel
+    /// these names, the events, locks and queues, and how tasks have ended, and must know there what the tasks hold and what this one is given. The fuel
     /// falls by what the steps cost, and `Spent` comes where it doesn't suffice for the next one. After want of memory the task keeps its number,
     /// what it has still to do may be anything, the fuel hasn't risen, and all else is as before.
     pub fn poll<K: Gpi>(
@@ -131,6 +132,7 @@ impl<M: FlowMaker + Drop> TestTasks<M> {
         flat: &Flat,
         names: &DesignNames<'_>,
         objects: &Objects,
+        queues: &Queues,
         task: TaskNo,
         given: Given,
         fuel: &mut u64,
@@ -138,20 +140,21 @@ impl<M: FlowMaker + Drop> TestTasks<M> {
         requires whole { IsWhole M.functions (meanings M.Flow.functions M.Flow.meaning) self.old }
         requires loaded { K.is_loaded kernel.now }
         requires design { IsOf flat.now names.now (K.content kernel.now).state }
+        requires events { HaveEvents objects.now queues.now }
         requires lives { IsSome (task_at task (live_in M.Flow.meaning self.old)) }
-        requires known { KnowsTasks (M.functions self.old.maker) (view_of flat.now (K.content kernel.now).state objects.now self.old.ended)
+        requires known { KnowsTasks (M.functions self.old.maker) (view_of flat.now (K.content kernel.now).state objects.now queues.now self.old.ended)
             (live_in M.Flow.meaning self.old) }
-        requires answer { KnowsGiven (view_of flat.now (K.content kernel.now).state objects.now self.old.ended) given }
+        requires answer { KnowsGiven (view_of flat.now (K.content kernel.now).state objects.now queues.now self.old.ended) given }
         ensures falls { fuel.new ≤ fuel.old }
         ensures left { LeavesOne (live_in M.Flow.meaning self.old) task (live_in M.Flow.meaning self.new) }
         ensures polls { IfOk result
-            (λ turned. PollsOne (M.functions self.old.maker) (view_of flat.now (K.content kernel.now).state objects.now self.old.ended) fuel.old
+            (λ turned. PollsOne (M.functions self.old.maker) (view_of flat.now (K.content kernel.now).state objects.now queues.now self.old.ended) fuel.old
             (live_in M.Flow.meaning self.old) task given turned fuel.new (live_in M.Flow.meaning self.new)) }
         ensures ended { self.new.ended ≡ self.old.ended }
         ensures whole { IsWhole M.functions (meanings M.Flow.functions M.Flow.meaning) self.new }
         ensures maker { self.new.maker ≡ self.old.maker }
     {
-        let view = RunView::new(kernel, flat, names, objects, &self.ended);
+        let view = RunView::new(kernel, flat, names, objects, queues, &self.ended);
         self.live.poll(alloc, task, given, &view, fuel)
     }
 

@@ -1,15 +1,17 @@
 -- Tasks keep their places from effect to effect.
-use Rattle.std.specs.Prelude.{◌==◌, nat_le, ◌||◌}
+use Rattle.std.specs.Prelude.{◌==◌, nat_lt, nat_le, ◌||◌}
 use Rattle.std.proofs.Common.{◌≡◌, ℕ, ◌+◌, ◌<◌, ◌≤◌, Bool, true, false, List, [], ◌∷◌, ◌++◌, length, Option, None, Some, refl, ap, sym, ◌∙◌, subst, arith, rules, length-append}
-use Rattle.four_value.specs.declared.Digit.{Digit}
-use Rattle.gpi.specs.Events.{Event, put}
+use Rattle.gpi.specs.Events.{Event}
 use Rattle.gpi.specs.Keys.{among, set_of}
 use Rattle.gpi.specs.State.{is_end}
 use Rattle.gpi.specs.declared.types.Key.{Key}
 use Rattle.gpi.specs.declared.types.Key.TheVariants.{ReadWrite}
 use Rattle.gpi.specs.declared.types.SigId.{SigId}
+use Rattle.gpi.specs.declared.types.Write.{Write}
 use Rattle.py_value.specs.declared.trigger.TaskNo.{TaskNo}
+use Rattle.py_value.specs.declared.trigger.EventNo.{EventNo}
 use Rattle.py_value.specs.declared.trigger.LockNo.{LockNo}
+use Rattle.py_value.specs.declared.trigger.QueueNo.{QueueNo}
 use Rattle.py_value.specs.declared.value.Value.{Value}
 use Rattle.py_value.specs.declared.value.Value.TheVariants as value
 use Rattle.py_value.specs.declared.value.Fault.{Fault}
@@ -28,6 +30,7 @@ use Rattle.await_tree.specs.declared.ended_tasks.ending.Ending.{Ending}
 use Rattle.await_tree.specs.declared.ended_tasks.ending.Ending.TheVariants.{Returned, Failed, Killed}
 use Rattle.await_tree.specs.SyncObjects.States.{with_set, is_held, event_limit, lock_limit}
 use Rattle.run_view.specs.declared.signal_port.staged.Staged.{Staged}
+use Rattle.task_queue.specs.Queues.{queue_at, is_full as has_no_room, is_at_limit, is_empty, with_items, with_item}
 use Rattle.test_meaning.specs.Body.BodyTrees.{Function}
 use Rattle.rig_model.specs.Task.Frame.{Task, fresh, function_at}
 use Rattle.rig_model.specs.declared.task.task.Turned.{Turned}
@@ -36,9 +39,9 @@ use Rattle.await_tree.specs.declared.wait_list.ready.Entry.{Entry}
 use Rattle.await_tree.specs.WaitList.Ring.{without_entry}
 use Rattle.await_tree.specs.WaitList.Waiting.{Waiting, without_task, woken, is_wanted, is_joined, granted}
 use Rattle.rig_model.specs.Run.Limits.{live_limit}
-use Rattle.rig_model.specs.Run.Rig.{Rig, Setup, After, facts_of, awaited, procs}
-use Rattle.rig_model.specs.Run.Serve.{wake, serve_keys, with_fired, after_put, deposit, flushed, flushed_if, served, ended_if, is_due, serve}
-use Rattle.rig_model.specs.Run.Effect.{gives, begun_by, awaits_by, waits, write_by, stages, puts, starts, starter, next_task, with_new_task, is_full, with_end, ends, returns, fails, withdrawn, killed, kills_by, kills, makes_event, makes_lock, releases, handed_on, effect}
+use Rattle.rig_model.specs.Run.Rig.{Rig, Setup, After, facts_of, awaited}
+use Rattle.rig_model.specs.Run.Serve.{wake, serve_keys, with_fired, after_put, deposit, flushed, flushed_if, served, ended_if, is_due, serve, written}
+use Rattle.rig_model.specs.Run.Effect.{gives, begun_by, awaits_by, waits, write_by, stages, puts, starts, starter, next_task, with_new_task, is_full, with_end, ends, returns, fails, withdrawn, killed, kills_by, kills, makes_event, makes_lock, makes_queue, sets_if, clears_if, with_put, puts_item, with_get, gets_item, releases, handed_on, effect}
 use Rattle.rig_model.specs.Run.Step.{kept, resumed, evented, stored}
 use Rattle.rig_model.specs.Parts.Placed.{placed, times, tasks_ready, tasks_waiting, one_if}
 use Rattle.run_state.proofs.TestTasksLemmas.Whole.{bool_by}
@@ -78,14 +81,14 @@ module _ (turn : Option TaskNo) where
       = serve_keys_stands e.fired c.fired (with_fired e.fired (record c { sim = e.state })) (record { placed_are = h.placed_are; live = h.live }) in
       record { placed_are = s.placed_are; live = s.live }
 
-  pub deposit_stands : (setup : Setup) (sig : SigId) (bits : List Digit) (c : Rig) → StandsIn turn c → StandsIn turn (deposit setup sig bits c).rig
-  deposit_stands setup sig bits c h = put_stands setup (put (procs setup) c.sim (set_of (awaited c)) sig bits) c h
+  pub deposit_stands : (setup : Setup) (sig : SigId) (act : Write) (c : Rig) → StandsIn turn c → StandsIn turn (deposit setup sig act c).rig
+  deposit_stands setup sig act c h = put_stands setup (written setup c.sim (set_of (awaited c)) sig act) c h
 
   flushed_stands : (setup : Setup) (writes : List Staged) (c : Rig) → StandsIn turn c → StandsIn turn (flushed setup writes c).rig
   flushed_stands setup [] c h = h
   flushed_stands setup (w ∷ ws) c h =
-      flushed_stands setup ws (deposit setup w.sig w.bits (record c { staged = ws })).rig
-      (deposit_stands setup w.sig w.bits (record c { staged = ws }) (record { placed_are = h.placed_are; live = h.live }))
+      flushed_stands setup ws (deposit setup w.sig w.act (record c { staged = ws })).rig
+      (deposit_stands setup w.sig w.act (record c { staged = ws }) (record { placed_are = h.placed_are; live = h.live }))
 
   flush_stands : (setup : Setup) (b : Bool) (c : Rig) → StandsIn turn c → StandsIn turn (flushed_if setup b c).rig
   flush_stands setup true c h = flushed_stands setup c.staged c h
@@ -154,8 +157,8 @@ module _ (task : TaskNo) where
   write_stands true sig a c e h k = own_none (write_by true sig a c).rig e (let o : StandsIn None c = over_stands c h in record { placed_are = o.placed_are; live = o.live })
   write_stands false sig a c e h k = k
 
-  puts_stands : (setup : Setup) (sig : SigId) (bits : List Digit) (c : Rig) → StandsIn (Some task) c → StandsOwn (puts setup task sig bits c).rig
-  puts_stands setup sig bits c h = gives_stands (given.Value value.Absent) (deposit setup sig bits c).rig (deposit_stands (Some task) setup sig bits c h)
+  puts_stands : (setup : Setup) (sig : SigId) (act : Write) (c : Rig) → StandsIn (Some task) c → StandsOwn (puts setup task sig act c).rig
+  puts_stands setup sig act c h = gives_stands (given.Value value.Absent) (deposit setup sig act c).rig (deposit_stands (Some task) setup sig act c h)
 
   -- ---- starts
 
@@ -281,14 +284,54 @@ module _ (task : TaskNo) where
       record { placed_are = w.placed_are; live = w.live }
   release_stands false l c h = gives_stands _ c h
 
+  -- ---- queues
+
+  queue_stands : (b : Bool) (bound : ℕ) (c : Rig) → StandsIn (Some task) c → StandsOwn (makes_queue b task bound c).rig
+  queue_stands true bound c h = gives_stands _ c h
+  queue_stands false bound c h = record { placed_are = h.placed_are; live = h.live }
+
+  set_stands : (b : Bool) (e : EventNo) (c : Rig) → StandsIn (Some task) c → StandsIn (Some task) (sets_if b e c)
+  set_stands true e c h =
+      let w : StandsIn (Some task) (wake (cause.Event e) (record c { objects = with_set e c.objects }))
+      = wake_stands (Some task) (cause.Event e) (record c { objects = with_set e c.objects }) (record { placed_are = h.placed_are; live = h.live }) in
+      record { placed_are = w.placed_are; live = w.live }
+  set_stands false e c h = h
+
+  cleared_stands : (b : Bool) (e : EventNo) (c : Rig) → StandsIn (Some task) c → StandsIn (Some task) (clears_if b e c)
+  cleared_stands true e c h = record { placed_are = h.placed_are; live = h.live }
+  cleared_stands false e c h = h
+
+  item_put_stands : (queue : QueueNo) (item : Value) (c : Rig) → StandsIn (Some task) c → StandsIn (Some task) (with_put queue item c)
+  item_put_stands queue item c h =
+      let queues = with_item queue item c.queues in
+      let before = queue_at queue c.queues in
+      cleared_stands (has_no_room (queue_at queue queues)) before.space_event (sets_if (is_empty before.items) before.items_event (record c { queues = queues }))
+      (set_stands (is_empty before.items) before.items_event (record c { queues = queues }) (record { placed_are = h.placed_are; live = h.live }))
+
+  puts_item_stands : (full limit : Bool) (queue : QueueNo) (item : Value) (c : Rig) → StandsIn (Some task) c → StandsOwn (puts_item full limit task queue item c).rig
+  puts_item_stands true limit queue item c h = gives_stands _ c h
+  puts_item_stands false true queue item c h = gives_stands _ c h
+  puts_item_stands false false queue item c h = gives_stands (given.Value value.Absent) (with_put queue item c) (item_put_stands queue item c h)
+
+  item_got_stands : (queue : QueueNo) (items : List Value) (c : Rig) → StandsIn (Some task) c → StandsIn (Some task) (with_get queue items c)
+  item_got_stands queue items c h =
+      let queues = with_items queue items c.queues in
+      let before = queue_at queue c.queues in
+      cleared_stands (is_empty items) before.items_event (sets_if (has_no_room before) before.space_event (record c { queues = queues }))
+      (set_stands (has_no_room before) before.space_event (record c { queues = queues }) (record { placed_are = h.placed_are; live = h.live }))
+
+  gets_item_stands : (queue : QueueNo) (items : List Value) (c : Rig) → StandsIn (Some task) c → StandsOwn (gets_item task queue items c).rig
+  gets_item_stands queue [] c h = gives_stands _ c h
+  gets_item_stands queue (item ∷ items) c h = gives_stands (given.Value item) (with_get queue items c) (item_got_stands queue items c h)
+
 -- ---- all of them
 
 pub effect_stands : (setup : Setup) (task : TaskNo) (t : Turned) (c : Rig) → c.running ≡ None → StandsIn (Some task) c → StandsOwn (effect setup task t c).rig
 effect_stands setup task (turned.Await trig) c e h = awaits_stands task (tree_of trig c.sim.time) (check trig c.sim.time c.sim.region) c e h
-effect_stands setup task (turned.Stage sig bits) c e h =
-    write_stands task (is_end c.sim.region) sig (stages task sig bits c) c e h (record { placed_are = h.placed_are; live = h.live })
-effect_stands setup task (turned.Put sig bits) c e h =
-    write_stands task (is_end c.sim.region) sig (puts setup task sig bits c) c e h (puts_stands task setup sig bits c h)
+effect_stands setup task (turned.Stage sig act) c e h =
+    write_stands task (is_end c.sim.region) sig (stages task sig act c) c e h (record { placed_are = h.placed_are; live = h.live })
+effect_stands setup task (turned.Put sig act) c e h =
+    write_stands task (is_end c.sim.region) sig (puts setup task sig act c) c e h (puts_stands task setup sig act c h)
 effect_stands setup task (turned.Start func args give_way) c e h =
     starts_stands task (is_full c) (function_at setup.functions func) args give_way c refl e h
 effect_stands setup task (turned.Kill other) c e h = kills_stands task (other.0 == task.0) other c refl h
@@ -300,6 +343,10 @@ effect_stands setup task (turned.SetEvent event) c e h =
 effect_stands setup task (turned.ClearEvent event) c e h = record { placed_are = h.placed_are; live = h.live }
 effect_stands setup task turned.NewLock c e h = lock_stands task (nat_le lock_limit (length c.objects.locks)) c h
 effect_stands setup task (turned.Release lock) c e h = release_stands task (is_held lock c.objects) lock c h
+effect_stands setup task (turned.NewQueue bound) c e h = queue_stands task (nat_lt event_limit (length c.objects.events + 2)) bound c h
+effect_stands setup task (turned.PutNow queue item) c e h =
+    puts_item_stands task (has_no_room (queue_at queue c.queues)) (is_at_limit (queue_at queue c.queues)) queue item c h
+effect_stands setup task (turned.GetNow queue) c e h = gets_item_stands task queue (queue_at queue c.queues).items c h
 effect_stands setup task (turned.Draw low span) c e h = record { placed_are = h.placed_are; live = h.live }
 effect_stands setup task (turned.Log level text) c e h = record { placed_are = h.placed_are; live = h.live }
 effect_stands setup task (turned.Done v) c e h = returns_stands task v c e h
@@ -320,8 +367,8 @@ evented_stands setup e c r h =
     flushed_running : (setup : Setup) (ws : List Staged) (d : Rig) → (flushed setup ws d).rig.running ≡ d.running
     flushed_running setup [] d = refl
     flushed_running setup (w ∷ ws) d =
-        let p : Event = put (procs setup) d.sim (set_of (awaited (record d { staged = ws }))) w.sig w.bits in
-        flushed_running setup ws (deposit setup w.sig w.bits (record d { staged = ws })).rig ∙ keys_running p.fired d.fired (with_fired p.fired (record d { staged = ws; sim = p.state }))
+        let p : Event = written setup d.sim (set_of (awaited (record d { staged = ws }))) w.sig w.act in
+        flushed_running setup ws (deposit setup w.sig w.act (record d { staged = ws })).rig ∙ keys_running p.fired d.fired (with_fired p.fired (record d { staged = ws; sim = p.state }))
 
     flush_running : (setup : Setup) (b : Bool) (d : Rig) → (flushed_if setup b d).rig.running ≡ d.running
     flush_running setup true d = flushed_running setup d.staged d

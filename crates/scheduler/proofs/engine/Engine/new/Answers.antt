@@ -13,7 +13,7 @@ pub returns-clause-empty : goal.returns-clause-empty
 returns-clause-empty g c = λ content.
     let test = c.in_ok-new-2.ensures in
     ap (λ (p : Parts). rig_by p (queue_of g.W.Awaits.waiting c.in_ok-new-2.field-0.queue) content) test.parts
-    ∙ ap (λ (q : Queue). rig_by (record { tasks = []; endings = []; objects = none; random = seeded c.args.seed }) q content) test.queue
+    ∙ ap (λ (q : Queue). rig_by (record { tasks = []; endings = []; objects = none; queues = []; random = seeded c.args.seed }) q content) test.queue
 
 pub returns-clause-fits : goal.returns-clause-fits
 returns-clause-fits g c = λ sound functions.
@@ -22,4 +22,4 @@ returns-clause-fits g c = λ sound functions.
     let k = opening c.args.flat.now in
     bare_fits m _ k (seeded c.args.seed) sound c.in_ok-new.ensures (subst (λ x. AreSoundFunctions (g.M.FlowMaker.functions x)) (sym test.maker) functions)
     (test.fits c.args.flat.now k (opening_bare c.args.flat.now)) test.room (record { time = omega arith; updates = tt })
-    (ap (λ (p : Parts). rig_by p (queue_of g.W.Awaits.waiting c.in_ok-new-2.field-0.queue) k) test.parts ∙ ap (λ (q : Queue). rig_by (record { tasks = []; endings = []; objects = none; random = seeded c.args.seed }) q k) test.queue)
+    (ap (λ (p : Parts). rig_by p (queue_of g.W.Awaits.waiting c.in_ok-new-2.field-0.queue) k) test.parts ∙ ap (λ (q : Queue). rig_by (record { tasks = []; endings = []; objects = none; queues = []; random = seeded c.args.seed }) q k) test.queue)

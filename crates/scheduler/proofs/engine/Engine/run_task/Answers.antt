@@ -2,8 +2,9 @@ use Rattle.port_io.specs.Means.{sink_means}
 use Rattle.scheduler.specs.Parts.{means}
 use Rattle.scheduler.proofs.TurnLaws.{turning_short_of_memory}
 use Rattle.scheduler.specs.Engine.{rig_of, setup_of}
+use Rattle.scheduler.proofs.Fitting.{has_queues}
 use Rattle.scheduler.proofs.Running.{cut_comes, ends_comes, ends_fits, goes_comes, goes_fits, goes_less, next_known, next_planned, no_fault, same_setup, spent_comes, spent_fits, turn_fits, wish_known}
-use Rattle.std.proofs.Common.{refl}
+use Rattle.std.proofs.Common.{refl, Some}
 use Rattle.scheduler.proofs.engine.Engine.run_task.Goals as goal
 
 pub returns-in_err-turned-clause-turning : goal.returns-in_err-turned-clause-turning
@@ -20,6 +21,11 @@ returns-in-Spent-clause-fits g c = λ o.
     let m = means g.M.FlowMaker g.M.Flow.Flow g.W.Awaits in
     spent_fits m c.effects.self (g.K.Gpi.content c.effects.kernel) c.args.task c.effects.invariant.fits c.effects.invariant.none c.effects.given c.effects.invariant.known c.effects.fuel c.poll.new.self c.in_ok-turned.turned c.poll.new.fuel c.in_ok-turned.ensures.polls c.poll.ensures.queue c.poll.ensures.rest c.poll.ensures.maker c.poll.ensures.room
 
+pub poll-requires-clause-events : goal.poll-requires-clause-events
+poll-requires-clause-events g c =
+    let m = means g.M.FlowMaker g.M.Flow.Flow g.W.Awaits in
+    (has_queues m (Some c.args.task) c.effects.self (g.K.Gpi.content c.effects.kernel) c.effects.invariant.fits).made
+
 pub apply-requires : goal.apply-requires
 apply-requires g c =
     let m = means g.M.FlowMaker g.M.Flow.Flow g.W.Awaits in
@@ -29,6 +35,7 @@ apply-requires g c =
       fits = fits.test;
       time = fits.timely.time;
       known = wish_known m c.effects.self (g.K.Gpi.content c.effects.kernel) c.args.task c.effects.invariant.fits c.effects.invariant.none c.effects.given c.effects.invariant.known c.effects.fuel c.poll.new.self c.in_ok-turned.turned c.poll.new.fuel c.in_ok-turned.ensures.polls c.poll.ensures.queue c.poll.ensures.rest c.poll.ensures.maker c.poll.ensures.room;
+      queues = has_queues m (Some c.args.task) (record c.effects.self { test = c.poll.new.self }) (g.K.Gpi.content c.effects.kernel) fits;
       wanted = c.in_default.not-Spent;
     }
 

@@ -36,7 +36,7 @@ writes-preserved g c = record {
       (g.W.Awaits.held c.writes.queue.awaits) (queue_of g.W.Awaits.waiting c.writes.queue) (g.K.Gpi.content c.writes.kernel) c.writes.fault c.writes.out (c.writes.invariant.flushing functions counts s) c.staged_of-write.result c.take_first.new.self (c.in-Some.ensures ∙ ap (λ (w : Staged). w ∷ c.take_first.new.self) (sym c.staged_of-write.ensures))
       (g.W.Awaits.held c.put_out-fault.new.queue.awaits) (queue_of g.W.Awaits.waiting c.put_out-fault.new.queue) (g.K.Gpi.content c.put_out-fault.new.kernel) c.put_out-fault.result c.put_out-fault.new.out c.put_out-fault.ensures.staged
       (subst (λ (room : ℕ). (n : Counts) → StandsAmid c.args.self.now.flat.now room rw_key n (g.W.Awaits.held c.writes.queue.awaits) (let q : Queue = record (queue_of g.W.Awaits.waiting c.writes.queue) { staged = c.take_first.new.self } in q) (g.K.Gpi.content c.writes.kernel)
-      → Serves (sink_means g.O.Sink) (deposit (setup_of functions c.args.self.now) c.staged_of-write.result.sig c.staged_of-write.result.bits) c.args.self.now.flat.now room rw_key n
+      → Serves (sink_means g.O.Sink) (deposit (setup_of functions c.args.self.now) c.staged_of-write.result.sig c.staged_of-write.result.act) c.args.self.now.flat.now room rw_key n
       (let q : Queue = record (queue_of g.W.Awaits.waiting c.writes.queue) { staged = c.take_first.new.self } in q) (g.K.Gpi.content c.writes.kernel) (g.W.Awaits.held c.put_out-fault.new.queue.awaits) (queue_of g.W.Awaits.waiting c.put_out-fault.new.queue) (g.K.Gpi.content c.put_out-fault.new.kernel) c.writes.fault c.writes.out c.put_out-fault.result c.put_out-fault.new.out)
       c.writes.invariant.room (λ n t. c.put_out-fault.ensures.serves functions rw_key n t));
 }

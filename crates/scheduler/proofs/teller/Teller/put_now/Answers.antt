@@ -30,7 +30,7 @@ returns-clause-fits g c =
 pub returns-clause-done : goal.returns-clause-done
 returns-clause-done g c = record {
   leads = λ functions.
-      put_leads (sink_means g.O.Sink) (deposit (setup_of functions c.args.self.now) c.args.write.sig c.args.write.bits) c.args.self.now.flat.now c.args.queue.now.ready.room (queue_of g.W.Awaits.waiting c.args.queue.now) (g.K.Gpi.content c.args.kernel.now)
+      put_leads (sink_means g.O.Sink) (deposit (setup_of functions c.args.self.now) c.args.write.sig c.args.write.act) c.args.self.now.flat.now c.args.queue.now.ready.room (queue_of g.W.Awaits.waiting c.args.queue.now) (g.K.Gpi.content c.args.kernel.now)
       (g.W.Awaits.held c.put_out.new.queue.awaits) (queue_of g.W.Awaits.waiting c.put_out.new.queue) (g.K.Gpi.content c.put_out.new.kernel) c.args.out.now c.put_out.result c.put_out.new.out
       (c.put_out.ensures.serves functions [] (g.K.Gpi.content c.args.kernel.now).counts
       (fits_amid c.args.self.now.flat.now c.args.queue.now.ready.room (g.W.Awaits.held c.args.queue.now.awaits) (queue_of g.W.Awaits.waiting c.args.queue.now) (g.K.Gpi.content c.args.kernel.now) c.requires.fits.queue c.requires.fits.still));

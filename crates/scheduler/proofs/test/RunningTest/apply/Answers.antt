@@ -12,7 +12,7 @@ use Rattle.scheduler.specs.Turns.{LeadsTo}
 use Rattle.run_state.specs.declared.test_tasks.tasks.TestTasks.{TestTasks}
 use Rattle.scheduler.specs.Parts.{means, rig_of}
 use Rattle.scheduler.proofs.Nexts.{fits_keeps, fits_next, has_turn, logged_leads, none_put, room_same}
-use Rattle.scheduler.proofs.Quiet.{fits_if, if_ok, knows_task, knows_wait, on_ok, quiet_lines, sound_write}
+use Rattle.scheduler.proofs.Quiet.{fits_if, if_ok, knows_queue, knows_task, knows_wait, on_ok, quiet_lines, sound_write}
 use Rattle.scheduler.proofs.test.RunningTest.apply.Goals as goal
 
 pub wait-requires-clause-turn : goal.wait-requires-clause-turn
@@ -43,10 +43,10 @@ pub returns-in-Stage-clause-leads : goal.returns-in-Stage-clause-leads
 returns-in-Stage-clause-leads g c = rw c.in-Stage.is (if_ok c.stage_write.result c.stage_write.ensures.leads (λ next h. (h c.args.task).effect (setup_of (g.M.FlowMaker.functions c.args.self.now.tasks.maker) c.args.teller.now)))
 
 pub returns-in-Stage-clause-puts : goal.returns-in-Stage-clause-puts
-returns-in-Stage-clause-puts g c = rw c.in-Stage.is (none_put (sink_means g.O.Sink) c.args.out.now c.stage_write.result _ (quiet_lines c.args.task (rig_of (means g.M.FlowMaker g.M.Flow.Flow g.W.Awaits) c.args.self.now (g.K.Gpi.content c.args.kernel.now)) (setup_of (g.M.FlowMaker.functions c.args.self.now.tasks.maker) c.args.teller.now) (turned.Stage c.in-Stage.sig c.in-Stage.bits) tt) (if_ok c.stage_write.result c.stage_write.ensures.leads (λ next h. (h c.args.task).fine)))
+returns-in-Stage-clause-puts g c = rw c.in-Stage.is (none_put (sink_means g.O.Sink) c.args.out.now c.stage_write.result _ (quiet_lines c.args.task (rig_of (means g.M.FlowMaker g.M.Flow.Flow g.W.Awaits) c.args.self.now (g.K.Gpi.content c.args.kernel.now)) (setup_of (g.M.FlowMaker.functions c.args.self.now.tasks.maker) c.args.teller.now) (turned.Stage c.in-Stage.sig c.in-Stage.act) tt) (if_ok c.stage_write.result c.stage_write.ensures.leads (λ next h. (h c.args.task).fine)))
 
 pub returns-in-Stage-clause-fits : goal.returns-in-Stage-clause-fits
-returns-in-Stage-clause-fits g c = fits_if (means g.M.FlowMaker g.M.Flow.Flow g.W.Awaits) c.args.teller.now.flat.now (setup_of (g.M.FlowMaker.functions c.args.self.now.tasks.maker) c.args.teller.now) c.args.task (turned.Stage c.in-Stage.sig c.in-Stage.bits) (rig_of (means g.M.FlowMaker g.M.Flow.Flow g.W.Awaits) c.args.self.now (g.K.Gpi.content c.args.kernel.now)) refl c.requires.fits.stands c.stage_write.new.self (g.K.Gpi.content c.stage_write.new.kernel) (c.stage_write.ensures.fits c.args.teller.now.flat.now (sound_write (setup_of (g.M.FlowMaker.functions c.args.self.now.tasks.maker) c.args.teller.now) (rig_of (means g.M.FlowMaker g.M.Flow.Flow g.W.Awaits) c.args.self.now (g.K.Gpi.content c.args.kernel.now)) c.args.teller.now.flat.now c.in-Stage.sig c.in-Stage.bits c.requires.fits.queue.queue.signals (rw c.in-Stage.is at c.requires.known)) c.requires.fits.queue) c.stage_write.result (if_ok c.stage_write.result c.stage_write.ensures.leads (λ next h. (h c.args.task).effect (setup_of (g.M.FlowMaker.functions c.args.self.now.tasks.maker) c.args.teller.now))) (if_ok c.stage_write.result c.stage_write.ensures.leads (λ next h. (h c.args.task).room))
+returns-in-Stage-clause-fits g c = fits_if (means g.M.FlowMaker g.M.Flow.Flow g.W.Awaits) c.args.teller.now.flat.now (setup_of (g.M.FlowMaker.functions c.args.self.now.tasks.maker) c.args.teller.now) c.args.task (turned.Stage c.in-Stage.sig c.in-Stage.act) (rig_of (means g.M.FlowMaker g.M.Flow.Flow g.W.Awaits) c.args.self.now (g.K.Gpi.content c.args.kernel.now)) refl c.requires.fits.stands c.stage_write.new.self (g.K.Gpi.content c.stage_write.new.kernel) (c.stage_write.ensures.fits c.args.teller.now.flat.now (sound_write (setup_of (g.M.FlowMaker.functions c.args.self.now.tasks.maker) c.args.teller.now) (rig_of (means g.M.FlowMaker g.M.Flow.Flow g.W.Awaits) c.args.self.now (g.K.Gpi.content c.args.kernel.now)) c.args.teller.now.flat.now c.in-Stage.sig c.in-Stage.act c.requires.fits.queue.queue.signals (rw c.in-Stage.is at c.requires.known)) c.requires.fits.queue) c.stage_write.result (if_ok c.stage_write.result c.stage_write.ensures.leads (λ next h. (h c.args.task).effect (setup_of (g.M.FlowMaker.functions c.args.self.now.tasks.maker) c.args.teller.now))) (if_ok c.stage_write.result c.stage_write.ensures.leads (λ next h. (h c.args.task).room))
 
 pub returns-in-Stage-clause-kept : goal.returns-in-Stage-clause-kept
 returns-in-Stage-clause-kept g c = c.stage_write.ensures.kept
@@ -223,7 +223,7 @@ pub put_write-requires-clause-fits : goal.put_write-requires-clause-fits
 put_write-requires-clause-fits g c = c.requires.fits.queue
 
 pub put_write-requires-clause-sound : goal.put_write-requires-clause-sound
-put_write-requires-clause-sound g c = sound_write (setup_of (g.M.FlowMaker.functions c.args.self.now.tasks.maker) c.args.teller.now) (rig_of (means g.M.FlowMaker g.M.Flow.Flow g.W.Awaits) c.args.self.now (g.K.Gpi.content c.args.kernel.now)) c.args.teller.now.flat.now c.in-Put.sig c.in-Put.bits c.requires.fits.queue.queue.signals (rw c.in-Put.is at c.requires.known)
+put_write-requires-clause-sound g c = sound_write (setup_of (g.M.FlowMaker.functions c.args.self.now.tasks.maker) c.args.teller.now) (rig_of (means g.M.FlowMaker g.M.Flow.Flow g.W.Awaits) c.args.self.now (g.K.Gpi.content c.args.kernel.now)) c.args.teller.now.flat.now c.in-Put.sig c.in-Put.act c.requires.fits.queue.queue.signals (rw c.in-Put.is at c.requires.known)
 
 pub put_write-requires-clause-room : goal.put_write-requires-clause-room
 put_write-requires-clause-room g c = c.requires.fits.room
@@ -235,7 +235,7 @@ pub returns-in-Put-clause-puts : goal.returns-in-Put-clause-puts
 returns-in-Put-clause-puts g c = rw c.in-Put.is (c.put_write.ensures.puts (g.M.FlowMaker.functions c.args.self.now.tasks.maker) c.args.task)
 
 pub returns-in-Put-clause-fits : goal.returns-in-Put-clause-fits
-returns-in-Put-clause-fits g c = fits_if (means g.M.FlowMaker g.M.Flow.Flow g.W.Awaits) c.args.teller.now.flat.now (setup_of (g.M.FlowMaker.functions c.args.self.now.tasks.maker) c.args.teller.now) c.args.task (turned.Put c.in-Put.sig c.in-Put.bits) (rig_of (means g.M.FlowMaker g.M.Flow.Flow g.W.Awaits) c.args.self.now (g.K.Gpi.content c.args.kernel.now)) refl c.requires.fits.stands c.put_write.new.self (g.K.Gpi.content c.put_write.new.kernel) c.put_write.ensures.fits c.put_write.result (if_ok c.put_write.result c.put_write.ensures.leads (λ next h. h (g.M.FlowMaker.functions c.args.self.now.tasks.maker) c.args.task)) c.put_write.ensures.room
+returns-in-Put-clause-fits g c = fits_if (means g.M.FlowMaker g.M.Flow.Flow g.W.Awaits) c.args.teller.now.flat.now (setup_of (g.M.FlowMaker.functions c.args.self.now.tasks.maker) c.args.teller.now) c.args.task (turned.Put c.in-Put.sig c.in-Put.act) (rig_of (means g.M.FlowMaker g.M.Flow.Flow g.W.Awaits) c.args.self.now (g.K.Gpi.content c.args.kernel.now)) refl c.requires.fits.stands c.put_write.new.self (g.K.Gpi.content c.put_write.new.kernel) c.put_write.ensures.fits c.put_write.result (if_ok c.put_write.result c.put_write.ensures.leads (λ next h. h (g.M.FlowMaker.functions c.args.self.now.tasks.maker) c.args.task)) c.put_write.ensures.room
 
 pub returns-in-Put-clause-kept : goal.returns-in-Put-clause-kept
 returns-in-Put-clause-kept g c = c.put_write.ensures.kept
@@ -251,3 +251,51 @@ returns-in-Log-clause-fits g c = fits_if (means g.M.FlowMaker g.M.Flow.Flow g.W.
 
 pub returns-in-Log-clause-kept : goal.returns-in-Log-clause-kept
 returns-in-Log-clause-kept g c = record { loaded = c.requires.loaded; keeps = fits_keeps c.args.teller.now.flat.now g.W.Awaits.waiting g.W.Awaits.held c.args.self.now.queue (g.K.Gpi.content c.args.kernel.now) c.requires.fits.queue; maker = refl }
+
+pub returns-in-NewQueue-clause-leads : goal.returns-in-NewQueue-clause-leads
+returns-in-NewQueue-clause-leads g c = rw c.in-NewQueue.is (if_ok c.new_queue.result c.new_queue.ensures.leads (λ next h. h (setup_of (g.M.FlowMaker.functions c.args.self.now.tasks.maker) c.args.teller.now) c.args.task (g.K.Gpi.content c.args.kernel.now)))
+
+pub returns-in-NewQueue-clause-puts : goal.returns-in-NewQueue-clause-puts
+returns-in-NewQueue-clause-puts g c = rw c.in-NewQueue.is (none_put (sink_means g.O.Sink) c.args.out.now c.new_queue.result _ (quiet_lines c.args.task (rig_of (means g.M.FlowMaker g.M.Flow.Flow g.W.Awaits) c.args.self.now (g.K.Gpi.content c.args.kernel.now)) (setup_of (g.M.FlowMaker.functions c.args.self.now.tasks.maker) c.args.teller.now) (turned.NewQueue c.in-NewQueue.bound) tt) c.new_queue.ensures.fine)
+
+pub returns-in-NewQueue-clause-fits : goal.returns-in-NewQueue-clause-fits
+returns-in-NewQueue-clause-fits g c = fits_if (means g.M.FlowMaker g.M.Flow.Flow g.W.Awaits) c.args.teller.now.flat.now (setup_of (g.M.FlowMaker.functions c.args.self.now.tasks.maker) c.args.teller.now) c.args.task (turned.NewQueue c.in-NewQueue.bound) (rig_of (means g.M.FlowMaker g.M.Flow.Flow g.W.Awaits) c.args.self.now (g.K.Gpi.content c.args.kernel.now)) refl c.requires.fits.stands c.new_queue.new.self (g.K.Gpi.content c.args.kernel.now) (rw c.new_queue.ensures.queue c.requires.fits.queue) c.new_queue.result (if_ok c.new_queue.result c.new_queue.ensures.leads (λ next h. h (setup_of (g.M.FlowMaker.functions c.args.self.now.tasks.maker) c.args.teller.now) c.args.task (g.K.Gpi.content c.args.kernel.now))) (on_ok c.new_queue.result (room_same (means g.M.FlowMaker g.M.Flow.Flow g.W.Awaits) c.args.self.now c.requires.fits.room c.new_queue.new.self c.new_queue.ensures.tasks (ap (λ (x : _). x.ready.room) c.new_queue.ensures.queue)))
+
+pub returns-in-NewQueue-clause-kept : goal.returns-in-NewQueue-clause-kept
+returns-in-NewQueue-clause-kept g c = record { loaded = c.requires.loaded; keeps = rw c.new_queue.ensures.queue (fits_keeps c.args.teller.now.flat.now g.W.Awaits.waiting g.W.Awaits.held c.args.self.now.queue (g.K.Gpi.content c.args.kernel.now) c.requires.fits.queue); maker = ap (λ (x : TestTasks _ _). x.maker) c.new_queue.ensures.tasks }
+
+pub put_item-requires-clause-turn : goal.put_item-requires-clause-turn
+put_item-requires-clause-turn g c = has_turn (means g.M.FlowMaker g.M.Flow.Flow g.W.Awaits) g.K.Gpi c.args.task c.args.teller.now.flat.now c.args.self.now c.args.kernel.now c.requires.loaded c.requires.fits
+
+pub returns-in-PutNow-clause-leads : goal.returns-in-PutNow-clause-leads
+returns-in-PutNow-clause-leads g c = rw c.in-PutNow.is (if_ok c.put_item.result c.put_item.ensures.leads (λ next h. h.effect (setup_of (g.M.FlowMaker.functions c.args.self.now.tasks.maker) c.args.teller.now)))
+
+pub returns-in-PutNow-clause-puts : goal.returns-in-PutNow-clause-puts
+returns-in-PutNow-clause-puts g c = rw c.in-PutNow.is (none_put (sink_means g.O.Sink) c.args.out.now c.put_item.result _ (quiet_lines c.args.task (rig_of (means g.M.FlowMaker g.M.Flow.Flow g.W.Awaits) c.args.self.now (g.K.Gpi.content c.args.kernel.now)) (setup_of (g.M.FlowMaker.functions c.args.self.now.tasks.maker) c.args.teller.now) (turned.PutNow c.in-PutNow.queue c.in-PutNow.item) tt) (if_ok c.put_item.result c.put_item.ensures.leads (λ next h. h.fine)))
+
+pub returns-in-PutNow-clause-fits : goal.returns-in-PutNow-clause-fits
+returns-in-PutNow-clause-fits g c = fits_if (means g.M.FlowMaker g.M.Flow.Flow g.W.Awaits) c.args.teller.now.flat.now (setup_of (g.M.FlowMaker.functions c.args.self.now.tasks.maker) c.args.teller.now) c.args.task (turned.PutNow c.in-PutNow.queue c.in-PutNow.item) (rig_of (means g.M.FlowMaker g.M.Flow.Flow g.W.Awaits) c.args.self.now (g.K.Gpi.content c.args.kernel.now)) refl c.requires.fits.stands c.put_item.new.self (g.K.Gpi.content c.put_item.new.kernel) (c.put_item.ensures.stays.fits c.args.teller.now.flat.now c.requires.fits.queue) c.put_item.result (if_ok c.put_item.result c.put_item.ensures.leads (λ next h. h.effect (setup_of (g.M.FlowMaker.functions c.args.self.now.tasks.maker) c.args.teller.now))) (if_ok c.put_item.result c.put_item.ensures.leads (λ next h. h.room))
+
+pub returns-in-PutNow-clause-kept : goal.returns-in-PutNow-clause-kept
+returns-in-PutNow-clause-kept g c = c.put_item.ensures.stays.kept
+
+pub get_item-requires-clause-turn : goal.get_item-requires-clause-turn
+get_item-requires-clause-turn g c = has_turn (means g.M.FlowMaker g.M.Flow.Flow g.W.Awaits) g.K.Gpi c.args.task c.args.teller.now.flat.now c.args.self.now c.args.kernel.now c.requires.loaded c.requires.fits
+
+pub returns-in-GetNow-clause-leads : goal.returns-in-GetNow-clause-leads
+returns-in-GetNow-clause-leads g c = rw c.in-GetNow.is (c.get_item.ensures.leads.effect (setup_of (g.M.FlowMaker.functions c.args.self.now.tasks.maker) c.args.teller.now))
+
+pub returns-in-GetNow-clause-puts : goal.returns-in-GetNow-clause-puts
+returns-in-GetNow-clause-puts g c = rw c.in-GetNow.is (none_put (sink_means g.O.Sink) c.args.out.now (Ok c.get_item.result) _ (quiet_lines c.args.task (rig_of (means g.M.FlowMaker g.M.Flow.Flow g.W.Awaits) c.args.self.now (g.K.Gpi.content c.args.kernel.now)) (setup_of (g.M.FlowMaker.functions c.args.self.now.tasks.maker) c.args.teller.now) (turned.GetNow c.in-GetNow.queue) tt) c.get_item.ensures.leads.fine)
+
+pub returns-in-GetNow-clause-fits : goal.returns-in-GetNow-clause-fits
+returns-in-GetNow-clause-fits g c = fits_next (means g.M.FlowMaker g.M.Flow.Flow g.W.Awaits) c.args.teller.now.flat.now (setup_of (g.M.FlowMaker.functions c.args.self.now.tasks.maker) c.args.teller.now) c.args.task (turned.GetNow c.in-GetNow.queue) (rig_of (means g.M.FlowMaker g.M.Flow.Flow g.W.Awaits) c.args.self.now (g.K.Gpi.content c.args.kernel.now)) refl c.requires.fits.stands c.get_item.new.self (g.K.Gpi.content c.get_item.new.kernel) (c.get_item.ensures.stays.fits c.args.teller.now.flat.now c.requires.fits.queue) c.get_item.ensures.leads.room c.get_item.result (c.get_item.ensures.leads.effect (setup_of (g.M.FlowMaker.functions c.args.self.now.tasks.maker) c.args.teller.now))
+
+pub returns-in-GetNow-clause-kept : goal.returns-in-GetNow-clause-kept
+returns-in-GetNow-clause-kept g c = c.get_item.ensures.stays.kept
+
+pub put_item-requires-clause-queue : goal.put_item-requires-clause-queue
+put_item-requires-clause-queue g c = knows_queue (setup_of (g.M.FlowMaker.functions c.args.self.now.tasks.maker) c.args.teller.now) (rig_of (means g.M.FlowMaker g.M.Flow.Flow g.W.Awaits) c.args.self.now (g.K.Gpi.content c.args.kernel.now)) c.in-PutNow.queue.0 (rw c.in-PutNow.is at c.requires.known).0
+
+pub get_item-requires-clause-queue : goal.get_item-requires-clause-queue
+get_item-requires-clause-queue g c = knows_queue (setup_of (g.M.FlowMaker.functions c.args.self.now.tasks.maker) c.args.teller.now) (rig_of (means g.M.FlowMaker g.M.Flow.Flow g.W.Awaits) c.args.self.now (g.K.Gpi.content c.args.kernel.now)) c.in-GetNow.queue.0 (rw c.in-GetNow.is at c.requires.known)

@@ -24,8 +24,8 @@ returns-clause-leads g c =
     let q' : Queue = queue_of g.W.Awaits.waiting c.put_now.new.queue in
     let k' : Content = g.K.Gpi.content c.put_now.new.kernel in
     IfOk-weaker c.after_put.result _ _
-    (λ next logged. λ functions task. logged_leads (setup_of functions c.args.teller.now) task (turned.Put c.args.write.sig c.args.write.bits) (rig_by p q k) (rig_by p q' k') next
-    (put_leads (setup_of functions c.args.teller.now) task p q k q' k' c.args.write.sig c.args.write.bits unended (c.put_now.ensures.done.leads functions)) logged)
+    (λ next logged. λ functions task. logged_leads (setup_of functions c.args.teller.now) task (turned.Put c.args.write.sig c.args.write.act) (rig_by p q k) (rig_by p q' k') next
+    (put_leads (setup_of functions c.args.teller.now) task p q k q' k' c.args.write.sig c.args.write.act unended (c.put_now.ensures.done.leads functions)) logged)
     c.after_put.ensures.next
 
 pub returns-clause-puts : goal.returns-clause-puts
@@ -36,5 +36,5 @@ returns-clause-puts g c =
     let k : Content = g.K.Gpi.content c.args.kernel.now in
     let unended : is_end k.state.region ≡ false = search rules in
     λ functions task. same_put (sink_means g.O.Sink) c.args.out.now c.put_now.new.out _ _ _ _
-    (put_lines (setup_of functions c.args.teller.now) task p q k c.args.write.sig c.args.write.bits unended) c.after_put.ensures.fault
+    (put_lines (setup_of functions c.args.teller.now) task p q k c.args.write.sig c.args.write.act unended) c.after_put.ensures.fault
     (c.put_now.ensures.done.puts functions (rig_by p q k))

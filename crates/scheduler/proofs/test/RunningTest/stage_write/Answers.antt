@@ -17,7 +17,7 @@ returns-clause-leads g c =
     let k : Content = g.K.Gpi.content c.args.kernel.now in
     let unended : is_end k.state.region ≡ false = search rules in
     λ task. record {
-      effect = λ setup. stage_leads setup task p q k (queue_of g.W.Awaits.waiting c.stage.new.self) (g.K.Gpi.content c.stage.new.kernel) c.args.sig c.args.bits unended
+      effect = λ setup. stage_leads setup task p q k (queue_of g.W.Awaits.waiting c.stage.new.self) (g.K.Gpi.content c.stage.new.kernel) c.args.sig c.args.act unended
           c.in_ok-stage.ensures.leads;
       fine = refl;
       room = room_same m c.args.self.now c.requires.room _ refl c.stage.ensures.room;

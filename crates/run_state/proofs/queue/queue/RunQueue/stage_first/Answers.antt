@@ -15,7 +15,7 @@ returns-in_err-hold-clause-keeps g c = keeps_kept _ _ (queue_of g.W.Awaits.waiti
 pub returns-in_err-hold-clause-fits : goal.returns-in_err-hold-clause-fits
 returns-in_err-hold-clause-fits g c = λ flat sound f. record {
   queue = fits_kept flat _ _ _ (queue_of g.W.Awaits.waiting c.args.self.now) (g.K.Gpi.content c.args.kernel.now) _ _ c.hold.ensures.waiting
-      (record { procs = ap (λ (k : Content). k.procs) c.in_err-hold.ensures.kept; state = ap (λ (k : Content). k.state) c.in_err-hold.ensures.kept })
+      (record { procs = ap (λ (k : Content). k.procs) c.in_err-hold.ensures.kept; nets = ap (λ (k : Content). k.nets) c.in_err-hold.ensures.kept; state = ap (λ (k : Content). k.state) c.in_err-hold.ensures.kept })
       (keeps_kept _ _ (queue_of g.W.Awaits.waiting c.args.self.now) (g.K.Gpi.content c.args.kernel.now) _ _
       c.hold.ensures.waiting c.in_err-hold.ensures.err (λ x. ap (λ (k : Content). has x k.keys) c.in_err-hold.ensures.kept) c.requires.keeps) f.queue;
   still = subst AreStill (sym c.hold.ensures.waiting) f.still;
@@ -30,16 +30,16 @@ release-requires-clause-keys g c = are_but (g.K.Gpi.content c.hold.new.kernel) _
     c.requires.keeps c.hold.ensures.waiting c.in_ok-hold.ensures.ok c.in_ok-hold.ensures.keys)
 
 pub returns-in-Ok-clause-leads : goal.returns-in-Ok-clause-leads
-returns-in-Ok-clause-leads g c = first_leads (queue_of g.W.Awaits.waiting c.args.self.now) _ _ c.args.sig c.args.bits _ _ (g.K.Gpi.content c.args.kernel.now) _
+returns-in-Ok-clause-leads g c = first_leads (queue_of g.W.Awaits.waiting c.args.self.now) _ _ c.args.sig c.args.act _ _ (g.K.Gpi.content c.args.kernel.now) _
     c.requires.keeps c.requires.empty c.in-Ok.ensures.ok c.hold.ensures.waiting c.in_ok-hold.ensures.ok c.in_ok-hold.ensures.keys
 
 pub returns-in-Ok-clause-keeps : goal.returns-in-Ok-clause-keeps
-returns-in-Ok-clause-keeps g c = first_keeps (queue_of g.W.Awaits.waiting c.args.self.now) _ _ c.args.sig c.args.bits _ _ (g.K.Gpi.content c.args.kernel.now) _
+returns-in-Ok-clause-keeps g c = first_keeps (queue_of g.W.Awaits.waiting c.args.self.now) _ _ c.args.sig c.args.act _ _ (g.K.Gpi.content c.args.kernel.now) _
     c.requires.keeps c.requires.empty c.in-Ok.ensures.ok c.hold.ensures.waiting c.in_ok-hold.ensures.ok c.in_ok-hold.ensures.keys
 
 pub returns-in-Ok-clause-fits : goal.returns-in-Ok-clause-fits
 returns-in-Ok-clause-fits g c = λ flat sound f. record {
-  queue = first_fits (queue_of g.W.Awaits.waiting c.args.self.now) _ _ c.args.sig c.args.bits _ _ (g.K.Gpi.content c.args.kernel.now) _
+  queue = first_fits (queue_of g.W.Awaits.waiting c.args.self.now) _ _ c.args.sig c.args.act _ _ (g.K.Gpi.content c.args.kernel.now) _
       c.requires.keeps c.requires.empty c.in-Ok.ensures.ok c.hold.ensures.waiting c.in_ok-hold.ensures.ok c.in_ok-hold.ensures.keys flat _ sound f.queue;
   still = subst AreStill (sym c.hold.ensures.waiting) f.still;
 }

@@ -14,7 +14,7 @@ returns-in_err-begin-clause-keeps g c = keeps_kept _ _ (queue_of g.W.Awaits.wait
 pub returns-in_err-begin-clause-fits : goal.returns-in_err-begin-clause-fits
 returns-in_err-begin-clause-fits g c = λ flat f. record {
   queue = fits_kept flat _ _ _ (queue_of g.W.Awaits.waiting c.args.self.now) (g.K.Gpi.content c.args.kernel.now) _ _
-      c.in_err-begin.ensures.err (record { procs = c.in_err-begin.ensures.kept.procs; state = c.in_err-begin.ensures.kept.state })
+      c.in_err-begin.ensures.err (record { procs = c.in_err-begin.ensures.kept.procs; nets = c.in_err-begin.ensures.kept.nets; state = c.in_err-begin.ensures.kept.state })
       (keeps_kept _ _ (queue_of g.W.Awaits.waiting c.args.self.now) (g.K.Gpi.content c.args.kernel.now) _ _
       c.in_err-begin.ensures.err c.begin.ensures.held c.in_err-begin.ensures.kept.keys c.requires.keeps) f.queue;
   still = subst AreStill (sym c.in_err-begin.ensures.err) f.still;

@@ -8,7 +8,7 @@ use Rattle.run_state.proofs.test_tasks.tasks.TestTasks.poll.Goals as goal
 pub poll-requires-clause-known : goal.poll-requires-clause-known
 poll-requires-clause-known g c =
     rw c.new-view.ensures (flow_known (meanings g.M.Flow.Flow.functions g.M.Flow.Flow.meaning) (g.M.FlowMaker.functions c.args.self.now.maker)
-    (view_of c.args.flat.now (g.K.Gpi.content c.args.kernel.now).state c.args.objects.now c.args.self.now.ended) c.args.self.now.live c.args.task.0
+    (view_of c.args.flat.now (g.K.Gpi.content c.args.kernel.now).state c.args.objects.now c.args.queues.now c.args.self.now.ended) c.args.self.now.live c.args.task.0
     c.requires.whole.file_is c.requires.known)
 
 pub returns-clause-polls : goal.returns-clause-polls
