@@ -1,3 +1,4 @@
 pub mod SeparateTestsLemmas
 pub mod RemainderLemmas
 pub mod PlacesLemmas
+pub mod ItemsLemmas

@@ -5,6 +5,7 @@ pub mod Activations
 pub mod States
 pub mod Known
 pub mod Counts
+pub mod KnownLeaves
 pub mod Leaves
 pub mod Waits
 pub mod Unmet

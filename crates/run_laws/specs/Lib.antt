@@ -1,3 +1,4 @@
 pub mod SeparateTests
 pub mod Remainder
 pub mod Places
+pub mod Items

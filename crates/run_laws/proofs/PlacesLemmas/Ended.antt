@@ -1,13 +1,13 @@
 -- How a task has ended stays.
 use Rattle.std.proofs.Common.{◌≡◌, ℕ, Bool, true, false, List, [], ◌∷◌, length, Option, None, Some, refl, ap, sym, ◌∙◌, subst, arith}
-use Rattle.std.specs.Prelude.{◌==◌, nat_le, is_some, slice_index_or}
-use Rattle.four_value.specs.declared.Digit.{Digit}
-use Rattle.gpi.specs.Events.{Event, put}
+use Rattle.std.specs.Prelude.{◌==◌, nat_le, is_some, slice_index_or, nat_lt, ◌+◌}
+use Rattle.gpi.specs.Events.{Event}
 use Rattle.gpi.specs.Keys.{among, set_of}
 use Rattle.gpi.specs.State.{is_end}
 use Rattle.gpi.specs.declared.types.Key.{Key}
 use Rattle.gpi.specs.declared.types.Key.TheVariants.{ReadWrite}
 use Rattle.gpi.specs.declared.types.SigId.{SigId}
+use Rattle.gpi.specs.declared.types.Write.{Write}
 use Rattle.py_value.specs.declared.trigger.LockNo.{LockNo}
 use Rattle.py_value.specs.declared.trigger.TaskNo.{TaskNo}
 use Rattle.py_value.specs.declared.value.Value.{Value}
@@ -24,17 +24,20 @@ use Rattle.await_tree.specs.declared.ended_tasks.ending.Ending.TheVariants.{Retu
 use Rattle.await_tree.specs.SyncObjects.States.{event_limit, is_held, lock_limit}
 use Rattle.run_view.specs.declared.signal_port.staged.Staged.{Staged}
 use Rattle.test_meaning.specs.Body.BodyTrees.{Case, Function}
+use Rattle.task_queue.specs.Queues.{TaskQueue, queue_at, is_full as has_no_room, is_at_limit, is_empty, with_items, with_item}
+use Rattle.py_value.specs.declared.trigger.EventNo.{EventNo}
+use Rattle.py_value.specs.declared.trigger.QueueNo.{QueueNo}
 use Rattle.rig_model.specs.Task.Frame.{Task, function_at}
 use Rattle.rig_model.specs.Task.Step.{next}
 use Rattle.rig_model.specs.declared.task.task.Turned.{Turned}
 use Rattle.rig_model.specs.declared.task.task.Turned.TheVariants as turned
 use Rattle.await_tree.specs.WaitList.Waiting.{is_joined, is_wanted}
 use Rattle.await_tree.specs.declared.wait_list.ready.Entry.{Entry}
-use Rattle.rig_model.specs.Run.Effect.{begun_by, awaits_by, write_by, stages, puts, starts, starter, next_task, with_new_task, fails, kills_by, kills, makes_event, makes_lock, releases, is_full, handed_on, effect, effect_of}
+use Rattle.rig_model.specs.Run.Effect.{begun_by, awaits_by, write_by, stages, puts, starts, starter, next_task, with_new_task, fails, kills_by, kills, makes_event, makes_lock, releases, is_full, handed_on, effect, effect_of, makes_queue, sets_if, clears_if, puts_item, gets_item}
 use Rattle.rig_model.specs.Run.Rig.{Rig, Setup, Running, After, event_of, facts_of, procs, view_of}
 use Rattle.rig_model.specs.Run.Rig as rig
 use Rattle.rig_model.specs.Run.Run.{Run}
-use Rattle.rig_model.specs.Run.Serve.{serve_keys, with_fired, after_put, deposit, flushed, flushed_if, served, ended_if, is_due, serve}
+use Rattle.rig_model.specs.Run.Serve.{serve_keys, with_fired, after_put, deposit, flushed, flushed_if, served, ended_if, is_due, serve, written}
 use Rattle.rig_model.specs.Run.Step.{task_at, taken, stepped, kept, after_event, resumed, chosen, rig_step}
 use Rattle.run_laws.specs.Places.Places.{KeepEndings, turn_of}
 use Rattle.run_laws.specs.Places.Reached.{IsReached}
@@ -65,13 +68,13 @@ module _ (P : Endings → Type 0) (starting : (es : Endings) → P es → P (wit
   put_keeps : (setup : Setup) (e : Event) (c : Rig) → Keeps c → Keeps (after_put setup e c).rig
   put_keeps setup e c h = keys_keep e.fired c.fired (with_fired e.fired (record c { sim = e.state })) h
 
-  deposit_keeps : (setup : Setup) (sig : SigId) (bits : List Digit) (c : Rig) → Keeps c → Keeps (deposit setup sig bits c).rig
-  deposit_keeps setup sig bits c h = put_keeps setup (put (procs setup) c.sim (set_of (rig.awaited c)) sig bits) c h
+  deposit_keeps : (setup : Setup) (sig : SigId) (act : Write) (c : Rig) → Keeps c → Keeps (deposit setup sig act c).rig
+  deposit_keeps setup sig act c h = put_keeps setup (written setup c.sim (set_of (rig.awaited c)) sig act) c h
 
   flushed_keeps : (setup : Setup) (writes : List Staged) (c : Rig) → Keeps c → Keeps (flushed setup writes c).rig
   flushed_keeps setup [] c h = h
   flushed_keeps setup (w ∷ ws) c h =
-      flushed_keeps setup ws (deposit setup w.sig w.bits (record c { staged = ws })).rig (deposit_keeps setup w.sig w.bits (record c { staged = ws }) h)
+      flushed_keeps setup ws (deposit setup w.sig w.act (record c { staged = ws })).rig (deposit_keeps setup w.sig w.act (record c { staged = ws }) h)
 
   flush_keeps : (setup : Setup) (b : Bool) (c : Rig) → Keeps c → Keeps (flushed_if setup b c).rig
   flush_keeps setup true c h = flushed_keeps setup c.staged c h
@@ -138,10 +141,34 @@ module _ (P : Endings → Type 0) (starting : (es : Endings) → P es → P (wit
   release_keeps true task l c h = handed_keeps (is_wanted l c.waiting) l c h
   release_keeps false task l c h = h
 
+  queue_keeps : (b : Bool) (task : TaskNo) (bound : ℕ) (c : Rig) → Keeps c → Keeps (makes_queue b task bound c).rig
+  queue_keeps true task bound c h = h
+  queue_keeps false task bound c h = h
+
+  flags_keep : (a b : Bool) (x y : EventNo) (c : Rig) → Keeps c → Keeps (clears_if a x (sets_if b y c))
+  flags_keep true true x y c h = h
+  flags_keep false true x y c h = h
+  flags_keep true false x y c h = h
+  flags_keep false false x y c h = h
+
+  put_item_keeps : (full limit : Bool) (task : TaskNo) (q : QueueNo) (item : Value) (c : Rig) → Keeps c → Keeps (puts_item full limit task q item c).rig
+  put_item_keeps true limit task q item c h = h
+  put_item_keeps false true task q item c h = h
+  put_item_keeps false false task q item c h =
+      let old : TaskQueue = queue_at q c.queues in
+      flags_keep (has_no_room (queue_at q (with_item q item c.queues))) (is_empty old.items) old.space_event old.items_event
+      (record c { queues = with_item q item c.queues }) h
+
+  get_item_keeps : (task : TaskNo) (q : QueueNo) (items : List Value) (c : Rig) → Keeps c → Keeps (gets_item task q items c).rig
+  get_item_keeps task q [] c h = h
+  get_item_keeps task q (item ∷ items) c h =
+      let old : TaskQueue = queue_at q c.queues in
+      flags_keep (is_empty items) (has_no_room old) old.items_event old.space_event (record c { queues = with_items q items c.queues }) h
+
   effect_keeps : (setup : Setup) (task : TaskNo) (t : Turned) (c : Rig) → is_done task c.endings ≡ false → Keeps c → Keeps (effect setup task t c).rig
   effect_keeps setup task (turned.Await trig) c n h = awaits_keeps task (tree_of trig c.sim.time) (check trig c.sim.time c.sim.region) c h
-  effect_keeps setup task (turned.Stage sig bits) c n h = write_keeps (is_end c.sim.region) sig (stages task sig bits c) c h h
-  effect_keeps setup task (turned.Put sig bits) c n h = write_keeps (is_end c.sim.region) sig (puts setup task sig bits c) c h (deposit_keeps setup sig bits c h)
+  effect_keeps setup task (turned.Stage sig act) c n h = write_keeps (is_end c.sim.region) sig (stages task sig act c) c h h
+  effect_keeps setup task (turned.Put sig act) c n h = write_keeps (is_end c.sim.region) sig (puts setup task sig act c) c h (deposit_keeps setup sig act c h)
   effect_keeps setup task (turned.Start func args give_way) c n h = starts_keep (is_full c) task (function_at setup.functions func) args give_way c h
   effect_keeps setup task (turned.Kill other) c n h = kills_keep (other.0 == task.0) task other c h
   effect_keeps setup task turned.NewEvent c n h = event_keeps (nat_le event_limit (length c.objects.events)) task c h
@@ -149,6 +176,9 @@ module _ (P : Endings → Type 0) (starting : (es : Endings) → P es → P (wit
   effect_keeps setup task (turned.ClearEvent e) c n h = h
   effect_keeps setup task turned.NewLock c n h = lock_keeps (nat_le lock_limit (length c.objects.locks)) task c h
   effect_keeps setup task (turned.Release l) c n h = release_keeps (is_held l c.objects) task l c h
+  effect_keeps setup task (turned.NewQueue bound) c n h = queue_keeps (nat_lt event_limit (length c.objects.events + 2)) task bound c h
+  effect_keeps setup task (turned.PutNow q item) c n h = put_item_keeps (has_no_room (queue_at q c.queues)) (is_at_limit (queue_at q c.queues)) task q item c h
+  effect_keeps setup task (turned.GetNow q) c n h = get_item_keeps task q (queue_at q c.queues).items c h
   effect_keeps setup task (turned.Draw low span) c n h = h
   effect_keeps setup task (turned.Log level text) c n h = h
   effect_keeps setup task (turned.Done v) c n h = ending task (Returned v) c.endings n h

@@ -1,18 +1,16 @@
 -- Whoever is joined lives.
-use Rattle.std.proofs.Common.{◌≡◌, ◌<◌, Bool, List, [], ◌∷◌, ◌++◌, length, Option, Some, IsSome, ap, sym, ◌∙◌, arith, inl, inr}
+use Rattle.std.proofs.Common.{◌≡◌, ◌<◌, Bool, List, [], ◌∷◌, length, Option, Some, IsSome, ap, sym, ◌∙◌, arith, inl, inr}
 use Rattle.std.proofs.lemmas.List.{length-map}
 use Rattle.std.specs.Prelude.{false, is_some}
-use Rattle.gpi.specs.declared.types.Key.TheVariants.{At}
-use Rattle.py_evaluate.specs.Attribute.Look.{View}
 use Rattle.py_value.specs.declared.trigger.TaskNo.{TaskNo}
-use Rattle.await_tree.specs.Tree.{Tree, Trees, Over, Leaf, Cycles, First, Combine, Limit, NoTree, Then, leaves, all_leaves}
+use Rattle.await_tree.specs.Tree.{leaves}
 use Rattle.await_tree.specs.declared.cause.Awaited.{Awaited}
 use Rattle.await_tree.specs.declared.cause.Awaited.TheVariants as awaited
 use Rattle.await_tree.specs.EndedTasks.Endings.{is_done}
 use Rattle.await_tree.specs.declared.ended_tasks.ending.Ending.{Ending}
 use Rattle.test_meaning.specs.Body.BodyTrees.{Case}
 use Rattle.await_tree.specs.WaitList.Waiting.{Waiting}
-use Rattle.rig_model.specs.Run.Known.{KnowsAwaited, KnowsTree, KnowsTrees, KnowsWaiting}
+use Rattle.rig_model.specs.Run.Known.{KnowsAwaited, KnowsWaiting}
 use Rattle.rig_model.specs.Run.Rig.{Rig, Setup, facts_of, view_of}
 use Rattle.rig_model.specs.Run.Run.{Run}
 use Rattle.rig_model.specs.Run.Step.{task_at}
@@ -20,33 +18,10 @@ use Rattle.run_laws.specs.Places.Reached.{IsReached, IsSoundSetup}
 use Rattle.run_laws.specs.Places.Unmet.{AllJoinLive, AllUnmet, AreUnmet, IsUnmet, JoinsLive, JoinTheLiving}
 use Rattle.run_laws.proofs.PlacesLemmas.Counts.{one_false}
 use Rattle.run_laws.proofs.PlacesLemmas.Known.{reached_known}
+use Rattle.run_laws.proofs.PlacesLemmas.KnownLeaves.{AllKnown, leaves_known}
 use Rattle.run_laws.proofs.PlacesLemmas.Places.{ended_at, is_there, reached_well}
 use Rattle.run_laws.proofs.PlacesLemmas.Stands.{StandIn, StandWell}
 use Rattle.run_laws.proofs.PlacesLemmas.Unmet.{reached_needs}
-
--- ---- the leaves of known trees
-
-module _ (v : View) where
-  abbrev AllKnown : List Awaited → Type 0
-  AllKnown [] = Unit {0}
-  AllKnown (a ∷ more) = KnowsAwaited v a × AllKnown more
-
-  known_more : (xs ys : List Awaited) → AllKnown xs → AllKnown ys → AllKnown (xs ++ ys)
-  known_more [] ys h k = k
-  known_more (x ∷ xs) ys h k = (h.0, known_more xs ys h.1 k)
-
-  mutual
-    leaves_known : (t : Tree) → KnowsTree v t → AllKnown (leaves t)
-    leaves_known (Over f) h = tt
-    leaves_known (Leaf on trig) h = (h.0, tt)
-    leaves_known (Cycles k left trig) h = (h.0, tt)
-    leaves_known (First ts) h = all_known ts h
-    leaves_known (Combine trig ts) h = all_known ts h.1
-    leaves_known (Limit due t) h = known_more (leaves t) (awaited.Key (At due) ∷ []) (leaves_known t h) (tt, tt)
-
-    all_known : (ts : Trees) → KnowsTrees v ts → AllKnown (all_leaves ts)
-    all_known NoTree h = tt
-    all_known (Then t ts) h = known_more (leaves t) (all_leaves ts) (leaves_known t h.0) (all_known ts h.1)
 
 -- ---- whoever was started and hasn't ended lives
 
@@ -76,4 +51,4 @@ module _ (setup : Setup) (c : Rig) (well : StandWell c) where
 pub joined_live : (setup : Setup) (seed : _) (cases : List Case) (run : Run) → IsSoundSetup setup → IsReached setup seed cases run → JoinTheLiving run.rig.tasks run.rig.waiting
 joined_live setup seed cases run s r =
     all_live setup run.rig (reached_well setup seed cases run r) run.rig.waiting (reached_known setup seed cases run s r).parts.waiting_known
-    (reached_needs setup seed cases run r)
+    (reached_needs setup seed cases run s r)

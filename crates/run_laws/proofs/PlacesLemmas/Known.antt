@@ -1,19 +1,20 @@
 -- Each configuration that a run reaches is known, and its signals are as wide as the design says.
 use Rattle.std.proofs.Common.{◌≡◌, ℕ, suc, ◌<◌, Bool, true, false, List, [], ◌∷◌, length, get_or, Option, None, Some, Ok, Err, refl, ap, sym, ◌∙◌, subst, arith}
 use Rattle.std.proofs.lemmas.List.{length-map, length-replicate}
-use Rattle.std.specs.Prelude.{◌==◌, nat_le, IfSome}
-use Rattle.four_value.specs.declared.Digit.{Digit}
+use Rattle.std.specs.Prelude.{◌==◌, nat_le, IfSome, nat_lt, ◌+◌}
 use Rattle.gpi.specs.declared.design.Node.{Node}
 use Rattle.gpi.specs.declared.design.Signal.{Signal}
 use Rattle.gpi.specs.declared.types.Counts.{Counts}
 use Rattle.gpi.specs.declared.types.Key.{Key}
 use Rattle.gpi.specs.declared.types.Key.TheVariants.{ReadWrite}
 use Rattle.gpi.specs.declared.types.SigId.{SigId}
+use Rattle.gpi.specs.declared.types.Write.{Write}
+use Rattle.gpi.specs.declared.types.Write.TheVariants as write
 use Rattle.gpi.specs.Content.{no_counts}
 use Rattle.gpi.specs.Activation.{AreHidden}
 use Rattle.gpi.specs.Design.{widths, start_map, start_hidden}
-use Rattle.gpi.specs.Events.{Event, put}
-use Rattle.gpi.specs.Keys.{among, set_of}
+use Rattle.gpi.specs.Events.{Event, value_at}
+use Rattle.gpi.specs.Keys.{among, set_of, Keys}
 use Rattle.gpi.specs.State.{State, is_end}
 use Rattle.gpi.specs.Terms.{widths_of}
 use Rattle.gpi.proofs.Widths.{length_widths, get_or_widths}
@@ -38,6 +39,9 @@ use Rattle.await_tree.specs.declared.ended_tasks.ending.Ending.TheVariants.{Retu
 use Rattle.await_tree.specs.SyncObjects.States.{is_held, event_limit, lock_limit}
 use Rattle.run_view.specs.declared.signal_port.staged.Staged.{Staged}
 use Rattle.test_meaning.specs.Body.BodyTrees.{Case, Function, Limit}
+use Rattle.task_queue.specs.Queues.{TaskQueue, queue_at, is_full as has_no_room, is_at_limit, is_empty, with_items, with_item}
+use Rattle.py_value.specs.declared.trigger.EventNo.{EventNo}
+use Rattle.py_value.specs.declared.trigger.QueueNo.{QueueNo}
 use Rattle.rig_model.specs.Task.Frame.{Task, function_at}
 use Rattle.rig_model.specs.Task.Known.{KnowsGiven, KnowsTurned, KnowsWhole, KnowsWrite}
 use Rattle.rig_model.specs.Task.Step.{next}
@@ -51,17 +55,17 @@ use Rattle.run_view.proofs.Known.{names_known}
 use Rattle.rig_model.specs.Run.Case.{values_of, limit_steps, with_deadline, with_limit, with_test, emptied}
 use Rattle.rig_model.specs.declared.run.outcome.Outcome.{Outcome}
 use Rattle.rig_model.specs.Run.Verdict.{reason_of}
-use Rattle.rig_model.specs.Run.Effect.{begun_by, awaits_by, write_by, stages, puts, starts, starter, next_task, with_new_task, fails, kills_by, kills, makes_event, makes_lock, releases, is_full, handed_on, effect, effect_of}
+use Rattle.rig_model.specs.Run.Effect.{begun_by, awaits_by, write_by, stages, puts, starts, starter, next_task, with_new_task, fails, kills_by, kills, makes_event, makes_lock, releases, is_full, handed_on, effect, effect_of, makes_queue, sets_if, clears_if, puts_item, gets_item}
 use Rattle.rig_model.specs.Run.Known.{IsKnown, KnowsEnding, KnowsReady, KnowsRunning, KnowsStaged}
-use Rattle.rig_model.specs.Run.Rig.{Rig, Setup, Running, After, awaited, event_of, facts_of, procs, view_of}
+use Rattle.rig_model.specs.Run.Rig.{Rig, Setup, Running, After, awaited, event_of, facts_of, procs, view_of, nets}
 use Rattle.rig_model.specs.Run.Run.{Run, Place, Begins, Runs, Waits, Over, skipped, unskipped, with_skips, begun, planned, judged, step_in, step_at, step, opening}
-use Rattle.rig_model.specs.Run.Serve.{serve_keys, with_fired, after_put, deposit, flushed, flushed_if, served, ended_if, is_due, serve}
+use Rattle.rig_model.specs.Run.Serve.{serve_keys, with_fired, after_put, deposit, flushed, flushed_if, served, ended_if, is_due, serve, written}
 use Rattle.rig_model.specs.Run.Step.{task_at, taken, stepped, kept, after_event, resumed, chosen, rig_step}
 use Rattle.rig_model.proofs.RunLemmas.KnownRuns.{run_step_known}
-use Rattle.rig_model.proofs.RunLemmas.Lists.{at_known, ending_known}
+use Rattle.rig_model.proofs.RunLemmas.Lists.{at_known, ending_known, events_known}
 use Rattle.run_laws.specs.Places.Reached.{IsReached, IsSoundSetup}
 use Rattle.run_laws.proofs.PlacesLemmas.Reached.{reached_each}
-use Rattle.run_laws.proofs.PlacesLemmas.States.{IsWide, IsWrite, put_wide, Leaves, event_wide}
+use Rattle.run_laws.proofs.PlacesLemmas.States.{IsWide, IsWrite, IsAct, put_wide, force_wide, release_wide, shown_write, Leaves, event_wide}
 
 -- ---- the state after a step that writes nothing
 
@@ -134,6 +138,30 @@ module _ (P : State → Type 0) where
   release_state true task l c h = handed_state (is_wanted l c.waiting) l c h
   release_state false task l c h = h
 
+  queue_state : (b : Bool) (task : TaskNo) (bound : ℕ) (c : Rig) → P c.sim → P (makes_queue b task bound c).rig.sim
+  queue_state true task bound c h = h
+  queue_state false task bound c h = h
+
+  flags_state : (a b : Bool) (x y : EventNo) (c : Rig) → P c.sim → P (clears_if a x (sets_if b y c)).sim
+  flags_state true true x y c h = h
+  flags_state false true x y c h = h
+  flags_state true false x y c h = h
+  flags_state false false x y c h = h
+
+  put_item_state : (full limit : Bool) (task : TaskNo) (q : QueueNo) (item : Value) (c : Rig) → P c.sim → P (puts_item full limit task q item c).rig.sim
+  put_item_state true limit task q item c h = h
+  put_item_state false true task q item c h = h
+  put_item_state false false task q item c h =
+      let old : TaskQueue = queue_at q c.queues in
+      flags_state (has_no_room (queue_at q (with_item q item c.queues))) (is_empty old.items) old.space_event old.items_event
+      (record c { queues = with_item q item c.queues }) h
+
+  get_item_state : (task : TaskNo) (q : QueueNo) (items : List Value) (c : Rig) → P c.sim → P (gets_item task q items c).rig.sim
+  get_item_state task q [] c h = h
+  get_item_state task q (item ∷ items) c h =
+      let old : TaskQueue = queue_at q c.queues in
+      flags_state (is_empty items) (has_no_room old) old.items_event old.space_event (record c { queues = with_items q items c.queues }) h
+
 -- ---- writes
 
 module _ (setup : Setup) (sound : IsSoundSetup setup) where
@@ -142,19 +170,27 @@ module _ (setup : Setup) (sound : IsSoundSetup setup) where
 
   abbrev AreWrites : List Staged → Type 0
   AreWrites [] = Unit {0}
-  AreWrites (w ∷ more) = IsWrite (widths setup.flat.signals) w.sig.0 (length w.bits) × AreWrites more
+  AreWrites (w ∷ more) = IsAct (widths setup.flat.signals) w.sig w.act × AreWrites more
 
   put_state : (e : Event) (c : Rig) → IsWide (widths setup.flat.signals) e.state → Wide (after_put setup e c).rig
   put_state e c h = keys_state (IsWide (widths setup.flat.signals)) e.fired c.fired _ h
 
-  deposit_wide : (sig : SigId) (bits : List Digit) (c : Rig) → IsWrite (widths setup.flat.signals) sig.0 (length bits) → Wide c → Wide (deposit setup sig bits c).rig
-  deposit_wide sig bits c k h =
-      put_state (put (procs setup) c.sim (set_of (awaited c)) sig bits) c (put_wide (widths setup.flat.signals) (procs setup) c.sim (set_of (awaited c)) sig bits h k)
+  written_wide : (s : State) (keys : Keys) (sig : SigId) (act : Write) → IsAct (widths setup.flat.signals) sig act → IsWide (widths setup.flat.signals) s
+      → IsWide (widths setup.flat.signals) (written setup s keys sig act).state
+  written_wide s keys sig (write.Plain bits) k h = put_wide (widths setup.flat.signals) (procs setup) s keys sig bits h k
+  written_wide s keys sig (write.Force bits) k h = force_wide (widths setup.flat.signals) (procs setup) s keys sig bits h k
+  written_wide s keys sig write.Freeze k h =
+      force_wide (widths setup.flat.signals) (procs setup) s keys sig (value_at s sig) h (shown_write (widths setup.flat.signals) s sig h k)
+  written_wide s keys sig write.Release k h = release_wide (widths setup.flat.signals) (procs setup) (nets setup) s keys sig h k
+
+  deposit_wide : (sig : SigId) (act : Write) (c : Rig) → IsAct (widths setup.flat.signals) sig act → Wide c → Wide (deposit setup sig act c).rig
+  deposit_wide sig act c k h =
+      put_state (written setup c.sim (set_of (awaited c)) sig act) c (written_wide c.sim (set_of (awaited c)) sig act k h)
 
   flushed_wide : (writes : List Staged) (c : Rig) → AreWrites writes → Wide c → Wide (flushed setup writes c).rig
   flushed_wide [] c k h = h
   flushed_wide (w ∷ more) c k h =
-      flushed_wide more (deposit setup w.sig w.bits (record c { staged = more })).rig k.1 (deposit_wide w.sig w.bits (record c { staged = more }) k.0 h)
+      flushed_wide more (deposit setup w.sig w.act (record c { staged = more })).rig k.1 (deposit_wide w.sig w.act (record c { staged = more }) k.0 h)
 
   flush_wide : (b : Bool) (c : Rig) → AreWrites c.staged → Wide c → Wide (flushed_if setup b c).rig
   flush_wide true c k h = flushed_wide c.staged c k h
@@ -167,24 +203,32 @@ module _ (setup : Setup) (sound : IsSoundSetup setup) where
       (keys_state (IsWide (widths setup.flat.signals)) keys c.fired d (flush_wide (among ReadWrite keys) (with_fired keys c) k h))
 
   -- what the view knows of a write is so of the design
-  write_fits : (c : Rig) (s n : ℕ) → Wide c → KnowsWrite (view_of setup c) s n → IsWrite (widths setup.flat.signals) s n
-  write_fits c s n h k =
-      let l : length (widths setup.flat.signals) ≡ length c.sim.signals = ap length (sym h.signals) ∙ length_widths c.sim.signals in
-      let inside : s < length c.sim.signals = k.signal.0 in
-      (omega arith, k.digits ∙ sym (get_or_widths c.sim.signals s [] inside) ∙ ap (λ (xs : List ℕ). get_or xs s 0) h.signals)
+  inside_fits : (c : Rig) (s : ℕ) → Wide c → s < length c.sim.signals → s < length (widths setup.flat.signals)
+  inside_fits c s h inside =
+      let l : length (widths setup.flat.signals) ≡ length c.sim.signals = ap length (sym h.signals) ∙ length_widths c.sim.signals in omega (arith, inside)
+
+  digits_fit : (c : Rig) (s n : ℕ) → Wide c → s < length c.sim.signals → n ≡ length (get_or c.sim.signals s []) → IsWrite (widths setup.flat.signals) s n
+  digits_fit c s n h inside e =
+      (inside_fits c s h inside, e ∙ sym (get_or_widths c.sim.signals s [] inside) ∙ ap (λ (xs : List ℕ). get_or xs s 0) h.signals)
+
+  write_fits : (c : Rig) (sig : SigId) (act : Write) → Wide c → KnowsWrite (view_of setup c) sig act → IsAct (widths setup.flat.signals) sig act
+  write_fits c sig (write.Plain bits) h k = digits_fit c sig.0 (length bits) h k.signal.0 k.digits
+  write_fits c sig (write.Force bits) h k = digits_fit c sig.0 (length bits) h k.signal.0 k.digits
+  write_fits c sig write.Freeze h k = inside_fits c sig.0 h k.signal.0
+  write_fits c sig write.Release h k = inside_fits c sig.0 h k.signal.0
 
   writes_fit : (c : Rig) (writes : List Staged) → Wide c → KnowsStaged (view_of setup c) writes → AreWrites writes
   writes_fit c [] h k = tt
-  writes_fit c (w ∷ more) h k = (write_fits c w.sig.0 (length w.bits) h k.0, writes_fit c more h k.1)
+  writes_fit c (w ∷ more) h k = (write_fits c w.sig w.act h k.0, writes_fit c more h k.1)
 
   -- ---- effects
 
   effect_wide : (task : TaskNo) (t : Turned) (c : Rig) → KnowsTurned setup.functions (view_of setup c) t → Wide c → Wide (effect setup task t c).rig
   effect_wide task (turned.Await trig) c k h = awaits_state (IsWide (widths setup.flat.signals)) task (tree_of trig c.sim.time) (check trig c.sim.time c.sim.region) c h
-  effect_wide task (turned.Stage sig bits) c k h = write_state (IsWide (widths setup.flat.signals)) (is_end c.sim.region) sig (stages task sig bits c) c h h
-  effect_wide task (turned.Put sig bits) c k h =
-      write_state (IsWide (widths setup.flat.signals)) (is_end c.sim.region) sig (puts setup task sig bits c) c h
-      (deposit_wide sig bits c (write_fits c sig.0 (length bits) h k) h)
+  effect_wide task (turned.Stage sig act) c k h = write_state (IsWide (widths setup.flat.signals)) (is_end c.sim.region) sig (stages task sig act c) c h h
+  effect_wide task (turned.Put sig act) c k h =
+      write_state (IsWide (widths setup.flat.signals)) (is_end c.sim.region) sig (puts setup task sig act c) c h
+      (deposit_wide sig act c (write_fits c sig act h k) h)
   effect_wide task (turned.Start func args give_way) c k h =
       starts_state (IsWide (widths setup.flat.signals)) (is_full c) task (function_at setup.functions func) args give_way c h
   effect_wide task (turned.Kill other) c k h = kills_state (IsWide (widths setup.flat.signals)) (other.0 == task.0) task other c h
@@ -193,6 +237,9 @@ module _ (setup : Setup) (sound : IsSoundSetup setup) where
   effect_wide task (turned.ClearEvent e) c k h = h
   effect_wide task turned.NewLock c k h = lock_state (IsWide (widths setup.flat.signals)) (nat_le lock_limit (length c.objects.locks)) task c h
   effect_wide task (turned.Release l) c k h = release_state (IsWide (widths setup.flat.signals)) (is_held l c.objects) task l c h
+  effect_wide task (turned.NewQueue bound) c k h = queue_state (IsWide (widths setup.flat.signals)) (nat_lt event_limit (length c.objects.events + 2)) task bound c h
+  effect_wide task (turned.PutNow q item) c k h = put_item_state (IsWide (widths setup.flat.signals)) (has_no_room (queue_at q c.queues)) (is_at_limit (queue_at q c.queues)) task q item c h
+  effect_wide task (turned.GetNow q) c k h = get_item_state (IsWide (widths setup.flat.signals)) task q (queue_at q c.queues).items c h
   effect_wide task (turned.Draw low span) c k h = h
   effect_wide task (turned.Log level text) c k h = h
   effect_wide task (turned.Done v) c k h = h
@@ -211,7 +258,7 @@ module _ (setup : Setup) (sound : IsSoundSetup setup) where
   stepped_wide r (Some task) c k t g h =
       let v : View = view_of setup c in
       let n = next setup.functions task r.given v in
-      wish_wide r.task n.turned (kept r.task n.task c) (next_is_known setup.functions task r.given v k.design t g).1 h
+      wish_wide r.task n.turned (kept r.task n.task c) (next_is_known setup.functions task r.given v k.design (events_known setup c k.parts.queues_known) t g).1 h
 
   after_wide : (o : Option Event) (c : Rig) → IfSome o (Leaves (widths setup.flat.signals)) → IsKnown setup c → Wide c → Wide (after_event setup o c).rig
   after_wide None c e k h = h
@@ -224,7 +271,7 @@ module _ (setup : Setup) (sound : IsSoundSetup setup) where
   joined_known v (Some (Failed fault)) h = tt
   joined_known v (Some Killed) h = tt
 
-  told_known : (c : Rig) (g : Given) → IsKnown setup c → KnowsGiven (view_of setup c) g → KnowsGiven (view_of setup c) (told_given g c.endings)
+  pub told_known : (c : Rig) (g : Given) → IsKnown setup c → KnowsGiven (view_of setup c) g → KnowsGiven (view_of setup c) (told_given g c.endings)
   told_known c given.Begin k h = tt
   told_known c (given.Value x) k h = h
   told_known c (given.Fault fault) k h = tt
@@ -250,6 +297,8 @@ module _ (setup : Setup) (sound : IsSoundSetup setup) where
           waiting_known = k.parts.waiting_known;
           endings_known = k.parts.endings_known;
           staged_known = k.parts.staged_known;
+          queues_known = k.parts.queues_known;
+          queues_few = k.parts.queues_few;
         };
       })
       (at_known setup.functions (view_of setup c) x.task c.tasks k.parts.tasks_known) g h
@@ -297,10 +346,10 @@ module _ (setup : Setup) (sound : IsSoundSetup setup) where
         values = sym (length_widths state.signals) ∙ ap length h.signals ∙ count_widths setup.flat.signals;
       } in
       record {
-        design = names_known setup.flat setup.flat.nodes state c.objects c.endings of;
+        design = names_known setup.flat setup.flat.nodes state c.objects c.queues c.endings of;
         top = (omega (arith, length-map setup.flat.nodes (λ (n : Node). n.children)), omega (arith, length-map setup.flat.nodes (λ (n : Node). n.path)));
         sound = sound.functions;
-        parts = record { tasks_known = tt; running_known = tt; ready_known = tt; waiting_known = tt; endings_known = tt; staged_known = tt };
+        parts = record { tasks_known = tt; running_known = tt; ready_known = tt; waiting_known = tt; endings_known = tt; staged_known = tt; queues_known = tt; queues_few = omega arith };
       }
 
   start_widths : (ss : List Signal) → widths_of (start_map ss) ≡ widths ss
@@ -319,18 +368,21 @@ module _ (setup : Setup) (sound : IsSoundSetup setup) where
 
   -- ---- all of them
 
-  record Holds (c : Run) : Type 0 where
-    known : IsKnown setup c.rig
-    wide : IsWide (widths setup.flat.signals) c.rig.sim
+  pub record Holds (c : Run) : Type 0 where
+    pub known : IsKnown setup c.rig
+    pub wide : IsWide (widths setup.flat.signals) c.rig.sim
 
-  step_holds : (c : Run) → Holds c → Holds (step setup c)
+  pub start_holds : (seed : ℕ) (cases : List Case) → Holds (opening setup seed cases)
+  start_holds seed cases = record { known = opening_known seed cases; wide = opening_wide seed cases }
+
+  pub step_holds : (c : Run) → Holds c → Holds (step setup c)
   step_holds c h =
       let w : Wide (step setup c).rig = at_wide c.place c h.known h.wide in
       record { known = run_step_known setup c h.known (w.signals ∙ sym h.wide.signals); wide = w }
 
   reached : (seed : ℕ) (cases : List Case) (run : Run) → IsReached setup seed cases run → Holds run
   reached seed cases run r =
-      reached_each setup Holds step_holds seed cases run (record { known = opening_known seed cases; wide = opening_wide seed cases }) r
+      reached_each setup Holds step_holds seed cases run (start_holds seed cases) r
 
 -- the opening configuration is known
 pub start_known : (setup : Setup) (seed : ℕ) (cases : List Case) → IsSoundSetup setup → IsKnown setup (opening setup seed cases).rig

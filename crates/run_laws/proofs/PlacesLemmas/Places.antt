@@ -3,12 +3,12 @@ use Rattle.std.proofs.Common.{◌≡◌, ℕ, zero, suc, ◌+◌, ◌<◌, ◌�
 use Rattle.std.proofs.lemmas.Bool.{cases_lt}
 use Rattle.std.proofs.lemmas.List.Elements.{All-nil, All-cons}
 use Rattle.std.specs.Prelude.{◌==◌, is_some, slice_index_or}
-use Rattle.four_value.specs.declared.Digit.{Digit}
-use Rattle.gpi.specs.Events.{Event, put}
+use Rattle.gpi.specs.Events.{Event}
 use Rattle.gpi.specs.Keys.{among, set_of}
 use Rattle.gpi.specs.declared.types.Key.{Key}
 use Rattle.gpi.specs.declared.types.Key.TheVariants.{ReadWrite}
 use Rattle.gpi.specs.declared.types.SigId.{SigId}
+use Rattle.gpi.specs.declared.types.Write.{Write}
 use Rattle.py_value.specs.Answer.{Answer}
 use Rattle.py_value.specs.declared.trigger.TaskNo.{TaskNo}
 use Rattle.py_value.specs.declared.value.Value.{Value}
@@ -39,17 +39,17 @@ use Rattle.rig_model.specs.Run.Gone.{is_live}
 use Rattle.rig_model.specs.Run.Rig.{Rig, Setup, Running, event_of, facts_of, procs, view_of}
 use Rattle.rig_model.specs.Run.Rig as rig
 use Rattle.rig_model.specs.Run.Run.{Run}
-use Rattle.rig_model.specs.Run.Serve.{wake, serve_keys, with_fired, deposit, flushed, flushed_if, served, ended_if, is_due}
+use Rattle.rig_model.specs.Run.Serve.{wake, serve_keys, with_fired, deposit, flushed, flushed_if, served, ended_if, is_due, written}
 use Rattle.rig_model.specs.Run.Step.{task_at, taken, stepped, kept, after_event, resumed, chosen, rig_step}
 use Rattle.rig_model.specs.declared.run.outcome.Outcome.TheVariants.{ReadOnlyWrite}
 use Rattle.run_laws.specs.Places.Places.{one_of, turn_of, StandApart, AreInPlace, AreLive, IsOut}
 use Rattle.run_laws.specs.Places.Reached.{IsReached}
-use Rattle.run_laws.specs.Places.Unmet.{AllUnmet}
+use Rattle.run_laws.specs.Places.Unmet.{AllUnmet, without_events}
 use Rattle.run_laws.proofs.PlacesLemmas.Counts.{count_is, none_any, one_false, one_true, past_at}
 use Rattle.run_laws.proofs.PlacesLemmas.Leaves.{unmet_at}
 use Rattle.run_laws.proofs.PlacesLemmas.Reached.{reached_hold}
 use Rattle.run_laws.proofs.PlacesLemmas.Stands.{Amid, effect_well, entries, done, IsLost, lives, new_stands, own_none, serve_amid, StandIn, StandOwn, StandWell, stored_stands, trees}
-use Rattle.run_laws.proofs.PlacesLemmas.Unmet.{reached_needs}
+use Rattle.run_laws.proofs.PlacesLemmas.Unmet.{reached_others}
 
 -- ---- who lives
 
@@ -162,15 +162,15 @@ keys_bare : (keys others : List Key) (c : Rig) → IsBare c → IsBare (serve_ke
 keys_bare [] others c h = h
 keys_bare (k ∷ ks) others c h = keys_bare ks others (record (wake (cause.Key k) c) { fired = others ++ ks }) (wake_bare (cause.Key k) c h)
 
-deposit_bare : (setup : Setup) (sig : SigId) (bits : List Digit) (c : Rig) → IsBare c → IsBare (deposit setup sig bits c).rig
-deposit_bare setup sig bits c h =
-    let e : Event = put (procs setup) c.sim (set_of (rig.awaited c)) sig bits in
+deposit_bare : (setup : Setup) (sig : SigId) (act : Write) (c : Rig) → IsBare c → IsBare (deposit setup sig act c).rig
+deposit_bare setup sig act c h =
+    let e : Event = written setup c.sim (set_of (rig.awaited c)) sig act in
     keys_bare e.fired c.fired (with_fired e.fired (record c { sim = e.state })) h
 
 flushed_bare : (setup : Setup) (writes : List Staged) (c : Rig) → IsBare c → IsBare (flushed setup writes c).rig
 flushed_bare setup [] c h = h
 flushed_bare setup (w ∷ ws) c h =
-    flushed_bare setup ws (deposit setup w.sig w.bits (record c { staged = ws })).rig (deposit_bare setup w.sig w.bits (record c { staged = ws }) h)
+    flushed_bare setup ws (deposit setup w.sig w.act (record c { staged = ws })).rig (deposit_bare setup w.sig w.act (record c { staged = ws }) h)
 
 flush_bare : (setup : Setup) (b : Bool) (c : Rig) → IsBare c → IsBare (flushed_if setup b c).rig
 flush_bare setup true c h = flushed_bare setup c.staged c h
@@ -353,5 +353,5 @@ module _ (setup : Setup) (seed : ℕ) (cases : List Case) (run : Run) (r : IsRea
           not_live = none_live task run.rig.tasks n.alive;
         };
         no_turn = n.turn;
-        unjoined = no_join task (facts_of run.rig) run.rig.waiting (ended_at run.rig.endings task.0 ∙ e) (reached_needs setup seed cases run r);
+        unjoined = no_join task (without_events (facts_of run.rig)) run.rig.waiting (ended_at run.rig.endings task.0 ∙ e) (reached_others setup seed cases run r);
       }

@@ -1,14 +1,14 @@
 -- Each task keeps one place, whatever is done.
 use Rattle.std.proofs.Common.{◌≡◌, ℕ, ◌+◌, ◌<◌, ◌≤◌, ◌⊎◌, Bool, true, false, List, [], ◌∷◌, ◌++◌, length, Option, None, Some, refl, ap, sym, ◌∙◌, subst, arith, eq-eqb, eqb-true, length-append, inl, inr}
 use Rattle.std.proofs.lemmas.Bool.{cases_lt}
-use Rattle.std.specs.Prelude.{◌==◌, not, filter, nat_le, is_some, if◌then◌else◌}
-use Rattle.four_value.specs.declared.Digit.{Digit}
-use Rattle.gpi.specs.Events.{Event, put}
+use Rattle.std.specs.Prelude.{◌==◌, not, filter, nat_le, is_some, if◌then◌else◌, nat_lt}
+use Rattle.gpi.specs.Events.{Event}
 use Rattle.gpi.specs.Keys.{among, set_of}
 use Rattle.gpi.specs.State.{is_end}
 use Rattle.gpi.specs.declared.types.Key.{Key}
 use Rattle.gpi.specs.declared.types.Key.TheVariants.{ReadWrite}
 use Rattle.gpi.specs.declared.types.SigId.{SigId}
+use Rattle.gpi.specs.declared.types.Write.{Write}
 use Rattle.py_value.specs.declared.trigger.LockNo.{LockNo}
 use Rattle.py_value.specs.declared.trigger.TaskNo.{TaskNo}
 use Rattle.py_value.specs.declared.value.Value.{Value}
@@ -31,6 +31,9 @@ use Rattle.await_tree.specs.declared.ended_tasks.ending.Ending.TheVariants.{Retu
 use Rattle.await_tree.specs.SyncObjects.States.{event_limit, is_held, lock_limit, with_set}
 use Rattle.run_view.specs.declared.signal_port.staged.Staged.{Staged}
 use Rattle.test_meaning.specs.Body.BodyTrees.{Function}
+use Rattle.task_queue.specs.Queues.{TaskQueue, queue_at, is_full as has_no_room, is_at_limit, is_empty, with_items, with_item}
+use Rattle.py_value.specs.declared.trigger.EventNo.{EventNo}
+use Rattle.py_value.specs.declared.trigger.QueueNo.{QueueNo}
 use Rattle.rig_model.specs.Task.Frame.{Task, fresh, function_at}
 use Rattle.rig_model.specs.declared.task.task.Turned.{Turned}
 use Rattle.rig_model.specs.declared.task.task.Turned.TheVariants as turned
@@ -38,10 +41,10 @@ use Rattle.await_tree.specs.WaitList.Ring.{is_entry_of, without_entry}
 use Rattle.await_tree.specs.WaitList.Waiting.{Waiting, behind, entry_of, Granted, granted, granted_to, is_joined, is_of, is_wanted, left_of, still_waiting, wants, without_task, woken}
 use Rattle.await_tree.specs.declared.wait_list.ready.Entry.{Entry}
 use Rattle.rig_model.specs.Parts.Placed.{one_if}
-use Rattle.rig_model.specs.Run.Effect.{is_numbered, begun_by, awaits_by, waits, write_by, stages, puts, starts, starter, next_task, with_new_task, with_end, ends, returns, withdrawn, killed, fails, kills_by, kills, makes_event, makes_lock, releases, is_full, handed_on, effect}
+use Rattle.rig_model.specs.Run.Effect.{is_numbered, begun_by, awaits_by, waits, write_by, stages, puts, starts, starter, next_task, with_new_task, with_end, ends, returns, withdrawn, killed, fails, kills_by, kills, makes_event, makes_lock, releases, is_full, handed_on, effect, makes_queue, sets_if, clears_if, puts_item, gets_item}
 use Rattle.rig_model.specs.Run.Rig.{Rig, Setup, Running, After, facts_of, procs}
 use Rattle.rig_model.specs.Run.Rig as rig
-use Rattle.rig_model.specs.Run.Serve.{wake, serve_keys, with_fired, after_put, deposit, flushed, flushed_if, served, ended_if, is_due, serve}
+use Rattle.rig_model.specs.Run.Serve.{wake, serve_keys, with_fired, after_put, deposit, flushed, flushed_if, served, ended_if, is_due, serve, written}
 use Rattle.rig_model.specs.Run.Step.{kept, stored}
 use Rattle.rig_model.specs.declared.run.outcome.Outcome.TheVariants.{ReadOnlyWrite}
 use Rattle.run_laws.specs.Places.Places.{one_of, turn_of}
@@ -163,13 +166,13 @@ module _ (turn : Option TaskNo) where
   put_amid : (setup : Setup) (e : Event) (c : Rig) → Amid turn c → Amid turn (after_put setup e c).rig
   put_amid setup e c h = keys_amid e.fired c.fired (with_fired e.fired (record c { sim = e.state })) h
 
-  pub deposit_amid : (setup : Setup) (sig : SigId) (bits : List Digit) (c : Rig) → Amid turn c → Amid turn (deposit setup sig bits c).rig
-  deposit_amid setup sig bits c h = put_amid setup (put (procs setup) c.sim (set_of (rig.awaited c)) sig bits) c h
+  pub deposit_amid : (setup : Setup) (sig : SigId) (act : Write) (c : Rig) → Amid turn c → Amid turn (deposit setup sig act c).rig
+  deposit_amid setup sig act c h = put_amid setup (written setup c.sim (set_of (rig.awaited c)) sig act) c h
 
   flushed_amid : (setup : Setup) (writes : List Staged) (c : Rig) → Amid turn c → Amid turn (flushed setup writes c).rig
   flushed_amid setup [] c h = h
   flushed_amid setup (w ∷ ws) c h =
-      flushed_amid setup ws (deposit setup w.sig w.bits (record c { staged = ws })).rig (deposit_amid setup w.sig w.bits (record c { staged = ws }) h)
+      flushed_amid setup ws (deposit setup w.sig w.act (record c { staged = ws })).rig (deposit_amid setup w.sig w.act (record c { staged = ws }) h)
 
   flush_amid : (setup : Setup) (b : Bool) (c : Rig) → Amid turn c → Amid turn (flushed_if setup b c).rig
   flush_amid setup true c h = flushed_amid setup c.staged c h
@@ -332,8 +335,8 @@ module _ (task : TaskNo) where
   write_well true sig a c h k = inr (record { sig = sig; over = refl; idle = h.0; writer = task; stands = h.1 })
   write_well false sig a c h k = inl k
 
-  puts_own : (setup : Setup) (sig : SigId) (bits : List Digit) (c : Rig) → Amid (Some task) c → StandOwn (puts setup task sig bits c).rig
-  puts_own setup sig bits c h = (deposit_amid (Some task) setup sig bits c h).1
+  puts_own : (setup : Setup) (sig : SigId) (act : Write) (c : Rig) → Amid (Some task) c → StandOwn (puts setup task sig act c).rig
+  puts_own setup sig act c h = (deposit_amid (Some task) setup sig act c h).1
 
   starter_own : (number : TaskNo) (b : Bool) (c : Rig) → Amid (Some task) c → StandOwn (starter task number b c).rig
   starter_own number true c h = own_none (starter task number true c).rig (ready_amid (given.Value (value.Task number)) c h)
@@ -415,10 +418,35 @@ module _ (task : TaskNo) where
   release_own true l c h = (handed_amid (is_wanted l c.waiting) l c h).1
   release_own false l c h = h.1
 
+  queue_own : (b : Bool) (bound : ℕ) (c : Rig) → Amid (Some task) c → StandOwn (makes_queue b task bound c).rig
+  queue_own true bound c h = h.1
+  queue_own false bound c h = h.1
+
+  -- the one event may be set, and then the other cleared
+  flags_amid : (a b : Bool) (x y : EventNo) (c : Rig) → Amid (Some task) c → Amid (Some task) (clears_if a x (sets_if b y c))
+  flags_amid true true x y c h = wake_amid (Some task) (cause.Event y) (record c { objects = with_set y c.objects }) h
+  flags_amid false true x y c h = wake_amid (Some task) (cause.Event y) (record c { objects = with_set y c.objects }) h
+  flags_amid true false x y c h = h
+  flags_amid false false x y c h = h
+
+  put_item_own : (full limit : Bool) (q : QueueNo) (item : Value) (c : Rig) → Amid (Some task) c → StandOwn (puts_item full limit task q item c).rig
+  put_item_own true limit q item c h = h.1
+  put_item_own false true q item c h = h.1
+  put_item_own false false q item c h =
+      let old : TaskQueue = queue_at q c.queues in
+      (flags_amid (has_no_room (queue_at q (with_item q item c.queues))) (is_empty old.items) old.space_event old.items_event
+      (record c { queues = with_item q item c.queues }) h).1
+
+  get_item_own : (q : QueueNo) (items : List Value) (c : Rig) → Amid (Some task) c → StandOwn (gets_item task q items c).rig
+  get_item_own q [] c h = h.1
+  get_item_own q (item ∷ items) c h =
+      let old : TaskQueue = queue_at q c.queues in
+      (flags_amid (is_empty items) (has_no_room old) old.items_event old.space_event (record c { queues = with_items q items c.queues }) h).1
+
   pub effect_well : (setup : Setup) (t : Turned) (c : Rig) → (t ≡ turned.Spent → ⊥) → Amid (Some task) c → StandWell (effect setup task t c).rig
   effect_well setup (turned.Await trig) c s h = awaits_well (tree_of trig c.sim.time) (check trig c.sim.time c.sim.region) c h
-  effect_well setup (turned.Stage sig bits) c s h = write_well (is_end c.sim.region) sig (stages task sig bits c) c h h.1
-  effect_well setup (turned.Put sig bits) c s h = write_well (is_end c.sim.region) sig (puts setup task sig bits c) c h (puts_own setup sig bits c h)
+  effect_well setup (turned.Stage sig act) c s h = write_well (is_end c.sim.region) sig (stages task sig act c) c h h.1
+  effect_well setup (turned.Put sig act) c s h = write_well (is_end c.sim.region) sig (puts setup task sig act c) c h (puts_own setup sig act c h)
   effect_well setup (turned.Start func args give_way) c s h = inl (starts_own (is_full c) (function_at setup.functions func) args give_way c h)
   effect_well setup (turned.Kill m) c s h = inl (kills_own (m.0 == task.0) m c refl h)
   effect_well setup turned.NewEvent c s h = inl (event_own (nat_le event_limit (length c.objects.events)) c h)
@@ -426,6 +454,9 @@ module _ (task : TaskNo) where
   effect_well setup (turned.ClearEvent e) c s h = inl h.1
   effect_well setup turned.NewLock c s h = inl (lock_own (nat_le lock_limit (length c.objects.locks)) c h)
   effect_well setup (turned.Release l) c s h = inl (release_own (is_held l c.objects) l c h)
+  effect_well setup (turned.NewQueue bound) c s h = inl (queue_own (nat_lt event_limit (length c.objects.events + 2)) bound c h)
+  effect_well setup (turned.PutNow q item) c s h = inl (put_item_own (has_no_room (queue_at q c.queues)) (is_at_limit (queue_at q c.queues)) q item c h)
+  effect_well setup (turned.GetNow q) c s h = inl (get_item_own q (queue_at q c.queues).items c h)
   effect_well setup (turned.Draw low span) c s h = inl h.1
   effect_well setup (turned.Log level text) c s h = inl h.1
   effect_well setup (turned.Done v) c s h = inl (returns_own v c h)

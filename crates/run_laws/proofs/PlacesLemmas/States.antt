@@ -1,6 +1,6 @@
 -- An event of the simulator leaves each signal as wide as the design says.
 use Rattle.std.proofs.Common.{◌≡◌, ℕ, ◌+◌, ◌<◌, Bool, true, false, List, [], ◌∷◌, ◌++◌, length, map, Option, None, Some, refl, ap, sym, ◌∙◌, arith}
-use Rattle.std.specs.Prelude.{IfSome, ◌&&◌, ◌==◌, not, cond, filter, nat_le, nat_lt, if◌then◌else◌, slice_get, slice_index}
+use Rattle.std.specs.Prelude.{IfSome, ◌&&◌, ◌==◌, not, cond, filter, nat_le, nat_lt, if◌then◌else◌, slice_get, slice_index, slice_index_or}
 use Rattle.four_value.specs.declared.Digit.{Digit}
 use Rattle.four_value.specs.Vector.{same_digits}
 use Rattle.gpi.specs.declared.design.Process.{Process}
@@ -10,9 +10,11 @@ use Rattle.gpi.specs.declared.types.Region.TheVariants as region
 use Rattle.gpi.specs.declared.types.Report.{Report}
 use Rattle.gpi.specs.declared.types.SigId.{SigId}
 use Rattle.gpi.specs.declared.types.Update.{Update}
+use Rattle.gpi.specs.declared.types.Write.{Write}
+use Rattle.gpi.specs.declared.types.Write.TheVariants as write
 use Rattle.gpi.specs.Activation.{with_part, AreHidden}
 use Rattle.gpi.specs.Design.{Proc, procs_of}
-use Rattle.gpi.specs.Events.{Event, value_at, hidden_at, or_shown, stored_at, show, put_over, put, report_case, due_case, activate, active_case, later_case, settle_case, end_case, time_case, or_else, event}
+use Rattle.gpi.specs.Events.{Event, value_at, hidden_at, or_shown, stored_at, show, put_over, put, force, release_over, release, with_hidden, report_case, due_case, activate, active_case, later_case, settle_case, end_case, time_case, or_else, event}
 use Rattle.gpi.specs.Keys.{Keys, has, least}
 use Rattle.gpi.specs.Limits.{latest_update}
 use Rattle.gpi.specs.Soundness.{AreProcesses}
@@ -106,6 +108,43 @@ module _ (ws : List ℕ) where
       by_hidden : (o : Option (List Digit)) → hidden_at s sig ≡ o → length (or_shown o (value_at s sig)) ≡ slice_index ws sig.0
       by_hidden (Some ds) e = hidden_width s.hidden ws sig.0 ds h.hidden l e
       by_hidden None e = inside_width ws s.signals sig.0 h.signals l
+
+  -- what a force hides has the width of its signal
+  pub force_wide : (ps : List Proc) (s : State) (keys : Keys) (sig : SigId) (bits : List Digit) → IsWide s → IsWrite sig.0 (length bits) → IsWide (force ps s keys sig bits).state
+  force_wide ps s keys sig bits h k =
+      let t : State = with_hidden s sig (Some (stored_at s sig)) in
+      change_wide ps t keys sig bits (record {
+        signals = h.signals;
+        hidden = hidden_set s.hidden ws sig.0 (Some (stored_at s sig)) h.hidden k.0 (stored_width s sig h k.0);
+        due = h.due;
+        later = h.later;
+        delayed = h.delayed;
+      }) k (same_digits (value_at t sig) bits) refl
+
+  bare_wide : (s : State) (sig : SigId) → IsWide s → sig.0 < length ws → IsWide (with_hidden s sig None)
+  bare_wide s sig h l = record { signals = h.signals; hidden = hidden_set s.hidden ws sig.0 None h.hidden l tt; due = h.due; later = h.later; delayed = h.delayed }
+
+  release_over_wide : (o : Option (List Digit)) (net : Bool) (ps : List Proc) (s : State) (keys : Keys) (sig : SigId) → hidden_at s sig ≡ o → IsWide s → sig.0 < length ws
+      → IsWide (release_over o net ps s keys sig).state
+  release_over_wide None net ps s keys sig e h l = h
+  release_over_wide (Some ds) true ps s keys sig e h l =
+      let t : State = with_hidden s sig None in
+      change_wide ps t keys sig ds (bare_wide s sig h l) (l, hidden_width s.hidden ws sig.0 ds h.hidden l e) (same_digits (value_at t sig) ds) refl
+  release_over_wide (Some ds) false ps s keys sig e h l = bare_wide s sig h l
+
+  pub release_wide : (ps : List Proc) (nets : List Bool) (s : State) (keys : Keys) (sig : SigId) → IsWide s → sig.0 < length ws → IsWide (release ps nets s keys sig).state
+  release_wide ps nets s keys sig h l = release_over_wide (hidden_at s sig) (slice_index_or nets sig.0 false) ps s keys sig refl h l
+
+  -- the digits that are shown
+  pub shown_write : (s : State) (sig : SigId) → IsWide s → sig.0 < length ws → IsWrite sig.0 (length (value_at s sig))
+  shown_write s sig h l = (l, inside_width ws s.signals sig.0 h.signals l)
+
+  -- a write of a signal of the design, with as many digits as it has where there are any
+  abbrev pub IsAct : SigId → Write → Type 0
+  IsAct sig (write.Plain bits) = IsWrite sig.0 (length bits)
+  IsAct sig (write.Force bits) = IsWrite sig.0 (length bits)
+  IsAct sig write.Freeze = sig.0 < length ws
+  IsAct sig write.Release = sig.0 < length ws
 
   -- ---- the cases of an event
 

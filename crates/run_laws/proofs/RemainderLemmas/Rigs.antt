@@ -1,14 +1,14 @@
 -- What a step does to configurations that are alike.
 use Rattle.std.proofs.Common.{◌≡◌, ℕ, suc, Bool, true, false, List, [], ◌∷◌, ◌++◌, length, Option, None, Some, refl, ap, sym, subst, if◌then◌else◌}
-use Rattle.std.specs.Prelude.{◌==◌, ◌||◌, nat_le, not, filter, cond, Ok, Err}
+use Rattle.std.specs.Prelude.{◌==◌, ◌||◌, nat_le, not, filter, cond, Ok, Err, nat_lt, ◌+◌}
 use Rattle.gpi.specs.Keys.{among, set_of}
-use Rattle.gpi.specs.Events.{Event, put}
+use Rattle.gpi.specs.Events.{Event}
 use Rattle.gpi.specs.State.{is_end}
 use Rattle.gpi.specs.declared.types.Key.{Key}
 use Rattle.gpi.specs.declared.types.Key.TheVariants.{ReadWrite}
 use Rattle.gpi.specs.declared.types.SigId.{SigId}
+use Rattle.gpi.specs.declared.types.Write.{Write}
 use Rattle.gpi.specs.declared.types.Told.{Told}
-use Rattle.four_value.specs.declared.Digit.{Digit}
 use Rattle.py_value.specs.Answer.{Answer}
 use Rattle.py_value.specs.declared.trigger.TaskNo.{TaskNo}
 use Rattle.py_value.specs.declared.trigger.LockNo.{LockNo}
@@ -26,6 +26,9 @@ use Rattle.await_tree.specs.EndedTasks.Endings.{is_done, start_limit}
 use Rattle.await_tree.specs.SyncObjects.States.{is_held, event_limit, lock_limit}
 use Rattle.run_view.specs.declared.signal_port.staged.Staged.{Staged}
 use Rattle.test_meaning.specs.Body.BodyTrees.{Block, Function, Limit, Case}
+use Rattle.task_queue.specs.Queues.{TaskQueue, queue_at, is_full as has_no_room, is_at_limit, is_empty, with_items, with_item}
+use Rattle.py_value.specs.declared.trigger.EventNo.{EventNo}
+use Rattle.py_value.specs.declared.trigger.QueueNo.{QueueNo}
 use Rattle.rig_model.specs.Task.Frame.{Task, function_at, fresh}
 use Rattle.rig_model.specs.Task.Step.{Next, next}
 use Rattle.rig_model.specs.declared.task.task.Turned.{Turned}
@@ -33,10 +36,10 @@ use Rattle.rig_model.specs.declared.task.task.Turned.TheVariants as turned
 use Rattle.await_tree.specs.declared.wait_list.ready.Entry.{Entry}
 use Rattle.await_tree.specs.WaitList.Waiting.{is_wanted, is_joined}
 use Rattle.rig_model.specs.Run.Limits.{live_limit}
-use Rattle.rig_model.specs.Run.Rig.{Rig, Setup, Running, After, followed_by, event_of, view_of, facts_of, awaited, procs, told_line, told_lines}
+use Rattle.rig_model.specs.Run.Rig.{Rig, Setup, Running, After, followed_by, event_of, view_of, facts_of, awaited, told_line, told_lines}
 use Rattle.rig_model.specs.Run.Counts.{counted}
-use Rattle.rig_model.specs.Run.Serve.{wake, serve_keys, with_fired, after_put, deposit, flushed, flushed_if, served, ended_if, is_due, serve}
-use Rattle.rig_model.specs.Run.Effect.{is_numbered, begun_by, awaits_by, write_by, stages, puts, gives_value, starts, starter, next_task, with_new_task, fails, kills_by, kills, makes_event, makes_lock, releases, is_full, handed_on, effect, effect_of}
+use Rattle.rig_model.specs.Run.Serve.{wake, serve_keys, with_fired, after_put, deposit, flushed, flushed_if, served, ended_if, is_due, serve, written}
+use Rattle.rig_model.specs.Run.Effect.{is_numbered, begun_by, awaits_by, write_by, stages, puts, gives_value, starts, starter, next_task, with_new_task, fails, kills_by, kills, makes_event, makes_lock, releases, is_full, handed_on, effect, effect_of, makes_queue, sets_if, clears_if, with_put, puts_item, with_get, gets_item}
 use Rattle.rig_model.specs.Run.Step.{Stepped, task_at, stored, taken, stepped, kept, after_event, resumed, chosen, rig_step}
 use Rattle.rig_model.specs.Run.Case.{limit_steps, with_deadline, with_limit, with_test, values_of, test_begun}
 use Rattle.run_laws.specs.Remainder.Rests.{FunctionAlike, TaskAlike, TasksAlike}
@@ -177,15 +180,15 @@ module _ (one other : Block) where
           lines = told_same c.sim.time e.told;
         }
 
-    deposit_alike : (sig : SigId) (bits : List Digit) → Alike (deposit setup sig bits) (deposit its sig bits)
-    deposit_alike sig bits c ts h = put_alike (put (procs setup) c.sim (set_of (awaited c)) sig bits) c ts h
+    deposit_alike : (sig : SigId) (act : Write) → Alike (deposit setup sig act) (deposit its sig act)
+    deposit_alike sig act c ts h = put_alike (written setup c.sim (set_of (awaited c)) sig act) c ts h
 
     flushed_alike : (writes : List Staged) → Alike (flushed setup writes) (flushed its writes)
     flushed_alike [] c ts h = record { rig = record { same = refl; tasks = h }; lines = refl }
     flushed_alike (w ∷ ws) c ts h =
         let d : Rig = record c { staged = ws } in
-        followed_alike (deposit setup w.sig w.bits d) (deposit its w.sig w.bits (with_tasks ts d)) (flushed setup ws) (flushed its ws)
-        (deposit_alike w.sig w.bits d ts h) (flushed_alike ws)
+        followed_alike (deposit setup w.sig w.act d) (deposit its w.sig w.act (with_tasks ts d)) (flushed setup ws) (flushed its ws)
+        (deposit_alike w.sig w.act d ts h) (flushed_alike ws)
 
     flush_alike : (b : Bool) → Alike (flushed_if setup b) (flushed_if its b)
     flush_alike true c ts h = flushed_alike c.staged c ts h
@@ -220,10 +223,10 @@ module _ (one other : Block) where
     value_alike : (task : TaskNo) (v : Value) → Alike (gives_value task v) (gives_value task v)
     value_alike task v c ts h = record { rig = record { same = refl; tasks = h }; lines = refl }
 
-    puts_alike : (task : TaskNo) (sig : SigId) (bits : List Digit) → Alike (puts setup task sig bits) (puts its task sig bits)
-    puts_alike task sig bits c ts h =
-        followed_alike (deposit setup sig bits c) (deposit its sig bits (with_tasks ts c)) (gives_value task value.Absent) (gives_value task value.Absent)
-        (deposit_alike sig bits c ts h) (value_alike task value.Absent)
+    puts_alike : (task : TaskNo) (sig : SigId) (act : Write) → Alike (puts setup task sig act) (puts its task sig act)
+    puts_alike task sig act c ts h =
+        followed_alike (deposit setup sig act c) (deposit its sig act (with_tasks ts c)) (gives_value task value.Absent) (gives_value task value.Absent)
+        (deposit_alike sig act c ts h) (value_alike task value.Absent)
 
     starter_alike : (task number : TaskNo) (b : Bool) → Alike (starter task number b) (starter task number b)
     starter_alike task number true c ts h = record { rig = record { same = refl; tasks = h }; lines = refl }
@@ -288,11 +291,38 @@ module _ (one other : Block) where
         (counted_alike [] c ts (handed_on w lock c) (handed_on w lock (with_tasks ts c)) (handed_alike w lock c ts h))
     releases_alike false task lock c ts h = record { rig = record { same = refl; tasks = h }; lines = refl }
 
+    makes_queue_alike : (b : Bool) (task : TaskNo) (bound : ℕ) → Alike (makes_queue b task bound) (makes_queue b task bound)
+    makes_queue_alike true task bound c ts h = record { rig = record { same = refl; tasks = h }; lines = refl }
+    makes_queue_alike false task bound c ts h = record { rig = record { same = refl; tasks = h }; lines = refl }
+
+    flags_alike : (a b : Bool) (x y : EventNo) (c : Rig) (ts : List Task) → TasksAlike one other c.tasks ts
+        → RigAlike one other (clears_if a x (sets_if b y c)) (clears_if a x (sets_if b y (with_tasks ts c)))
+    flags_alike true true x y c ts h = record { same = refl; tasks = h }
+    flags_alike false true x y c ts h = record { same = refl; tasks = h }
+    flags_alike true false x y c ts h = record { same = refl; tasks = h }
+    flags_alike false false x y c ts h = record { same = refl; tasks = h }
+
+    puts_item_alike : (full limit : Bool) (task : TaskNo) (q : QueueNo) (item : Value) → Alike (puts_item full limit task q item) (puts_item full limit task q item)
+    puts_item_alike true limit task q item c ts h = record { rig = record { same = refl; tasks = h }; lines = refl }
+    puts_item_alike false true task q item c ts h = record { rig = record { same = refl; tasks = h }; lines = refl }
+    puts_item_alike false false task q item c ts h =
+        let old : TaskQueue = queue_at q c.queues in
+        given_alike task value.Absent (with_put q item c) (with_put q item (with_tasks ts c))
+        (flags_alike (has_no_room (queue_at q (with_item q item c.queues))) (is_empty old.items) old.space_event old.items_event
+        (record c { queues = with_item q item c.queues }) ts h)
+
+    gets_item_alike : (task : TaskNo) (q : QueueNo) (items : List Value) → Alike (gets_item task q items) (gets_item task q items)
+    gets_item_alike task q [] c ts h = record { rig = record { same = refl; tasks = h }; lines = refl }
+    gets_item_alike task q (item ∷ items) c ts h =
+        let old : TaskQueue = queue_at q c.queues in
+        given_alike task item (with_get q items c) (with_get q items (with_tasks ts c))
+        (flags_alike (is_empty items) (has_no_room old) old.items_event old.space_event (record c { queues = with_items q items c.queues }) ts h)
+
     effect_alike : (task : TaskNo) (t : Turned) → Alike (effect setup task t) (effect its task t)
     effect_alike task (turned.Await trig) c ts h = awaits_alike task (tree_of trig c.sim.time) (check trig c.sim.time c.sim.region) c ts h
-    effect_alike task (turned.Stage sig bits) c ts h =
-        write_alike (is_end c.sim.region) sig (stages task sig bits) (stages task sig bits) (λ d us k. record { rig = record { same = refl; tasks = k }; lines = refl }) c ts h
-    effect_alike task (turned.Put sig bits) c ts h = write_alike (is_end c.sim.region) sig (puts setup task sig bits) (puts its task sig bits) (puts_alike task sig bits) c ts h
+    effect_alike task (turned.Stage sig act) c ts h =
+        write_alike (is_end c.sim.region) sig (stages task sig act) (stages task sig act) (λ d us k. record { rig = record { same = refl; tasks = k }; lines = refl }) c ts h
+    effect_alike task (turned.Put sig act) c ts h = write_alike (is_end c.sim.region) sig (puts setup task sig act) (puts its task sig act) (puts_alike task sig act) c ts h
     effect_alike task (turned.Start func args give_way) c ts h =
         subst (λ (b : Bool). AfterAlike (effect setup task (turned.Start func args give_way) c) (starts b task (function_at functions func) args give_way (with_tasks ts c)))
         (sym (full_same c ts h)) (starts_alike (is_full c) task func args give_way c ts h)
@@ -302,6 +332,9 @@ module _ (one other : Block) where
     effect_alike task (turned.ClearEvent e) c ts h = record { rig = record { same = refl; tasks = h }; lines = refl }
     effect_alike task turned.NewLock c ts h = makes_lock_alike (nat_le lock_limit (length c.objects.locks)) task c ts h
     effect_alike task (turned.Release l) c ts h = releases_alike (is_held l c.objects) task l c ts h
+    effect_alike task (turned.NewQueue bound) c ts h = makes_queue_alike (nat_lt event_limit (length c.objects.events + 2)) task bound c ts h
+    effect_alike task (turned.PutNow q item) c ts h = puts_item_alike (has_no_room (queue_at q c.queues)) (is_at_limit (queue_at q c.queues)) task q item c ts h
+    effect_alike task (turned.GetNow q) c ts h = gets_item_alike task q (queue_at q c.queues).items c ts h
     effect_alike task (turned.Draw low span) c ts h = record { rig = record { same = refl; tasks = h }; lines = refl }
     effect_alike task (turned.Log level text) c ts h = record { rig = record { same = refl; tasks = h }; lines = refl }
     effect_alike task (turned.Done v) c ts h = record { rig = record { same = refl; tasks = tasks_without task c.tasks ts h }; lines = refl }

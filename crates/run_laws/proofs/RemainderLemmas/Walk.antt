@@ -11,21 +11,23 @@ use Rattle.py_syntax.specs.declared.statement.LogLevel.{LogLevel}
 use Rattle.py_value.specs.Answer.{Answer}
 use Rattle.py_value.specs.Trigger as trigger
 use Rattle.py_value.specs.Truth.{truth}
+use Rattle.py_value.specs.declared.trigger.EventNo.{EventNo}
 use Rattle.py_value.specs.declared.trigger.TaskNo.{TaskNo}
 use Rattle.py_value.specs.declared.value.Fault.{Fault}
 use Rattle.py_value.specs.declared.value.Value.{Value}
 use Rattle.py_value.specs.declared.value.Value.TheVariants as value
 use Rattle.py_value.specs.Operator.Number.{whole}
+use Rattle.py_evaluate.specs.Attribute.Look.{SeenQueue, queue}
 use Rattle.py_evaluate.specs.Attribute.Outcome.{Outcome, lift}
 use Rattle.py_evaluate.specs.Function.Making.{as_trigger, new_trigger}
 use Rattle.py_evaluate.specs.Eval.{constant_value, eval}
 use Rattle.test_meaning.specs.Body.BodyTrees as body
-use Rattle.test_meaning.specs.Body.BodyTrees.{TimedValue, TimedCall, Awaited, AwaitedValue, AwaitedCall, AwaitedStart, WithTimeout, RightSide, RightValue, RightAwait, RightStart, RandomInt, Logger, Statement, Item, Simple, If, While, For, Try, With, Block, Handlers, NoHandler, Catch}
+use Rattle.test_meaning.specs.Body.BodyTrees.{TimedValue, TimedCall, Awaited, AwaitedValue, AwaitedCall, AwaitedStart, AwaitedRoom, AwaitedItem, WithTimeout, RightSide, RightValue, RightAwait, RightStart, RandomInt, NewQueue, GetNow, Logger, Statement, Item, Simple, If, While, For, Try, With, Block, Handlers, NoHandler, Catch}
 use Rattle.rig_model.specs.Task.Frame.{Left, Numbers, Listed, Use, Assigns, Writes, Returns, Times, Limited, Enters, Todo, Do, Again, Each, Uses, Handles, Bound, Holds, Jump, Throw, Return, Break, Continue, On, items}
 use Rattle.rig_model.specs.Task.Moves.{Calls, Move, At, moved, go_on, leave, want, first_do, named, answered, outcome, eval_all, eval_some, eval_text, short_text}
 use Rattle.rig_model.specs.Task.Calls.{eval_call, starts}
-use Rattle.rig_model.specs.Task.Awaits.{Time, waits, waitable, wait_for, limited, wait_limited, with_time, time_steps, with_steps, await}
-use Rattle.rig_model.specs.Task.Values.{write_of, stage, put_now, use_value, drawn, right_side}
+use Rattle.rig_model.specs.Task.Awaits.{Time, waits, waitable, wait_for, limited, wait_limited, with_time, time_steps, with_steps, queue_of, wait_for_queue, await}
+use Rattle.rig_model.specs.Task.Values.{Source, Value', write_of, stage, put_now, eval_action, use_value, drawn, queue_bound, right_side}
 use Rattle.rig_model.specs.Task.Statements.{act_of, throw_text, asserted, eval_logger, log_text, log, do_statement}
 use Rattle.rig_model.specs.Task.Blocks.{choose, ask, eval_span, is_before, each, ask_number, ask_next, lock_of, enter, do_item, do_first}
 use Rattle.rig_model.specs.Task.Leaving.{catches, handle, find_handler, at_handlers, at_limit, at_loop}
@@ -74,10 +76,17 @@ module _ (more : List Todo) where
   steps_deep : (t : Time) (f : ℕ → At → Move) → ((n : ℕ) → Deep (f n)) → Deep (λ a. with_steps a t f)
   steps_deep t f g a = value_deep (lift (time_steps a.scope.view t) a.next) a f g
 
+  queue_deep : (event_of : SeenQueue → EventNo) (v : Value) → Deep (wait_for_queue event_of v)
+  queue_deep event_of v a =
+      value_deep (lift (queue_of v) a.next) a (λ q b. outcome (new_trigger b.scope.task (trigger.Event (event_of (queue b.scope.view q))) b.next) b waits) (λ q b.
+      value_deep (new_trigger b.scope.task (trigger.Event (event_of (queue b.scope.view q))) b.next) b waits (λ t c. refl))
+
   await_deep : (w : Awaited) → Deep (await w)
   await_deep (AwaitedValue e) a = value_deep (eval a.scope e a.next) a wait_for wait_for_deep
   await_deep (AwaitedCall c) a = value_deep (eval_call a.scope c a.next) a (λ x b. moved b On (Calls x.function x.arguments)) (λ x b. refl)
   await_deep (AwaitedStart c) a = value_deep (eval_call a.scope c a.next) a (starts true) (λ x b. refl)
+  await_deep (AwaitedRoom e) a = value_deep (eval a.scope e a.next) a (wait_for_queue (λ q. q.space_event)) (queue_deep (λ q. q.space_event))
+  await_deep (AwaitedItem e) a = value_deep (eval a.scope e a.next) a (wait_for_queue (λ q. q.items_event)) (queue_deep (λ q. q.items_event))
   await_deep (WithTimeout (TimedValue e) time unit) a =
       value_deep (eval a.scope e a.next) a (λ v b. with_time b time unit (λ t c. outcome (lift (waitable v) c.next) c (λ w d. with_steps d t (λ steps f. wait_limited steps w f)))) (λ v b.
       time_deep time unit (λ t c. outcome (lift (waitable v) c.next) c (λ w d. with_steps d t (λ steps f. wait_limited steps w f))) (λ t c.
@@ -88,15 +97,15 @@ module _ (more : List Todo) where
       time_deep time unit (λ t c. with_steps c t (λ steps d. starts false x (first_do (Uses (Times steps) ∷ []) d))) (λ t c.
       steps_deep t (λ steps d. starts false x (first_do (Uses (Times steps) ∷ []) d)) (λ steps d. refl) c) b)
 
-  stage_deep : (t v : Value) → Deep (stage t v)
-  stage_deep t v a = value_deep (lift (write_of a.scope.view t v) a.next) a (λ w b. want (turned.Stage w.sig w.bits) b) (λ w b. refl)
+  stage_deep : (t : Value) (x : Source) → Deep (stage t x)
+  stage_deep t x a = value_deep (lift (write_of a.scope.view t x) a.next) a (λ w b. want (turned.Stage w.sig w.act) b) (λ w b. refl)
 
-  put_deep : (t v : Value) → Deep (put_now t v)
-  put_deep t v a = value_deep (lift (write_of a.scope.view t v) a.next) a (λ w b. want (turned.Put w.sig w.bits) b) (λ w b. refl)
+  put_deep : (t : Value) (x : Source) → Deep (put_now t x)
+  put_deep t x a = value_deep (lift (write_of a.scope.view t x) a.next) a (λ w b. want (turned.Put w.sig w.act) b) (λ w b. refl)
 
   pub use_deep : (u : Use) (v : Value) → Deep (use_value u v)
   use_deep (Assigns n) v a = refl
-  use_deep (Writes e) v a = value_deep (eval a.scope e a.next) a (λ t b. stage t v b) (λ t b. stage_deep t v b)
+  use_deep (Writes e) v a = value_deep (eval a.scope e a.next) a (λ t b. stage t (Value' v) b) (λ t b. stage_deep t (Value' v) b)
   use_deep Returns v a = refl
   use_deep (Times steps) (value.Task t) a = wait_limited_deep steps (value.Task t) (first_do (Uses (Limited t) ∷ []) a)
   use_deep (Times steps) _ a = refl
@@ -109,6 +118,13 @@ module _ (more : List Todo) where
   right_deep (RightStart c) u a = value_deep (eval_call a.scope c a.next) (first_do (Uses u ∷ []) a) (starts false) (λ x b. refl)
   right_deep body.NewEvent u a = refl
   right_deep body.NewLock u a = refl
+  right_deep (NewQueue None) u a = refl
+  right_deep (NewQueue (Some e)) u a =
+      value_deep (eval a.scope e a.next) a (λ v b. outcome (lift (queue_bound v) b.next) b (λ n c. want (turned.NewQueue n) (first_do (Uses u ∷ []) c))) (λ v b.
+      value_deep (lift (queue_bound v) b.next) b (λ n c. want (turned.NewQueue n) (first_do (Uses u ∷ []) c)) (λ n c. refl))
+  right_deep (GetNow e) u a =
+      value_deep (eval a.scope e a.next) a (λ v b. outcome (lift (queue_of v) b.next) b (λ q c. want (turned.GetNow q) (first_do (Uses u ∷ []) c))) (λ v b.
+      value_deep (lift (queue_of v) b.next) b (λ q c. want (turned.GetNow q) (first_do (Uses u ∷ []) c)) (λ q c. refl))
   right_deep (RandomInt low high) u a =
       value_deep (eval a.scope low a.next) a (λ x b. outcome (eval b.scope high b.next) b (λ y c. outcome (lift (drawn x y) c.next) c (λ d f. want (turned.Draw d.low d.span) (first_do (Uses u ∷ []) f)))) (λ x b.
       value_deep (eval b.scope high b.next) b (λ y c. outcome (lift (drawn x y) c.next) c (λ d f. want (turned.Draw d.low d.span) (first_do (Uses u ∷ []) f))) (λ y c.
@@ -140,13 +156,23 @@ module _ (more : List Todo) where
   statement_deep (body.AugmentedAssign n o e) a = right_deep (RightValue (Infix (Binary o) (Name n) e)) (Assigns n) a
   statement_deep (body.AssignValue e s) a = right_deep s (Writes e) a
   statement_deep (body.SetImmediateValue e v) a =
-      value_deep (eval a.scope e a.next) a (λ t b. outcome (eval b.scope v b.next) b (λ w c. put_now t w c)) (λ t b.
-      value_deep (eval b.scope v b.next) b (λ w c. put_now t w c) (λ w c. put_deep t w c))
+      value_deep (eval a.scope e a.next) a (λ t b. outcome (eval b.scope v b.next) b (λ w c. put_now t (Value' w) c)) (λ t b.
+      value_deep (eval b.scope v b.next) b (λ w c. put_now t (Value' w) c) (λ w c. put_deep t (Value' w) c))
   statement_deep (body.Await w) a = await_deep w a
   statement_deep (body.Act e act) a =
       value_deep (eval a.scope e a.next) a (λ v b. outcome (lift (act_of act v) b.next) b want) (λ v b. value_deep (lift (act_of act v) b.next) b want (λ t c. refl))
   statement_deep (body.Log logger level e es) a = log_deep logger level e es a
   statement_deep (body.StartSoon c) a = value_deep (eval_call a.scope c a.next) a (starts false) (λ x b. refl)
+  statement_deep (body.PutNow e x) a =
+      value_deep (eval a.scope e a.next) a (λ v b. outcome (eval b.scope x b.next) b (λ item c. outcome (lift (queue_of v) c.next) c (λ q d. want (turned.PutNow q item) d))) (λ v b.
+      value_deep (eval b.scope x b.next) b (λ item c. outcome (lift (queue_of v) c.next) c (λ q d. want (turned.PutNow q item) d)) (λ item c.
+      value_deep (lift (queue_of v) c.next) c (λ q d. want (turned.PutNow q item) d) (λ q d. refl)))
+  statement_deep (body.AssignAction e w) a =
+      value_deep (eval_action a.scope w a.next) a (λ x b. outcome (eval b.scope e b.next) b (λ t c. stage t x c)) (λ x b.
+      value_deep (eval b.scope e b.next) b (λ t c. stage t x c) (λ t c. stage_deep t x c))
+  statement_deep (body.SetImmediateAction e w) a =
+      value_deep (eval a.scope e a.next) a (λ t b. outcome (eval_action b.scope w b.next) b (λ x c. put_now t x c)) (λ t b.
+      value_deep (eval_action b.scope w b.next) b (λ x c. put_now t x c) (λ x c. put_deep t x c))
 
   choose_deep : (b : Bool) (ts us : List Todo) → Deep (choose b ts us)
   choose_deep true ts us a = go_deep ts a

@@ -1,14 +1,14 @@
 -- No step looks at the counts of keys: whatever they are, it leads to the same but for the counts, with the same lines and the same cost.
 use Rattle.std.proofs.Common.{◌≡◌, ℕ, Bool, true, false, List, [], ◌∷◌, ◌++◌, Option, None, Some, refl, ap, sym, subst}
-use Rattle.std.specs.Prelude.{◌==◌, nat_le, length, Ok, Err}
+use Rattle.std.specs.Prelude.{◌==◌, nat_le, length, Ok, Err, nat_lt, ◌+◌}
 use Rattle.gpi.specs.Keys.{among, set_of}
-use Rattle.gpi.specs.Events.{Event, put}
+use Rattle.gpi.specs.Events.{Event}
 use Rattle.gpi.specs.State.{is_end}
 use Rattle.gpi.specs.declared.types.Counts.{Counts}
 use Rattle.gpi.specs.declared.types.Key.{Key}
 use Rattle.gpi.specs.declared.types.Key.TheVariants.{ReadWrite}
 use Rattle.gpi.specs.declared.types.SigId.{SigId}
-use Rattle.four_value.specs.declared.Digit.{Digit}
+use Rattle.gpi.specs.declared.types.Write.{Write}
 use Rattle.py_value.specs.Answer.{Answer}
 use Rattle.py_value.specs.declared.trigger.TaskNo.{TaskNo}
 use Rattle.py_value.specs.declared.trigger.LockNo.{LockNo}
@@ -26,6 +26,9 @@ use Rattle.await_tree.specs.EndedTasks.Endings.{is_done}
 use Rattle.await_tree.specs.SyncObjects.States.{is_held, event_limit, lock_limit}
 use Rattle.run_view.specs.declared.signal_port.staged.Staged.{Staged}
 use Rattle.test_meaning.specs.Body.BodyTrees.{Function, Limit, Case}
+use Rattle.task_queue.specs.Queues.{TaskQueue, queue_at, is_full as has_no_room, is_at_limit, is_empty, with_items, with_item}
+use Rattle.py_value.specs.declared.trigger.EventNo.{EventNo}
+use Rattle.py_value.specs.declared.trigger.QueueNo.{QueueNo}
 use Rattle.rig_model.specs.Task.Frame.{Task, function_at}
 use Rattle.rig_model.specs.Task.Step.{next}
 use Rattle.rig_model.specs.declared.task.task.Turned.{Turned}
@@ -33,10 +36,10 @@ use Rattle.rig_model.specs.declared.task.task.Turned.TheVariants as turned
 use Rattle.await_tree.specs.declared.wait_list.ready.Entry.{Entry}
 use Rattle.await_tree.specs.WaitList.Counts.{counts_after}
 use Rattle.await_tree.specs.WaitList.Waiting.{is_wanted, is_joined}
-use Rattle.rig_model.specs.Run.Rig.{Rig, Setup, Running, After, followed_by, event_of, view_of, facts_of, awaited, procs}
+use Rattle.rig_model.specs.Run.Rig.{Rig, Setup, Running, After, followed_by, event_of, view_of, facts_of, awaited}
 use Rattle.rig_model.specs.Run.Counts.{counted}
-use Rattle.rig_model.specs.Run.Serve.{wake, serve_keys, with_fired, after_put, deposit, flushed, flushed_if, served, ended_if, is_due, serve}
-use Rattle.rig_model.specs.Run.Effect.{begun_by, awaits_by, write_by, stages, puts, gives_value, starts, starter, next_task, with_new_task, fails, kills_by, kills, makes_event, makes_lock, releases, is_full, handed_on, effect, effect_of}
+use Rattle.rig_model.specs.Run.Serve.{wake, serve_keys, with_fired, after_put, deposit, flushed, flushed_if, served, ended_if, is_due, serve, written}
+use Rattle.rig_model.specs.Run.Effect.{begun_by, awaits_by, write_by, stages, puts, gives_value, starts, starter, next_task, with_new_task, fails, kills_by, kills, makes_event, makes_lock, releases, is_full, handed_on, effect, effect_of, makes_queue, sets_if, clears_if, with_put, puts_item, with_get, gets_item}
 use Rattle.rig_model.specs.Run.Step.{Stepped, task_at, taken, stepped, kept, after_event, resumed, chosen, rig_step}
 use Rattle.rig_model.specs.Run.Case.{limit_steps, with_deadline, with_limit, with_test, values_of, test_begun}
 use Rattle.run_laws.specs.SeparateTests.Later.{with_counts, SameButCounts}
@@ -79,15 +82,15 @@ put_blind setup e n c =
       lines = refl;
     }
 
-deposit_blind : (setup : Setup) (sig : SigId) (bits : List Digit) → Blind (deposit setup sig bits)
-deposit_blind setup sig bits n c = put_blind setup (put (procs setup) c.sim (set_of (awaited c)) sig bits) n c
+deposit_blind : (setup : Setup) (sig : SigId) (act : Write) → Blind (deposit setup sig act)
+deposit_blind setup sig act n c = put_blind setup (written setup c.sim (set_of (awaited c)) sig act) n c
 
 flushed_blind : (setup : Setup) (writes : List Staged) → Blind (flushed setup writes)
 flushed_blind setup [] n c = record { rig = refl; lines = refl }
 flushed_blind setup (w ∷ ws) n c =
     let d : Rig = record c { staged = ws } in
-    followed_same (deposit setup w.sig w.bits d) (deposit setup w.sig w.bits (with_counts n d)) (flushed setup ws)
-    (deposit_blind setup w.sig w.bits n d) (flushed_blind setup ws)
+    followed_same (deposit setup w.sig w.act d) (deposit setup w.sig w.act (with_counts n d)) (flushed setup ws)
+    (deposit_blind setup w.sig w.act n d) (flushed_blind setup ws)
 
 flush_blind : (setup : Setup) (b : Bool) → Blind (flushed_if setup b)
 flush_blind setup true n c = flushed_blind setup c.staged n c
@@ -128,9 +131,9 @@ write_blind : (b : Bool) (sig : SigId) (f : Rig → After) → Blind f → Blind
 write_blind true sig f h n c = record { rig = refl; lines = refl }
 write_blind false sig f h n c = h n c
 
-puts_blind : (setup : Setup) (task : TaskNo) (sig : SigId) (bits : List Digit) → Blind (puts setup task sig bits)
-puts_blind setup task sig bits n c =
-    followed_same (deposit setup sig bits c) (deposit setup sig bits (with_counts n c)) (gives_value task value.Absent) (deposit_blind setup sig bits n c)
+puts_blind : (setup : Setup) (task : TaskNo) (sig : SigId) (act : Write) → Blind (puts setup task sig act)
+puts_blind setup task sig act n c =
+    followed_same (deposit setup sig act c) (deposit setup sig act (with_counts n c)) (gives_value task value.Absent) (deposit_blind setup sig act n c)
     (λ m d. record { rig = refl; lines = refl })
 
 starter_blind : (task number : TaskNo) (b : Bool) → Blind (starter task number b)
@@ -177,10 +180,37 @@ releases_blind true task lock n c =
     record { rig = ap (λ (r : Rig). (gives_value task value.Absent r).rig) h; lines = refl }
 releases_blind false task lock n c = record { rig = refl; lines = refl }
 
+makes_queue_blind : (b : Bool) (task : TaskNo) (bound : ℕ) → Blind (makes_queue b task bound)
+makes_queue_blind true task bound n c = record { rig = refl; lines = refl }
+makes_queue_blind false task bound n c = record { rig = refl; lines = refl }
+
+flags_blind : (a b : Bool) (x y : EventNo) (n : Counts) (c : Rig) → SameButCounts (clears_if a x (sets_if b y c)) (clears_if a x (sets_if b y (with_counts n c)))
+flags_blind true true x y n c = refl
+flags_blind false true x y n c = refl
+flags_blind true false x y n c = refl
+flags_blind false false x y n c = refl
+
+puts_item_blind : (full limit : Bool) (task : TaskNo) (q : QueueNo) (item : Value) → Blind (puts_item full limit task q item)
+puts_item_blind true limit task q item n c = record { rig = refl; lines = refl }
+puts_item_blind false true task q item n c = record { rig = refl; lines = refl }
+puts_item_blind false false task q item n c =
+    let old : TaskQueue = queue_at q c.queues in
+    let h : SameButCounts (with_put q item c) (with_put q item (with_counts n c)) =
+    flags_blind (has_no_room (queue_at q (with_item q item c.queues))) (is_empty old.items) old.space_event old.items_event n (record c { queues = with_item q item c.queues }) in
+    record { rig = ap (λ (r : Rig). (gives_value task value.Absent r).rig) h; lines = refl }
+
+gets_item_blind : (task : TaskNo) (q : QueueNo) (items : List Value) → Blind (gets_item task q items)
+gets_item_blind task q [] n c = record { rig = refl; lines = refl }
+gets_item_blind task q (item ∷ items) n c =
+    let old : TaskQueue = queue_at q c.queues in
+    let h : SameButCounts (with_get q items c) (with_get q items (with_counts n c)) =
+    flags_blind (is_empty items) (has_no_room old) old.items_event old.space_event n (record c { queues = with_items q items c.queues }) in
+    record { rig = ap (λ (r : Rig). (gives_value task item r).rig) h; lines = refl }
+
 effect_blind : (setup : Setup) (task : TaskNo) (t : Turned) → Blind (effect setup task t)
 effect_blind setup task (turned.Await trig) n c = awaits_blind task (tree_of trig c.sim.time) (check trig c.sim.time c.sim.region) n c
-effect_blind setup task (turned.Stage sig bits) n c = write_blind (is_end c.sim.region) sig (stages task sig bits) (λ m d. record { rig = refl; lines = refl }) n c
-effect_blind setup task (turned.Put sig bits) n c = write_blind (is_end c.sim.region) sig (puts setup task sig bits) (puts_blind setup task sig bits) n c
+effect_blind setup task (turned.Stage sig act) n c = write_blind (is_end c.sim.region) sig (stages task sig act) (λ m d. record { rig = refl; lines = refl }) n c
+effect_blind setup task (turned.Put sig act) n c = write_blind (is_end c.sim.region) sig (puts setup task sig act) (puts_blind setup task sig act) n c
 effect_blind setup task (turned.Start func args give_way) n c = starts_blind (is_full c) task (function_at setup.functions func) args give_way n c
 effect_blind setup task (turned.Kill other) n c = kills_blind (other.0 == task.0) task other n c
 effect_blind setup task turned.NewEvent n c = makes_event_blind (nat_le event_limit (length c.objects.events)) task n c
@@ -188,6 +218,9 @@ effect_blind setup task (turned.SetEvent e) n c = record { rig = refl; lines = r
 effect_blind setup task (turned.ClearEvent e) n c = record { rig = refl; lines = refl }
 effect_blind setup task turned.NewLock n c = makes_lock_blind (nat_le lock_limit (length c.objects.locks)) task n c
 effect_blind setup task (turned.Release l) n c = releases_blind (is_held l c.objects) task l n c
+effect_blind setup task (turned.NewQueue bound) n c = makes_queue_blind (nat_lt event_limit (length c.objects.events + 2)) task bound n c
+effect_blind setup task (turned.PutNow q item) n c = puts_item_blind (has_no_room (queue_at q c.queues)) (is_at_limit (queue_at q c.queues)) task q item n c
+effect_blind setup task (turned.GetNow q) n c = gets_item_blind task q (queue_at q c.queues).items n c
 effect_blind setup task (turned.Draw low span) n c = record { rig = refl; lines = refl }
 effect_blind setup task (turned.Log level text) n c = record { rig = refl; lines = refl }
 effect_blind setup task (turned.Done v) n c = record { rig = refl; lines = refl }

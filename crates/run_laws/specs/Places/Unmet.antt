@@ -29,6 +29,14 @@ AllUnmet f (w ∷ ws) = AreUnmet f (leaves w.tree) × AllUnmet f ws
 abbrev pub WaitsInNeed : Rig → Type 0
 WaitsInNeed c = AllUnmet (facts_of c) c.waiting
 
+-- with no event that is set
+abbrev pub without_events : Facts → Facts
+without_events f = record f { events = [] }
+
+-- No task waits for a lock that is free, or a task that has ended.
+abbrev pub WaitsForOthers : Rig → Type 0
+WaitsForOthers c = AllUnmet (without_events (facts_of c)) c.waiting
+
 -- ---- joins
 
 -- the task that is joined lives

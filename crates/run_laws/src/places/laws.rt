@@ -11,7 +11,7 @@ ghost use Rattle.rig_model.specs.Run.Run.{Run, opening};
 ghost use Rattle.rig_model.specs.Run.Step.{rig_step};
 ghost use Rattle.run_laws.specs.Places.Needed.{AwaitsNeeded};
 ghost use Rattle.run_laws.specs.Places.Places.{AreInPlace, AreLive, IsOut, KeepEndings};
-ghost use Rattle.run_laws.specs.Places.Unmet.{JoinTheLiving, WaitsInNeed};
+ghost use Rattle.run_laws.specs.Places.Unmet.{JoinTheLiving, WaitsForOthers, WaitsInNeed};
 ghost use Rattle.run_laws.specs.Places.Reached.{IsReached, IsSoundSetup};
 
 /// Of a sound design and a sound file the opening configuration is known: each value, trigger and number in it is of the design, or was made in the
@@ -48,9 +48,11 @@ pub fn turns_are_live()
     ensures { (setup : Setup) (seed : ℕ) (cases : List Case) (run : Run) → IsReached setup seed cases run → AreLive run.rig }
 {}
 
-/// No task waits for an event that is set, a lock that is free, or a task that has ended.
+/// No task waits for a lock that is free, or a task that has ended; and of a sound design and a sound file, none for an event that is set.
 pub fn waits_are_unmet()
-    ensures { (setup : Setup) (seed : ℕ) (cases : List Case) (run : Run) → IsReached setup seed cases run → WaitsInNeed run.rig }
+    ensures others { (setup : Setup) (seed : ℕ) (cases : List Case) (run : Run) → IsReached setup seed cases run → WaitsForOthers run.rig }
+    ensures all { (setup : Setup) (seed : ℕ) (cases : List Case) (run : Run) → IsSoundSetup setup → IsReached setup seed cases run
+        → WaitsInNeed run.rig }
 {}
 
 /// A task that has ended, as one that was killed, has no turn, no entry and no tree, isn't live, and all who joined it were served.

@@ -1,0 +1,4 @@
+pub mod Queues
+pub mod Account
+pub mod Taken
+pub mod Puts
