@@ -277,19 +277,19 @@ adds_keys a b (awaited.Lock lock) names names' e g al k = ap (λ (c : Content). 
 adds_keys a b (awaited.Join task) names names' e g al k = ap (λ (c : Content). has k c.keys) e ∙ g k ∙ sym (al k)
 
 pub steady_same : (a b : Content) → b ≡ a → Steady a b
-steady_same a b e = record { procs = ap (λ (c : Content). c.procs) e; state = ap (λ (c : Content). c.state) e; fired = ap (λ (c : Content). c.counts.fired) e }
+steady_same a b e = record { procs = ap (λ (c : Content). c.procs) e; nets = ap (λ (c : Content). c.nets) e; state = ap (λ (c : Content). c.state) e; fired = ap (λ (c : Content). c.counts.fired) e }
 
 pub steady_through : (a b c : Content) → Steady a b → Steady b c → Steady a c
-steady_through a b c h e = record { procs = e.procs ∙ h.procs; state = e.state ∙ h.state; fired = e.fired ∙ h.fired }
+steady_through a b c h e = record { procs = e.procs ∙ h.procs; nets = e.nets ∙ h.nets; state = e.state ∙ h.state; fired = e.fired ∙ h.fired }
 
 pub adds_steady : (a b : Content) (on : Awaited) → Adds a on b → Steady a b
-adds_steady a b (awaited.Key key) j = record { procs = j.procs; state = j.state; fired = ap (λ (c : Counts). c.fired) j.counts }
+adds_steady a b (awaited.Key key) j = record { procs = j.procs; nets = j.nets; state = j.state; fired = ap (λ (c : Counts). c.fired) j.counts }
 adds_steady a b (awaited.Event event) e = steady_same a b e
 adds_steady a b (awaited.Lock lock) e = steady_same a b e
 adds_steady a b (awaited.Join task) e = steady_same a b e
 
 pub rekeyed_steady : (a b : Content) (asked old new : List Key) → Rekeyed a b asked old new → Steady a b
-rekeyed_steady a b asked old new h = record { procs = h.procs; state = h.state; fired = ap (λ (c : Counts). c.fired) h.counts }
+rekeyed_steady a b asked old new h = record { procs = h.procs; nets = h.nets; state = h.state; fired = ap (λ (c : Counts). c.fired) h.counts }
 
 pub narrows_keys : (b c : Content) (old new : List Key) → AreKeys b.keys old → Narrows b c old new → AreKeys c.keys new
 narrows_keys b c old new g n k = n.keys.keys k ∙ ap (λ (x : Bool). among k new && (x || false)) (g k) ∙ kept (among k new) (among k old) (n.within k)

@@ -200,6 +200,7 @@ module _ (old added : Records) (number : ℕ) (w : Waiting) (is : rows_in added 
           let all = steady_through a b c steady (rekeyed_steady b c [] (record_keys (causes_in new)) (record_keys (causes_in last)) narrows.keys) in
           record {
             procs = all.procs;
+            nets = all.nets;
             state = all.state;
             keys = λ key. narrows_keys b c (record_keys (causes_in new)) (record_keys (causes_in last)) keys narrows key ∙ names_back k key ∙ sym (first key);
             fired = all.fired;

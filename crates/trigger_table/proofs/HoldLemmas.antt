@@ -1,5 +1,5 @@
 -- The runner comes to hold a key, or lets go of it.
-use Rattle.std.proofs.Common.{◌≡◌, ◌≢◌, ℕ, Bool, true, false, not, ◌||◌, ◌&&◌, List, [], ◌∷◌, Option, Some, None, get_or, refl, sym, ap, ◌∙◌, subst, inl, inr}
+use Rattle.std.proofs.Common.{◌≡◌, ◌≢◌, ℕ, Bool, true, false, not, ◌||◌, ◌&&◌, List, ◌∷◌, ◌++◌, Option, Some, None, get_or, refl, sym, ap, ◌∙◌, subst, inl, inr}
 use Rattle.std.proofs.lemmas.Bool.{cases_eq, or_cases, and_from, and_parts, false≢true, not-true, not_from_false, false_from_ne_true}
 use Rattle.std.proofs.lemmas.Option.{none-some, same_Some}
 use Rattle.gpi.specs.Content.{Content}
@@ -7,9 +7,9 @@ use Rattle.gpi.specs.Keys.{among, has, same_key}
 use Rattle.gpi.specs.declared.types.Key.{Key}
 use Rattle.await_tree.specs.declared.cause.Awaited.{Awaited}
 use Rattle.await_tree.specs.declared.cause.Awaited.TheVariants as awaited
-use Rattle.await_tree.specs.WaitList.Keys.{AreAlike, AreKeysBut, without}
+use Rattle.await_tree.specs.WaitList.Keys.{AreAlike, without}
 use Rattle.await_tree.specs.WaitList.Parts.{Fits, Narrows}
-use Rattle.await_tree.proofs.WaitListLemmas.Members.{alike, among_without, or_left, or_right, same_is, same_self}
+use Rattle.await_tree.proofs.WaitListLemmas.Members.{alike, among_append, among_left, among_right, among_without, or_left, or_right, same_is, same_self}
 use Rattle.await_tree.proofs.WaitListLemmas.Rekeys.{narrows_alike}
 use Rattle.trigger_table.specs.Awaiting.{Joined}
 use Rattle.trigger_table.specs.Entries.{HasCause}
@@ -109,7 +109,7 @@ module _ (key : Key) (number : ℕ) (s0 s2 : State) (mid : Slots) (j : Joined (a
 
 -- ---- a key is held no more
 
-module _ (key : Key) (number : ℕ) (old : Records) (mid : Slots) (own : HasCause (causes_in old) number (awaited.Key key)) (there : among key (runner_keys (causes_in old)) ≡ true)
+module _ (key : Key) (number : ℕ) (old : Records) (mid : Slots) (own : HasCause (causes_in old) number (awaited.Key key))
     (freed : (kept : CauseRecord) → get_or (causes_in old) number None ≡ Some kept → Sets (causes_in old) mid number (Some (record kept { held = false }))) where
   free : Sets (causes_in old) mid number (Some (record { on = awaited.Key key; held = false }))
   free = freed _ own.1
@@ -143,20 +143,25 @@ module _ (key : Key) (number : ℕ) (old : Records) (mid : Slots) (own : HasCaus
       (λ is. let one = named_key k mid is in key_named k (causes_in old) one.0 (has_old one.0 (awaited.Key k) one.1))
       (λ is. let one = named_key k (causes_in old) is in key_named k mid one.0 (has_mid one.0 (awaited.Key k) one.1))
 
-  pub fits_mid : (c : Content) → has key c.keys ≡ true → AreKeysBut c.keys (runner_keys (causes_in old)) (record_keys (causes_in old)) → Fits c [] (runner_keys mid) (record_keys mid)
-  fits_mid c known b = record {
+  pub fits_mid : (c : Content) (fired : List Key) → (among key fired ≡ false → has key c.keys ≡ true) → Fits c fired (runner_keys (causes_in old)) (record_keys (causes_in old)) → Fits c fired (runner_keys mid) (record_keys mid)
+  fits_mid c fired known f = record {
     keys = record {
-      within = λ k is. names_mid k ∙ b.within k is;
+      within = λ k is. names_mid k ∙ f.keys.within k is;
       rest = λ k named out.
-          let one = runner_key k (causes_in old) (b.rest k (sym (names_mid k) ∙ named) out) in
-          let differs : k ≢ key = λ same. false≢true (sym out ∙ ap (λ (i : Key). has_in i) same ∙ known) in
-          runner_named k mid one.0 (free.others one.0 (apart k one.0 one.1 differs) ∙ one.1);
+          elim (or_cases (among k fired) (among k (runner_keys (causes_in old))) (sym (among_append k fired (runner_keys (causes_in old))) ∙ f.keys.rest k (sym (names_mid k) ∙ named) out)) [
+            | inl is ↦ among_left k fired (runner_keys mid) is
+            | inr held ↦ go k out held (among k fired) refl
+          ];
     };
-    out = λ k is. absurd (false≢true is);
+    out = f.out;
   }
     where
-      has_in : Key → Bool
-      has_in i = has i c.keys
+      go : (k : Key) → has k c.keys ≡ false → among k (runner_keys (causes_in old)) ≡ true → (b : Bool) → among k fired ≡ b → among k (fired ++ runner_keys mid) ≡ true
+      go k out held true is = among_left k fired (runner_keys mid) is
+      go k out held false is =
+          let one = runner_key k (causes_in old) held in
+          let differs : k ≢ key = λ same. false≢true (sym out ∙ ap (λ (i : Key). has i c.keys) same ∙ known (ap (λ (i : Key). among i fired) (sym same) ∙ is)) in
+          among_right k fired (runner_keys mid) (runner_named k mid one.0 (free.others one.0 (apart k one.0 one.1 differs) ∙ one.1))
 
   module _ (new : Records) (rows : rows_in new ≡ rows_in old) (others : (n : ℕ) → n ≢ number → get_or (causes_in new) n None ≡ get_or mid n None) (shrinks : Shrinks mid (causes_in new))
       (needed : get_or (causes_in new) number None ≢ None → IsNeeded number (state_in new)) where
@@ -202,9 +207,18 @@ module _ (key : Key) (number : ℕ) (old : Records) (mid : Slots) (own : HasCaus
     pub freed_narrows : (a b : Content) → Narrows a b (record_keys mid) (record_keys (causes_in new)) → Narrows a b (record_keys (causes_in old)) (record_keys (causes_in new))
     freed_narrows a b n = narrows_alike a b (record_keys mid) (record_keys (causes_in old)) (record_keys (causes_in new)) (record_keys (causes_in new)) names_mid (λ k. refl) n
 
--- a key that the runner holds has a record
-pub no_runner : (key : Key) (slots : Slots) → among key (runner_keys slots) ≡ true → ((n : ℕ) → ¬ HasCause slots n (awaited.Key key)) → ⊥
-no_runner key slots there none = let one = runner_key key slots there in none one.0 (true, one.1)
+-- a key that has no record isn't held
+pub not_held : (key : Key) (slots : Slots) → ((n : ℕ) → ¬ HasCause slots n (awaited.Key key)) → AreAlike (runner_keys slots) (without key (runner_keys slots))
+not_held key slots none k = alike (among k (runner_keys slots)) (among k (runner_keys slots) && not (same_key key k)) there back ∙ sym (among_without k key (runner_keys slots))
+  where
+    there : among k (runner_keys slots) ≡ true → (among k (runner_keys slots) && not (same_key key k)) ≡ true
+    there is =
+        and_from _ _ is (not_from_false (same_key key k) (false_from_ne_true (same_key key k) (λ same.
+        let one = runner_key k slots is in
+        none one.0 (true, one.1 ∙ ap (λ (i : Key). let r : CauseRecord = record { on = awaited.Key i; held = true } in Some r) (sym (same_is key k same))))))
+
+    back : (among k (runner_keys slots) && not (same_key key k)) ≡ true → among k (runner_keys slots) ≡ true
+    back is = (and_parts (among k (runner_keys slots)) (not (same_key key k)) is).0
 
 -- a key that has no record isn't named
 pub not_named : (key : Key) (slots : Slots) → ((n : ℕ) → ¬ HasCause slots n (awaited.Key key)) → among key (record_keys slots) ≡ false

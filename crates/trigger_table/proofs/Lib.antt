@@ -15,3 +15,10 @@ pub mod BeginLemmas
 pub mod HoldLemmas
 pub mod TableLemmas
 pub mod CursorLemmas
+pub mod MemberLemmas
+pub mod PlaceLemmas
+pub mod TrimLemmas
+pub mod SettleLemmas
+pub mod ServeLemmas
+pub mod FireLemmas
+pub mod GrantLemmas

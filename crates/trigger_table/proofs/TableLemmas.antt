@@ -1,5 +1,5 @@
 -- What the table's calls ask and promise, by the keys that its records name.
-use Rattle.std.proofs.Common.{◌≡◌, Bool, true, false, List, [], ◌∷◌, Option, None, get_or, refl, sym, ap, ◌∙◌}
+use Rattle.std.proofs.Common.{◌≡◌, Bool, true, false, List, [], ◌∷◌, ◌++◌, Option, None, get_or, refl, sym, ap, ◌∙◌}
 use Rattle.std.proofs.lemmas.Bool.{false≢true}
 use Rattle.std.specs.Prelude.{Result, Ok, Err, OnOk}
 use Rattle.gpi.specs.Content.{Content}
@@ -27,6 +27,9 @@ but_records c s kept b = (fits_alike c [] (runner_keys s.causes) (names s) (reco
 
 pub fits_records : (c : Content) (s : State) → IsKept s → AreKeysBut c.keys (runner_keys s.causes) (names s) → Fits c [] (runner_keys s.causes) (record_keys s.causes)
 fits_records c s kept b = fits_alike c [] (runner_keys s.causes) (names s) (record_keys s.causes) (named_records s kept) (fits_unfired c (runner_keys s.causes) (names s) b)
+
+pub fired_records : (c : Content) (fired : List Key) (s : State) → IsKept s → AreKeysBut c.keys (fired ++ runner_keys s.causes) (names s) → AreKeysBut c.keys (fired ++ runner_keys s.causes) (record_keys s.causes)
+fired_records c fired s kept b = (fits_alike c [] (fired ++ runner_keys s.causes) (names s) (record_keys s.causes) (named_records s kept) (fits_unfired c (fired ++ runner_keys s.causes) (names s) b)).keys
 
 pub keys_records : (c : Content) (s : State) → IsKept s → AreKeys c.keys (names s) → AreKeys c.keys (record_keys s.causes)
 keys_records c s kept g k = g k ∙ named_records s kept k

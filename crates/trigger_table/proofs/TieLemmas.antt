@@ -199,7 +199,7 @@ filter_none p x xs none = go (p x) refl
     go true is = absurd (let e : x ∷ filter p xs ≡ [] = sym (ap (λ (b : Bool). cond b (x ∷ filter p xs) (filter p xs)) is) ∙ none in cc)
     go false is = (is, sym (ap (λ (b : Bool). cond b (x ∷ filter p xs) (filter p xs)) is) ∙ none)
 
-on_has : (causes causes' : Slots) (links : List Link) (ons : List Awaited) → ((n : ℕ) (on : Awaited) → filter (λ (link : Link). link.cause == n) links ≢ [] → HasCause causes n on → HasCause causes' n on) → AreOn causes links ons → AreOn causes' links ons
+pub on_has : (causes causes' : Slots) (links : List Link) (ons : List Awaited) → ((n : ℕ) (on : Awaited) → filter (λ (link : Link). link.cause == n) links ≢ [] → HasCause causes n on → HasCause causes' n on) → AreOn causes links ons → AreOn causes' links ons
 on_has causes causes' [] [] stays h = tt
 on_has causes causes' [] (on ∷ ons) stays h = h
 on_has causes causes' (link ∷ links) [] stays h = h

@@ -43,6 +43,7 @@ Adds before (awaited.Join task) after = after ≡ before
 -- Of what a simulator holds only the registered keys and the counts of registrations and removals have changed.
 pub record Steady (before after : Content) : Type 0 where
   pub procs : after.procs ≡ before.procs
+  pub nets : after.nets ≡ before.nets
   pub state : after.state ≡ before.state
   pub fired : after.counts.fired ≡ before.counts.fired
 

@@ -7,8 +7,10 @@ pub mod State
 pub mod Kept
 pub mod Records
 pub mod Cursor
+pub mod Members
 pub mod Keys
 pub mod Tied
+pub mod Serving
 pub mod Work
 pub mod Awaiting
 pub mod Table

@@ -4,7 +4,8 @@ ghost use Rattle.gpi.specs.Content.{IsAsked};
 ghost use Rattle.gpi.specs.Keys.{among, has};
 ghost use Rattle.await_tree.specs.declared.cause.Awaited.TheVariants as awaited;
 ghost use Rattle.await_tree.specs.WaitList.Keys.{AreAlike, AreKeysBut, without};
-ghost use Rattle.await_tree.specs.WaitList.Parts.{Joins, Narrows};
+ghost use Rattle.await_tree.specs.WaitList.Parts.{Fits, Joins, Narrows};
+ghost use Rattle.await_tree.specs.WaitList.Waiting.{fired_keys};
 ghost use Rattle.trigger_table.specs.Entries.{HasCause};
 ghost use Rattle.trigger_table.specs.Awaiting.{Joined};
 ghost use Rattle.trigger_table.specs.Keys.{record_keys, runner_keys};
@@ -15,7 +16,7 @@ use crate::records::Records;
 use crate::table::{let_go, none_fired};
 use await_tree::Awaited;
 use await_tree::wait_list::Steps;
-use gpi::{Gpi, Key};
+use gpi::{Fired, Gpi, Key};
 use port_io::NoMemory;
 use std::sync::ledger::Ledger;
 
@@ -97,7 +98,33 @@ pub(crate) fn hold<K: Gpi, L: Ledger>(
     Ok(())
 }
 
-/// The runner holds the key no more, which it holds, and which is registered.
+/// The runner holds the key no more. It is registered, or fired.
+pub(crate) fn unhold<K: Gpi, L: Ledger>(
+    kernel: &mut K,
+    records: &mut Records,
+    key: Key,
+    fired: Fired,
+    steps: &mut Steps<L>,
+)
+    requires loaded { K.is_loaded kernel.old }
+    requires kept { IsKept (state_in records.old) }
+    requires there { among key (fired_keys fired) ≡ false → has key (K.content kernel.old).keys ≡ true }
+    requires fits { Fits (K.content kernel.old) (fired_keys fired) (runner_keys (causes_in records.old)) (record_keys (causes_in records.old)) }
+    ensures rows { rows_in records.new ≡ rows_in records.old }
+    ensures kept { IsKept (state_in records.new) }
+    ensures held { AreAlike (runner_keys (causes_in records.new)) (without key (runner_keys (causes_in records.old))) }
+    ensures loaded { K.is_loaded kernel.new }
+    ensures fits { Fits (K.content kernel.new) (fired_keys fired) (runner_keys (causes_in records.new)) (record_keys (causes_in records.new)) }
+    ensures keys { Narrows (K.content kernel.old) (K.content kernel.new) (record_keys (causes_in records.old)) (record_keys (causes_in records.new)) }
+    ensures ticks { steps.new ≤ steps.old + 4 }
+{
+    if let Some(number) = records.find(Awaited::Key(key), steps) {
+        records.set_held(number, false, steps);
+        let_go(kernel, records, number, fired, steps);
+    }
+}
+
+/// The runner holds the key no more, which is registered.
 pub(crate) fn release<K: Gpi, L: Ledger>(
     kernel: &mut K,
     records: &mut Records,
@@ -106,7 +133,6 @@ pub(crate) fn release<K: Gpi, L: Ledger>(
 )
     requires loaded { K.is_loaded kernel.old }
     requires kept { IsKept (state_in records.old) }
-    requires there { among key (runner_keys (causes_in records.old)) ≡ true }
     requires registered { has key (K.content kernel.old).keys ≡ true }
     requires keys { AreKeysBut (K.content kernel.old).keys (runner_keys (causes_in records.old)) (record_keys (causes_in records.old)) }
     ensures rows { rows_in records.new ≡ rows_in records.old }
@@ -116,9 +142,6 @@ pub(crate) fn release<K: Gpi, L: Ledger>(
     ensures keys { Narrows (K.content kernel.old) (K.content kernel.new) (record_keys (causes_in records.old)) (record_keys (causes_in records.new)) }
     ensures ticks { steps.new ≤ steps.old + 4 }
 {
-    if let Some(number) = records.find(Awaited::Key(key), steps) {
-        records.set_held(number, false, steps);
-        let none = none_fired();
-        let_go(kernel, records, number, none, steps);
-    }
+    let none = none_fired();
+    unhold(kernel, records, key, none, steps);
 }

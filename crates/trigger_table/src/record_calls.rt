@@ -54,12 +54,12 @@ ghost use Rattle.trigger_table.specs.State.{
 };
 
 use crate::causes::Causes;
-use crate::entries::{CauseRecord, TaskRecord};
+use crate::entries::{CauseRecord, Reply, TaskRecord};
 use crate::records::Records;
 use crate::rings::Rings;
 use crate::tasks::Tasks;
 use await_tree::wait_list::Steps;
-use await_tree::{Awaited, Cause, Leaves, Step, Tree};
+use await_tree::{Awaited, Cause, Tree};
 use port_io::NoMemory;
 use py_value::{LockNo, TaskNo};
 use slab::Slab;
@@ -205,17 +205,22 @@ impl Records {
         Ok(())
     }
 
-    /// Takes a waiter out of both of its chains.
-    pub fn unlink<L: Ledger>(&mut self, waiter: usize, steps: &mut Steps<L>)
+    /// Takes a waiter out of both of its chains, and tells the number of what it was on.
+    pub fn unlink<L: Ledger>(&mut self, waiter: usize, steps: &mut Steps<L>) -> Option<usize>
         requires { HasLink waiter (rows_in self.old) }
+        ensures is { IsSome result }
+        ensures known { IfSome result (λ cause. slice_index_or (causes_in self.old) cause None ≢ None) }
+        ensures others { IfSome result (λ cause. (other : ℕ) → other ≢ cause
+            → waiters_on other (rows_in self.new) ≡ waiters_on other (rows_in self.old)) }
         ensures rows { rows_in self.new ≡ drop_link waiter (rows_in self.old) }
         ensures causes { causes_in self.new ≡ causes_in self.old }
         ensures ticks { steps.new ≡ steps.old + 1 }
     {
         steps.tick();
-        self.by_cause.unlink(waiter);
+        let cause = self.by_cause.unlink(waiter);
         self.by_task.unlink(waiter);
         self.waiters.remove(waiter);
+        cause
     }
 
     /// Takes out the leftmost waiter of a task, and tells the number of what it was on.
@@ -284,38 +289,34 @@ impl Records {
     }
 
     /// A waiting task's tree is told the cause. Its waiters stay.
-    pub fn fire<L: Ledger>(&mut self, number: usize, cause: Cause, steps: &mut Steps<L>) -> Step
+    pub fn fire<L: Ledger>(&mut self, number: usize, cause: Cause, steps: &mut Steps<L>) -> Reply
         requires { HasRow number (rows_in self.old) }
-        ensures answer { (w : Waiting) → entry_at number (rows_in self.old) ≡ Some w → result ≡ step_of (fire.fire cause w.tree) }
+        ensures answer { (w : Waiting) → entry_at number (rows_in self.old) ≡ Some w → result.step ≡ step_of (fire.fire cause w.tree) }
+        ensures leaves { (w : Waiting) → entry_at number (rows_in self.new) ≡ Some w → result.leaves ≡ leaves w.tree }
         ensures rows { (w : Waiting) → entry_at number (rows_in self.old) ≡ Some w
             → rows_in self.new ≡ with_entry number (Some (record w { tree = rest_of (fire.fire cause w.tree) })) (rows_in self.old) }
         ensures causes { causes_in self.new ≡ causes_in self.old }
         ensures ticks { steps.new ≡ steps.old + 1 }
     {
         steps.tick();
-        self.tasks.fire(number, cause)
+        let step = self.tasks.fire(number, cause);
+        let leaves = self.tasks.leaves(number);
+        Reply { step, leaves }
     }
 
     /// A waiting task's tree is handed the lock. Its waiters stay.
-    pub fn grant<L: Ledger>(&mut self, number: usize, lock: LockNo, steps: &mut Steps<L>) -> Step
+    pub fn grant<L: Ledger>(&mut self, number: usize, lock: LockNo, steps: &mut Steps<L>) -> Reply
         requires { HasRow number (rows_in self.old) }
-        ensures answer { (w : Waiting) → entry_at number (rows_in self.old) ≡ Some w → result ≡ step_of (fire.grant lock w.tree) }
+        ensures answer { (w : Waiting) → entry_at number (rows_in self.old) ≡ Some w → result.step ≡ step_of (fire.grant lock w.tree) }
+        ensures leaves { (w : Waiting) → entry_at number (rows_in self.new) ≡ Some w → result.leaves ≡ leaves w.tree }
         ensures rows { (w : Waiting) → entry_at number (rows_in self.old) ≡ Some w
             → rows_in self.new ≡ with_entry number (Some (record w { tree = rest_of (fire.grant lock w.tree) })) (rows_in self.old) }
         ensures causes { causes_in self.new ≡ causes_in self.old }
         ensures ticks { steps.new ≡ steps.old + 1 }
     {
         steps.tick();
-        self.tasks.grant(number, lock)
-    }
-
-    /// What the waiting leaves of a task's tree wait for, from left to right.
-    pub fn leaves<L: Ledger>(&self, number: usize, steps: &mut Steps<L>) -> Leaves
-        requires { HasRow number (rows_in self.now) }
-        ensures leaves { (w : Waiting) → entry_at number (rows_in self.now) ≡ Some w → result ≡ leaves w.tree }
-        ensures ticks { steps.new ≡ steps.old + 1 }
-    {
-        steps.tick();
-        self.tasks.leaves(number)
+        let step = self.tasks.grant(number, lock);
+        let leaves = self.tasks.leaves(number);
+        Reply { step, leaves }
     }
 }

@@ -78,7 +78,7 @@ pub(crate) fn drop_row<K: Gpi, L: Ledger>(
 }
 
 /// Lets go of a value.
-fn let_fall<T: Drop>(_value: T) {}
+pub(crate) fn let_fall<T: Drop>(_value: T) {}
 
 /// Drops a waiting task, as `drop_row`, and what is kept of it.
 pub(crate) fn forget_row<K: Gpi, L: Ledger>(
