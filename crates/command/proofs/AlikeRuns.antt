@@ -1,11 +1,10 @@
 -- Designs that are alike have the same runs: a definition of a run knows of the processes what they do alone.
 use Rattle.std.proofs.Common.{◌≡◌, ℕ, zero, suc, ◌+◌, Bool, true, false, not, ◌&&◌, List, [], ◌∷◌, ◌++◌, Option, None, Some, Ok, Err, if◌then◌else◌, refl, ap, sym, subst, ◌∙◌}
 use Rattle.std.specs.Prelude.{nat_le}
-use Rattle.four_value.specs.declared.Digit.{Digit}
 use Rattle.gpi.specs.Content.{no_counts}
-use Rattle.gpi.specs.Design.{Proc, procs_of, start_map, start_hidden, starters}
-use Rattle.gpi.specs.Events.{Event, event, put}
-use Rattle.gpi.specs.Keys.{among, set_of}
+use Rattle.gpi.specs.Design.{Proc, nets_of, procs_of, start_map, start_hidden, starters}
+use Rattle.gpi.specs.Events.{Event, event, force, put, release, value_at}
+use Rattle.gpi.specs.Keys.{Keys, among, set_of}
 use Rattle.gpi.specs.State.{State, is_end}
 use Rattle.gpi.specs.declared.design.Flat.{Flat}
 use Rattle.gpi.specs.declared.design.Node.{Node}
@@ -16,6 +15,8 @@ use Rattle.gpi.specs.declared.types.Key.TheVariants.{ReadWrite}
 use Rattle.gpi.specs.declared.types.Region.TheVariants as region
 use Rattle.gpi.specs.declared.types.SigId.{SigId}
 use Rattle.gpi.specs.declared.types.Told.{Told}
+use Rattle.gpi.specs.declared.types.Write.{Write}
+use Rattle.gpi.specs.declared.types.Write.TheVariants as write
 use Rattle.py_value.specs.Answer.{Answer}
 use Rattle.py_value.specs.declared.trigger.TaskNo.{TaskNo}
 use Rattle.py_value.specs.declared.value.Value.{Value}
@@ -35,7 +36,7 @@ use Rattle.rig_model.specs.Run.Effect.{effect, effect_of, gives_value, puts, wri
 use Rattle.rig_model.specs.Run.Rig.{After, Rig, Running, Setup, awaited, event_of, followed_by, told_line, told_lines, view_of}
 use Rattle.rig_model.specs.Run.Run.{Begins, IsRun, Over, Place, Run, Runs, Waits, begun, cost_at, cost_in, goes, is_over, judged, opening, placed, planned, skipped, step, step_at, step_in, steps, test_ended, unskipped, with_skips, within, written}
 use Rattle.rig_model.specs.Run.Line.{budget_line}
-use Rattle.rig_model.specs.Run.Serve.{after_put, deposit, ended_if, flushed, flushed_if, is_due, serve, serve_keys, served, with_fired}
+use Rattle.rig_model.specs.Run.Serve.{after_put, deposit, ended_if, flushed, flushed_if, is_due, serve, serve_keys, served, with_fired, written as event_of_write}
 use Rattle.rig_model.specs.Run.Step.{Stepped, after_event, chosen, costing, event_step, kept, resumed, rig_step, stepped, taken, task_at}
 use Rattle.rig_model.specs.Run.Verdict.{reason_of}
 use Rattle.rig_model.specs.declared.run.outcome.Outcome.{Outcome}
@@ -70,16 +71,22 @@ module _ (functions : List Function) (signals : List Signal) (nodes : List Node)
   put_same e c = ap (λ (lines : List (List ℕ)). let a : After = record { rig = counted e.fired c (serve_keys e.fired c.fired (with_fired e.fired (record c { sim = e.state }))); lines = lines } in a)
       (told_same c.sim.time e.told)
 
-  deposit_same : (sig : SigId) (bits : List Digit) (c : Rig) → deposit p sig bits c ≡ deposit q sig bits c
-  deposit_same sig bits c =
-      ap (λ (procs : List Proc). after_put p (put procs c.sim (set_of (awaited c)) sig bits) c) same ∙ put_same (put (procs_of qs) c.sim (set_of (awaited c)) sig bits) c
+  write_same : (s : State) (keys : Keys) (sig : SigId) (act : Write) → event_of_write p s keys sig act ≡ event_of_write q s keys sig act
+  write_same s keys sig (write.Plain bits) = ap (λ (procs : List Proc). put procs s keys sig bits) same
+  write_same s keys sig (write.Force bits) = ap (λ (procs : List Proc). force procs s keys sig bits) same
+  write_same s keys sig write.Freeze = ap (λ (procs : List Proc). force procs s keys sig (value_at s sig)) same
+  write_same s keys sig write.Release = ap (λ (procs : List Proc). release procs (nets_of signals) s keys sig) same
+
+  deposit_same : (sig : SigId) (act : Write) (c : Rig) → deposit p sig act c ≡ deposit q sig act c
+  deposit_same sig act c =
+      ap (λ (e : Event). after_put p e c) (write_same c.sim (set_of (awaited c)) sig act) ∙ put_same (event_of_write q c.sim (set_of (awaited c)) sig act) c
 
   flushed_same : (writes : List Staged) (c : Rig) → flushed p writes c ≡ flushed q writes c
   flushed_same [] c = refl
   flushed_same (w ∷ ws) c =
-      ap (λ (a : After). followed_by a (flushed p ws)) (deposit_same w.sig w.bits (record c { staged = ws }))
-      ∙ ap (λ (b : After). let a : After = record { rig = b.rig; lines = (deposit q w.sig w.bits (record c { staged = ws })).lines ++ b.lines } in a)
-      (flushed_same ws (deposit q w.sig w.bits (record c { staged = ws })).rig)
+      ap (λ (a : After). followed_by a (flushed p ws)) (deposit_same w.sig w.act (record c { staged = ws }))
+      ∙ ap (λ (b : After). let a : After = record { rig = b.rig; lines = (deposit q w.sig w.act (record c { staged = ws })).lines ++ b.lines } in a)
+      (flushed_same ws (deposit q w.sig w.act (record c { staged = ws })).rig)
 
   flushed_if_same : (b : Bool) (c : Rig) → flushed_if p b c ≡ flushed_if q b c
   flushed_if_same true c = flushed_same c.staged c
@@ -101,9 +108,9 @@ module _ (functions : List Function) (signals : List Signal) (nodes : List Node)
 
   effect_same : (task : TaskNo) (t : Turned) (c : Rig) → effect p task t c ≡ effect q task t c
   effect_same task (turned.Await trig) c = refl
-  effect_same task (turned.Stage sig bits) c = refl
-  effect_same task (turned.Put sig bits) c =
-      ap (λ (a : After). write_by (is_end c.sim.region) sig (followed_by a (gives_value task value.Absent)) c) (deposit_same sig bits c)
+  effect_same task (turned.Stage sig act) c = refl
+  effect_same task (turned.Put sig act) c =
+      ap (λ (a : After). write_by (is_end c.sim.region) sig (followed_by a (gives_value task value.Absent)) c) (deposit_same sig act c)
   effect_same task (turned.Start func args give_way) c = refl
   effect_same task (turned.Kill other) c = refl
   effect_same task turned.NewEvent c = refl
@@ -111,6 +118,9 @@ module _ (functions : List Function) (signals : List Signal) (nodes : List Node)
   effect_same task (turned.ClearEvent event) c = refl
   effect_same task turned.NewLock c = refl
   effect_same task (turned.Release lock) c = refl
+  effect_same task (turned.NewQueue bound) c = refl
+  effect_same task (turned.PutNow queue item) c = refl
+  effect_same task (turned.GetNow queue) c = refl
   effect_same task (turned.Draw low span) c = refl
   effect_same task (turned.Log level text) c = refl
   effect_same task (turned.Done v) c = refl

@@ -18,12 +18,12 @@ use crate::regression::{Status, run_all};
 use await_tree::wait_list::Steps;
 use gpi::{Flat, Gpi};
 use plain_task::flow::TreeMaker;
-use plain_waits::WaitList;
 use port_io::{NoMemory, Sink, Store};
 use scheduler::Engine;
 use std::alloc::Global;
 use std::sync::ledger::Ledger;
 use test_meaning::body::TestFile;
+use trigger_table::TriggerTable;
 
 /// Puts the one line of an answer, which has this status where it is taken.
 fn put_line<O: Sink>(alloc: Global, own: Status, line: &[u8], out: &mut O) -> Status
@@ -60,7 +60,7 @@ fn run_file<O: Sink, K: Gpi, L: Ledger>(
 {
     kernel.load(alloc, flat)?;
     let maker = TreeMaker::new(file);
-    let awaits = WaitList::new(alloc);
+    let awaits = TriggerTable::new(alloc);
     let mut engine = Engine::new(alloc, maker, awaits, flat, options.seed, options.trace)?;
     Ok(run_all(alloc, file, &mut engine, kernel, out, options.budget, steps))
 }

@@ -40,6 +40,7 @@ fits_stands m e content f =
     let q = f.test.queue.queue in
     record {
       procs_are = q.procs_are;
+      nets_are = q.nets_are;
       state_is = refl;
       keys_are = keys_awaited content.keys (m.waiting e.test.queue.awaits) (m.held e.test.queue.awaits) (queue_held (queue_of m.waiting e.test.queue)) q.keys_are q.held_are;
       counts_are = refl;
@@ -54,6 +55,7 @@ same_awaited d e r = rw (r.waiting, r.staged, r.fired, r.deadline, r.planned) re
 pub stands_rest : (setup : Setup) (content : Content) (d e : Rig) → SameRest d e → StandsFor setup content e → StandsFor setup content d
 stands_rest setup content d e r s = record {
   procs_are = s.procs_are;
+  nets_are = s.nets_are;
   state_is = s.state_is ∙ sym r.sim;
   keys_are = subst (AreKeys content.keys) (sym (same_awaited d e r)) s.keys_are;
   counts_are = s.counts_are ∙ ap (λ (k : Counts). k) (sym r.counts);
@@ -69,6 +71,7 @@ same_rest d e h = record {
   endings = ap (λ (c : Rig). c.endings) h;
   waiting = ap (λ (c : Rig). c.waiting) h;
   objects = ap (λ (c : Rig). c.objects) h;
+  queues = ap (λ (c : Rig). c.queues) h;
   staged = ap (λ (c : Rig). c.staged) h;
   fired = ap (λ (c : Rig). c.fired) h;
   deadline = ap (λ (c : Rig). c.deadline) h;
