@@ -1,9 +1,8 @@
 -- What is written for the lines of a run, line by line.
-use Rattle.std.specs.Prelude.{◌≡◌, ℕ, List, [], ◌∷◌, ◌++◌, refl}
+use Rattle.std.specs.Prelude.{ℕ, List, [], ◌∷◌, ◌++◌, refl}
 use Rattle.std.proofs.Common.{ap, ◌∙◌, inl, inr}
-use Rattle.vcd_text.specs.Changes.{ValueChange}
 use Rattle.vcd_text.specs.Text.{lines_of_change, change_lines}
-use Rattle.vcd_text.specs.TracedLines.{TellAll, BecomeAll, Traced_lines_become_changes}
+use Rattle.vcd_text.specs.TracedLines.{Traced_lines_become_changes}
 
 pub lines_become_changes : Traced_lines_become_changes
 lines_become_changes flat last [] written is = ([], refl, is)

@@ -1,8 +1,17 @@
 pub mod Names
 pub mod Spelling
 pub mod Hierarchy
+pub mod Memories
 pub mod Traceable
 pub mod Changes
 pub mod Text
 pub mod TracedLines
+pub mod Splits
+pub mod Steps
+pub mod Paths
+pub mod OpeningLines
+pub mod Told
+pub mod Sink
+pub mod WholeTexts
 pub mod Reading
+pub mod Readable

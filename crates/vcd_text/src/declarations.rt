@@ -9,7 +9,7 @@ use port_io::NoMemory;
 use std::alloc::Global;
 
 /// `$scope module <name> $end`: an instance of that name begins. Only want of memory is an error.
-pub fn scope_line(alloc: Global, name: &[u8]) -> Result<Vec<u8>, NoMemory>
+pub(crate) fn scope_line(alloc: Global, name: &[u8]) -> Result<Vec<u8>, NoMemory>
     ensures { IfOk result (λ line. line.items ≡ meaning.scope_line name.now) }
 {
     let mut line = Vec::new(alloc);
@@ -47,9 +47,9 @@ fn range_text(alloc: Global, width: u8) -> Result<Vec<u8>, NoMemory>
 
 /// `$var <wire or reg> <width> <code> <name> $end`, with the range of a vector behind its name: a signal of that number, by its name in its
 /// instance. Only want of memory is an error.
-pub fn signal_line(
+pub(crate) fn signal_line(
     alloc: Global,
-    number: u32,
+    number: usize,
     name: &[u8],
     signal: &Signal,
 ) -> Result<Vec<u8>, NoMemory>

@@ -1,8 +1,30 @@
 //! Laws of the lines that are written.
-ghost use Rattle.vcd_text.specs.TracedLines.{Traced_lines_become_changes};
+ghost use Rattle.vcd_text.specs.TracedLines.{Same_changes, Some_changes, Traced_lines_become_changes};
+ghost use Rattle.vcd_text.specs.Readable.{One_list};
+ghost use Rattle.vcd_text.specs.WholeTexts.{WritesFront, WritesWhole};
+
+use port_io::Sink;
 
 /// What is written for the lines of a traced run, one after the other, are the lines of the changes that they tell, in order: the fourth part of
 /// the text (IEEE 1364-2005, clause 18.2.1).
 pub fn traced_lines_become_changes()
     ensures { Traced_lines_become_changes }
+{}
+
+/// A sink of a VCD text that has begun, and is then given the lines of a traced run, has written the text of the changes that these tell. Where a put
+/// failed it has written a front of such a text, up to the line that broke.
+pub fn texts_are_whole<O: Sink>()
+    ensures whole { WritesWhole O.takes }
+    ensures front { WritesFront O.takes O.breaks }
+{}
+
+/// The lines of a run tell one list of changes, and no other.
+pub fn changes_are_told()
+    ensures some { Some_changes }
+    ensures same { Same_changes }
+{}
+
+/// The bytes of a text of a design are those of one list of changes: two lists have two texts.
+pub fn texts_tell_changes()
+    ensures { One_list }
 {}
