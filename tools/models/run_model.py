@@ -21,7 +21,7 @@ sys.path.insert(0, str(ROOT / "tools"))
 
 from models.random_rows import Generator
 import models.value_model as values
-from models.value_model import KINDS, Event, Hierarchy, Lock, Signal, SimTimeoutError, Task, Trigger, TriggerException
+from models.value_model import KINDS, Event, Hierarchy, Lock, Queue, QueueEmpty, QueueFull, Signal, SimTimeoutError, Task, Trigger, TriggerException
 from models.verilog_model import Simulator, flat_of
 
 LIVE_TASKS, STARTED_TASKS, OPEN_CALLS, MADE_OBJECTS = 65536, 2**24, 1000, 65536
@@ -195,6 +195,10 @@ class Log:
     """A logger: what stands before `.info`."""
 
 
+class Action(tuple):
+    """A write that is no value: `force` and what is forced, `freeze`, or `release`."""
+
+
 class Holding:
     """`async with`: the lock is released however the block is left, but not where the task is killed or the run is over."""
 
@@ -228,7 +232,7 @@ class Run:
         self.file = File(self, tests)
 
     def clear(self):
-        self.tasks, self.events, self.locks, self.running = [], 0, 0, None
+        self.tasks, self.events, self.locks, self.queues, self.running = [], 0, 0, 0, None
         self.live = 0
 
     @property
@@ -286,8 +290,15 @@ class Run:
             signal, digits = moved.change
             self.line(f"SIG {self.flat.signals[signal].path} {digits}")
 
-    def deposit(self, signal, digits):
-        moved = self.simulator.deposit(signal, digits)
+    def done(self, signal, write):
+        """A write that is done: a deposit, or a force, a freeze or a release, which counts as one."""
+        act, digits = write
+        if act == "release":
+            moved = self.simulator.release(signal)
+        elif act == "plain":
+            moved = self.simulator.deposit(signal, digits)
+        else:
+            moved = self.simulator.force(signal, self.read(signal) if act == "freeze" else digits)
         self.told(moved)
         outer, self.serving = self.serving, self.serving + moved.fired
         for key in moved.fired:
@@ -303,7 +314,7 @@ class Run:
         if ("ReadWrite",) in keys:
             while self.staged:
                 signal = next(iter(self.staged))
-                self.deposit(signal, self.staged.pop(signal))
+                self.done(signal, self.staged.pop(signal))
         for key in keys:
             self.wake(key)
         self.serving = []
@@ -429,26 +440,23 @@ class Run:
     # what else a test does
 
     def stage(self, value, signal):
-        self.written(signal, value)
-        digits = values.written(value, signal.width)
-        self.open(signal)
+        write = self.write_of(signal, value)
         self.staged.pop(signal.number, None)
-        self.staged[signal.number] = digits
+        self.staged[signal.number] = write
         self.effect()
 
     def put(self, signal, value):
-        self.written(signal, value)
-        digits = values.written(value, signal.width)
-        self.open(signal)
-        self.deposit(signal.number, digits)
+        self.done(signal.number, self.write_of(signal, value))
 
-    def written(self, signal, value):
+    def write_of(self, signal, value):
+        """What is done to a signal, and the digits that this takes. A good write in the read-only phase ends the test."""
         if not isinstance(signal, Signal):
             raise AttributeError
-
-    def open(self, signal):
+        act, *given = value if isinstance(value, Action) else ("plain", value)
+        digits = values.written(given[0], signal.width) if given else None
         if self.simulator.region == "End":
             raise Ended("read-only", signal.path)
+        return act, digits
 
     def act(self, value, name):
         wanted = {"set": Event, "clear": Event, "release": Lock, "kill": Task}[name]
@@ -483,6 +491,70 @@ class Run:
             raise RuntimeError
         self.events += 1
         return Event(self.events - 1)
+
+    def queue_made(self, maxsize=0):
+        """A queue, which takes two of the numbers of events."""
+        bound = values.bound_of(maxsize)
+        if self.events + 2 > MADE_OBJECTS:
+            raise RuntimeError
+        made = Queue(self.queues, bound, Event(self.events), Event(self.events + 1))
+        self.events, self.queues = self.events + 2, self.queues + 1
+        return made
+
+    def put_now(self, queue, item):
+        self.queue(queue)
+        if queue.is_full():
+            raise QueueFull
+        if len(queue.held) >= values.MOST_ITEMS:
+            raise RuntimeError
+        queue.held.append(item)
+        self.noted(queue)
+
+    def get_now(self, queue):
+        self.queue(queue)
+        if not queue.held:
+            raise QueueEmpty
+        item = queue.held.pop(0)
+        self.noted(queue)
+        return item
+
+    def queue(self, value):
+        if not isinstance(value, Queue):
+            raise AttributeError
+
+    def noted(self, queue):
+        """Items came or went: an event that is set by that serves its waiters."""
+        before = [event for event in (queue.items_event, queue.space_event) if event.is_set]
+        queue.note()
+        for event in (queue.items_event, queue.space_event):
+            if event.is_set and event not in before:
+                self.wake(("Event", event))
+        self.effect()
+
+    def queue_put(self, queue, item):
+        """The call `queue.put(item)`: the coroutine."""
+        self.queue(queue)
+        return self.putting(queue, item)
+
+    def queue_get(self, queue):
+        self.queue(queue)
+        return self.getting(queue)
+
+    async def putting(self, queue, item):
+        """`while queue.full():` wait for space; `queue.put_nowait(item)`."""
+        while self.cost() and queue.is_full():
+            self.cost()
+            await self.wait(Trigger("Event", queue.space_event))
+        self.cost()
+        self.put_now(queue, item)
+
+    async def getting(self, queue):
+        """`while queue.empty():` wait for an item; `return queue.get_nowait()`."""
+        while self.cost() and not queue.held:
+            self.cost()
+            await self.wait(Trigger("Event", queue.items_event))
+        self.cost()
+        return self.get_now(queue)
 
     def lock_made(self, *text):
         if self.locks >= MADE_OBJECTS:
@@ -662,14 +734,15 @@ def names_for(run, file):
     """The names of a module: those of a tests file's imports, those that are built in, and `run_` with the calls that stand for forms."""
     return {
         **KINDS, "cocotb": Space(test=file.test), "TestFactory": lambda test_function: Factory(file, test_function),
-        "run_": run, "holding_": lambda lock: Holding(run, lock), "values_": values, "view_": run, "attribute_": lambda value, name: values.attribute(run, value, name),
+        "run_": run, "holding_": lambda lock: Holding(run, lock), "action_": Action, "values_": values, "view_": run,
+        "attribute_": lambda value, name: values.attribute(run, value, name),
         "int": lambda value: values.held(values.numbers(value)[0]), "str": values.shown, "bool": lambda value: bool(value), "len": values.length,
         "Timer": lambda time, units="step": Trigger("Time", values.steps_of(run, time, units)),
         "Edge": values.edge("Change"), "RisingEdge": values.edge("Rise"), "FallingEdge": values.edge("Fall"),
         "ReadWrite": lambda: Trigger("ReadWrite"), "ReadOnly": lambda: Trigger("ReadOnly"), "NextTimeStep": lambda: Trigger("NextStep"),
         "ClockCycles": values.cycles, "Join": values.join, "First": values.group("First"), "Combine": values.group("Combine"),
         "Clock": lambda signal, period, units="step": values.clock(run, signal, period, units),
-        "get_sim_time": lambda units="step": values.sim_time(run, units), "Event": run.event_made, "Lock": run.lock_made,
+        "get_sim_time": lambda units="step": values.sim_time(run, units), "Event": run.event_made, "Lock": run.lock_made, "Queue": run.queue_made,
     }
 
 
@@ -684,7 +757,9 @@ FUNCTIONS = {
     "int", "str", "bool", "len", "get_sim_time", "Timer", "Edge", "RisingEdge", "FallingEdge", "ReadWrite", "ReadOnly", "NextTimeStep",
     "ClockCycles", "Join", "First", "Combine", "Clock",
 }
-METHODS, ACTIONS = {"wait", "acquire", "join", "is_set", "done"}, {"set", "clear", "release", "kill"}
+METHODS, ACTIONS = {"wait", "acquire", "join", "is_set", "done", "qsize", "empty", "full"}, {"set", "clear", "release", "kill"}
+# the calls of an object that are started, with their numbers of arguments
+STARTS = {"put": 1, "get": 0}
 SIMPLE = (ast.Pass, ast.Break, ast.Continue, ast.Return, ast.Raise, ast.Assert, ast.Assign, ast.AugAssign, ast.Expr)
 
 
@@ -753,7 +828,7 @@ class Forms:
             case ast.Assign(targets=[ast.Name()]):
                 return ast.Assign(node.targets, self.right(node.value))
             case ast.Assign(targets=[ast.Attribute(attr="value")]):
-                return ast.Expr(called("run_.stage", self.right(node.value), self.value(node.targets[0].value)))
+                return ast.Expr(called("run_.stage", self.write(node.value) or self.right(node.value), self.value(node.targets[0].value)))
             case ast.AugAssign(target=ast.Name()):
                 old = ast.Name(node.target.id, ast.Load())
                 return ast.Assign([node.target], called("values_.binary", said(SIGNS[type(node.op)]), old, self.value(node.value)))
@@ -795,13 +870,27 @@ class Forms:
         arguments = [self.value(each) for each in node.args]
         if isinstance(node.func, ast.Name):
             return ast.Call(node.func, arguments, keywords)
+        if node.func.attr in STARTS:
+            if keywords or len(arguments) != STARTS[node.func.attr]:
+                raise NotImplementedError(ast.unparse(node))
+            return called(f"run_.queue_{node.func.attr}", self.value(node.func.value), *arguments)
         return called("run_.clock_start", self.value(node.func.value), *arguments, keywords=keywords)
 
     def is_started(self, node):
-        """Is it a call of a function of the file, or of a clock's `start`?"""
+        """Is it a call of a function of the file, of a clock's `start`, or of a queue's `put` or `get`?"""
         if not isinstance(node, ast.Call):
             return False
-        return isinstance(node.func, ast.Name) and node.func.id in self.functions or isinstance(node.func, ast.Attribute) and node.func.attr == "start"
+        if isinstance(node.func, ast.Name):
+            return node.func.id in self.functions
+        return isinstance(node.func, ast.Attribute) and node.func.attr in ("start", *STARTS)
+
+    def write(self, node):
+        """A write that is no value, or None."""
+        if is_call(node, "Force") and len(node.args) == 1 and not node.keywords:
+            return called("action_", ast.Tuple([said("force"), self.value(node.args[0])], ast.Load()))
+        if is_call(node, "Freeze", "Release") and not (node.args or node.keywords):
+            return called("action_", ast.Tuple([said(node.func.id.lower())], ast.Load()))
+        return None
 
     def awaited(self, node):
         if is_call(node, "cocotb.start"):
@@ -824,7 +913,17 @@ class Forms:
             return called("run_.randint", *map(self.value, node.args))
         if is_call(node, "Event", "Lock"):
             return ast.Call(node.func, [], [])
-        return self.value(node)
+        return self.of_queue(node) or self.value(node)
+
+    def of_queue(self, node):
+        """A queue that is made, what is got from one at once, or None."""
+        if is_call(node, "Queue") and len(node.args) + len(node.keywords) <= 1:
+            bound = [ast.keyword(each.arg, self.value(each.value)) for each in node.keywords]
+            return ast.Call(node.func, list(map(self.value, node.args)), bound)
+        is_method = isinstance(node, ast.Call) and isinstance(node.func, ast.Attribute) and not (node.args or node.keywords)
+        if is_method and node.func.attr == "get_nowait":
+            return called("run_.get_now", self.value(node.func.value))
+        return None
 
     def action(self, node):
         """A call that is a statement."""
@@ -832,7 +931,9 @@ class Forms:
             return self.right(node)
         on, name = node.func.value, node.func.attr
         if name == "setimmediatevalue":
-            return called("run_.put", self.value(on), self.value(node.args[0]))
+            return called("run_.put", self.value(on), self.write(node.args[0]) or self.value(node.args[0]))
+        if name == "put_nowait" and len(node.args) == 1 and not node.keywords:
+            return called("run_.put_now", self.value(on), self.value(node.args[0]))
         if name in ACTIONS:
             return called("run_.act", self.value(on), said(name))
         if name not in ("info", "warning", "error"):

@@ -15,8 +15,9 @@ LISTED = {
     "cocotb.triggers": set("Timer Edge RisingEdge FallingEdge ReadWrite ReadOnly NextTimeStep Event Lock Join First Combine ClockCycles "
                            "TriggerException with_timeout".split()),
     "cocotb.clock": {"Clock"}, "cocotb.regression": {"TestFactory"}, "cocotb.result": {"SimTimeoutError"}, "cocotb.utils": {"get_sim_time"},
+    "cocotb.queue": {"Queue", "QueueEmpty", "QueueFull"}, "cocotb.handle": {"Force", "Freeze", "Release"},
 }
-BUILT_IN = {"int", "str", "bool", "len", "range", *KINDS} - {"SimTimeoutError", "TriggerException"}
+BUILT_IN = {"int", "str", "bool", "len", "range", *KINDS} - {"SimTimeoutError", "TriggerException", "QueueEmpty", "QueueFull"}
 OPTIONS = {"timeout_time": int, "timeout_unit": str, "expect_fail": bool, "expect_error": str, "skip": bool}
 
 

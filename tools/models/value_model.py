@@ -9,6 +9,8 @@ from models.verilog_model import number
 LEAST, MOST = -(2**127), 2**127 - 1
 LAST_TIME = 2**62
 TEXT_LIMIT = 65536
+# the most items that a queue holds
+MOST_ITEMS = 65536
 UNITS = {"fs": 1, "ps": 10**3, "ns": 10**6, "us": 10**9, "ms": 10**12, "sec": 10**15}
 
 
@@ -20,11 +22,19 @@ class TriggerException(Exception):
     pass
 
 
+class QueueEmpty(Exception):
+    pass
+
+
+class QueueFull(Exception):
+    pass
+
+
 KINDS = {
     kind.__name__: kind
     for kind in (
-        AssertionError, AttributeError, IndexError, OverflowError, RuntimeError, SimTimeoutError, TriggerException, TypeError, UnboundLocalError,
-        ValueError, ZeroDivisionError, Exception,
+        AssertionError, AttributeError, IndexError, OverflowError, QueueEmpty, QueueFull, RuntimeError, SimTimeoutError, TriggerException, TypeError,
+        UnboundLocalError, ValueError, ZeroDivisionError, Exception,
     )
 }
 
@@ -64,6 +74,22 @@ class Event:
 class Lock:
     def __init__(self, number_):
         self.number, self.is_held = number_, False
+
+
+class Queue:
+    """`bound` is 0 where there is none. Its two events are set while it has an item, and while it isn't full."""
+
+    def __init__(self, number_, bound, items_event, space_event):
+        self.number, self.bound, self.held = number_, bound, []
+        self.items_event, self.space_event = items_event, space_event
+        self.note()
+
+    def is_full(self):
+        return self.bound > 0 and len(self.held) >= self.bound
+
+    def note(self):
+        """The events become what the items are."""
+        self.items_event.is_set, self.space_event.is_set = bool(self.held), not self.is_full()
 
 
 class Clock:
@@ -319,6 +345,15 @@ def written(value, width):
     return format(int(value) % 2**width, f"0{width}b")
 
 
+def bound_of(value):
+    """The bound of a queue, 0 where there is none."""
+    if not isinstance(value, (bool, int)):
+        raise TypeError
+    if value > MOST_ITEMS:
+        raise ValueError
+    return max(int(value), 0)
+
+
 def in_range(start, stop, step):
     """The numbers of `range`; one that no value can hold is an OverflowError when it is asked for."""
     at = start
@@ -416,7 +451,7 @@ def clock(view, signal, period, units="step"):
 
 def method(value, name):
     """A call without arguments that gives a value."""
-    wanted = {"wait": Event, "is_set": Event, "acquire": Lock, "join": Task, "done": Task}[name]
+    wanted = {"wait": Event, "is_set": Event, "acquire": Lock, "join": Task, "done": Task, "qsize": Queue, "empty": Queue, "full": Queue}[name]
     if not isinstance(value, wanted):
         raise AttributeError
     match name:
@@ -428,4 +463,10 @@ def method(value, name):
             return Trigger("Lock", value)
         case "join":
             return Trigger("Join", value)
+        case "qsize":
+            return len(value.held)
+        case "empty":
+            return not value.held
+        case "full":
+            return value.is_full()
     return value.state != "live"

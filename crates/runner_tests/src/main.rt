@@ -16,6 +16,10 @@ use port_io::{MOST_BYTES, NoMemory};
 use std::alloc::Global;
 use std::io::Read;
 use table_rows::cut;
+use trigger_table::{Records, TriggerTable};
+
+/// Nothing is kept beside the records of waiting tasks.
+const _: () = prove!(size_of::<TriggerTable>() == size_of::<Records>());
 
 /// The answer for a row, by the part that its first word names. The kernel is that of the `kept` rows of `runner`. Only want of memory is an
 /// error.

@@ -2,7 +2,7 @@
 use Rattle.std.specs.Prelude.{ℕ, List, [], ◌∷◌, ◌++◌, Option, None, Some, codes}
 use Rattle.std.specs.List.{concat, flat_map}
 use Rattle.py_syntax.specs.ExpressionTrees.{Tree}
-use Rattle.py_syntax.specs.StatementTrees.{Argument, StartedCall, FunctionCall, ClockStart, Timed, TimedValue, TimedCall, Awaited, AwaitedValue, AwaitedCall, AwaitedStart, WithTimeout, RightSide, RightValue, RightAwait, RightStart, NewEvent, NewLock, RandomInt}
+use Rattle.py_syntax.specs.StatementTrees.{Argument, StartedCall, FunctionCall, ClockStart, QueuePut, QueueGet, Timed, TimedValue, TimedCall, Awaited, AwaitedValue, AwaitedCall, AwaitedStart, WithTimeout, RightSide, RightValue, RightAwait, RightStart, NewEvent, NewLock, RandomInt, NewQueue, GetNow, WriteAction, Force, Freeze, Release}
 use Rattle.python_tests.specs.Trees.TreeText.{pair_text, tree_text}
 
 -- an expression behind a space
@@ -27,9 +27,15 @@ argument_text x = concat (codes " " ∷ given_text x.name ∷ tree_text x.value 
 abbrev pub call_text : List ℕ → List Argument → List ℕ
 call_text called xs = concat (codes "(call " ∷ called ∷ flat_map argument_text xs ∷ codes ")" ∷ [])
 
+-- a call of a member with these arguments, each behind a space
+abbrev pub member_call : List ℕ → List ℕ → List ℕ → List ℕ
+member_call base name arguments = concat (codes "(call " ∷ pair_text (codes ".") base name ∷ arguments ∷ codes ")" ∷ [])
+
 abbrev pub started_text : StartedCall → List ℕ
 started_text (FunctionCall name xs) = call_text name xs
 started_text (ClockStart e xs) = call_text (pair_text (codes ".") (tree_text e) (codes "start")) xs
+started_text (QueuePut e x) = member_call (tree_text e) (codes "put") (spaced_text x)
+started_text (QueueGet e) = member_call (tree_text e) (codes "get") []
 
 -- a call of a member of `cocotb`, which starts the call
 abbrev pub start_text : List ℕ → StartedCall → List ℕ
@@ -56,3 +62,11 @@ right_text (RightStart f) = start_text (codes "start_soon") f
 right_text NewEvent = codes "(call Event)"
 right_text NewLock = codes "(call Lock)"
 right_text (RandomInt a b) = concat (codes "(call (. random randint)" ∷ spaced_text a ∷ spaced_text b ∷ codes ")" ∷ [])
+right_text (NewQueue e) = concat (codes "(call Queue" ∷ optional_text e ∷ codes ")" ∷ [])
+right_text (GetNow e) = member_call (tree_text e) (codes "get_nowait") []
+
+-- a write that is no value
+abbrev pub write_action_text : WriteAction → List ℕ
+write_action_text (Force e) = concat (codes "(call Force" ∷ spaced_text e ∷ codes ")" ∷ [])
+write_action_text Freeze = codes "(call Freeze)"
+write_action_text Release = codes "(call Release)"

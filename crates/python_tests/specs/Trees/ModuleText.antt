@@ -8,7 +8,8 @@ use Rattle.py_syntax.specs.declared.constant.Const.{Const}
 use Rattle.py_syntax.specs.declared.module.Parameter.{Parameter}
 use Rattle.py_syntax.specs.declared.module.Setting.{Setting}
 use Rattle.python_tests.specs.Trees.TreeText.{constant_text, pair_text, quoted_text}
-use Rattle.python_tests.specs.Trees.StatementText.{alone, constants_text, header_text, member_call, statement_text}
+use Rattle.python_tests.specs.Trees.CallText.{member_call}
+use Rattle.python_tests.specs.Trees.StatementText.{alone, constants_text, header_text, statement_text}
 
 -- ---- blocks
 

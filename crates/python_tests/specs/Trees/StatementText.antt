@@ -8,7 +8,7 @@ use Rattle.py_syntax.specs.StatementTrees as node
 use Rattle.py_syntax.specs.declared.constant.Const.{Const}
 use Rattle.py_syntax.specs.declared.fault_kind.FaultKind.{FaultKind}
 use Rattle.python_tests.specs.Trees.TreeText.{constant_text, infix_mark, pair_text, tree_text}
-use Rattle.python_tests.specs.Trees.CallText.{await_text, optional_text, right_text, spaced_text, start_text}
+use Rattle.python_tests.specs.Trees.CallText.{await_text, member_call, optional_text, right_text, spaced_text, start_text, write_action_text}
 
 -- what is returned, behind a space, if anything is
 abbrev pub returned_text : Option RightSide → List ℕ
@@ -28,10 +28,6 @@ logger_text (HierarchyLog e) = pair_text (codes ".") (tree_text e) (codes "_log"
 abbrev pub alone : List ℕ → List ℕ
 alone text = concat (codes "(expr " ∷ text ∷ codes ")" ∷ [])
 
--- a call of a member with these arguments, each behind a space
-abbrev pub member_call : List ℕ → List ℕ → List ℕ → List ℕ
-member_call base name arguments = concat (codes "(call " ∷ pair_text (codes ".") base name ∷ arguments ∷ codes ")" ∷ [])
-
 abbrev pub statement_text : Statement → List ℕ
 statement_text node.Pass = codes "(pass)"
 statement_text node.Break = codes "(break)"
@@ -48,6 +44,9 @@ statement_text (node.Await a) = alone (await_text a)
 statement_text (node.Act e a) = alone (member_call (tree_text e) (action_name a) [])
 statement_text (node.Log g l e es) = alone (member_call (logger_text g) (level_name l) (spaced_text e ++ flat_map spaced_text es))
 statement_text (node.StartSoon f) = alone (start_text (codes "start_soon") f)
+statement_text (node.PutNow e x) = alone (member_call (tree_text e) (codes "put_nowait") (spaced_text x))
+statement_text (node.AssignAction e w) = pair_text (codes "=") (pair_text (codes ".") (tree_text e) (codes "value")) (write_action_text w)
+statement_text (node.SetImmediateAction e w) = alone (member_call (tree_text e) (codes "setimmediatevalue") (codes " " ++ write_action_text w))
 
 -- a constant behind a space
 abbrev pub spaced_constant : Const → List ℕ

@@ -3,24 +3,37 @@
 ghost use Rattle.std.specs.Prelude.{◌≡◌, IfOk, codes, map};
 ghost use Rattle.std.specs.List.{flat_map};
 ghost use Rattle.py_syntax.specs.ExpressionTrees.{view};
-ghost use Rattle.py_syntax.specs.StatementTrees.{RandomInt, WithTimeout, optional, view_argument, view_awaited, view_right, view_started, view_timed};
+ghost use Rattle.py_syntax.specs.StatementTrees.{
+  RandomInt,
+  WithTimeout,
+  optional,
+  view_argument,
+  view_awaited,
+  view_right,
+  view_started,
+  view_timed,
+  view_write_action,
+};
+ghost use Rattle.python_tests.specs.Trees.TreeText.{tree_text};
 ghost use Rattle.python_tests.specs.Trees.CallText.{
   argument_text,
   await_text,
   awaited_text,
   call_text,
   given_text,
+  member_call,
   optional_text,
   right_text,
   start_text,
   started_text,
   timed_text,
+  write_action_text,
 };
 
 use crate::trees::expression::{expression_text, member_text, pair_text, spaced_text};
 use crate::trees::piece::joined;
 use port_io::Name;
-use py_syntax::{Argument, Awaited, Expression, RightSide, StartedCall, Timed};
+use py_syntax::{Argument, Awaited, Expression, RightSide, StartedCall, Timed, WriteAction};
 use std::alloc::{AllocError, Global};
 
 /// The name by which an argument is given, and `=`; nothing where it is given by its place.
@@ -62,6 +75,19 @@ fn call_text(alloc: Global, called: &[u8], arguments: &[Argument]) -> Result<Vec
     joined(alloc, &[b"(call ", called, &arguments, b")"])
 }
 
+/// A call of a member of what an expression gives, with these arguments, each behind a space.
+fn called_text(
+    alloc: Global,
+    base: &Expression,
+    name: &[u8],
+    arguments: &[u8],
+) -> Result<Vec<u8>, AllocError>
+    ensures { IfOk result (λ text. text.items ≡ member_call (tree_text (view base.now)) name.now arguments.now) }
+{
+    let member = member_text(alloc, base, name)?;
+    joined(alloc, &[b"(call ", &member, arguments, b")"])
+}
+
 /// A started call.
 fn started_text(alloc: Global, call: &StartedCall) -> Result<Vec<u8>, AllocError>
     ensures { IfOk result (λ text. text.items ≡ started_text (view_started call.now)) }
@@ -72,6 +98,11 @@ fn started_text(alloc: Global, call: &StartedCall) -> Result<Vec<u8>, AllocError
             let start = member_text(alloc, clock, b"start")?;
             call_text(alloc, &start, arguments)
         }
+        StartedCall::Put(queue, item) => {
+            let item = spaced_text(alloc, item)?;
+            called_text(alloc, queue, b"put", &item)
+        }
+        StartedCall::Get(queue) => called_text(alloc, queue, b"get", b""),
     }
 }
 
@@ -159,5 +190,24 @@ pub fn right_text(alloc: Global, right: &RightSide) -> Result<Vec<u8>, AllocErro
         RightSide::Event => joined(alloc, &[b"(call Event)"]),
         RightSide::Lock => joined(alloc, &[b"(call Lock)"]),
         RightSide::RandomInt(low, high) => random_text(alloc, low, high),
+        RightSide::Queue(bound) => {
+            let bound = optional_text(alloc, bound)?;
+            joined(alloc, &[b"(call Queue", &bound, b")"])
+        }
+        RightSide::GetNow(queue) => called_text(alloc, queue, b"get_nowait", b""),
+    }
+}
+
+/// A write that is no value.
+pub fn write_action_text(alloc: Global, action: &WriteAction) -> Result<Vec<u8>, AllocError>
+    ensures { IfOk result (λ text. text.items ≡ write_action_text (view_write_action action.now)) }
+{
+    match action {
+        WriteAction::Force(value) => {
+            let value = spaced_text(alloc, value)?;
+            joined(alloc, &[b"(call Force", &value, b")"])
+        }
+        WriteAction::Freeze => joined(alloc, &[b"(call Freeze)"]),
+        WriteAction::Release => joined(alloc, &[b"(call Release)"]),
     }
 }

@@ -13,15 +13,15 @@ ghost use Rattle.py_syntax.specs.StatementTrees.{
   view_right,
   view_span,
   view_statement,
+  view_write_action,
 };
-ghost use Rattle.python_tests.specs.Trees.CallText.{spaced_text};
+ghost use Rattle.python_tests.specs.Trees.CallText.{member_call, spaced_text};
 ghost use Rattle.python_tests.specs.Trees.StatementText.{
   alone,
   caught_text,
   constants_text,
   header_text,
   logger_text,
-  member_call,
   raised_text,
   returned_text,
   span_text,
@@ -30,14 +30,14 @@ ghost use Rattle.python_tests.specs.Trees.StatementText.{
   statement_text,
 };
 
-use crate::trees::call::{await_text, optional_text, right_text, start_text};
+use crate::trees::call::{await_text, optional_text, right_text, start_text, write_action_text};
 use crate::trees::expression::{
     constant_text, expression_text, infix, member_text, pair_text, spaced_text, spaced_texts,
 };
 use crate::trees::piece::joined;
 use py_syntax::{
     Action, BinOp, Caught, Const, Expression, FaultKind, Header, LogLevel, Logger, RightSide, Span,
-    Statement,
+    Statement, WriteAction,
 };
 use std::alloc::{AllocError, Global};
 
@@ -165,6 +165,42 @@ fn immediate_text(
     member_call_text(alloc, &base, b"setimmediatevalue", &value)
 }
 
+/// An action that is assigned to the value of a signal.
+fn assign_action_text(
+    alloc: Global,
+    base: &Expression,
+    action: &WriteAction,
+) -> Result<Vec<u8>, AllocError>
+    ensures { IfOk result (λ text. text.items ≡ statement_text (node.AssignAction (view base.now) (view_write_action action.now))) }
+{
+    let member = member_text(alloc, base, b"value")?;
+    let action = write_action_text(alloc, action)?;
+    pair_text(alloc, b"=", &member, &action)
+}
+
+/// An action that is done at once.
+fn immediate_action_text(
+    alloc: Global,
+    base: &Expression,
+    action: &WriteAction,
+) -> Result<Vec<u8>, AllocError>
+    ensures { IfOk result (λ text. text.items ≡ statement_text (node.SetImmediateAction (view base.now) (view_write_action action.now))) }
+{
+    let base = expression_text(alloc, base)?;
+    let action = write_action_text(alloc, action)?;
+    let action = joined(alloc, &[b" ", &action])?;
+    member_call_text(alloc, &base, b"setimmediatevalue", &action)
+}
+
+/// An item that is put into a queue at once.
+fn put_now_text(alloc: Global, queue: &Expression, item: &Expression) -> Result<Vec<u8>, AllocError>
+    ensures { IfOk result (λ text. text.items ≡ statement_text (node.PutNow (view queue.now) (view item.now))) }
+{
+    let queue = expression_text(alloc, queue)?;
+    let item = spaced_text(alloc, item)?;
+    member_call_text(alloc, &queue, b"put_nowait", &item)
+}
+
 /// A method without arguments that is called.
 fn act_text(alloc: Global, base: &Expression, action: Action) -> Result<Vec<u8>, AllocError>
     ensures { IfOk result (λ text. text.items ≡ statement_text (node.Act (view base.now) action)) }
@@ -247,6 +283,9 @@ pub fn statement_text(alloc: Global, statement: &Statement) -> Result<Vec<u8>, A
             let start = start_text(alloc, b"start_soon", call)?;
             alone_text(alloc, &start)
         }
+        Statement::PutNow(queue, item) => put_now_text(alloc, queue, item),
+        Statement::AssignAction(base, action) => assign_action_text(alloc, base, action),
+        Statement::SetImmediateAction(base, action) => immediate_action_text(alloc, base, action),
     }
 }
 

@@ -17,7 +17,7 @@ AreRead source (Err why) = IsRefused why source
 abbrev pub numbers_word : ℕ → ℕ → List ℕ
 numbers_word functions tests = decimal functions ++ (codes " functions, " ++ (decimal tests ++ codes " tests"))
 
--- how many functions it has, `Clock.start` among them, and how many tests
+-- how many functions it has, `Clock.start`, `Queue.put` and `Queue.get` among them, and how many tests
 abbrev pub file_word : TestFile → List ℕ
 file_word file = numbers_word (length file.functions) (length file.cases)
 

@@ -21,7 +21,7 @@ fn numbers_shown(alloc: Global, functions: usize, tests: usize) -> Result<String
     format!(in alloc; "{functions} functions, {tests} tests")
 }
 
-/// How many functions a file has, `Clock.start` among them, and how many tests.
+/// How many functions a file has, `Clock.start`, `Queue.put` and `Queue.get` among them, and how many tests.
 fn file_shown(alloc: Global, file: &TestFile) -> Result<String, NoMemory>
     ensures { IfOk result (λ text. string_bytes text ≡ file_word file.now) }
 {

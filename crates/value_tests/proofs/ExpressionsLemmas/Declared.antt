@@ -1,13 +1,13 @@
--- Each name that the scene declares means something that it knows.
-use Rattle.std.proofs.Common.{◌≡◌, ℕ, zero, suc, Bool, true, false, List, [], ◌∷◌, if◌then◌else◌, Some, lit<, refl, arith}
+-- Each name that the scene declares means something that it knows, and the events of its queues were made.
+use Rattle.std.proofs.Common.{ℕ, zero, suc, Bool, true, false, List, [], ◌∷◌, ◌<◌, if◌then◌else◌, Some, lit<, arith}
 use Rattle.std.specs.Prelude.{IfSome, slice_index_or}
 use Rattle.std.specs.List.{find}
 use Rattle.std.specs.Option.{option_map}
 use Rattle.std.specs.Str.{bytes_eq}
 use Rattle.gpi.specs.declared.design.Spot.{Spot}
-use Rattle.py_evaluate.specs.Attribute.Look.{View, spot_of, spot_value}
-use Rattle.py_evaluate.specs.Attribute.Knows.{Knows, KnowsDesign}
-use Rattle.value_tests.specs.Expressions.Scene.{seen}
+use Rattle.py_evaluate.specs.Attribute.Look.{View, SeenQueue, spot_of, spot_value}
+use Rattle.py_evaluate.specs.Attribute.Knows.{Knows, KnowsDesign, KnowsEvents}
+use Rattle.value_tests.specs.Expressions.Scene.{queues, seen}
 
 -- what a name means is known
 abbrev IsKnown : View → Spot → Type 0
@@ -41,3 +41,15 @@ pub names_known : KnowsDesign seen
 names_known zero name = spots_known seen (names_of 0) top_known name
 names_known (suc zero) name = spots_known seen (names_of 1) inner_known name
 names_known (suc (suc node)) name = tt
+
+-- what is seen where there is no queue
+abbrev no_queue : SeenQueue
+no_queue = record { held = 0; is_full = false; items_event = record { 0 = 0 }; space_event = record { 0 = 0 } }
+
+event_known : (n : ℕ) → n < 2 → ((slice_index_or queues n no_queue).items_event.0 < 2) × ((slice_index_or queues n no_queue).space_event.0 < 2)
+event_known zero h = (lit< tt, lit< tt)
+event_known (suc zero) h = (lit< tt, lit< tt)
+event_known (suc (suc n)) h = absurd (omega arith)
+
+pub events_known : KnowsEvents seen
+events_known q h = event_known q.0 h

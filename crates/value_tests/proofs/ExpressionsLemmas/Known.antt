@@ -33,7 +33,7 @@ each_known = (
                     (lit< tt, lit< tt),
                     (
                       tt,
-                      (lit< tt, (lit< tt, (lit< tt, (lit< tt, (lit< tt, (lit< tt, (clock_known, (tt, tt)))))))),
+                      (lit< tt, (lit< tt, (lit< tt, (lit< tt, (lit< tt, (lit< tt, (clock_known, (tt, (lit< tt, (lit< tt, tt)))))))))),
                     ),
                   ),
                 ),

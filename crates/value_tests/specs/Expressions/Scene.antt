@@ -5,7 +5,7 @@ use Rattle.four_value.specs.declared.Digit.TheVariants.{Zero, One, X, Z}
 use Rattle.gpi.specs.declared.design.Spot.TheVariants.{Inner, Sig, Words}
 use Rattle.gpi.specs.declared.types.Region.TheVariants.{Begin}
 use Rattle.py_value.specs.Places.{Places}
-use Rattle.py_evaluate.specs.Attribute.Look.{View}
+use Rattle.py_evaluate.specs.Attribute.Look.{View, SeenQueue}
 
 abbrev pub places : Places
 places = record {
@@ -16,6 +16,12 @@ places = record {
 -- the digits of the word 3
 abbrev pub unresolved : List Digit
 unresolved = One ∷ Zero ∷ X ∷ One ∷ []
+
+-- two queues: one is full, with two items, and one is empty; each has two events
+abbrev pub queues : List SeenQueue
+queues =
+    record { held = 2; is_full = true; items_event = record { 0 = 1 }; space_event = record { 0 = 0 } }
+    ∷ record { held = 0; is_full = false; items_event = record { 0 = 0 }; space_event = record { 0 = 1 } } ∷ []
 
 abbrev pub seen : View
 seen = record {
@@ -29,4 +35,5 @@ seen = record {
   events = false ∷ true ∷ [];
   locks = true ∷ false ∷ [];
   ended = false ∷ true ∷ false ∷ [];
+  queues = queues;
 }

@@ -3,7 +3,7 @@ use Rattle.std.specs.Prelude.{List, [], ◌∷◌, ◌++◌, ℕ, None, Some, co
 use Rattle.four_value.specs.declared.Digit.TheVariants as digit
 use Rattle.py_syntax.specs.declared.fault_kind.FaultKind.TheVariants.{ValueError}
 use Rattle.py_value.specs.declared.value.Value.{Value}
-use Rattle.py_value.specs.declared.value.Value.TheVariants.{Absent, Truth, Whole, Text, Vector, Place, Signal, Task, Event, Lock, Clock, Caught}
+use Rattle.py_value.specs.declared.value.Value.TheVariants.{Absent, Truth, Whole, Text, Vector, Place, Signal, Task, Event, Lock, Queue, Clock, Caught}
 use Rattle.py_evaluate.specs.Attribute.Look.{Local, Names}
 use Rattle.value_tests.specs.declared.expressions.variables.Variable.{Variable}
 
@@ -38,7 +38,8 @@ made_names =
     ∷ named (codes "e") (Event (record { 0 = 1 })) ∷ named (codes "o") (Event (record { 0 = 0 }))
     ∷ named (codes "p") (Task (record { 0 = 1 })) ∷ named (codes "q") (Task (record { 0 = 2 }))
     ∷ named (codes "c") (Clock (record { 0 = 1 }) 5)
-    ∷ named (codes "f") (Caught (record { kind = ValueError; text = codes "hm" })) ∷ []
+    ∷ named (codes "f") (Caught (record { kind = ValueError; text = codes "hm" }))
+    ∷ named (codes "g") (Queue (record { 0 = 0 })) ∷ named (codes "h") (Queue (record { 0 = 1 })) ∷ []
 
 -- the names of the rows' task
 abbrev pub task_names : Names

@@ -7,7 +7,7 @@ use four_value::{Bits, Digit};
 use gpi::{Region, SigId, Spot};
 use port_io::Name;
 use py_evaluate::attribute::Look;
-use py_value::{EventNo, LockNo, Paths, TaskNo};
+use py_value::{EventNo, LockNo, Paths, QueueNo, TaskNo};
 
 /// Signals `top.a` of eight digits z, `top.clk` of one digit 1, the memory `top.m` with the words 2 and 3, and `top.u._path`; the nodes
 /// `top` and `top.u`.
@@ -137,8 +137,39 @@ impl Look for Scene {
         }
     }
 
+    fn queue_len(&self, q: QueueNo) -> u32 {
+        match q.0 {
+            0 => 2,
+            _ => 0,
+        }
+    }
+
+    fn queue_full(&self, q: QueueNo) -> bool {
+        match q.0 {
+            0 => true,
+            _ => false,
+        }
+    }
+
+    fn queue_items(&self, q: QueueNo) -> EventNo {
+        match q.0 {
+            0 => EventNo(1),
+            _ => EventNo(0),
+        }
+    }
+
+    fn queue_space(&self, q: QueueNo) -> EventNo {
+        match q.0 {
+            0 => EventNo(0),
+            _ => EventNo(1),
+        }
+    }
+
     #[tactic(auto, using(crate::proofs::ExpressionsLemmas::Declared::names_known))]
     fn names_are_known(&self) {}
+
+    #[tactic(auto, using(crate::proofs::ExpressionsLemmas::Declared::events_known))]
+    fn queues_are_known(&self) {}
 
     ghost told = { λ _. refl };
 }

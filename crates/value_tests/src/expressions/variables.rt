@@ -8,7 +8,7 @@ use gpi::SigId;
 use port_io::{Name, NoMemory};
 use py_evaluate::attribute::Locals;
 use py_syntax::FaultKind;
-use py_value::{EventNo, Fault, LockNo, TaskNo, Value};
+use py_value::{EventNo, Fault, LockNo, QueueNo, TaskNo, Value};
 use std::alloc::Global;
 
 /// A name of a function, with its value where it has one.
@@ -86,7 +86,7 @@ fn vectors(alloc: Global) -> Result<Variables, NoMemory>
 }
 
 /// Those, and: `l` is a held lock and `k` a free one, `e` an event that is set and `o` one that isn't, `p` a task that has ended and `q` one
-/// that hasn't, `c` a clock, and `f` a caught ValueError that says `hm`.
+/// that hasn't, `c` a clock, `f` a caught ValueError that says `hm`, `g` a queue that is full, and `h` one that is empty.
 pub fn task_names(alloc: Global) -> Result<Variables, NoMemory>
     ensures { IfOk result (λ all. locals_of all.list.items ≡ meaning.task_names) }
 {
@@ -110,5 +110,7 @@ pub fn task_names(alloc: Global) -> Result<Variables, NoMemory>
             half: 5,
         }),
     )?;
-    push(alloc, all, b"f", Some(Value::Caught(fault)))
+    let all = push(alloc, all, b"f", Some(Value::Caught(fault)))?;
+    let all = push(alloc, all, b"g", Some(Value::Queue(QueueNo(0))))?;
+    push(alloc, all, b"h", Some(Value::Queue(QueueNo(1))))
 }

@@ -2,7 +2,7 @@
 //!
 //! `None`, `True` and `False` are themselves, and a decimal number is itself. `'` stands before a text, `"` before the length of a
 //! text of letters a, `#` before a vector's digits with the highest first. Others are a word and numbers with `,` between:
-//! `hierarchy`, `signal`, `task`, `event`, `lock`, `memory` (first signal, least index, count), `clock` (signal, half), `caught`
+//! `hierarchy`, `signal`, `task`, `event`, `lock`, `queue`, `memory` (first signal, least index, count), `clock` (signal, half), `caught`
 //! (kind, text); all else is a trigger (`src/triggers.rt`), or None.
 
 use crate::values::row::{short_of, whole_of};
@@ -11,7 +11,7 @@ use four_value::{Bits, Digit};
 use gpi::SigId;
 use port_io::{Name, NoMemory};
 use py_syntax::FaultKind;
-use py_value::{EventNo, Fault, LockNo, TaskNo, Value};
+use py_value::{EventNo, Fault, LockNo, QueueNo, TaskNo, Value};
 use std::alloc::Global;
 use table_rows::cut;
 
@@ -89,6 +89,7 @@ fn named(alloc: Global, part: &[u8]) -> Result<Value, NoMemory> {
         b"task" => Value::Task(TaskNo(number)),
         b"event" => Value::Event(EventNo(number)),
         b"lock" => Value::Lock(LockNo(number)),
+        b"queue" => Value::Queue(QueueNo(number)),
         b"memory" => memory_of(rest),
         b"clock" => clock_of(rest),
         b"caught" => return caught_of(alloc, rest),
