@@ -103,6 +103,13 @@ def measurements():
     leaves = ", ".join(["RisingEdge(dut.clk)"] + [f'Timer({n + 1000000}, "step")' for n in range(63)])
     for tasks in (10, 100, 1_000):
         yield f"waiting: {tasks} tasks on a First of 64 leaves, 10 cycles", words, DESIGN, HEAD + wait.format(11, f"First({leaves})") + TEST + start.format(tasks, 10)
+    for tasks in (1_000, 10_000):
+        yield f"waiting: {tasks} tasks each on a time of its own, to the end", words, DESIGN, HEAD + "async def w(dut, k):\n    await Timer(k + 1, \"step\")\n\n" + TEST + f"    for i in range({tasks}):\n        cocotb.start_soon(w(dut, i))\n    await Timer({tasks + 1}, \"step\")\n"
+    others = "async def o(dut, e):\n    await e.wait()\n\n" + TEST + "    e = Event()\n    for i in range({}):\n        cocotb.start_soon(o(dut, e))\n    await Timer(1, \"step\")\n"
+    for tasks in (16, 65_000):
+        yield f"waiting: {tasks} tasks, and nobody woken", words, DESIGN, HEAD + others.format(tasks)
+        yield f"waiting: {tasks} tasks, and one more woken 100,000 times", words, DESIGN, HEAD + others.format(tasks) + "    for i in range(100000):\n        await Timer(1, \"step\")\n"
+        yield f"waiting: {tasks} tasks, and 10,000 more begun and killed", words, DESIGN, HEAD + "async def k(dut):\n    await Edge(dut.a)\n\n" + others.format(tasks) + "    for i in range(10000):\n        x = cocotb.start_soon(k(dut))\n        await Timer(1, \"step\")\n        x.kill()\n"
     for number in (17, 255):
         yield f"made {number}", ["--made", str(number)], None, None
 

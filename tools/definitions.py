@@ -36,6 +36,7 @@ HEADS = {
     "port_io.specs.Reading": "What a reader gives, read after read, and what becomes of a read of a named file.",
     "port_io.specs.Written": "What a put does to a sink over a writer, write after write.",
     "rig_model.specs.Parts.Queue": MEANS + " what is ready, what waits and what the runner itself awaits, for the proofs of the runner.",
+    "run_view.specs.View": "What a task sees of a queue.",
 }
 TOKEN = re.compile(r"[^\s(){};,\[\]\"]+")
 HEAD = re.compile(r"^(\s*)((?:(?:abbrev|unfoldable|pub|record|data|mutual|private)\s+)+)([^\s:({]+)")
@@ -64,11 +65,11 @@ LAYERS = [
      r"name_table|(test|suite)_(?!tasks$)\w+"),
     ("Values of Python", "What expressions give: numbers, texts, vectors, triggers and times.", r"py_\w+"),
     ("Triggers and waiting tasks", "What a task waits for, when that has come, and which keys are registered for it.",
-     r"await_tree|trigger_table|sync_objects|ended_tasks|wait_list|plain_waits"),
+     r"await_tree|trigger_table|sync_objects|ended_tasks|wait_list|plain_waits|task_queue"),
     ("A task", "What one coroutine does, step by step: which statement is next, what it wants, and what that costs.",
      r"signal_port|run_view/SignalPort|task_(?!places$|queue$)\w+|rig_model/Task|plain_task|loop_span|statement_values|open_call|tree_flow"),
     ("A run", "How the tests of a file run on a design: turns, events, ends of tests, and the lines that are written.",
-     r"run_\w+|rig_model|scheduler|task_queue|vcd_text|random_stream|design_names|live_tasks|test_tasks|effect_laws|engine|task_places|"
+     r"run_\w+|rig_model|scheduler|vcd_text|random_stream|design_names|live_tasks|test_tasks|effect_laws|engine|task_places|"
      r"separate_tests|remainder_law"),
 ]
 SHOWN = ["The answer", "Vectors and the simulator", "The text of a design", "Elaboration", "The text of tests", "What a tests file stands for",

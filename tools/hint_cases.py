@@ -21,6 +21,8 @@ HintCase = namedtuple("HintCase", "name row")
 IMPORTS = """import cocotb
 import random
 from cocotb.clock import Clock
+from cocotb.handle import Force, Freeze, Release
+from cocotb.queue import Queue, QueueEmpty, QueueFull
 from cocotb.regression import TestFactory
 from cocotb.result import SimTimeoutError
 from cocotb.triggers import ClockCycles, Combine, Edge, Event, FallingEdge, First, Join, Lock
@@ -40,6 +42,7 @@ LOCALS = """    n = 3
     task = cocotb.start_soon(model(1))
     event = Event()
     lock = Lock()
+    queue = Queue()
     dut.a.setimmediatevalue(5)
     cocotb.start_soon(clock.start())
 """

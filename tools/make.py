@@ -29,7 +29,7 @@ from rows.part_rows import span
 ROOT = Path(__file__).resolve().parent.parent
 # Several steps make parts of one file.
 ONE_AT_A_TIME = Lock()
-RUNS = "worked trigger pair order kill verdict signal budget key trace limit".split()
+RUNS = "worked trigger pair order kill verdict signal budget key trace limit delay queue force".split()
 
 # script, words: what is run; files: what it writes itself; into: where what it prints goes; part: the part of a test program whose rows or answers that
 # is; behind: the rule of the part's first row by hand behind what it prints; asks: a file that it reads as its standard input; at: the folder that it runs
@@ -70,9 +70,13 @@ COMPARISONS = [
     Step("compare/py_lex_lines.py"),
     Step("compare/control_texts.py"),
     Step("compare/delay_runs.py"),
+    Step("compare/queue_runs.py"),
     Step("compare/limits.py"),
     Step("compare/pages.py"),
     Step("wrong_bodies", ["--applies"]),
+    Step("rows/vcd_rows.py"),
+    Step("waves.py", ["--page", "--check"]),
+    Step("compare/vcd_readers.py", needs="icarus"),
     Step("compare/runner_traces.py", needs="icarus"),
     Step("compare/verilog_texts.py", needs="icarus"),
     Step("compare/py_lex_lines.py", ["%python_tests", "*examples/*/t.py"], needs="built"),

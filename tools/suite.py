@@ -8,8 +8,9 @@
 A case has a name, files, words, and the status and the lines that are wanted; each runs in a folder of its own, as many side by side as there are
 processors. What is wanted comes from the tables of the test programs, which were worked out by hand, by CPython or by a model, and from the pages of
 the examples. The script `./cocorun` is tried with a stand-in for the program (`tools/script_cases.py`), its hints on texts that are refused
-(`tools/hint_cases.py`), the pages on what they show (`tools/snippet_cases.py`), and `tools/where.py` on all examples (`tools/where_cases.py`); the tables are made anew
-by the scripts that need nothing else than Python (`tools/make.py --check`). Each case that differs is told with both texts. The last line is `N passed, M failed`,
+(`tools/hint_cases.py`), the program in a stack of 1 MiB on texts with long rows of like parts (`tools/long_texts.py`), the pages on what they
+show (`tools/snippet_cases.py`), and `tools/where.py` on all examples (`tools/where_cases.py`); the tables are made anew by the scripts that need
+nothing else than Python (`tools/make.py --check`). Each case that differs is told with both texts. The last line is `N passed, M failed`,
 and the status is 1 where one failed. It needs `sh` and Python 3.9, and 3.10 for the tables.
 """
 import argparse
@@ -26,6 +27,7 @@ from collections import namedtuple
 from pathlib import Path
 
 import hint_cases
+import long_texts
 import script_cases
 import snippet_cases
 import where_cases
@@ -44,13 +46,16 @@ SMALL_TESTS = b"import cocotb\n\n@cocotb.test()\nasync def t(dut):\n    pass\n"
 SMALL_LINES = b"0 TEST t\n0 PASS t\n** TESTS=1 PASS=1 FAIL=0 SKIP=0 TIME=0 **\n"
 # Cases of the table of hints, of what stands on pages, and of the tool that tells lines, by their kinds.
 BESIDE = {hint_cases.HintCase: hint_cases, snippet_cases.SnippetCase: snippet_cases, where_cases.WhereCase: where_cases}
+# Of how many bytes the stack may be while a long text runs.
+SMALL_STACK = 1 << 20
 # Seconds that a case may take.
 LIMIT = 60
 
 # files: texts by their names, None for a folder; output: what is wanted on standard output, None where the run of generated texts tells; out:
 # where standard output goes: `whole` (it is read), `full` (/dev/full), `closed` (a pipe that nobody reads), `shut` (none), or the number of bytes
-# that it takes; is_part: do the wanted lines only stand among the lines, in this order?
-Case = namedtuple("Case", "name files words status output out is_part", defaults=("whole", False))
+# that it takes; is_part: do the wanted lines only stand among the lines, in this order? stack: of how many bytes the stack may be, None for the
+# system's own limit.
+Case = namedtuple("Case", "name files words status output out is_part stack", defaults=("whole", False, None))
 # What a case came to: None where all is as wanted, and else the two texts.
 Result = namedtuple("Result", "name wanted found")
 
@@ -222,6 +227,12 @@ def fault_cases():
         yield Case(f"fault: {good!a} is UTF-8", {good: SMALL_DESIGN, "t.py": SMALL_TESTS}, [good.encode(), b"t.py"], 0, SMALL_LINES)
 
 
+def long_case(row):
+    """A text with a long row of like parts, which runs in little stack; where a design or a tests file isn't told it is the small one."""
+    files = {"d.v": row.design or SMALL_DESIGN, "t.py": row.tests or SMALL_TESTS}
+    return Case("long: " + row.name, files, [b"d.v", b"t.py"], row.status, row.output or SMALL_LINES, stack=SMALL_STACK)
+
+
 def laid_out(folder, files):
     for name, text in files.items():
         if text is None:
@@ -236,7 +247,8 @@ def ended(program, case, folder):
     limit = case.out if isinstance(case.out, int) else None
     how = {"cwd": folder, "stdin": subprocess.DEVNULL, "stderr": subprocess.PIPE, "timeout": LIMIT}
     if case.out == "whole":
-        done = subprocess.run([program, *case.words], stdout=subprocess.PIPE, **how)
+        narrow = case.stack and (lambda: resource.setrlimit(resource.RLIMIT_STACK, (case.stack, case.stack)))
+        done = subprocess.run([program, *case.words], stdout=subprocess.PIPE, preexec_fn=narrow, **how)
         return done.returncode, done.stdout, done.stderr
     if case.out == "full":
         with open("/dev/full", "wb") as out:
@@ -372,7 +384,7 @@ def main():
     asked = parser.parse_args()
     program = os.path.realpath(asked.program) if asked.program else chosen_program()
     makers = (example_cases, fault_cases, word_cases, made_cases, command_cases, text_cases, rule_cases)
-    every = [*(case for maker in makers for case in maker()), *script_cases.cases(rows_of(WORDS))]
+    every = [*(case for maker in makers for case in maker()), *script_cases.cases(rows_of(WORDS)), *map(long_case, long_texts.rows())]
     every += [case for module in BESIDE.values() for case in module.cases()]
     wanted = [case for case in every if not asked.words or any(word in case.name for word in asked.words)]
     workers = len(os.sched_getaffinity(0))

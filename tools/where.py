@@ -20,9 +20,9 @@ import tempfile
 from pathlib import Path
 
 TOP = Path(__file__).resolve().parent.parent
-KINDS = ("AssertionError AttributeError IndexError OverflowError RuntimeError SimTimeoutError TriggerException TypeError UnboundLocalError ValueError "
-         "ZeroDivisionError Exception").split()
-IMPORTED = {"SimTimeoutError": "cocotb.result", "TriggerException": "cocotb.triggers"}
+KINDS = ("AssertionError AttributeError IndexError OverflowError QueueEmpty QueueFull RuntimeError SimTimeoutError TriggerException TypeError "
+         "UnboundLocalError ValueError ZeroDivisionError Exception").split()
+IMPORTED = {"SimTimeoutError": "cocotb.result", "TriggerException": "cocotb.triggers", "QueueEmpty": "cocotb.queue", "QueueFull": "cocotb.queue"}
 VALUED = ("--top", "--budget", "--seed", "--made")
 HEADERS = (ast.If, ast.While, ast.For, ast.AsyncWith)
 QUIET = (ast.Pass, ast.Break, ast.Continue)

@@ -1,11 +1,11 @@
 #!/usr/bin/env python3
-"""Runs the command on the designs with delays of tools/data/delay_values.txt, and compares what a test reads with the values of the table.
+"""Runs the command on the designs with delays and forced signals of tools/data/delay_values.txt, and compares what a test reads with the values of the table.
 
     tools/compare/delay_runs.py [PROGRAM]
 
-A step of a row becomes statements of a test: a deposit an immediate value, a wait a `Timer`, and behind them the design settles and all values are
-logged. Rows that force a signal are left out, since a test can't, and so are those that wait longer than a `Timer` may. Without a program the release is run.
-The status is 1 where a row differs.
+A step of a row becomes statements of a test: a deposit an immediate value, a force and a release a `Force` and a `Release` at once, a wait a `Timer`, and behind
+them the design settles and all values are logged. Rows that write x or z digits are left out, since a test has no number for them, and so are those that wait
+longer than a `Timer` may. Without a program the release is run. The status is 1 where a row differs.
 """
 import re
 import subprocess
@@ -16,15 +16,23 @@ from pathlib import Path
 ROOT = Path(__file__).resolve().parents[2]
 TABLE = ROOT / "tools" / "data" / "delay_values.txt"
 LATEST = 1 << 62
-HEAD = 'import cocotb\nfrom cocotb.triggers import ReadWrite, Timer\n\n@cocotb.test()\nasync def t(dut):\n    await ReadWrite()\n'
+HEAD = """import cocotb
+from cocotb.handle import Force, Release
+from cocotb.triggers import ReadWrite, Timer
+
+@cocotb.test()
+async def t(dut):
+    await ReadWrite()
+"""
 
 
 def statement(word, handles):
     """What a test does for a word of a step."""
     if word[0] == "@":
         return f'    await Timer({word[1:]}, "step")\n'
-    signal, digits = word.split("=")
-    return f"    {handles[int(signal)]}.setimmediatevalue(0b{digits})\n"
+    does, signal, digits = re.fullmatch(r"([!~]?)(\d+)=?(\d*)", word).groups()
+    value = {"!": f"Force(0b{digits})", "~": "Release()", "": f"0b{digits}"}[does]
+    return f"    {handles[int(signal)]}.setimmediatevalue({value})\n"
 
 
 def test_of(paths, stimulus):
@@ -46,11 +54,11 @@ def values_of(program, top, text, tests):
 
 def main():
     program = str(Path(sys.argv[1]).resolve()) if len(sys.argv) > 1 else str(ROOT / "release" / "cocorun")
-    rows = [line.split("\t") for line in TABLE.read_text(encoding="ascii").splitlines() if line.startswith("delay\t")]
+    rows = [line.split("\t") for line in TABLE.read_text(encoding="ascii").splitlines() if line.startswith(("delay\t", "force\t"))]
     compared = wrong = 0
     for _, name, _, text, paths, stimulus, values, _ in rows:
         waits = sum(int(steps) for steps in re.findall(r"@(\d+)", stimulus))
-        if re.search(r"[!~]|=\w*[xz]", stimulus) or waits > LATEST:
+        if re.search(r"=\w*[xz]", stimulus) or waits > LATEST:
             continue
         compared += 1
         text = re.sub(r"\\([0-9a-f]{2})", lambda found: chr(int(found[1], 16)), text)

@@ -3,12 +3,13 @@
 
     tools/compare/python_accepts.py [PROGRAM FILE ..]
 
-The texts are the rows of crates/check_tests, and those of crates/python_tests that are read as modules. PROGRAM is the built program
-`check_tests`; with it the FILEs are looked at as well. The gate doesn't run this. The status is 1 where one of these doesn't hold.
+The texts are the rows of crates/check_tests, those of crates/python_tests that are read as modules, and the tests of the tables of runs, tools/data/*_rows.txt.
+PROGRAM is the built program `check_tests`; with it the FILEs are looked at as well. The gate doesn't run this. The status is 1 where one of these doesn't hold.
 
-- A text that is accepted: `ast` reads it. Its lines outside of functions run, with stubs that do what cocotb 1.8 says of `cocotb.test` and of
-  `TestFactory` (the product of the options by `itertools`), and the functions, the tests in order, their arguments and options are those
-  that the row shows. The names that a function assigns are those that `symtable` finds. `ast` reads each text of python_tests that has a tree.
+- A text that is accepted: `ast` reads it. Its lines outside of functions run: its imports, from stand-ins for the modules of cocotb 1.8 that have the names
+  of `MODULES`, and the rest with stubs that do what cocotb 1.8 says of `cocotb.test` and of `TestFactory` (the product of the options by `itertools`).
+  The functions, the tests in order, their arguments and options are those that the row shows. The names that a function assigns are those that
+  `symtable` finds. `ast` reads each text of python_tests that has a tree. CPython compiles the tests of each run, and takes their lines outside of functions.
 - A text that is refused, where CPython has a word on it: CPython refuses no line above the one that is told, and where it refuses that one by a
   message of `MESSAGES`, it is one of the rule. What breaks `Dedent`, `NoBlock` or `UnclosedText` is refused by CPython. What breaks a rule of the
   check is read by `ast`, but for a decorator before no function.
@@ -23,12 +24,24 @@ import subprocess
 import symtable
 import sys
 import types
+import unittest.mock
 import warnings
 from pathlib import Path
 
-CRATES = Path(__file__).resolve().parents[2] / "crates"
-CLOCK = "def s half first cycles / n; "
+ROOT = Path(__file__).resolve().parents[2]
+CRATES = ROOT / "crates"
+# the functions of the library
+LIBRARY = "def s half first cycles / n; def q x /; def q /; "
 SHOWN = 12
+# modules of cocotb 1.8, with the names that their pages have and that tests import
+MODULES = {
+    "cocotb.triggers": "Timer Edge RisingEdge FallingEdge ReadWrite ReadOnly NextTimeStep Event Lock Join First Combine ClockCycles NullTrigger Trigger "
+                       "GPITrigger TriggerException with_timeout",
+    "cocotb.clock": "Clock", "cocotb.regression": "TestFactory", "cocotb.utils": "get_sim_time get_sim_steps get_time_from_sim_steps",
+    "cocotb.result": "SimTimeoutError TestFailure TestSuccess TestError",
+    "cocotb.queue": "Queue PriorityQueue LifoQueue QueueEmpty QueueFull",
+    "cocotb.handle": "Force Freeze Release Deposit SimHandleBase",
+}
 # Messages of CPython 3.11 on a line, and the rules that say the same of it, or count before on one line.
 MESSAGES = {
     "unindent does not match": {"Dedent"},
@@ -54,6 +67,15 @@ OF_TREES = {"BadLine", "NoBlock", "TooDeep"}
 def plain(part):
     """The text that a part of a row says."""
     return re.sub(r"\\([0-9a-f]{2})", lambda found: chr(int(found[1], 16)), part)
+
+
+def run_texts():
+    """The tests of the tables of runs, each with its name."""
+    for table in sorted((ROOT / "tools" / "data").glob("*_rows.txt")):
+        for line in table.read_text(encoding="ascii").splitlines():
+            asked, *parts = line.split("\t")
+            if asked in ("run", "trace"):
+                yield f"{table.name}: {parts[0]}", plain(parts[3])
 
 
 def escaped(text):
@@ -193,10 +215,19 @@ class Tests:
         return TestFactory
 
 
-def module(name, **items):
+def module(name, items):
     found = types.ModuleType(name)
     vars(found).update(items)
     return found
+
+
+def stand_ins(tests):
+    """The modules that tests import."""
+    names = {name: {each: object() for each in known.split()} for name, known in MODULES.items()}
+    names["cocotb.regression"]["TestFactory"] = tests.factory()
+    made = {name: module(name, items) for name, items in names.items()}
+    parts = {name.removeprefix("cocotb."): each for name, each in made.items()}
+    return {**made, "random": module("random", {}), "cocotb": module("cocotb", {"test": tests.test, **parts})}
 
 
 def accepted_text(text):
@@ -210,18 +241,25 @@ def accepted_text(text):
         if isinstance(node, ast.Call) and isinstance(node.func, ast.Name) and node.func.id == "TestFactory":
             made.add((node.args + [keyword.value for keyword in node.keywords])[0].id)
     tests = Tests(tree, made)
-    known = {"cocotb": module("cocotb", test=tests.test), "random": module("random"), "_Kind": Kind}
-    for node in tree.body:
-        if isinstance(node, ast.ImportFrom):
-            known.update((name.name, tests.factory() if name.name == "TestFactory" else object()) for name in node.names)
-    tree.body = [node for node in tree.body if not isinstance(node, (ast.Import, ast.ImportFrom))]
-    exec(compile(ast.fix_missing_locations(KeepKinds().visit(tree)), "t.py", "exec"), known)
+    # what a module imports anywhere is known in all of it
+    tree.body.sort(key=lambda node: not isinstance(node, (ast.Import, ast.ImportFrom)))
+    with unittest.mock.patch.dict(sys.modules, stand_ins(tests)):
+        exec(compile(ast.fix_missing_locations(KeepKinds().visit(tree)), "t.py", "exec"), {"_Kind": Kind})
     count = len(tests.found)
     last = " .." + tests.found[-1] if count > SHOWN else ""
-    return said + CLOCK + f"{count} tests" + "".join(tests.found[:SHOWN]) + last
+    return said + LIBRARY + f"{count} tests" + "".join(tests.found[:SHOWN]) + last
 
 
 # ---- what CPython says of a refused text
+
+
+def complaint(text):
+    """What CPython has against a text that is accepted, or None."""
+    try:
+        accepted_text(text)
+    except (SyntaxError, NameError, ImportError, ValueError, TypeError, KeyError) as fault:
+        return repr(fault)
+    return None
 
 
 def word_of(reads, text):
@@ -277,7 +315,7 @@ def refusal_of(answer):
 
 
 def main(program=None, *files):
-    kinds = ["accepted alike", "read", "refused alike", "refused here alone", "refused by both, no word on the rule", "other"]
+    kinds = ["accepted alike", "read", "run", "refused alike", "refused here alone", "refused by both, no word on the rule", "other"]
     counts = dict.fromkeys(kinds, 0)
 
     def count(kind, name, text, here, word):
@@ -296,11 +334,11 @@ def main(program=None, *files):
             word = None if is_alone(text) else parser_word(text)
             count("other" if word else "read", name, text, "a tree", word)
         else:
-            try:
-                wanted = accepted_text(text)
-            except (SyntaxError, NameError, ValueError, TypeError, KeyError) as fault:
-                wanted = repr(fault)
+            wanted = complaint(text) or accepted_text(text)
             count("accepted alike" if wanted == answer else "other", name, text, answer, wanted)
+    for name, text in run_texts():
+        fault = complaint(text)
+        count("other" if fault else "run", name, text, "a run", fault)
     print(", ".join(f"{kind}: {number}" for kind, number in counts.items()))
     return 1 if counts["other"] else 0
 

@@ -25,7 +25,7 @@ COMPARED = {
 }
 UNARY = {ast.Not: "not", ast.USub: "-", ast.UAdd: "+", ast.Invert: "~"}
 # arguments that stand last, whether by their places or by their names
-LAST = {"units", "rising", "timeout_unit", "test_function", "name", "optionlist"}
+LAST = {"units", "rising", "timeout_unit", "test_function", "name", "optionlist", "maxsize"}
 
 
 def quoted(text):
@@ -47,7 +47,7 @@ def call(node):
     name = node.func.id if isinstance(node.func, ast.Name) else None
     if name in ("Event", "Lock"):
         return f"(call {name})"
-    is_known = name in ("Timer", "get_sim_time", "Clock", "ClockCycles", "with_timeout", "TestFactory")
+    is_known = name in ("Timer", "get_sim_time", "Clock", "ClockCycles", "with_timeout", "TestFactory", "Queue")
     is_option = isinstance(node.func, ast.Attribute) and node.func.attr == "add_option"
     parts = [expression(argument) for argument in node.args]
     keywords = node.keywords

@@ -70,7 +70,7 @@ def bench_of(run, design):
     widths = {signal: f"[{signals[signal].width - 1}:0] {name}" for signal, name in inputs.items()}
     paths = ", ".join("dut" + signal.path[signal.path.index("."):] for signal in signals)
     shown = f'$display("{" ".join(["%b"] * len(signals))}", {paths});'
-    steps = ["; ".join(f"{inputs[signal]} = {len(digits)}'b{digits}" for signal, digits in writes.items()) + "; #1;" for writes, _ in run.groups]
+    steps = ["; ".join(f"{inputs[signal]} = {len(digits)}'b{digits}" for signal, (_, digits) in writes.items()) + "; #1;" for writes, _ in run.groups]
     opening = " ".join(f"{name} = {signals[signal].width}'bz;" for signal, name in inputs.items())
     top = run.flat.top.path
     connected = ", ".join(f".{name}({name})" for name in inputs.values())

@@ -9,7 +9,7 @@ The tables: `worked` has the runs that were worked out first, with their bytes, 
 and within others; `pair` each two of them in `First` and `Combine`; `order` events, locks and joins; `kill` a kill of each kind of waiting; `verdict`
 tests of one file, their options and ends; `signal` what is written, read and refused; `budget` runs within each budget up to their cost; `key` which keys are
 registered, removed and fired; `trace` the told changes of small designs, which `tools/compare/runner_traces.py` compares with Icarus Verilog; `limit` runs up to a limit and
-past it; `delay` updates of delayed assignments.
+past it; `delay` updates of delayed assignments; `queue` queues between tasks; `force` signals that tests force, freeze and release.
 Where a row has lines, counts or a cost in its script, these were worked out by hand, and this script ends with the status 1, and writes nothing,
 where the model has others, or where a text is none of the profile (`tools/models/tests_profile.py`). `tools/rows/row_texts.py` tells the form of a row.
 """
@@ -24,11 +24,13 @@ from models.tests_profile import breaks
 from rows.row_texts import DATA, differs, line_of, ran
 from rows.rows_of_budgets import BUDGETS, CUTS, is_front
 from rows.rows_of_delays import DELAYS
+from rows.rows_of_forces import FORCES
 from rows.rows_of_keys import KEYS, TRACES
 from rows.rows_of_kills import KILLS
 from rows.rows_of_limits import LIMITS
 from rows.rows_of_order import ORDER
 from rows.rows_of_pairs import PAIRS
+from rows.rows_of_queues import QUEUES
 from rows.rows_of_signals import SIGNALS
 from rows.rows_of_triggers import TRIGGERS
 from rows.rows_of_verdicts import VERDICTS
@@ -36,9 +38,12 @@ from rows.rows_worked import WORKED
 
 TABLES = {
     "worked": WORKED, "trigger": TRIGGERS, "pair": PAIRS, "order": ORDER, "kill": KILLS, "verdict": VERDICTS, "signal": SIGNALS, "budget": BUDGETS,
-    "key": KEYS, "trace": TRACES, "limit": LIMITS, "delay": DELAYS,
+    "key": KEYS, "trace": TRACES, "limit": LIMITS, "delay": DELAYS, "queue": QUEUES, "force": FORCES,
 }
-LEAST = {"worked": 20, "trigger": 40, "pair": 200, "order": 30, "kill": 42, "verdict": 40, "signal": 40, "budget": 80, "key": 20, "trace": 10, "limit": 5, "delay": 15}
+LEAST = {
+    "worked": 20, "trigger": 40, "pair": 200, "order": 30, "kill": 42, "verdict": 40, "signal": 40, "budget": 80, "key": 20, "trace": 10, "limit": 5, "delay": 15,
+    "queue": 120, "force": 70,
+}
 WHOLE = {row.rule: lines for row, lines in CUTS}
 
 

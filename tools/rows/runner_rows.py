@@ -25,7 +25,7 @@ from rows.rows_of_tops import TOPS
 from rows.rows_of_words import WORDS
 
 PROGRAM, PART = "runner_tests", "runner"
-TABLES = ["worked", "control", "trigger", "pair", "order", "kill", "verdict", "signal", "budget", "key", "trace", "limit", "delay", "example"]
+TABLES = ["worked", "control", "trigger", "pair", "order", "kill", "verdict", "signal", "budget", "key", "trace", "limit", "delay", "queue", "force", "example"]
 # the program takes no more bytes
 MOST = 2 * 1_048_576
 
