@@ -93,7 +93,9 @@ def bench(row):
     registers = "".join(f"  reg [{width - 1}:0] {name} = {width}'bz;\n" for name, width in behind.items())
     ports = ", ".join(f".{name}({name})" for name in behind)
     shown = ", ".join(["\"" + " ".join(["%b"] * len(row.signals)) + "\""] + row.signals)
-    steps = "".join("".join(f"{statement(word, behind)} " for word in words(step)) + f"rest; $display({shown});\n" for step in row.steps)
+    # a step of these rows lasts until no event is left, that of a delay among them; the longest of their delays are shorter
+    wait = "rest; #1000000 " if row.kind == "hierarchy" else ""
+    steps = "".join("".join(f"{statement(word, behind)} " for word in words(step)) + f"{wait}rest; $display({shown});\n" for step in row.steps)
     return f"{step_of(row.text)}module bench;\n{registers}{REST}  top top({ports});\n  initial begin rest;\n{steps}  $finish; end\nendmodule\n"
 
 
