@@ -1,14 +1,5 @@
-pub mod Same
-pub mod Lists
 pub mod Wakes
-pub mod Keys
 pub mod Loaded
-pub mod Fits
 pub mod Procs
-pub mod Chain
-pub mod Placed
-pub mod Opening
-pub mod Told
 pub mod Hiding
 pub mod Queues
-pub mod Forces

@@ -4,10 +4,11 @@ use Rattle.gpi.specs.declared.design.Process.{Process}
 use Rattle.gpi.specs.Activation.{IsSound, Map, Hidden, activation}
 use Rattle.gpi.specs.Soundness.{AreProcesses}
 use Rattle.gpi.specs.Design.{Proc, proc_of, procs_of}
-use Rattle.list_kernel.specs.Lists.{barred, own_of}
+use Rattle.kernel_base.specs.Lists.{barred, own_of}
 use Rattle.gpi.specs.declared.design.Kind.{Kind}
 use Rattle.gpi.specs.declared.design.Kind.TheVariants.{Assign, Always, Initial}
-use Rattle.list_kernel.specs.Kernel.{AreOf, ran, with_run, ended}
+use Rattle.kernel_base.specs.Steps.{ran, with_run, ended}
+use Rattle.kernel_base.proofs.Activated.{own_barred}
 use Rattle.four_value.specs.Vector.{same_digits}
 use Rattle.gpi.specs.declared.types.Report.{Report}
 use Rattle.gpi.specs.declared.types.Region.TheVariants as region
@@ -25,21 +26,6 @@ pub proc_at : (ps : List Process) (p : ℕ) (x : Process) → p < length ps → 
 proc_at [] p x h e = absurd (omega arith)
 proc_at (y ∷ ps) zero x h e = ap (λ (z : Process). Some (proc_of z)) (sym e)
 proc_at (y ∷ ps) (suc p) x h e = proc_at ps p x (omega arith) e
-
-changes_step : (t : Bool) (r : Report) (rs : List Report) (k : ℕ) → r.sig.0 < k → AreOf rs k → AreOf (if t then rs else r ∷ rs) k
-changes_step true r rs k h l = l
-changes_step false r rs k h l = (h, l)
-
-pub changes_of : (n : ℕ) (a b : Map) (k : ℕ) → n + length a ≤ k → AreOf (changes n a b) k
-changes_of n [] b k h = tt
-changes_of n (x ∷ a) [] k h = tt
-changes_of n (x ∷ a) (y ∷ b) k h =
-    changes_step (same_digits x y) (record { sig = record { 0 = n }; before = x; after = y }) (changes (suc n) a b) k (omega arith) (changes_of (suc n) a b k (omega arith))
-
-own_barred : (k : Kind) (p : ℕ) (active : List ℕ) → barred (own_of k p) active ≡ (if bars_itself k then p ∷ active else active)
-own_barred Assign p active = refl
-own_barred Always p active = refl
-own_barred Initial p active = refl
 
 -- the state after the end of an activation, by its parts
 pub ended_is : (ps : List Process) (s : State) (before : Map) (p : ℕ) (x : Process) (own : Option ℕ) (active : List ℕ) (reports : List Report)
@@ -61,23 +47,11 @@ pub ran_is : (ps : List Process) (s : State) (p : ℕ) (x : Process) (signals : 
     ≡ with_run s (ran (slice_get (procs_of ps) p) s.signals s.hidden)
 ran_is ps s p x signals hidden later delayed h e f = rw (proc_at ps p x h e, f.3, f.2, f.1, f.0) refl
 
--- the two together are an activation
-pub activated : (ps : List Proc) (s : State) (p : ℕ) (o : Option Proc) (rest : List ℕ) → (o ≡ None → ⊥)
-    → ended ps (record (with_run s (ran o s.signals s.hidden)) { active = rest }) s.signals p o ≡ activate ps (record s { active = rest }) p o
-activated ps s p None rest h = absurd (h refl)
-activated ps s p (Some proc) rest h = refl
-
 -- there is a process of each number
 pub some_at : (ps : List Process) (p : ℕ) → p < length ps → slice_get (procs_of ps) p ≡ None → ⊥
 some_at [] p h e = omega arith
 some_at (y ∷ ps) zero h e = cc
 some_at (y ∷ ps) (suc p) h e = some_at ps p (omega arith) e
-
-pub ran_state : (ps qs : List Proc) (s t u : State) (before : Map) (p : ℕ) (rest : List ℕ) → (slice_get ps p ≡ None → ⊥) → qs ≡ ps
-    → t ≡ with_run s (ran (slice_get ps p) s.signals s.hidden) → before ≡ s.signals → u ≡ ended qs (record t { active = rest }) before p (slice_get qs p)
-    → u ≡ activate ps (record s { active = rest }) p (slice_get ps p)
-ran_state ps qs s t u before p rest n q f b e =
-    e ∙ rw (q, f, b) (activated ps s p (slice_get ps p) rest n)
 
 pub head_tail : (xs ys : List ℕ) (p : ℕ) → 0 < length xs → p ≡ get_or xs 0 p → ys ≡ drop 1 xs → xs ≡ p ∷ ys
 head_tail [] ys p h e f = absurd (omega arith)

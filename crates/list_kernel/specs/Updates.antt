@@ -1,16 +1,14 @@
 -- A means of proof: the updates that wait, for the proofs of the plain simulator.
-use Rattle.std.specs.Prelude.{◌≡◌, ℕ, ◌+◌, ◌++◌, ◌≤◌, List, [], ◌∷◌, length, map, vec_capacity, Option}
+use Rattle.std.specs.Prelude.{◌≡◌, ℕ, ◌+◌, ◌++◌, ◌≤◌, List, [], ◌∷◌, length, vec_capacity, Option}
 use Rattle.gpi.specs.declared.types.Update.{Update}
 use Rattle.gpi.specs.declared.types.Delayed.{Delayed}
 use Rattle.gpi.specs.Keys.{lesser}
 use Rattle.gpi.specs.Targets.{AreFitting}
 use Rattle.gpi.specs.Activation.{Run}
 use Rattle.gpi.specs.State.{at_once, all_delaying}
+use Rattle.kernel_base.specs.Lists.{updates_in}
 use Rattle.list_kernel.specs.declared.values.Values.{Values}
 use Rattle.list_kernel.specs.declared.updates.Updates.{Updates}
-
-abbrev pub updates_in : List Delayed → List Update
-updates_in ds = map (λ d. d.update) ds
 
 -- the least of this time, if there is one, and of those for which the updates wait
 abbrev pub soonest : List Delayed → Option ℕ → Option ℕ

@@ -24,7 +24,7 @@ ghost use Rattle.std.specs.Prelude.{
   slice_index_or,
 };
 ghost use Rattle.gpi.specs.Limits.{most_elements};
-ghost use Rattle.gpi.specs.Design.{procs_of, proc_of, is_net, nets_of, starters};
+ghost use Rattle.gpi.specs.Design.{procs_of, proc_of, starters};
 ghost use Rattle.gpi.specs.Soundness.{IsSoundFlat, AreProcesses};
 ghost use Rattle.gpi.specs.Activation.{IsSound, with_part};
 ghost use Rattle.gpi.specs.Keys.{fired_of, holds, least};
@@ -46,11 +46,9 @@ ghost use Rattle.gpi.specs.Events.{
   edge_keys,
 };
 ghost use Rattle.gpi.specs.Content.{Content, opening, no_design, Does, IsRunning};
-ghost use Rattle.list_kernel.specs.Lists.{own_of, is_empty};
-ghost use Rattle.list_kernel.specs.Kernel.{
-  content_of,
-  IsLoaded,
-  Stays,
+ghost use Rattle.kernel_base.specs.Lists.{is_empty};
+ghost use Rattle.list_kernel.specs.Kernel.{content_of, IsLoaded, Stays};
+ghost use Rattle.kernel_base.specs.Steps.{
   TellsIt,
   Answered,
   ran,
@@ -65,16 +63,17 @@ ghost use Rattle.list_kernel.specs.Kernel.{
   from_reports,
 };
 
-use crate::book::{Book, in_order};
 use crate::run::activate;
 use crate::updates::{Updates, soonest};
 use crate::values::Values;
-use crate::wake::{are_same, tell_changes, wake};
-use four_value::{Bits, Digit};
+use crate::wake::{tell_changes, wake};
+use callback_book::Book;
+use four_value::Bits;
 use gpi::{
-    Advance, Counts, Fired, Flat, Gpi, Key, Kind, Moved, Process, Region, Report, SigId, Signal,
-    Told, Update, Wake, placed,
+    Advance, Counts, Fired, Flat, Gpi, Key, Kind, Moved, Process, Region, Report, SigId, Told,
+    Update, placed,
 };
+use kernel_base::{are_same, copy_wakes, own_of, start_nets, unseen};
 use port_io::{NoMemory, Sequence};
 use std::alloc::Global;
 use std::mem::swap;
@@ -122,7 +121,7 @@ impl ListKernel {
     }
 
     /// A signal gets a hidden value, or another one.
-    #[tactic(auto, using(crate::proofs::Hiding::hidden_places))]
+    #[tactic(auto, using(kernel_base::proofs::Hiding::hidden_places))]
     fn hide(&mut self, sig: SigId, bits: Bits)
         requires loaded { IsLoaded self.old }
         requires sig { sig.0 < length self.old.values.shown.items }
@@ -146,7 +145,7 @@ impl ListKernel {
     }
 
     /// Writes a signal: of a forced one the hidden value alone.
-    #[tactic(auto, using(crate::proofs::Hiding::hidden_places))]
+    #[tactic(auto, using(kernel_base::proofs::Hiding::hidden_places))]
     fn put(&mut self, sig: SigId, bits: Bits) -> Moved
         requires loaded { IsLoaded self.old }
         requires sig { sig.0 < length self.old.values.shown.items }
@@ -209,7 +208,7 @@ impl ListKernel {
     }
 
     /// An update is applied.
-    #[tactic(auto, using(crate::proofs::Hiding::hidden_places, crate::proofs::Hiding::stored_width))]
+    #[tactic(auto, using(kernel_base::proofs::Hiding::hidden_places, kernel_base::proofs::Hiding::stored_width))]
     fn apply(&mut self, update: &Update) -> Moved
         requires loaded { IsLoaded self.old }
         requires sig { update.now.sig.0 < length self.old.values.shown.items }
@@ -334,7 +333,7 @@ impl ListKernel {
             &self.processes,
             &self.reports,
             &mut self.active,
-            own(process, p),
+            own_of(process.kind, p),
         );
         self.region = Region::Active;
     }
@@ -426,7 +425,7 @@ impl ListKernel {
     fn next_time(&self) -> Option<u64>
         ensures { let c = content_of self.now in result ≡ least (delayed_times c.state.delayed ++ c.keys.times) }
     {
-        soonest(&self.updates.delayed, self.book.least())
+        soonest(&self.updates.delayed, self.book.least_time())
     }
 
     /// 7: time moves on, and the updates that waited for it become the later ones.
@@ -436,14 +435,13 @@ impl ListKernel {
         ensures is { Answered (content_of self.old) (from_time (content_of self.old)) result (content_of self.new) }
     {
         let time = self.next_time()?;
-        let step = self.book.take(Key::NextStep);
-        let at = self.book.take(Key::At(time));
+        let fired = self.book.begin_step(time);
         self.updates.arrive(time);
         self.time = time;
         self.region = Region::Begin;
         Some(Moved {
             change: None,
-            fired: in_order(step, at),
+            fired,
         })
     }
 
@@ -453,14 +451,16 @@ impl ListKernel {
         ensures stays { Stays self.old self.new }
         ensures is { Answered (content_of self.old) (end_case (content_of self.old).state (content_of self.old).keys) result (content_of self.new) }
     {
-        if self.region == Region::End || !self.book.has(Key::ReadOnly) {
+        if self.region == Region::End || !self.book.take(Key::ReadOnly) {
             return None;
         }
-        self.book.fire(Key::ReadOnly);
         self.region = Region::End;
         Some(Moved {
             change: None,
-            fired: in_order(Some(Key::ReadOnly), None),
+            fired: Fired {
+                first: Some(Key::ReadOnly),
+                second: None,
+            },
         })
     }
 
@@ -471,14 +471,16 @@ impl ListKernel {
         ensures is { Answered (content_of self.old)
             (settle_case (content_of self.old).state (content_of self.old).keys) result (content_of self.new) }
     {
-        if self.region == Region::End || !self.book.has(Key::ReadWrite) {
+        if self.region == Region::End || !self.book.take(Key::ReadWrite) {
             return None;
         }
-        self.book.fire(Key::ReadWrite);
         self.region = Region::Settle;
         Some(Moved {
             change: None,
-            fired: in_order(Some(Key::ReadWrite), None),
+            fired: Fired {
+                first: Some(Key::ReadWrite),
+                second: None,
+            },
         })
     }
 }
@@ -512,7 +514,7 @@ impl Gpi for ListKernel {
     }
 
     fn counts(&self) -> Counts {
-        self.book.counts
+        self.book.counts()
     }
 
     fn read(&self, sig: SigId) -> Bits {
@@ -523,14 +525,14 @@ impl Gpi for ListKernel {
         self.put(sig, bits).fired
     }
 
-    #[tactic(auto, using(crate::proofs::Hiding::hidden_places))]
+    #[tactic(auto, using(kernel_base::proofs::Hiding::hidden_places))]
     fn force(&mut self, sig: SigId, bits: Bits) -> Fired {
         let stored = self.values.stored(sig);
         self.hide(sig, stored);
         self.show(sig, bits).fired
     }
 
-    #[tactic(auto, using(crate::proofs::Hiding::hidden_places))]
+    #[tactic(auto, using(kernel_base::proofs::Hiding::hidden_places))]
     fn release(&mut self, sig: SigId) -> Fired {
         match self.values.hidden_of(sig) {
             Some(bits) => self.release_forced(sig, bits).fired,
@@ -538,22 +540,22 @@ impl Gpi for ListKernel {
         }
     }
 
-    #[tactic(auto, using(crate::proofs::Hiding::hidden_places))]
+    #[tactic(auto, using(kernel_base::proofs::Hiding::hidden_places))]
     fn is_forced(&self, sig: SigId) -> bool {
         self.values.is_forced(sig)
     }
 
-    #[tactic(auto, using(crate::proofs::Placed::asked_placed))]
+    #[tactic(auto, using(callback_book::proofs::Placed::asked_placed))]
     fn register(&mut self, key: Key) -> Result<(), NoMemory> {
         self.book.add(key)
     }
 
-    #[tactic(auto, using(crate::proofs::Placed::has_placed))]
+    #[tactic(auto, using(callback_book::proofs::Placed::has_placed))]
     fn remove(&mut self, key: Key) {
         self.book.remove(key);
     }
 
-    #[tactic(auto, using(crate::proofs::Placed::idle_is))]
+    #[tactic(auto, using(kernel_base::proofs::Idle::idle_is))]
     fn idle(&self) -> bool {
         let open = self.region != Region::End;
         empty(&self.reports)
@@ -562,8 +564,7 @@ impl Gpi for ListKernel {
             && empty(&self.updates.later)
             && !(self.book.has(Key::ReadWrite) && open)
             && !(self.book.has(Key::ReadOnly) && open)
-            && empty(&self.updates.delayed)
-            && empty(&self.book.times)
+            && self.next_time().is_none()
     }
 
     fn advance(&mut self) -> Result<Advance, NoMemory> {
@@ -596,7 +597,7 @@ impl ListKernel {
             updates: Updates::new(alloc),
             time: 0,
             region: Region::Begin,
-            book: Book::new(alloc),
+            book: Book::of_none(alloc),
         }
     }
 }
@@ -611,7 +612,7 @@ fn opened(alloc: Global, flat: &Flat) -> Result<ListKernel, NoMemory>
     let values = Values::opened(alloc, &flat.signals)?;
     let active = start_active(alloc, &processes)?;
     let reports = Vec::with_capacity(alloc, flat.signals.len())?;
-    let book = Book::with_signals(alloc, flat.signals.len())?;
+    let book = Book::new(alloc, flat.signals.len() as u32)?;
     Ok(ListKernel {
         processes,
         nets,
@@ -653,39 +654,6 @@ fn copy_process(alloc: Global, process: &Process) -> Result<Process, NoMemory>
     })
 }
 
-/// A copy of the wakes.
-#[tactic(auto, using(crate::proofs::Opening::wakes))]
-fn copy_wakes(alloc: Global, wakes: &Sequence<Wake>) -> Result<Sequence<Wake>, NoMemory>
-    ensures { IfOk result (λ copies. copies ≡ wakes.now) }
-{
-    let mut copies = Sequence::new(alloc);
-    for at in 0..wakes.len() {
-        copies.push(*wakes.get(at))?;
-    }
-    Ok(copies)
-}
-
-/// Which signals are nets: those that begin with z.
-fn start_nets(alloc: Global, signals: &Sequence<Signal>) -> Result<Vec<bool>, NoMemory>
-    ensures { IfOk result (λ nets. nets.items ≡ nets_of signals.now) }
-{
-    let mut nets = Vec::new(alloc);
-    for at in 0..signals.len() {
-        nets.push(is_net(signals.get(at).start))?;
-    }
-    Ok(nets)
-}
-
-/// Whether a signal that begins with this digit is a net.
-fn is_net(start: Digit) -> bool
-    ensures { result ≡ is_net start }
-{
-    match start {
-        Digit::Z => true,
-        _ => false,
-    }
-}
-
 /// The processes that are active from the start.
 fn start_active(alloc: Global, processes: &[Process]) -> Result<Vec<u32>, NoMemory>
     requires { length processes.now ≤ most_elements }
@@ -703,16 +671,6 @@ fn start_active(alloc: Global, processes: &[Process]) -> Result<Vec<u32>, NoMemo
     Ok(active)
 }
 
-/// An `always` isn't woken by its own activation.
-fn own(process: &Process, p: u32) -> Option<u32>
-    ensures { result ≡ own_of process.now.kind p }
-{
-    match process.kind {
-        Kind::Always => Some(p),
-        _ => None,
-    }
-}
-
 /// Takes the first element.
 fn take_first<T>(list: &mut Vec<T>) -> Option<T>
     ensures is { MatchOption result
@@ -724,17 +682,4 @@ fn take_first<T>(list: &mut Vec<T>) -> Option<T>
         return None;
     }
     Some(list.remove(0))
-}
-
-/// Nothing is told, and no key fires.
-fn unseen() -> Moved
-    ensures { result ≡ record { change = None; fired = fired_of [] } }
-{
-    Moved {
-        change: None,
-        fired: Fired {
-            first: None,
-            second: None,
-        },
-    }
 }

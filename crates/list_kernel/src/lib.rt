@@ -3,10 +3,9 @@
 //! [`ListKernel`] keeps the interface `Gpi`; begin with [`ListKernel::new`] and `load`. Its state is the lists of the definition
 //! (`Rattle.gpi.specs.State`): active processes, changes still to be told, updates that are due or wait, and what each signal
 //! shows and hides. One event is one call of `advance`. What an activation does is `gpi`'s (`Act::run`); the registered keys are
-//! kept in a book of their own.
+//! kept in a `callback_book::Book`.
 #![tactic(auto)]
 
-mod book;
 mod kernel;
 mod run;
 mod updates;

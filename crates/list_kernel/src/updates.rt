@@ -1,10 +1,10 @@
 //! The updates that are due or wait.
-ghost use Rattle.std.specs.Prelude.{◌≡◌, ◌<◌, ◌≤◌, ◌+◌, ◌++◌, ◌∷◌, [], ℕ, List, length, vec_capacity, vec_len, OnOk};
+ghost use Rattle.std.specs.Prelude.{◌≡◌, ◌<◌, ◌≤◌, ◌+◌, ◌++◌, ◌∷◌, [], ℕ, List, length, vec_capacity, vec_len, OnOk, Option};
+ghost use Rattle.gpi.specs.Keys.{lesser};
 ghost use Rattle.gpi.specs.Targets.{AreFitting};
 ghost use Rattle.gpi.specs.State.{at_once, with_delayed, delaying, all_delaying, arriving, waiting_on};
 ghost use Rattle.list_kernel.specs.Updates.{soonest, AreUpdates, HasRoom};
 
-use crate::book::lesser;
 use gpi::{Delayed, LATEST_UPDATE, Update};
 use port_io::NoMemory;
 use std::alloc::Global;
@@ -129,6 +129,16 @@ pub fn soonest(delayed: &[Delayed], other: Option<u64>) -> Option<u64>
         found = Some(lesser(delayed[at].time, found));
     }
     found
+}
+
+/// The lesser of a time and another, if there is one.
+fn lesser(t: u64, other: Option<u64>) -> u64
+    ensures { Option.Some result ≡ lesser t other }
+{
+    match other {
+        Some(u) if u < t => u,
+        _ => t,
+    }
 }
 
 /// Puts an update that waits behind those of its time, and before all later ones.

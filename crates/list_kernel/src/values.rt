@@ -12,8 +12,9 @@ ghost use Rattle.list_kernel.specs.Values.{shown_in, AreSized, AreValues};
 
 use four_value::Bits;
 use gpi::{Act, SigId, Signal, Update};
+use kernel_base::{start_signals, unforced};
 use port_io::{NoMemory, Sequence};
-use std::alloc::{AllocError, Global};
+use std::alloc::Global;
 
 /// What the signals show and hide, by number, and what they did before the last activation. With no signal forced none has a
 /// hidden value, before it either.
@@ -91,7 +92,7 @@ impl Values {
     }
 
     /// A signal is forced, with this hidden value.
-    #[tactic(auto, using(crate::proofs::Hiding::hiding))]
+    #[tactic(auto, using(kernel_base::proofs::Hiding::hiding))]
     pub fn hide(&mut self, sig: SigId, bits: Bits)
         requires values { AreValues self.old }
         requires sig { sig.0 < length self.old.shown.items }
@@ -105,7 +106,7 @@ impl Values {
     }
 
     /// A signal isn't forced any more.
-    #[tactic(auto, using(crate::proofs::Hiding::hiding))]
+    #[tactic(auto, using(kernel_base::proofs::Hiding::hiding))]
     pub fn unhide(&mut self, sig: SigId)
         requires values { AreValues self.old }
         requires sig { sig.0 < length self.old.shown.items }
@@ -133,7 +134,7 @@ impl Values {
     }
 
     /// Keeps all values, for `put_back`.
-    #[tactic(auto, using(crate::proofs::Hiding::hidden_places))]
+    #[tactic(auto, using(kernel_base::proofs::Hiding::hidden_places))]
     pub fn keep(&mut self)
         requires { AreValues self.old }
         ensures values { AreValues self.new }
@@ -150,7 +151,7 @@ impl Values {
     }
 
     /// Puts back what was kept.
-    #[tactic(auto, using(crate::proofs::Hiding::hidden_places))]
+    #[tactic(auto, using(kernel_base::proofs::Hiding::hidden_places))]
     pub fn put_back(&mut self)
         requires { AreSized self.old }
         ensures shown { self.new.shown.items ≡ self.old.shown_before.items }
@@ -181,33 +182,6 @@ impl Values {
     {
         act.run(&mut self.shown, &mut self.hidden, updates)
     }
-}
-
-/// The opening map: each signal has its opening digit everywhere.
-#[tactic(auto, using(crate::proofs::Opening::wide))]
-fn start_signals(alloc: Global, signals: &Sequence<Signal>) -> Result<Vec<Bits>, NoMemory>
-    requires { IsTrue (are_wide signals.now) }
-    ensures { IfOk result (λ map. map.items ≡ start_map signals.now) }
-{
-    let mut map = Vec::new(alloc);
-    for at in 0..signals.len() {
-        let signal = signals.get(at);
-        map.push(Bits::all(signal.width, signal.start))?;
-    }
-    Ok(map)
-}
-
-/// Hidden values of so many signals, none of them forced.
-fn unforced(alloc: Global, signals: usize) -> Result<Vec<Option<Bits>>, AllocError>
-    ensures { IfOk result (λ hidden. hidden.items ≡ replicate signals None) }
-{
-    let mut hidden = Vec::new(alloc);
-    let mut at = 0;
-    while at < signals {
-        hidden.push(None)?;
-        at += 1;
-    }
-    Ok(hidden)
 }
 
 /// Whether a signal is forced.

@@ -1,22 +1,15 @@
 //! Changes, and the processes that they wake.
 ghost use Rattle.std.specs.Prelude.{◌≡◌, ◌≤◌, ◌<◌, ◌+◌, ◌++◌, ◌^◌, length, [], ◌∷◌, vec_capacity, vec_len, ℕ, false, not, ◌&&◌};
-ghost use Rattle.four_value.specs.Vector.{same_digits, digit_at};
 ghost use Rattle.gpi.specs.Limits.{most_elements};
 ghost use Rattle.gpi.specs.Design.{procs_of};
 ghost use Rattle.gpi.specs.Keys.{holds};
-ghost use Rattle.gpi.specs.State.{meets, meets_any, waits, edge_fits, changes, woken};
-ghost use Rattle.list_kernel.specs.Lists.{barred, AreBelow, AreDistinct};
+ghost use Rattle.gpi.specs.State.{meets, meets_any, waits, changes, woken};
+ghost use Rattle.kernel_base.specs.Lists.{barred, AreBelow, AreDistinct};
 
-use four_value::{Bits, Digit, Edge, edge};
-use gpi::{Process, Report, SigId, Wake, WakeEdge};
+use four_value::{Bits, edge};
+use gpi::{Process, Report, SigId, Wake};
+use kernel_base::{are_same, low_digit, meets_edge};
 use port_io::Sequence;
-
-/// Whether both are the same vector.
-pub fn are_same(a: Bits, b: Bits) -> bool
-    ensures { result ≡ same_digits a b }
-{
-    a.is_same(b)
-}
 
 /// Whether the number is in the list.
 pub fn holds(list: &[u32], n: u32) -> bool
@@ -25,33 +18,12 @@ pub fn holds(list: &[u32], n: u32) -> bool
     list.contains(&n)
 }
 
-/// Whether an edge is one that is waited for.
-fn fits(wanted: WakeEdge, got: Edge) -> bool
-    ensures { result ≡ edge_fits wanted got }
-{
-    match (wanted, got) {
-        (WakeEdge::Any, _) => true,
-        (WakeEdge::Pos, Edge::Pos) => true,
-        (WakeEdge::Pos, _) => false,
-        (WakeEdge::Neg, Edge::Neg) => true,
-        (WakeEdge::Neg, _) => false,
-    }
-}
-
-/// The least significant digit, which alone makes edges.
-pub fn low_digit(bits: Bits) -> Digit
-    ensures { result ≡ digit_at bits 0 }
-{
-    let _width = bits.width();
-    bits.digit(0)
-}
-
 /// Whether a wake waits for this change.
 fn meets(wake: &Wake, report: &Report) -> bool
     ensures { result ≡ meets wake.now report.now }
 {
     wake.sig.0 == report.sig.0
-        && fits(
+        && meets_edge(
             wake.edge,
             edge(low_digit(report.before), low_digit(report.after)),
         )
@@ -109,7 +81,7 @@ pub fn tell_changes(before: &[Bits], signals: &[Bits], reports: &mut Vec<Report>
 }
 
 /// Puts a process at the end of the active list; there are `count` processes.
-#[tactic(auto, using(crate::proofs::Lists::pushes))]
+#[tactic(auto, using(kernel_base::proofs::Lists::pushes))]
 fn add_active(active: &mut Vec<u32>, n: u32, count: usize)
     requires inside { n < count }
     requires new { holds n active.old.items ≡ false }
@@ -150,7 +122,7 @@ pub fn wake(processes: &[Process], reports: &[Report], active: &mut Vec<u32>, ow
 }
 
 /// The same, process by process.
-#[tactic(auto, using(crate::proofs::Lists::steps))]
+#[tactic(auto, using(kernel_base::proofs::Lists::steps))]
 fn wake_each(processes: &[Process], reports: &[Report], active: &mut Vec<u32>, own: Option<u32>)
     requires few { length processes.now ≤ most_elements }
     requires below { AreBelow (length processes.now) active.old.items }

@@ -1,6 +1,6 @@
 use Rattle.std.proofs.Common.{arith}
 use Rattle.std.proofs.lemmas.Grind.{common_steps}
-use Rattle.list_kernel.proofs.Opening.{copied, copied_sound}
+use Rattle.kernel_base.proofs.Opening.{copied, copied_sound}
 use Rattle.list_kernel.proofs.kernel.copy_processes.Goals as goal
 
 pub loop-at-preserved : goal.loop-at-preserved

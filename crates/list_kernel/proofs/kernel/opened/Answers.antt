@@ -3,7 +3,7 @@ use Rattle.std.proofs.lemmas.Grind.{common_steps}
 use Rattle.gpi.specs.Terms.{widths_of}
 use Rattle.gpi.specs.declared.design.Process.{Process}
 use Rattle.gpi.specs.Design.{procs_of, nets_of, widths, starters, start_map, start_hidden}
-use Rattle.list_kernel.proofs.Opening.{length_procs, length_nets, start_widths, start_length, starters_below, starters_distinct}
+use Rattle.kernel_base.proofs.Opening.{length_procs, length_nets, start_widths, start_length, starters_below, starters_distinct}
 use Rattle.list_kernel.proofs.kernel.opened.Goals as goal
 
 pub returns : goal.returns
@@ -26,15 +26,15 @@ returns c =
         map,
         hidden,
         c.in_ok-reports.ensures.items,
-        c.new.ensures.due,
-        c.new.ensures.later,
-        c.new.ensures.delayed,
+        c.new-2.ensures.due,
+        c.new-2.ensures.later,
+        c.new-2.ensures.delayed,
         c.in_ok-book.ensures.keys,
         c.in_ok-book.ensures.counts,
       ) refl,
       record {
         values = c.in_ok-values.ensures.values;
-        updates = c.new.ensures.updates (widths_of c.in_ok-values.values.shown.items);
+        updates = c.new-2.ensures.updates (widths_of c.in_ok-values.values.shown.items);
         few_processes = rw count c.requires.processes;
         bodies = rw ws (c.in_ok-processes.ensures.sound (widths c.args.flat.now.signals) c.requires.bodies);
         nets = grind (arith, common_steps);

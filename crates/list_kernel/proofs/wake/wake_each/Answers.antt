@@ -2,7 +2,7 @@ use Rattle.std.proofs.Common.{rules, arith}
 use Rattle.std.proofs.lemmas.Grind.{common_steps}
 use Rattle.std.proofs.lemmas.List.{take-append-le}
 use Rattle.list_kernel.proofs.Wakes.{woken_yes, woken_no}
-use Rattle.list_kernel.proofs.Lists.{holds_push, apart}
+use Rattle.kernel_base.proofs.Lists.{holds_push, apart}
 use Rattle.list_kernel.proofs.wake.wake_each.Goals.{then-is_woken, else-is_woken}
 use Rattle.list_kernel.proofs.wake.wake_each.Goals as goal
 

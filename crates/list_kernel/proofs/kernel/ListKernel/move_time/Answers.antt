@@ -1,10 +1,10 @@
 use Rattle.std.proofs.Common.{◌∙◌, sym, refl, ◌++◌}
+use Rattle.gpi.specs.declared.types.Key.TheVariants.{At, NextStep}
+use Rattle.gpi.specs.Events.{if_has}
 use Rattle.gpi.specs.Terms.{widths_of}
-use Rattle.list_kernel.specs.Books.{option_list}
+use Rattle.kernel_base.proofs.Told.{time_case_is}
 use Rattle.list_kernel.specs.Kernel.{content_of}
-use Rattle.list_kernel.proofs.Keys.{time_fires}
 use Rattle.list_kernel.proofs.Queues.{updates_arrived}
-use Rattle.list_kernel.proofs.Told.{time_case_is}
 use Rattle.list_kernel.proofs.kernel.ListKernel.move_time.Goals as goal
 
 pub returns-clause-stays : goal.returns-clause-stays
@@ -18,7 +18,7 @@ returns-clause-stays c =
         few_processes = h.few_processes;
         bodies = h.bodies;
         nets = h.nets;
-        watches = c.take-at.ensures.is.signals ∙ (c.take-step.ensures.is.signals ∙ h.watches);
+        watches = c.begin_step-fired.ensures.is.signals ∙ h.watches;
         below = h.below;
         distinct = h.distinct;
         active_room = h.active_room;
@@ -30,9 +30,6 @@ returns-clause-stays c =
 pub returns-clause-is : goal.returns-clause-is
 returns-clause-is c =
     let b = content_of c.args.self.now in
-    let first = option_list c.take-step.result in
-    let second = option_list c.take-at.result in
-    let f = time_fires c.in_ok-time.time c.args.self.now.book c.take-step.new.self c.take-at.new.self first second
-    c.take-step.ensures.fired c.take-step.ensures.is c.take-at.ensures.fired c.take-at.ensures.is in
-    time_case_is b _ c.in_ok-time.time _ _ (first ++ second) (sym c.next_time.ensures ∙ c.in_ok-time.was) f.0
-    (rw c.in_order.ensures refl) refl refl (rw (c.arrive.ensures.due, c.arrive.ensures.later, c.arrive.ensures.delayed) refl) f.1.keys f.1.counts
+    let t = c.in_ok-time.time in
+    time_case_is b _ t _ _ (if_has NextStep b.keys ++ if_has (At t) b.keys) (sym c.next_time.ensures ∙ c.in_ok-time.was) refl
+    (rw c.begin_step-fired.ensures.fired refl) refl refl (rw (c.arrive.ensures.due, c.arrive.ensures.later, c.arrive.ensures.delayed) refl) c.begin_step-fired.ensures.is.keys c.begin_step-fired.ensures.is.counts

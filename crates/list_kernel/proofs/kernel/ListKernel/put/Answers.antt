@@ -1,7 +1,7 @@
 use Rattle.std.proofs.Common.{Some}
 use Rattle.gpi.specs.Events.{hidden_at, with_hidden}
 use Rattle.list_kernel.specs.Kernel.{content_of}
-use Rattle.list_kernel.proofs.Forces.{told_as, unseen_tells, put_hidden, put_shown}
+use Rattle.kernel_base.proofs.Forces.{told_as, unseen_tells, put_hidden, put_shown}
 use Rattle.list_kernel.proofs.kernel.ListKernel.put.Goals as goal
 
 pub returns-then-is_forced-clause-is : goal.returns-then-is_forced-clause-is

@@ -1,7 +1,7 @@
 use Rattle.std.proofs.Common.{◌≡◌, ◌∙◌, None, sym, true, false, slice_index_or}
 use Rattle.gpi.specs.Events.{with_hidden}
 use Rattle.list_kernel.specs.Kernel.{content_of}
-use Rattle.list_kernel.proofs.Forces.{told_as, then_shown, unseen_tells, net_released, register_released}
+use Rattle.kernel_base.proofs.Forces.{told_as, then_shown, unseen_tells, net_released, register_released}
 use Rattle.list_kernel.proofs.kernel.ListKernel.release_forced.Goals as goal
 
 pub returns-then-net-clause-is : goal.returns-then-net-clause-is

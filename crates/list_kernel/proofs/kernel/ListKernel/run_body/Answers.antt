@@ -3,7 +3,8 @@ use Rattle.gpi.specs.Terms.{widths_of}
 use Rattle.gpi.specs.Soundness.{AreProcesses}
 use Rattle.gpi.proofs.Steps.{on_ok}
 use Rattle.gpi.proofs.Widths.{length_widths}
-use Rattle.list_kernel.specs.Kernel.{content_of, AreOf}
+use Rattle.kernel_base.specs.Steps.{AreInside}
+use Rattle.list_kernel.specs.Kernel.{content_of}
 use Rattle.list_kernel.specs.Updates.{AreUpdates}
 use Rattle.list_kernel.proofs.Procs.{sound_at, ran_is}
 use Rattle.list_kernel.proofs.kernel.ListKernel.run_body.Goals as goal
@@ -31,7 +32,7 @@ returns-clause-stays c =
         distinct = h.distinct;
         active_room = h.active_room;
         reports_room = let f = h.reports_room in omega arith;
-        reports = subst (λ (n : ℕ). AreOf c.args.self.now.reports.items n) (sym l) h.reports;
+        reports = subst (λ (n : ℕ). AreInside c.args.self.now.reports.items n) (sym l) h.reports;
       };
     }
 

@@ -3,12 +3,14 @@ use Rattle.gpi.specs.declared.types.Moved.{Moved}
 use Rattle.gpi.specs.Design.{procs_of}
 use Rattle.gpi.specs.State.{State}
 use Rattle.gpi.specs.Events.{active_case}
-use Rattle.list_kernel.specs.declared.book.Book.{Book}
-use Rattle.list_kernel.specs.Books.{keys_of}
-use Rattle.list_kernel.specs.Lists.{AreBelow}
-use Rattle.list_kernel.specs.Kernel.{content_of, Answered}
-use Rattle.list_kernel.proofs.Procs.{some_at, ran_state, head_tail}
-use Rattle.list_kernel.proofs.Told.{ran_case}
+use Rattle.callback_book.specs.declared.book.Book.{Book}
+use Rattle.callback_book.specs.Books.{keys_of}
+use Rattle.kernel_base.specs.Lists.{AreBelow}
+use Rattle.kernel_base.specs.Steps.{Answered}
+use Rattle.list_kernel.specs.Kernel.{content_of}
+use Rattle.kernel_base.proofs.Activated.{ran_state}
+use Rattle.list_kernel.proofs.Procs.{some_at, head_tail}
+use Rattle.kernel_base.proofs.Told.{ran_case}
 use Rattle.list_kernel.proofs.kernel.ListKernel.run_first.Goals as goal
 
 pub returns-in-Ok-clause-is : goal.returns-in-Ok-clause-is

@@ -1,7 +1,8 @@
 use Rattle.std.proofs.Common.{length}
-use Rattle.list_kernel.specs.Kernel.{content_of, from_reports}
-use Rattle.list_kernel.proofs.Chain.{answers_some, answers_none}
-use Rattle.list_kernel.proofs.Told.{told_of, event_tells}
+use Rattle.kernel_base.specs.Steps.{from_reports}
+use Rattle.list_kernel.specs.Kernel.{content_of}
+use Rattle.kernel_base.proofs.Chain.{answers_some, answers_none}
+use Rattle.kernel_base.proofs.Told.{told_of, event_tells}
 use Rattle.list_kernel.proofs.kernel.ListKernelGpi.advance.Goals as goal
 
 pub returns-in-Ok-Some-clause-is : goal.returns-in-Ok-Some-clause-is

@@ -1,6 +1,6 @@
 use Rattle.list_kernel.specs.Kernel.{content_of}
-use Rattle.list_kernel.proofs.Forces.{forced_as, both_of}
-use Rattle.list_kernel.proofs.Hiding.{stored_width}
+use Rattle.kernel_base.proofs.Forces.{forced_as, both_of}
+use Rattle.kernel_base.proofs.Hiding.{stored_width}
 use Rattle.list_kernel.proofs.kernel.ListKernelGpi.force.Goals as goal
 
 pub hide-requires-clause-width : goal.hide-requires-clause-width

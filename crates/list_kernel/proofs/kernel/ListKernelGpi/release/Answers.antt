@@ -1,9 +1,10 @@
 use Rattle.std.proofs.Common.{Option, List, subst, sym, ◌∙◌, refl, false, slice_index_or}
 use Rattle.four_value.specs.declared.Digit.{Digit}
 use Rattle.gpi.specs.Events.{release_over}
-use Rattle.list_kernel.specs.Kernel.{content_of, TellsIt}
-use Rattle.list_kernel.proofs.Forces.{unseen_tells, both_of}
-use Rattle.list_kernel.proofs.Hiding.{hidden_width}
+use Rattle.kernel_base.specs.Steps.{TellsIt}
+use Rattle.list_kernel.specs.Kernel.{content_of}
+use Rattle.kernel_base.proofs.Forces.{unseen_tells, both_of}
+use Rattle.kernel_base.proofs.Hiding.{hidden_width}
 use Rattle.list_kernel.proofs.kernel.ListKernelGpi.release.Goals as goal
 
 pub returns-in-Some-clause-is : goal.returns-in-Some-clause-is

@@ -1,7 +1,7 @@
 use Rattle.std.proofs.Common.{◌≡◌, ◌+◌, ◌-◌, ◌<◌, ℕ, length, ap, sym, ◌∙◌, subst, arith, Vec, Global}
 use Rattle.gpi.specs.declared.types.Update.{Update}
 use Rattle.list_kernel.specs.Updates.{HasRoom}
-use Rattle.list_kernel.proofs.Queues.{at_once_more, delaying_more}
+use Rattle.kernel_base.proofs.Delays.{at_once_more, delaying_more}
 use Rattle.list_kernel.proofs.updates.Updates.enqueue_appended.Goals as goal
 
 pub loop-at-preserved : goal.loop-at-preserved

@@ -1,5 +1,6 @@
 use Rattle.std.proofs.Common.{◌∙◌, sym}
-use Rattle.list_kernel.proofs.Hiding.{values_opened, start_unforced}
+use Rattle.kernel_base.proofs.Hiding.{start_unforced}
+use Rattle.list_kernel.proofs.Hiding.{values_opened}
 use Rattle.list_kernel.proofs.values.Values.opened.Goals as goal
 
 pub returns-clause-hidden : goal.returns-clause-hidden

@@ -1,7 +1,8 @@
 use Rattle.std.proofs.Common.{◌≡◌, ℕ, length, refl, None, replicate, sym, ◌∙◌, subst}
 use Rattle.gpi.proofs.Steps.{on_ok}
 use Rattle.list_kernel.specs.declared.values.Values.{Values}
-use Rattle.list_kernel.proofs.Hiding.{same_places, sized_after, runs_unforced}
+use Rattle.list_kernel.proofs.Hiding.{sized_after, runs_unforced}
+use Rattle.kernel_base.proofs.Hiding.{same_places}
 use Rattle.list_kernel.proofs.values.Values.run.Goals as goal
 
 pub returns-clause-sized : goal.returns-clause-sized

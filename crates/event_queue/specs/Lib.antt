@@ -1,0 +1,4 @@
+pub mod Active
+pub mod Waiting
+pub mod Held
+pub mod Queues

@@ -1,0 +1,12 @@
+pub mod Same
+pub mod Lists
+pub mod KeySets
+pub mod Delays
+pub mod Hiding
+pub mod Opening
+pub mod Fits
+pub mod Chain
+pub mod Told
+pub mod Forces
+pub mod Idle
+pub mod Activated

@@ -1,6 +1,0 @@
-use Rattle.std.proofs.Common.{◌≡◌, ◌++◌, drop}
-use Rattle.gpi.specs.Design.{nets_of}
-use Rattle.list_kernel.proofs.kernel.start_nets.Given as goal
-
-abbrev pub invariant-loop-at : goal.invariant-loop-at
-invariant-loop-at l = l.nets.items ++ nets_of (drop l.at l.signals) ≡ nets_of l.signals

@@ -1,6 +1,0 @@
-use Rattle.std.proofs.Common.{◌≡◌, ◌++◌, drop}
-use Rattle.gpi.specs.Design.{start_map}
-use Rattle.list_kernel.proofs.values.start_signals.Given as goal
-
-abbrev pub invariant-loop-at : goal.invariant-loop-at
-invariant-loop-at l = l.map.items ++ start_map (drop l.at l.signals) ≡ start_map l.signals
