@@ -1,0 +1,11 @@
+pub mod Operands
+pub mod Touches
+pub mod Agree
+pub mod Steps
+pub mod Terms
+pub mod Targets
+pub mod Acts
+pub mod Cases
+pub mod Labels
+pub mod Statements
+pub mod Processes
