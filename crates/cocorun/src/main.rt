@@ -2,10 +2,10 @@
 #![tactic(auto)]
 
 use command::run_process;
-use list_kernel::ListKernel;
+use fast_kernel::FastKernel;
 use std::process::ExitCode;
 
 fn main(rt: HostRuntime) -> ExitCode {
-    let mut kernel = ListKernel::new(rt.alloc());
+    let mut kernel = FastKernel::new();
     run_process(&rt, &mut kernel)
 }

@@ -1,7 +1,8 @@
 //! Answers rows of the edge and of the simulator: its standard input has one row in each line, and it prints a line for each.
 //!
 //! The first word of a row names the part that answers what stands behind the tab: `port` (reads, puts and the small types, `src/port.rt`)
-//! or `kernel` (calls of the simulator's interface, `src/kernel.rt`). The gate compares what is printed with `stdout`.
+//! or `kernel` (calls of the simulator's interface, `src/kernel.rt`). Both simulators answer each row, and where their answers differ the
+//! program ends with an error. The gate compares what is printed with `stdout`.
 #![tactic(auto)]
 
 ghost use Rattle.std.specs.Prelude.{OnOk};
@@ -11,6 +12,7 @@ mod kernel;
 mod port;
 
 use anyhow::{Result, ensure};
+use fast_kernel::FastKernel;
 use gpi::Gpi;
 use kernel::{Book, begun};
 use list_kernel::ListKernel;
@@ -62,11 +64,15 @@ fn main(rt: HostRuntime) -> Result<()> {
     let mut rows = Vec::new(alloc);
     rt.reader().read_to_end(&mut rows)?;
     ensure!(rows.len() <= MOST_BYTES, "the rows are too long");
-    let mut simulator = ListKernel::new(alloc);
-    let mut book = begun(alloc, &mut simulator)?;
+    let mut plain = ListKernel::new(alloc);
+    let mut plain_book = begun(alloc, &mut plain)?;
+    let mut fast = FastKernel::new();
+    let mut fast_book = begun(alloc, &mut fast)?;
     for line in rows.split(|byte| *byte == b'\n') {
         if !line.is_empty() {
-            let shown = answer(&rt, alloc, line, &mut simulator, &mut book)?;
+            let shown = answer(&rt, alloc, line, &mut plain, &mut plain_book)?;
+            let other = answer(&rt, alloc, line, &mut fast, &mut fast_book)?;
+            ensure!(shown == other, "the fast simulator answers: {other}");
             println!(rt; "{shown}")?;
         }
     }

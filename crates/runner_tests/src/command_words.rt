@@ -34,8 +34,9 @@ fn push_answer(
         Ok(reading) => {
             push_work(alloc, out, &reading.work)?;
             let trace = if reading.trace { ", traced" } else { "" };
+            let vcd = if reading.vcd { ", as a VCD text" } else { "" };
             let text = format!(in alloc;
-                ", budget {}, seed {}{trace}",
+                ", budget {}, seed {}{trace}{vcd}",
                 reading.budget, reading.seed
             )?;
             out.push_str(&text)

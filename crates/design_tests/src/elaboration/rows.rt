@@ -8,7 +8,7 @@ ghost use Rattle.v_design.specs.Words.{elaboration_word};
 
 use crate::elaboration::designs::{Refusal, design_of};
 use crate::elaboration::values::design_text;
-use gpi::Flat;
+use gpi::{Flat, Gpi};
 use port_io::NoMemory;
 use std::alloc::Global;
 use table_rows::{Row, push_bytes};
@@ -56,36 +56,41 @@ fn named(name: &str) -> Option<&str>
 }
 
 /// What is shown of the design of a row.
-fn flat_text(alloc: Global, row: &Row<'_>, flat: &Flat) -> Result<Vec<u8>, NoMemory>
+fn flat_text<K: Gpi>(
+    alloc: Global,
+    kernel: &mut K,
+    row: &Row<'_>,
+    flat: &Flat,
+) -> Result<Vec<u8>, NoMemory>
     ensures { IfOk result (λ text. ShowsFlat (is_rule row.now) flat.now (part_at 4 row.now) text.items) }
 {
     if row.part(0) == b"rule".as_slice() {
         Ok(b" accepted".to_vec(alloc)?)
     } else {
-        design_text(alloc, flat, row.part(4))
+        design_text(alloc, kernel, flat, row.part(4))
     }
 }
 
 /// What a row comes to.
-fn row_text(alloc: Global, row: &Row<'_>) -> Result<Vec<u8>, NoMemory>
+fn row_text<K: Gpi>(alloc: Global, kernel: &mut K, row: &Row<'_>) -> Result<Vec<u8>, NoMemory>
     ensures { IfOk result (λ text. ShowsRow row.now text.items) }
 {
     let text = row.text(alloc, 3)?;
     let name = top_of(alloc, row)?;
     match design_of(alloc, &text, named(&name))? {
-        Ok(flat) => flat_text(alloc, row, &flat),
+        Ok(flat) => flat_text(alloc, kernel, row, &flat),
         Err(refusal) => refusal_text(alloc, refusal),
     }
 }
 
-/// The name of a row, and behind `:` what it comes to.
-pub fn answer(alloc: Global, line: &[u8]) -> Result<Vec<u8>, NoMemory>
+/// The name of a row, and behind `:` what it comes to on this simulator, whatever that held.
+pub fn answer<K: Gpi>(alloc: Global, kernel: &mut K, line: &[u8]) -> Result<Vec<u8>, NoMemory>
     ensures { IfOk result (λ text. Answers line.now text.items) }
 {
     let row = Row::of(line);
     let mut text = row.part(1).to_vec(alloc)?;
     text.push(b':')?;
-    let shown = row_text(alloc, &row)?;
+    let shown = row_text(alloc, kernel, &row)?;
     text.extend_from_slice(&shown)?;
     Ok(text)
 }

@@ -20,7 +20,6 @@ ghost use Rattle.design_tests.specs.Elaboration.Runs.{
 
 use crate::elaboration::digits::{letters, vector};
 use gpi::{Advance, Flat, Gpi, Region, SigId, Signal};
-use list_kernel::ListKernel;
 use port_io::{NoMemory, Sequence};
 use std::alloc::{AllocError, Global};
 use table_rows::{cut, number_of};
@@ -190,12 +189,17 @@ fn run_text<K: Gpi>(
     steps_text(alloc, kernel, flat.signals.len() as u32, stimulus, paths)
 }
 
-/// The same by the plain simulator, or that the design isn't sound.
-pub fn design_text(alloc: Global, flat: &Flat, stimulus: &[u8]) -> Result<Vec<u8>, NoMemory>
+/// The same, or that the design isn't sound.
+pub fn design_text<K: Gpi>(
+    alloc: Global,
+    kernel: &mut K,
+    flat: &Flat,
+    stimulus: &[u8],
+) -> Result<Vec<u8>, NoMemory>
     ensures { IfOk result (λ text. ShowsDesign flat.now stimulus.now text.items) }
 {
     if flat.is_sound() {
-        run_text(alloc, &mut ListKernel::new(alloc), flat, stimulus)
+        run_text(alloc, kernel, flat, stimulus)
     } else {
         Ok(b" not sound".to_vec(alloc)?)
     }

@@ -1,0 +1,11 @@
+pub mod Chains
+pub mod Picked
+pub mod Marks
+pub mod Making
+pub mod Waiting
+pub mod Told
+pub mod Woken
+pub mod Loaded
+pub mod Next
+pub mod Ran
+pub mod Opened

@@ -1,0 +1,16 @@
+//! A fast simulator of Verilog designs (IEEE 1364-2005).
+#![tactic(auto)]
+
+mod activation;
+mod calls;
+mod cases;
+mod changes;
+mod header;
+mod kernel;
+mod opening;
+mod queued;
+mod simulation;
+mod waiters;
+mod wake;
+
+pub use kernel::FastKernel;
