@@ -9,6 +9,10 @@ use Rattle.port_io.specs.declared.ports.SinkFault.{SinkFault}
 use Rattle.port_io.specs.declared.ports.SinkFault.TheVariants.{Failed, OutOfMemory}
 use Rattle.gpi.specs.Content.{Content}
 use Rattle.gpi.specs.declared.design.Flat.{Flat}
+use Rattle.vcd_text.specs.Changes.{ValueChange}
+use Rattle.vcd_text.specs.Text.{vcd}
+use Rattle.vcd_text.specs.TracedLines.{TellAll}
+use Rattle.vcd_text.proofs.Decided.{same_changes, some_changes}
 use Rattle.test_meaning.specs.Body.BodyTrees.{Case, TestFile}
 use Rattle.test_meaning.specs.Body.Views.{view_file}
 use Rattle.rig_model.specs.Run.Rig.{Rig, Setup}
@@ -19,8 +23,9 @@ use Rattle.rig_model.proofs.RunLemmas.Fronts.{start_is_front}
 use Rattle.rig_model.proofs.RunLemmas.Exists.{run_stops}
 use Rattle.command.specs.declared.options.RunOptions.{RunOptions}
 use Rattle.command.specs.declared.options.Shown.{Shown}
-use Rattle.command.specs.declared.options.Shown.TheVariants.{AllLines, LastLine}
-use Rattle.command.specs.Answer.{Answers, Answered, IsAnswer, RunsShown, TellsLines, RaisedAt, RefusesWords, Quit, lines_shown, setup_with}
+use Rattle.command.specs.declared.options.Shown.TheVariants.{AllLines, LastLine, VcdText}
+use Rattle.command.specs.Answer.{Answers, Answered, AreShown, BrokenText, IsAnswer, RunsShown, RunsText, TellsAnswer, TellsLines, TellsShown, RaisedAt, RefusesWords, Quit, WholeText, last_alone, setup_with}
+use Rattle.command.proofs.VcdRuns.{text_front}
 use Rattle.command.specs.declared.decision.Decision.{Decision}
 use Rattle.command.specs.declared.decision.Decision.TheVariants.{Refused, Runs}
 use Rattle.command.specs.Reading.{CanRun, IsRefusalStatus, IsTold, Reading, Reads, reading_of, refused, runs, usage_line}
@@ -81,6 +86,47 @@ module _ {O : Type 0} (sink : SinkMeans O)
     run_tells status.TestsRefused e content out out' w = absurd w
     run_tells status.ReadFault e content out out' w = absurd w
 
+  -- ---- VCD texts of runs
+
+  module _ (setup : Setup) (seed : ℕ) (cases : List Case) (budget : ℕ) (run : Run) (is_run : IsRun setup seed cases budget run) (changes : List ValueChange)
+      (tell : TellAll setup.flat (written setup budget run) changes) where
+    whole_text_tells : (s : Status) (content : Content) (out out' : O) → WholeText sink setup seed cases budget s content out out'
+        → TellsLines (sink.told out) (sink.told out') (vcd setup.flat changes) (status_of run) s
+    whole_text_tells s content out out' w =
+        let same : w.run ≡ run = run_unique setup seed cases budget w.run run w.is_run is_run in
+        let told : w.changes ≡ changes = same_changes setup.flat (written setup budget run) w.changes changes
+        (subst (λ (c : Run). TellAll setup.flat (written setup budget c) w.changes) same w.tell) tell in
+        inl (
+          w.status_is ∙ ap status_of same,
+          subst (λ (l : List ValueChange). Appends (sink.told out) (sink.told out') (joined (vcd setup.flat l))) told (takes_all_told sink.told sink.takes sink.breaks takes_told breaks_told out (vcd setup.flat w.changes) out' w.puts),
+        )
+
+    broken_text_tells : (out out' : O) → BrokenText sink setup seed cases budget out out' → AppendsPart (sink.told out) (sink.told out') (joined (vcd setup.flat changes))
+    broken_text_tells out out' b =
+        let f : (more : List (List ℕ)) × (written setup budget run ≡ b.lines ++ more) = start_is_front setup seed cases budget run b.lines is_run b.starts in
+        let t : (more : List (List ℕ)) × (vcd setup.flat changes ≡ vcd setup.flat b.changes ++ more) = text_front setup.flat b.lines f.0 b.changes changes b.tell
+        (subst (λ (l : List (List ℕ)). TellAll setup.flat l changes) f.1 tell) in
+        longer_part (sink.told out) (sink.told out') (vcd setup.flat b.changes) t.0 (vcd setup.flat changes) t.1
+        (puts_broken_told sink.told sink.takes sink.breaks takes_told breaks_told out (vcd setup.flat b.changes) out' b.puts)
+
+    text_tells : (s : Status) (content : Content) (out out' : O) → RunsText sink setup seed cases budget s content out out'
+        → TellsShown VcdText (sink.told out) (sink.told out') (vcd setup.flat changes) (status_of run) s
+    text_tells status.Passed content out out' w = inr (whole_text_tells status.Passed content out out' w)
+    text_tells status.Failed content out out' w = inr (whole_text_tells status.Failed content out out' w)
+    text_tells status.Budget content out out' w = inr (whole_text_tells status.Budget content out out' w)
+    text_tells status.WriteFault content out out' b = inr (inr (inl refl, broken_text_tells out out' b))
+    text_tells status.NoMemory content out out' u = inl refl
+    text_tells status.Usage content out out' w = absurd w
+    text_tells status.DesignRefused content out out' w = absurd w
+    text_tells status.TestsRefused content out out' w = absurd w
+    text_tells status.ReadFault content out out' w = absurd w
+
+  text_raised : (setup : Setup) (seed : ℕ) (cases : List Case) (budget : ℕ) (s : Status) (content : Content) (out out' : O)
+      → RunsText sink setup seed cases budget s content out out' → s ≡ status.WriteFault → IsRaised (faults out) (faults out')
+  text_raised setup seed cases budget s content out out' h is =
+      let b : BrokenText sink setup seed cases budget out out' = subst (λ (x : Status). RunsText sink setup seed cases budget x content out out') is h in
+      puts_broken_count faults sink.takes sink.breaks takes_count breaks_count out (vcd setup.flat b.changes) out' b.puts
+
   -- a run breaks with its put alone
   run_raised : (setup : Setup) (seed : ℕ) (cases : List Case) (budget : ℕ) (s : Status) (e : Rig) (content : Content) (out out' : O)
       → RunsTo sink setup seed cases budget s e content out out' → s ≡ status.WriteFault → IsRaised (faults out) (faults out')
@@ -122,8 +168,8 @@ module _ {O : Type 0} (sink : SinkMeans O)
     Tells shown flat file s out out' =
         (lines : List (List ℕ)) × (own : Status)
         × ((run : Run) × IsRun (setup_with options.trace flat file) options.seed file.cases options.budget run
-        × (lines ≡ lines_shown shown (written (setup_with options.trace flat file) options.budget run)) × (own ≡ status_of run))
-        × TellsLines (sink.told out) (sink.told out') lines own s
+        × AreShown shown flat (written (setup_with options.trace flat file) options.budget run) lines × (own ≡ status_of run))
+        × TellsShown shown (sink.told out) (sink.told out') lines own s
 
     shown_tells : (shown : Shown) (flat : Flat) (file : TestFile) (s : Status) (content : Content) (out out' : O)
         → RunsShown shown sink options flat file s content out out' → Tells shown flat file s out out'
@@ -136,16 +182,25 @@ module _ {O : Type 0} (sink : SinkMeans O)
           run_tells setup options.seed file.cases options.budget stop.0 stop.1 s a.0 content out out' a.1,
         )
     shown_tells LastLine flat file s content out out' (inl (run, is_run, puts)) =
-        let lines : List (List ℕ) = lines_shown LastLine (written (setup_with options.trace flat file) options.budget run) in
+        let lines : List (List ℕ) = last_alone (written (setup_with options.trace flat file) options.budget run) in
         (lines, status_of run, (run, is_run, refl, refl), lines_tell (status_of run) lines s out out' puts.ends)
     shown_tells LastLine flat file s content out out' (inr q) =
         let setup : Setup = setup_with options.trace flat file in
         let stop : (c : Run) × IsRun setup options.seed file.cases options.budget c = run_stops setup options.seed file.cases options.budget in
-        let lines : List (List ℕ) = lines_shown LastLine (written setup options.budget stop.0) in
+        let lines : List (List ℕ) = last_alone (written setup options.budget stop.0) in
         (lines, status_of stop.0, (stop.0, stop.1, refl, refl), quit_tells lines (status_of stop.0) s out out' q)
+    shown_tells VcdText flat file s content out out' a =
+        let setup : Setup = setup_with options.trace flat file in
+        let stop : (c : Run) × IsRun setup options.seed file.cases options.budget c = run_stops setup options.seed file.cases options.budget in
+        let told : (changes : List ValueChange) × TellAll flat (written setup options.budget stop.0) changes = some_changes flat (written setup options.budget stop.0) in (
+          vcd flat told.0,
+          status_of stop.0,
+          (stop.0, stop.1, (told.0, told.1, refl), refl),
+          text_tells setup options.seed file.cases options.budget stop.0 stop.1 told.0 told.1 s content out out' a,
+        )
 
     answer_tells : (r : Reading) (s : Status) (content : Content) (out out' : O) → Answers sink options r s content out out'
-        → (lines : List (List ℕ)) × (own : Status) × IsAnswer options r lines own × TellsLines (sink.told out) (sink.told out') lines own s
+        → (lines : List (List ℕ)) × (own : Status) × IsAnswer options r lines own × TellsAnswer options r (sink.told out) (sink.told out') lines own s
     answer_tells (refused own line) s content out out' a = (line ∷ [], own, (refl, refl), lines_tell own (line ∷ []) s out out' a)
     answer_tells (runs flat file) s content out out' a = shown_tells options.shown flat file s content out out' a
 
@@ -161,8 +216,10 @@ module _ {O : Type 0} (sink : SinkMeans O)
     shown_raised AllLines flat file s content out out' a =
         run_raised (setup_with options.trace flat file) options.seed file.cases options.budget s a.0 content out out' a.1
     shown_raised LastLine flat file s content out out' (inl (run, is_run, puts)) =
-        lines_raised (status_of run) (lines_shown LastLine (written (setup_with options.trace flat file) options.budget run)) s out out' (run_writes run) puts.ends
+        lines_raised (status_of run) (last_alone (written (setup_with options.trace flat file) options.budget run)) s out out' (run_writes run) puts.ends
     shown_raised LastLine flat file s content out out' (inr q) = quit_raised s out out' q
+    shown_raised VcdText flat file s content out out' a =
+        text_raised (setup_with options.trace flat file) options.seed file.cases options.budget s content out out' a
 
     -- a refusal that was decided isn't for a put
     pub write_raised : (decision : Decision) (s : Status) (content : Content) (out out' : O) → CanRun decision → Answers sink options (reading_of decision) s content out out'

@@ -28,7 +28,7 @@ use Rattle.command.specs.declared.options.RunOptions.{RunOptions}
 use Rattle.command.specs.Answer.{RunsFile, setup_with}
 
 -- no line is a front of those of a run
-start_none : (setup : Setup) (seed : ℕ) (cases : List Case) (budget : ℕ) → IsStart setup seed cases budget []
+pub start_none : (setup : Setup) (seed : ℕ) (cases : List Case) (budget : ℕ) → IsStart setup seed cases budget []
 unfolding steps
 start_none setup seed cases budget = record { count = 0; more = written setup budget (opening setup seed cases); reached = refl }
 

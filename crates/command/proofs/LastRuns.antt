@@ -16,8 +16,7 @@ use Rattle.command.specs.Regression.Runs.{EndsTo, RunsTo, Whole, status_in, stat
 use Rattle.command.specs.declared.regression.status.Status.{Status}
 use Rattle.command.specs.declared.regression.status.Status.TheVariants as status
 use Rattle.command.specs.declared.options.RunOptions.{RunOptions}
-use Rattle.command.specs.declared.options.Shown.TheVariants.{LastLine}
-use Rattle.command.specs.Answer.{RunsFile, RunsLast, lines_shown, setup_with}
+use Rattle.command.specs.Answer.{RunsFile, RunsLast, last_alone, setup_with}
 use Rattle.command.proofs.Closing.{writes_some}
 
 -- A run stopped with this status, the simulator stands for that place, and its last line is kept.
@@ -61,11 +60,11 @@ last_put {O} sink options flat file own s content before kept out out' some ran 
     k : KeepsRun setup options.seed file.cases options.budget own content kept
     k = run_kept setup options.seed file.cases options.budget content before kept own ran.0 some ran.1
 
-    lines : kept ∷ [] ≡ lines_shown LastLine (written setup options.budget k.run)
+    lines : kept ∷ [] ≡ last_alone (written setup options.budget k.run)
     lines = ap (λ (last : Option (List ℕ)). option_to_list last) (sym k.is_last)
 
-    shown : EndsTo sink (lines_shown LastLine (written setup options.budget k.run)) (status_of k.run) s out out'
-    shown = subst (λ (x : Status). EndsTo sink (lines_shown LastLine (written setup options.budget k.run)) x s out out') k.status_is
+    shown : EndsTo sink (last_alone (written setup options.budget k.run)) (status_of k.run) s out out'
+    shown = subst (λ (x : Status). EndsTo sink (last_alone (written setup options.budget k.run)) x s out out') k.status_is
         (subst (λ (l : List (List ℕ)). EndsTo sink l own s out out') lines ends)
 
 -- memory was short before it

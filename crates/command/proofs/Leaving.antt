@@ -15,8 +15,8 @@ use Rattle.command.specs.declared.regression.status.Status.{Status}
 use Rattle.command.specs.declared.regression.status.Status.TheVariants as status
 use Rattle.command.specs.declared.options.RunOptions.{RunOptions}
 use Rattle.command.specs.declared.options.Shown.{Shown}
-use Rattle.command.specs.declared.options.Shown.TheVariants.{AllLines, LastLine}
-use Rattle.command.specs.Answer.{LeavesKernel, RunsFile, RunsShown}
+use Rattle.command.specs.declared.options.Shown.TheVariants.{AllLines, LastLine, VcdText}
+use Rattle.command.specs.Answer.{LeavesKernel, RunsFile, RunsShown, RunsText, setup_with}
 
 module _ {K : Type 0} (is_loaded : K → Type 0) (before after : K) (loaded : is_loaded after) where
   -- after a run that stopped, and the put of its line
@@ -40,9 +40,23 @@ module _ {K : Type 0} (is_loaded : K → Type 0) (before after : K) (loaded : is
     file_leaves status.TestsRefused ran = absurd ran.1
     file_leaves status.ReadFault ran = absurd ran.1
 
+    -- after its VCD text
+    text_leaves : (s : Status) → RunsText sink (setup_with options.trace flat file) options.seed file.cases options.budget s content out out'
+        → LeavesKernel is_loaded s before after
+    text_leaves status.Passed ran = loaded
+    text_leaves status.Failed ran = loaded
+    text_leaves status.Budget ran = loaded
+    text_leaves status.WriteFault ran = inl loaded
+    text_leaves status.NoMemory ran = tt
+    text_leaves status.Usage ran = absurd ran
+    text_leaves status.DesignRefused ran = absurd ran
+    text_leaves status.TestsRefused ran = absurd ran
+    text_leaves status.ReadFault ran = absurd ran
+
     pub shown_leaves : (shown : Shown) (s : Status) → RunsShown shown sink options flat file s content out out' → LeavesKernel is_loaded s before after
     shown_leaves AllLines s ran = file_leaves s ran
     shown_leaves LastLine s (inl (run, is_run, puts)) =
         subst (λ (x : Status). LeavesKernel is_loaded x before after) (sym puts.ends.status_is)
         (put_leaves (is_over run.place) (list_any is_fail run.verdicts) puts.ends.fault)
     shown_leaves LastLine s (inr q) = subst (λ (x : Status). LeavesKernel is_loaded x before after) (sym q.short) tt
+    shown_leaves VcdText s ran = text_leaves s ran

@@ -5,6 +5,7 @@ pub mod CommandWordsLemmas
 pub mod FileRuns
 pub mod Closing
 pub mod LastRuns
+pub mod VcdRuns
 pub mod Leaving
 pub mod Words
 pub mod AnswerLaws

@@ -2,6 +2,10 @@
 use Rattle.std.proofs.Common.{◌≡◌, ◌⊎◌, inl, inr, ℕ, List, [], ◌∷◌, Option, None, Some, IsSomeAnd, refl, ap, sym, subst, ◌∙◌, take}
 use Rattle.port_io.specs.Ports.{GivesFile}
 use Rattle.gpi.specs.declared.design.Flat.{Flat}
+use Rattle.vcd_text.specs.Changes.{ValueChange}
+use Rattle.vcd_text.specs.Text.{vcd}
+use Rattle.vcd_text.specs.TracedLines.{TellAll}
+use Rattle.vcd_text.proofs.Decided.{same_changes}
 use Rattle.test_meaning.specs.Body.BodyTrees.{TestFile}
 use Rattle.rig_model.specs.Run.Rig.{Setup}
 use Rattle.rig_model.specs.Run.Run.{IsRun, Run, written}
@@ -23,7 +27,10 @@ use Rattle.command.specs.Regression.Runs.{status_of}
 use Rattle.command.specs.declared.regression.status.Status.{Status}
 use Rattle.command.specs.declared.regression.status.Status.TheVariants as status
 use Rattle.command.specs.declared.options.RunOptions.{RunOptions}
-use Rattle.command.specs.Answer.{IsAnswer, lines_shown, setup_with}
+use Rattle.command.specs.declared.options.Shown.{Shown}
+use Rattle.command.specs.declared.options.Shown.TheVariants.{AllLines, LastLine, VcdText}
+use Rattle.command.specs.Answer.{AreShown, IsAnswer, last_alone, setup_with}
+use Rattle.command.proofs.VcdRuns.{tell_on, text_on}
 use Rattle.command.specs.OneAnswer.{IsUnread}
 use Rattle.command.specs.Reading.{IsMade, IsTold, Reading, ReadsAsked, ReadsBoth, ReadsTests, TextOfDesign, TextOfTests, made_design, made_tests, most, options_in, refused, refused_line, runs, told_means, usage_line}
 use Rattle.command.proofs.AlikeRuns.{alike_runs, alike_written}
@@ -106,14 +113,25 @@ refused_once options others r t own other line more lines rest s z e h o l a b =
     let w : (rest ≡ more ∷ []) × (z ≡ other) = subst (λ (y : Reading). IsAnswer others y rest z) h b in
     (x.0 ∙ ap (λ (n : List ℕ). n ∷ []) l ∙ sym w.0, x.1 ∙ o ∙ sym w.1)
 
+-- the same is put of two runs that have written the same
+shown_once : (shown : Shown) (flat other : Flat) (some more lines rest : List (List ℕ)) → AreAlike flat other → some ≡ more → AreShown shown flat some lines → AreShown shown other more rest → lines ≡ rest
+shown_once AllLines flat other some more lines rest alike e a b = a ∙ e ∙ sym b
+shown_once LastLine flat other some more lines rest alike e a b = a ∙ ap last_alone e ∙ sym b
+shown_once VcdText flat other some more lines rest alike e (changes, tell, is) (others, told, are) =
+    is ∙ ap (vcd flat) same ∙ text_on flat other alike.signals alike.nodes alike.step others ∙ sym are
+  where
+    same : changes ≡ others
+    same = same_changes flat some changes others tell
+        (subst (λ (l : List (List ℕ)). TellAll flat l others) (sym e) (tell_on other flat (sym alike.signals) (sym alike.nodes) more others told))
+
 -- answers of runs with the same options
 runs_once : (options : RunOptions) (flat other : Flat) (file : TestFile) (lines rest : List (List ℕ)) (s z : Status) → AreAlike flat other
     → IsAnswer options (runs flat file) lines s → IsAnswer options (runs other file) rest z → (lines ≡ rest) × (s ≡ z)
 runs_once options flat other file lines rest s z alike a b =
     let same : a.0 ≡ b.0 = run_unique (setup_with options.trace other file) options.seed file.cases options.budget a.0 b.0
     (alike_runs file.functions options.trace flat other alike options.seed file.cases options.budget a.0 a.1) b.1 in (
-      a.2 ∙ ap (lines_shown options.shown) (alike_written file.functions options.trace flat other alike options.budget a.0
-          ∙ ap (λ (run : Run). written (setup_with options.trace other file) options.budget run) same) ∙ sym b.2,
+      shown_once options.shown flat other _ _ lines rest alike (alike_written file.functions options.trace flat other alike options.budget a.0
+          ∙ ap (λ (run : Run). written (setup_with options.trace other file) options.budget run) same) a.2 b.2,
       a.3 ∙ ap (λ (run : Run). status_of run) same ∙ sym b.3,
     )
 

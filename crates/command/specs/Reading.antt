@@ -1,5 +1,5 @@
 -- What the words come to, by the reads that are made.
-use Rattle.std.specs.Prelude.{◌≡◌, ◌⊎◌, ℕ, Bool, true, false, List, ◌∷◌, ◌++◌, [], Option, None, codes}
+use Rattle.std.specs.Prelude.{◌≡◌, ◌⊎◌, ◌||◌, ℕ, Bool, true, false, List, ◌∷◌, ◌++◌, [], Option, None, codes}
 use Rattle.port_io.specs.Ports.{GivesFile}
 use Rattle.port_io.specs.Means.{StoreMeans}
 use Rattle.gpi.specs.declared.design.Flat.{Flat}
@@ -20,7 +20,7 @@ use Rattle.command.specs.declared.regression.status.Status.{Status}
 use Rattle.command.specs.declared.regression.status.Status.TheVariants as status
 use Rattle.command.specs.declared.options.RunOptions.{RunOptions}
 use Rattle.command.specs.declared.options.Shown.{Shown}
-use Rattle.command.specs.declared.options.Shown.TheVariants.{AllLines, LastLine}
+use Rattle.command.specs.declared.options.Shown.TheVariants.{AllLines, LastLine, VcdText}
 use Rattle.command.specs.declared.decision.Decision.{Decision}
 use Rattle.command.specs.declared.decision.Decision.TheVariants.{Refused, Runs}
 
@@ -29,20 +29,23 @@ pub data Reading : Type 0 where
   refused : Status → List ℕ → Reading
   runs : Flat → TestFile → Reading
 
--- which lines of a run are put: of the run of generated texts the last one alone, unless told changes have lines
-abbrev pub shown_in : Asked → Bool → Shown
-shown_in (words.files design tests top) trace = AllLines
-shown_in (words.made n) true = AllLines
-shown_in (words.made n) false = LastLine
+-- what is put of a run, by whether told changes have lines and whether its VCD text is asked for: of the run of generated texts the last line alone,
+-- unless told changes have lines
+abbrev pub shown_in : Asked → Bool → Bool → Shown
+shown_in (words.files design tests top) trace true = VcdText
+shown_in (words.files design tests top) trace false = AllLines
+shown_in (words.made n) true vcd = AllLines
+shown_in (words.made n) false vcd = LastLine
 
--- the budget, the seed and the trace that the words ask for, and which lines are put then
+-- the budget and the seed that the words ask for, whether changes are told in the run, and what is put of it then
 abbrev pub options_in : Form → RunOptions
-options_in form = record { budget = form.budget; seed = form.seed; trace = form.trace; shown = shown_in form.asked form.trace }
+options_in form =
+    record { budget = form.budget; seed = form.seed; trace = form.trace || form.vcd; shown = shown_in form.asked form.trace form.vcd }
 
 -- ---- the lines of refusals
 
 abbrev pub usage_line : List ℕ
-usage_line = codes "usage: cocorun [--top NAME] [--budget N] [--seed N] [--trace] DESIGN TESTS" ++ 10 ∷ []
+usage_line = codes "usage: cocorun [--top NAME] [--budget N] [--seed N] [--trace | --vcd] DESIGN TESTS" ++ 10 ∷ []
 
 -- that file could not be read
 abbrev pub read_line : List ℕ → List ℕ

@@ -17,7 +17,7 @@ pub(crate) fn usage_text(alloc: Global) -> Result<Vec<u8>, NoMemory>
 {
     let mut line = Vec::new(alloc);
     line.extend_from_slice(
-        b"usage: cocorun [--top NAME] [--budget N] [--seed N] [--trace] DESIGN TESTS\n",
+        b"usage: cocorun [--top NAME] [--budget N] [--seed N] [--trace | --vcd] DESIGN TESTS\n",
     )?;
     Ok(line)
 }

@@ -5,13 +5,15 @@ ghost use Rattle.command.specs.Reading.{options_in, shown_in};
 
 use crate::command_words::{Reading, Work};
 
-/// Which lines of a run are put.
+/// What is put of a run.
 #[derive(Clone, Copy, Debug)]
 pub enum Shown {
-    /// All of them.
+    /// All its lines.
     AllLines,
-    /// The last one alone.
+    /// The last of its lines alone.
     LastLine,
+    /// The VCD text of its changes (IEEE 1364-2005, clause 18), in place of its lines.
+    VcdText,
 }
 
 /// How tests are run.
@@ -22,17 +24,19 @@ pub struct RunOptions {
     pub budget: u64,
     /// The seed of the random numbers.
     pub seed: u64,
-    /// Whether a line is written for each told change of a signal.
+    /// Whether the run has a line for each told change of a signal.
     pub trace: bool,
-    /// Which lines of the run are put.
+    /// What is put of the run.
     pub shown: Shown,
 }
 
-/// Which lines of a run are put: of the run of generated texts the last one alone, unless told changes have lines.
-fn shown_of(work: Work<'_>, trace: bool) -> Shown
-    ensures { result ≡ shown_in (asked_of work.entry) trace }
+/// What is put of a run, by whether told changes have lines and whether its VCD text is asked for: of the run of generated texts the last line
+/// alone, unless told changes have lines.
+fn shown_of(work: Work<'_>, trace: bool, vcd: bool) -> Shown
+    ensures { result ≡ shown_in (asked_of work.entry) trace vcd }
 {
     match work {
+        Work::Files { .. } if vcd => Shown::VcdText,
         Work::Files { .. } => Shown::AllLines,
         Work::Made(_) if trace => Shown::AllLines,
         Work::Made(_) => Shown::LastLine,
@@ -46,7 +50,7 @@ pub(crate) fn options_of(reading: Reading<'_>) -> RunOptions
     RunOptions {
         budget: reading.budget,
         seed: reading.seed,
-        trace: reading.trace,
-        shown: shown_of(reading.work, reading.trace),
+        trace: reading.trace || reading.vcd,
+        shown: shown_of(reading.work, reading.trace, reading.vcd),
     }
 }

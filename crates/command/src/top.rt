@@ -1,11 +1,12 @@
 //! The top call.
 ghost use Rattle.std.specs.Prelude.{◌≡◌, ◌⊎◌, ◌∷◌, [], true, OnOk, map, string_bytes};
 ghost use Rattle.port_io.specs.Means.{sink_means, store_means};
+ghost use Rattle.gpi.specs.Content as content;
 ghost use Rattle.gpi.specs.Soundness.{IsSoundFlat};
 ghost use Rattle.test_meaning.specs.Body.Sound.{is_sound};
 ghost use Rattle.test_meaning.specs.Body.Views.{view_file};
 ghost use Rattle.command.specs.Regression.Runs.{EndsTo, status_in};
-ghost use Rattle.command.specs.Answer.{Answered, Answers, LeavesKernel, Quit, RaisedAt, RefusesWords, RunsFile, RunsLast, RunsShown};
+ghost use Rattle.command.specs.Answer.{Answered, Answers, LeavesKernel, Quit, RaisedAt, RefusesWords, RunsFile, RunsLast, RunsShown, RunsText, setup_with};
 ghost use Rattle.command.specs.Reading.{CanRun, reading_of};
 
 use crate::command_words::{WordsFault, read_words};
@@ -18,12 +19,13 @@ use crate::regression::{Status, run_all};
 use await_tree::wait_list::Steps;
 use gpi::{Flat, Gpi};
 use plain_task::flow::TreeMaker;
-use port_io::{NoMemory, Sink, Store};
+use port_io::{NoMemory, Sink, SinkFault, Store};
 use scheduler::Engine;
 use std::alloc::Global;
 use std::sync::ledger::Ledger;
 use test_meaning::body::TestFile;
 use trigger_table::TriggerTable;
+use vcd_text::{TracedSignals, VcdSink};
 
 /// Puts the one line of an answer, which has this status where it is taken.
 fn put_line<O: Sink>(alloc: Global, own: Status, line: &[u8], out: &mut O) -> Status
@@ -43,7 +45,8 @@ pub(crate) fn refuse_words<O: Sink>(alloc: Global, out: &mut O) -> Status
     }
 }
 
-/// Runs the tests of the file on a design, and puts all lines of the run. Only want of memory is an error.
+/// Runs the tests of the file on a design, which the simulator holds in its opening state, and puts all lines of the run. Only want of memory is an
+/// error.
 fn run_file<O: Sink, K: Gpi, L: Ledger>(
     alloc: Global,
     flat: &Flat,
@@ -55,17 +58,18 @@ fn run_file<O: Sink, K: Gpi, L: Ledger>(
 ) -> Result<Status, NoMemory>
     requires flat { IsSoundFlat flat.now }
     requires file { is_sound (view_file file.now) ≡ true }
+    requires loaded { K.is_loaded kernel.old }
+    requires opening { K.content kernel.old ≡ content.opening flat.now }
     ensures runs { RunsFile (sink_means O.Sink) options flat.now (view_file file.now) (status_in result) (K.content kernel.new) out.old out.new }
     ensures loaded { OnOk result (K.is_loaded kernel.new) }
 {
-    kernel.load(alloc, flat)?;
     let maker = TreeMaker::new(file);
     let awaits = TriggerTable::new(alloc);
     let mut engine = Engine::new(alloc, maker, awaits, flat, options.seed, options.trace)?;
     Ok(run_all(alloc, file, &mut engine, kernel, out, options.budget, steps))
 }
 
-/// Runs the tests of the file on a design, and puts the last line of the run alone. Only want of memory is an error, and then nothing was put.
+/// Runs the tests of the file on a design, which the simulator holds so, and puts the last line of the run alone. Only want of memory is an error, and then nothing was put.
 fn run_last<O: Sink, K: Gpi, L: Ledger>(
     alloc: Global,
     flat: &Flat,
@@ -77,6 +81,8 @@ fn run_last<O: Sink, K: Gpi, L: Ledger>(
 ) -> Result<Status, NoMemory>
     requires flat { IsSoundFlat flat.now }
     requires file { is_sound (view_file file.now) ≡ true }
+    requires loaded { K.is_loaded kernel.old }
+    requires opening { K.content kernel.old ≡ content.opening flat.now }
     ensures runs { RunsLast (sink_means O.Sink) options flat.now (view_file file.now) (status_in result) (K.content kernel.new) out.old out.new }
     ensures loaded { OnOk result (K.is_loaded kernel.new) }
 {
@@ -87,7 +93,34 @@ fn run_last<O: Sink, K: Gpi, L: Ledger>(
     }
 }
 
-/// Runs the tests of the file on a design, and puts the lines that the options ask for. Only want of memory is an error.
+/// Runs the tests of the file on a design, which the simulator holds so, and puts the VCD text of the run. Only want of memory is an error.
+fn run_text<O: Sink, K: Gpi, L: Ledger>(
+    alloc: Global,
+    flat: &Flat,
+    file: &TestFile,
+    options: RunOptions,
+    kernel: &mut K,
+    out: &mut O,
+    steps: &mut Steps<L>,
+) -> Result<Status, NoMemory>
+    requires flat { IsSoundFlat flat.now }
+    requires file { is_sound (view_file file.now) ≡ true }
+    requires loaded { K.is_loaded kernel.old }
+    requires opening { K.content kernel.old ≡ content.opening flat.now }
+    ensures runs { RunsText (sink_means O.Sink) (setup_with options.trace flat.now (view_file file.now)) options.seed
+        (view_file file.now).cases options.budget (status_in result) (K.content kernel.new) out.old out.new }
+    ensures loaded { OnOk result (K.is_loaded kernel.new) }
+{
+    let signals = TracedSignals::new(alloc, flat)?;
+    let mut text = VcdSink::new(&signals, out);
+    match text.begin(alloc) {
+        Ok(()) => run_file(alloc, flat, file, options, kernel, &mut text, steps),
+        Err(SinkFault::Failed) => Ok(Status::WriteFault),
+        Err(SinkFault::OutOfMemory) => Err(NoMemory),
+    }
+}
+
+/// Runs the tests of the file on a design, and puts of the run what the options ask for. Only want of memory is an error.
 fn run_shown<O: Sink, K: Gpi, L: Ledger>(
     alloc: Global,
     flat: &Flat,
@@ -103,9 +136,11 @@ fn run_shown<O: Sink, K: Gpi, L: Ledger>(
         (view_file file.now) (status_in result) (K.content kernel.new) out.old out.new }
     ensures loaded { OnOk result (K.is_loaded kernel.new) }
 {
+    kernel.load(alloc, flat)?;
     match options.shown {
         Shown::AllLines => run_file(alloc, flat, file, options, kernel, out, steps),
         Shown::LastLine => run_last(alloc, flat, file, options, kernel, out, steps),
+        Shown::VcdText => run_text(alloc, flat, file, options, kernel, out, steps),
     }
 }
 
@@ -135,7 +170,7 @@ fn answer<O: Sink, K: Gpi, L: Ledger>(
 
 /// Runs the tests of a file on a design, or generated ones.
 ///
-/// `words` are those of the command without the program's name: `[--top NAME] [--budget N] [--seed N] [--trace] DESIGN TESTS`, or
+/// `words` are those of the command without the program's name: `[--top NAME] [--budget N] [--seed N] [--trace | --vcd] DESIGN TESTS`, or
 /// `[--budget N] [--seed N] [--trace] --made N`, options and files in any order, as `read_words` of `command::command_words` takes them. DESIGN and
 /// TESTS are the names of the two files. The top of the design is the module that `--top` names, or else the only one that no module
 /// instantiates. The design is read first. With `--made` no file is read: the texts are those that `command::made_texts` makes of the number, which
@@ -149,15 +184,16 @@ fn answer<O: Sink, K: Gpi, L: Ledger>(
 /// - tests that have more than 1,048,576 bytes: `error: <file>: TooLong`, `TestsRefused`; ones that break a rule:
 ///   `error: <file>: <rule> at line <line>`, `TestsRefused`, by the rule that they break first;
 /// - else the lines of the run of all tests, in which random numbers are drawn by the seed of `--seed`, or of seed 0, and in which each
-///   told change of a signal has a line where `--trace` asks for it; with `--made`, and without `--trace`, the last of these lines alone. The
-///   status is `Passed`, or `Failed` where a test failed. Where the next step doesn't fit what is left of the budget it is `Budget`, and the
-///   last line is `BUDGET <budget>`: the budget of `--budget`, or 10,000,000.
+///   told change of a signal has a line where `--trace` asks for it; with `--made`, and without `--trace`, the last of these lines alone; with
+///   `--vcd` the VCD text of what these lines tell (IEEE 1364-2005, clause 18), and no other line. The status is `Passed`, or `Failed` where a
+///   test failed. Where the next step doesn't fit what is left of the budget it is `Budget`, and the last line is `BUDGET <budget>`: the budget of
+///   `--budget`, or 10,000,000.
 ///
 /// Where the store tells its files, the texts are the first bytes of the files that it told when it was handed in.
 ///
 /// `WriteFault` comes where a put failed, and nothing is put after it. `NoMemory` comes where memory was short, and then a front of
-/// that answer was put, which may be nothing. The count of faults of the store rose where the status is `ReadFault`, and that of the
-/// sink where it is `WriteFault`.
+/// that answer was put, which may be nothing; of a VCD text nothing is said then. The count of faults of the store rose where the status is
+/// `ReadFault`, and that of the sink where it is `WriteFault`.
 ///
 /// The run is simulated by `kernel`, whatever it held before: the design is loaded into it once both texts are accepted. After
 /// `Passed`, `Failed` and `Budget` it stands for the run's last configuration: it holds that configuration's state, its awaited keys are

@@ -23,7 +23,7 @@ module _ {O : Type 0} (takes breaks : O → List ℕ → O → Type 0) where
     taken : TakesAll takes before.out.now written after.out.now
     same : IsSameSink before after
 
-  all_more : (flat : Flat) (before mid after : VcdSink O) (text : List ℕ) (texts : List (List ℕ)) → before.signals.flat.now ≡ flat → TakesLine takes before text mid
+  all_more : (flat : Flat) (before mid after : VcdSink O) (text : List ℕ) (texts : List (List ℕ)) → before.signals.now.flat.now ≡ flat → TakesLine takes before text mid
       → WritesAll flat mid texts after → WritesAll flat before (text ∷ texts) after
   all_more flat before mid after text texts design line others = record {
     written = line.lines ++ others.written;
@@ -32,12 +32,12 @@ module _ {O : Type 0} (takes breaks : O → List ℕ → O → Type 0) where
     same = same_then before mid after line.same others.same;
   }
 
-  writes_all : (flat : Flat) (before : VcdSink O) (texts : List (List ℕ)) (after : VcdSink O) → before.signals.flat.now ≡ flat → TakesAll (TakesLine takes) before texts after → WritesAll flat before texts after
+  writes_all : (flat : Flat) (before : VcdSink O) (texts : List (List ℕ)) (after : VcdSink O) → before.signals.now.flat.now ≡ flat → TakesAll (TakesLine takes) before texts after → WritesAll flat before texts after
   writes_all flat before [] after design stays = record {
     written = [];
     become = refl;
     taken = ap (λ (s : VcdSink O). s.out.now) stays;
-    same = record { same_reference = ap (λ (s : VcdSink O). s.out.ghost_name) stays; design = ap (λ (s : VcdSink O). s.signals.flat.now) stays };
+    same = record { same_reference = ap (λ (s : VcdSink O). s.out.ghost_name) stays; design = ap (λ (s : VcdSink O). s.signals.now.flat.now) stays };
   }
   writes_all flat before (text ∷ texts) after design (mid, line, rest) =
       all_more flat before mid after text texts design line (writes_all flat mid texts after (line.same.design ∙ design) rest)
@@ -70,7 +70,7 @@ module _ {O : Type 0} (takes breaks : O → List ℕ → O → Type 0) where
     taken : TakesAll takes before.out.now written after.out.now
     same : IsSameSink before after
 
-  on_more : (flat : Flat) (before mid after : VcdSink O) (text : List ℕ) (texts : List (List ℕ)) → before.signals.flat.now ≡ flat → TakesLine takes before text mid
+  on_more : (flat : Flat) (before mid after : VcdSink O) (text : List ℕ) (texts : List (List ℕ)) → before.signals.now.flat.now ≡ flat → TakesLine takes before text mid
       → WritesOn flat mid texts after → WritesOn flat before (text ∷ texts) after
   on_more flat before mid after text texts design line others = record {
     written = line.lines ++ others.written;
@@ -86,12 +86,12 @@ module _ {O : Type 0} (takes breaks : O → List ℕ → O → Type 0) where
     same = same_then before mid after line.same others.same;
   }
 
-  writes_on : (flat : Flat) (before : VcdSink O) (texts : List (List ℕ)) (after : VcdSink O) → before.signals.flat.now ≡ flat → TakesAll (TakesLine takes) before texts after → WritesOn flat before texts after
+  writes_on : (flat : Flat) (before : VcdSink O) (texts : List (List ℕ)) (after : VcdSink O) → before.signals.now.flat.now ≡ flat → TakesAll (TakesLine takes) before texts after → WritesOn flat before texts after
   writes_on flat before [] after design stays = record {
     written = [];
     along = λ rest more b. subst (λ (s : VcdSink O). BecomeAll flat s.last rest more) stays b;
     taken = ap (λ (s : VcdSink O). s.out.now) stays;
-    same = record { same_reference = ap (λ (s : VcdSink O). s.out.ghost_name) stays; design = ap (λ (s : VcdSink O). s.signals.flat.now) stays };
+    same = record { same_reference = ap (λ (s : VcdSink O). s.out.ghost_name) stays; design = ap (λ (s : VcdSink O). s.signals.now.flat.now) stays };
   }
   writes_on flat before (text ∷ texts) after design (mid, line, rest) =
       on_more flat before mid after text texts design line (writes_on flat mid texts after (line.same.design ∙ design) rest)

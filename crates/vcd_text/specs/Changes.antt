@@ -1,4 +1,4 @@
--- A means of proof: the changes of a run that a VCD text tells.
+-- The changes of a run that a VCD text tells.
 use Rattle.std.specs.Prelude.{◌≡◌, ℕ, ◌<◌, ◌^◌, ◌&&◌, nat_le, Bool, true, false, IsTrue, List, [], ◌∷◌, length, Some, slice_get}
 use Rattle.std.specs.List.{AllByRecursion, list_all}
 use Rattle.gpi.specs.declared.design.Signal.{Signal}

@@ -1,4 +1,4 @@
--- A means of proof: what a VCD text declares of a design (IEEE 1364-2005, clause 18.2.3): its instances inside one another, and the signals in each.
+-- What a VCD text declares of a design (IEEE 1364-2005, clause 18.2.3): its instances inside one another, and the signals in each.
 use Rattle.std.specs.Prelude.{ℕ, zero, suc, ◌+◌, ◌&&◌, nat_le, nat_lt, not, Bool, false, List, [], ◌∷◌, ◌++◌, length, None, Some, slice_get}
 use Rattle.std.specs.List.{filter, list_any, range_with_len}
 use Rattle.gpi.specs.declared.design.Spot.{Spot}

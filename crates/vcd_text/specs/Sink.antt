@@ -10,18 +10,18 @@ use Rattle.vcd_text.specs.declared.sink.VcdSink.{VcdSink}
 pub record IsOver {O : Type 0} (flat : Flat) (out : MutBor O) (sink : VcdSink O) : Type 0 where
   pub same_reference : sink.out.ghost_name ≡ out.ghost_name
   pub now : sink.out.now ≡ out.now
-  pub design : sink.signals.flat.now ≡ flat
+  pub design : sink.signals.now.flat.now ≡ flat
   pub last : sink.last ≡ 0
 
 -- both write into one sink, for runs on one design
 pub record IsSameSink {O : Type 0} (before after : VcdSink O) : Type 0 where
   pub same_reference : after.out.ghost_name ≡ before.out.ghost_name
-  pub design : after.signals.flat.now ≡ before.signals.flat.now
+  pub design : after.signals.now.flat.now ≡ before.signals.now.flat.now
 
 -- what is written for the line is taken by the sink behind this one, one put each
 pub record TakesLine {O : Type 0} (takes : O → List ℕ → O → Type 0) (before : VcdSink O) (text : List ℕ) (after : VcdSink O) : Type 0 where
   pub lines : List (List ℕ)
-  pub becomes : Becomes before.signals.flat.now before.last text lines after.last
+  pub becomes : Becomes before.signals.now.flat.now before.last text lines after.last
   pub taken : TakesAll takes before.out.now lines after.out.now
   pub same : IsSameSink before after
 
@@ -29,6 +29,6 @@ pub record TakesLine {O : Type 0} (takes : O → List ℕ → O → Type 0) (bef
 pub record BreaksLine {O : Type 0} (takes breaks : O → List ℕ → O → Type 0) (before : VcdSink O) (text : List ℕ) (after : VcdSink O) : Type 0 where
   pub lines : List (List ℕ)
   pub next : ℕ
-  pub becomes : Becomes before.signals.flat.now before.last text lines next
+  pub becomes : Becomes before.signals.now.flat.now before.last text lines next
   pub broken : Puts takes breaks before.out.now lines false after.out.now
   pub same : IsSameSink before after

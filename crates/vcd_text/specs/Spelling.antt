@@ -1,4 +1,4 @@
--- A means of proof: how a VCD text spells the step of time, signals and their values (IEEE 1364-2005, clauses 18.2.1 to 18.2.3).
+-- How a VCD text spells the step of time, signals and their values (IEEE 1364-2005, clauses 18.2.1 to 18.2.3).
 use Rattle.std.specs.Prelude.{ℕ, zero, suc, ◌+◌, ◌*◌, ◌/◌, ◌%◌, ◌^◌, ◌==◌, ◌||◌, nat_lt, Bool, List, [], ◌∷◌, ◌++◌, codes, Option, None, Some, if◌then◌else◌, length}
 use Rattle.std.specs.Fmt.{decimal}
 use Rattle.std.specs.Option.{option_or}

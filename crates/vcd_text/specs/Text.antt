@@ -1,4 +1,4 @@
--- A means of proof: the VCD text of a run (IEEE 1364-2005, clause 18): its lines, in order.
+-- The VCD text of a run (IEEE 1364-2005, clause 18): its lines, in order.
 use Rattle.std.specs.Prelude.{ℕ, ◌-◌, ◌==◌, List, [], ◌∷◌, ◌++◌, map, replicate, codes, Option, None, Some, slice_get, if◌then◌else◌}
 use Rattle.std.specs.Fmt.{decimal}
 use Rattle.four_value.specs.declared.Digit.{Digit}

@@ -1,4 +1,4 @@
--- A means of proof: the lines of a traced run, and what is written for each.
+-- The lines of a traced run, and what is written for each.
 use Rattle.std.specs.Prelude.{◌≡◌, ◌⊎◌, ◌<◌, ℕ, false, List, [], ◌∷◌, ◌++◌, codes, Some, slice_get}
 use Rattle.std.specs.Fmt.{decimal}
 use Rattle.gpi.specs.declared.design.Signal.{Signal}

@@ -10,7 +10,7 @@ use Rattle.vcd_text.specs.declared.sink.VcdSink.{VcdSink}
 
 -- a sink for a run on this design has begun its text in a sink that was like this before, and was given no line
 pub record HasBegun {O : Type 0} (takes : O → List ℕ → O → Type 0) (flat : Flat) (out : O) (sink : VcdSink O) : Type 0 where
-  pub design : sink.signals.flat.now ≡ flat
+  pub design : sink.signals.now.flat.now ≡ flat
   pub last : sink.last ≡ 0
   pub begun : TakesAll takes out (begin_lines flat) sink.out.now
 

@@ -1,5 +1,5 @@
 //! Lines of a text, in order.
-ghost use Rattle.std.specs.Prelude.{◌≡◌, ◌∷◌, ◌++◌, ◌≤◌, [], OnOk, IsErrOf};
+ghost use Rattle.std.specs.Prelude.{◌≡◌, ◌∷◌, ◌++◌, ◌≤◌, ℕ, [], List, IfOk, OnOk, IsErrOf};
 ghost use Rattle.std.specs.Result.{result_err};
 ghost use Rattle.port_io.specs.Means.{PutsTo, sink_means};
 ghost use Rattle.port_io.specs.Ports.{IsRaised};
@@ -33,4 +33,20 @@ pub(crate) fn put_lines<O: Sink>(
         out.put(alloc, lines.get(at).bytes())?;
     }
     Ok(())
+}
+
+/// Puts a line, unless memory was short for it.
+pub(crate) fn put_made<O: Sink>(
+    alloc: Global,
+    made: Result<Vec<u8>, NoMemory>,
+    out: &mut O,
+) -> Result<(), SinkFault>
+    ensures puts { (line : List ℕ) → IfOk made (λ text. text.items ≡ line) → PutsTo (sink_means O.Sink) out.old (line ∷ []) (result_err result) out.new }
+    ensures count { O.faults out.old ≤ O.faults out.new }
+    ensures cause { IsErrOf result SinkFault.Failed → IsRaised (O.faults out.old) (O.faults out.new) }
+{
+    match made {
+        Ok(line) => out.put(alloc, &line),
+        Err(NoMemory) => Err(SinkFault::OutOfMemory),
+    }
 }

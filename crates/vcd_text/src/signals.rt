@@ -9,7 +9,7 @@ use name_table::Names;
 use port_io::{NoMemory, Sequence};
 use std::alloc::Global;
 
-/// A design, its signals that are no words of memories, and the places of these by their paths.
+/// A design with its signals that are no words of memories, and the places of these by their paths: what a VCD text tells of.
 #[derive(Drop)]
 pub struct TracedSignals<'a> {
     pub(crate) flat: &'a Flat,
@@ -46,8 +46,8 @@ fn places_of(alloc: Global, signals: &Sequence<Signal>, traced: &[usize]) -> Res
 }
 
 impl<'a> TracedSignals<'a> {
-    /// The signals of a design. Only want of memory is an error.
-    pub(crate) fn new(alloc: Global, flat: &'a Flat) -> Result<TracedSignals<'a>, NoMemory>
+    /// The signals of that design. Only want of memory is an error.
+    pub fn new(alloc: Global, flat: &'a Flat) -> Result<TracedSignals<'a>, NoMemory>
         ensures { IfOk result (λ traced. traced.flat.now ≡ flat.now) }
     {
         let numbers = traced_signals(alloc, flat)?;

@@ -1,21 +1,19 @@
 //! The sink that writes the VCD text of a run whose lines it is given.
-ghost use Rattle.std.specs.Prelude.{◌≡◌, ◌≤◌, ◌∷◌, [], None, Some, OnOk, IsErrOf, IfOk, find, refl};
+ghost use Rattle.std.specs.Prelude.{◌≡◌, ◌≤◌, [], None, Some, OnOk, IsErrOf, IfOk, find, refl};
 ghost use Rattle.std.specs.Result.{result_err};
 ghost use Rattle.port_io.specs.Ports.{IsRaised};
 ghost use Rattle.port_io.specs.Means.{PutsTo, sink_means};
 ghost use Rattle.vcd_text.specs.Text.{begin_lines, lines_of_change};
-ghost use Rattle.vcd_text.specs.Told.{change_of, TellsFound, TellsParts};
+ghost use Rattle.vcd_text.specs.Told.{change_of, time_lines, TellsFound, TellsParts};
 ghost use Rattle.vcd_text.specs.Hierarchy.{traced_signals};
 ghost use Rattle.vcd_text.specs.Paths.{has_path};
-ghost use Rattle.vcd_text.specs.Spelling as meaning;
 
-use crate::lines::{add_line, put_lines};
+use crate::lines::{put_lines, put_made};
 use crate::opening::begin_lines;
 use crate::signals::TracedSignals;
 use crate::spelling::{time_line, value_line};
 use crate::traced_line::{Parts, parts_of};
-use gpi::Flat;
-use port_io::{Name, NoMemory, Sequence, Sink, SinkFault};
+use port_io::{NoMemory, Sink, SinkFault};
 use std::alloc::Global;
 
 /// A change that a line of a traced run tells: the time in steps, the number of the signal, and its digits, the highest first.
@@ -67,75 +65,40 @@ fn change_in<'t>(
     }
 }
 
-/// The line of a value alone. Only want of memory is an error.
-fn value_lines(alloc: Global, told: &Told<'_>) -> Result<Sequence<Name>, NoMemory>
-    ensures { IfOk result (λ lines. lines ≡ meaning.value_line told.now.signal told.now.digits.now ∷ []) }
-{
-    let line = value_line(alloc, told.signal, told.digits)?;
-    let mut lines = Sequence::new(alloc);
-    add_line(alloc, &mut lines, &line)?;
-    Ok(lines)
-}
-
-/// The lines of a time and of a value behind it. Only want of memory is an error.
-fn timed_lines(alloc: Global, told: &Told<'_>) -> Result<Sequence<Name>, NoMemory>
-    ensures { IfOk result (λ lines. lines
-        ≡ meaning.time_line told.now.time ∷ meaning.value_line told.now.signal told.now.digits.now ∷ []) }
-{
-    let time = time_line(alloc, told.time)?;
-    let value = value_line(alloc, told.signal, told.digits)?;
-    let mut lines = Sequence::new(alloc);
-    add_line(alloc, &mut lines, &time)?;
-    add_line(alloc, &mut lines, &value)?;
-    Ok(lines)
-}
-
-/// The lines of a change, where this is the time that was written last. Only want of memory is an error.
-fn lines_of(alloc: Global, last: u64, told: &Told<'_>) -> Result<Sequence<Name>, NoMemory>
-    ensures { IfOk result (λ lines. lines ≡ lines_of_change last (change_of told.now)) }
-{
-    if told.time == last {
-        value_lines(alloc, told)
-    } else {
-        timed_lines(alloc, told)
-    }
-}
-
 /// A sink for the lines of a traced run, one put each, that writes their VCD text into the sink behind it (IEEE 1364-2005, clause 18). Each line
 /// that tells a change of a signal that is no word of a memory becomes the lines of that change, one put each, and nothing is written for others.
 /// It tells no bytes of its own. `begin` comes before the first line.
 #[derive(Drop)]
 pub struct VcdSink<'a, O: Sink> {
     out: &'a mut O,
-    signals: TracedSignals<'a>,
+    signals: &'a TracedSignals<'a>,
     last: u64,
 }
 
 impl<'a, O: Sink> VcdSink<'a, O> {
     ghost use Rattle.vcd_text.specs.Sink.{IsOver, IsSameSink};
 
-    /// A sink for the lines of a run on that design. Only want of memory is an error.
-    pub fn new(alloc: Global, flat: &'a Flat, out: &'a mut O) -> Result<VcdSink<'a, O>, NoMemory>
-        ensures { IfOk result (λ sink. IsOver flat.now out.entry sink) }
+    /// A sink for the lines of a run on the design of these signals. It owns no memory, so that what stands behind it is known once it is gone.
+    pub fn new(signals: &'a TracedSignals<'a>, out: &'a mut O) -> VcdSink<'a, O>
+        ensures { IsOver signals.now.flat.now out.entry result }
     {
-        let signals = TracedSignals::new(alloc, flat)?;
-        Ok(VcdSink {
+        VcdSink {
             out,
             signals,
             last: 0,
-        })
+        }
     }
 
     /// Writes the lines before the changes: the step of time, the declarations and the opening values, one put each (clause 18.2.3). Either error
     /// leaves a front of them. `Failed` comes only where the sink behind it counted a fault.
     pub fn begin(&mut self, alloc: Global) -> Result<(), SinkFault>
-        ensures puts { PutsTo (sink_means O.Sink) self.old.out.now (begin_lines self.old.signals.flat.now) (result_err result) self.new.out.now }
+        ensures puts { PutsTo (sink_means O.Sink) self.old.out.now (begin_lines self.old.signals.now.flat.now) (result_err result) self.new.out.now }
         ensures same { IsSameSink self.old self.new }
         ensures last { self.new.last ≡ self.old.last }
         ensures count { O.faults self.old.out.now ≤ O.faults self.new.out.now }
         ensures cause { IsErrOf result SinkFault.Failed → IsRaised (O.faults self.old.out.now) (O.faults self.new.out.now) }
     {
-        match begin_lines(alloc, &self.signals) {
+        match begin_lines(alloc, self.signals) {
             Ok(lines) => put_lines(alloc, &lines, &mut *self.out),
             Err(NoMemory) => Err(SinkFault::OutOfMemory),
         }
@@ -145,6 +108,21 @@ impl<'a, O: Sink> VcdSink<'a, O> {
 impl<'a, O: Sink> VcdSink<'a, O> {
     ghost use Rattle.vcd_text.specs.Sink.{IsSameSink};
 
+    /// Writes the time of a change, unless it is the one that was written last.
+    fn write_time(&mut self, alloc: Global, time: u64) -> Result<(), SinkFault>
+        ensures puts { PutsTo (sink_means O.Sink) self.old.out.now (time_lines self.old.last time) (result_err result) self.new.out.now }
+        ensures last { self.new.last ≡ time }
+        ensures same { IsSameSink self.old self.new }
+        ensures count { O.faults self.old.out.now ≤ O.faults self.new.out.now }
+        ensures cause { IsErrOf result SinkFault.Failed → IsRaised (O.faults self.old.out.now) (O.faults self.new.out.now) }
+    {
+        if time == self.last {
+            return Ok(());
+        }
+        self.last = time;
+        put_made(alloc, time_line(alloc, time), &mut *self.out)
+    }
+
     /// Writes the lines of a change, one put each.
     fn write(&mut self, alloc: Global, change: Told<'_>) -> Result<(), SinkFault>
         ensures puts { PutsTo (sink_means O.Sink) self.old.out.now (lines_of_change self.old.last (change_of change.entry)) (result_err result) self.new.out.now }
@@ -153,13 +131,9 @@ impl<'a, O: Sink> VcdSink<'a, O> {
         ensures count { O.faults self.old.out.now ≤ O.faults self.new.out.now }
         ensures cause { IsErrOf result SinkFault.Failed → IsRaised (O.faults self.old.out.now) (O.faults self.new.out.now) }
     {
-        match lines_of(alloc, self.last, &change) {
-            Ok(lines) => {
-                self.last = change.time;
-                put_lines(alloc, &lines, &mut *self.out)
-            }
-            Err(NoMemory) => Err(SinkFault::OutOfMemory),
-        }
+        self.write_time(alloc, change.time)?;
+        let value = value_line(alloc, change.signal, change.digits);
+        put_made(alloc, value, &mut *self.out)
     }
 }
 
@@ -186,7 +160,7 @@ impl<'a, O: Sink> Sink for VcdSink<'a, O> {
         puts_broken_count O.faults O.takes O.breaks O.takes_count O.breaks_count before.out.now broken.lines after.out.now broken.broken };
 
     fn put(&mut self, alloc: Global, bytes: &[u8]) -> Result<(), SinkFault> {
-        match change_in(alloc, &self.signals, bytes) {
+        match change_in(alloc, self.signals, bytes) {
             Ok(Some(change)) => self.write(alloc, change),
             Ok(None) => Ok(()),
             Err(NoMemory) => Err(SinkFault::OutOfMemory),

@@ -3,8 +3,8 @@ use Rattle.std.proofs.Common.{◌≡◌, ◌∙◌, ◌++◌, ◌∷◌, Bool, t
 use Rattle.clap.specs.Walk.{Row, Text, Waiting, idle, next, option, positional, reacted, settled_rows, trailing, value, word_met}
 use Rattle.clap.specs.Kinds.{Kinds, or_else}
 use Rattle.clap.specs.Faults.{react_fault, settle_fault, use_fault, walk_fault, word_fault}
-use Rattle.command.specs.CommandWords.Words.{Apart, Ended, File, IsPlain, Joined, Nothing, Said, Say, Setting, Trace, name_of, names, sets, traces}
-use Rattle.command.proofs.CommandWordsLemmas.Steps.{Late, Pending, alone, alone_fault, alone_met, dashes_fault, dashes_met, file_turn, given, held_at, joined, joined_fault, joined_met, last, late, late_of, late_run, late_said, none, open_held, outcome, outcome_next, pick, picks, plain_fault, plain_met, put, ready, repeats, rule_for, rules, run, shape, spot, trace_fault, trace_met, turn_by, use_is, value_met}
+use Rattle.command.specs.CommandWords.Words.{Apart, Ended, File, Flagged, IsPlain, Joined, Nothing, Said, Say, Setting, flags, name_of, names, sets}
+use Rattle.command.proofs.CommandWordsLemmas.Steps.{Late, Pending, alone, alone_fault, alone_met, dashes_fault, dashes_met, file_turn, flag_fault, flag_met, given, held_at, joined, joined_fault, joined_met, last, late, late_of, late_run, late_said, marked, none, open_held, outcome, outcome_next, pick, picks, plain_fault, plain_met, put, ready, repeats, rule_for, rules, run, shape, spot, turn_by, use_is, value_met}
 
 at_end : (t : Bool) (w : Waiting) (rows : List Row) (l : Late) → outcome (spot t w rows (late_of l)) [] ≡ run (late_said l ++ []) rows
 unfolding walk_fault
@@ -85,10 +85,10 @@ complete words said (File word more rest p h) b rows l =
     let held = held_at rows (late_of l) in
     file_said false (ready b) rows l word more rest (plain_met b word held p) (plain_fault (ready b) word held p)
     (complete more rest h true (settled_rows rules (late_of l) rows) (last word))
-complete words said (Trace more rest h) b rows l =
+complete words said (Flagged f more rest h) b rows l =
     let held = held_at rows (late_of l) in
-    reacts traces (ready b) rows l (codes "--trace") more rest (trace_met (ready b) held) (trace_fault (ready b) held)
-    (complete more rest h false (put traces (settled_rows rules (late_of l) rows)) none)
+    reacts (flags f) (ready b) rows l (marked f) more rest (flag_met f (ready b) held) (flag_fault f (ready b) held)
+    (complete more rest h false (put (flags f) (settled_rows rules (late_of l) rows)) none)
 complete words said (Joined s v more rest h) b rows l =
     let held = held_at rows (late_of l) in
     reacts (sets s v) (ready b) rows l (joined s v) more rest (joined_met s v (ready b) held) (joined_fault s v (ready b) held)

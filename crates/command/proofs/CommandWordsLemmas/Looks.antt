@@ -14,8 +14,8 @@ use Rattle.clap.specs.Kinds.{Kinds}
 use Rattle.clap.specs.Faults.{bundle_fault, bundle_step_fault, flag_word_fault, flags_fault, long_fault, other_fault, word_fault}
 use Rattle.clap.specs.declared.error.kind.ErrorKind.{ErrorKind}
 use Rattle.clap.specs.declared.error.kind.ErrorKind.TheVariants.{TooManyValues, UnknownArgument}
-use Rattle.command.specs.CommandWords.Words.{IsPlain, Setting, budget, made, name_of, seed, top}
-use Rattle.command.proofs.CommandWordsLemmas.Steps.{Pending, alone, held_at, joined, no_sub, rules, shape}
+use Rattle.command.specs.CommandWords.Words.{Flag, IsPlain, Setting, budget, dumps, flag_name, made, name_of, seed, top, traces}
+use Rattle.command.proofs.CommandWordsLemmas.Steps.{Pending, alone, held_at, joined, marked, no_sub, rules, shape}
 
 -- some fault
 abbrev pub Fails : Kinds → Type 0
@@ -29,7 +29,7 @@ pub data Look : Text → Type 0 where
   Dashes : Look (codes "--")
   With : (s : Setting) (v : Text) → Look (joined s v)
   Alone : (s : Setting) → Look (alone s)
-  Tracing : Look (codes "--trace")
+  Marked : (f : Flag) → Look (marked f)
   Refused : (word : Text) → IsRefused word → Look word
 
 -- ---- the first `=`
@@ -68,7 +68,7 @@ tell a b = go (bytes_eq a b) refl
 -- which argument has this name
 data Named (name : Text) : Type 0 where
   Valued : (s : Setting) → name_of s ≡ name → Named name
-  Flag : codes "trace" ≡ name → Named name
+  Marks : (f : Flag) → flag_name f ≡ name → Named name
   Unknown : arg_by_long rules name ≡ None → Named name
 
 named : (name : Text) → Named name
@@ -81,8 +81,11 @@ named name = elim (tell (codes "top") name) [
       | inr s ↦ elim (tell (codes "made") name) [
         | inl e ↦ Valued made e
         | inr m ↦ elim (tell (codes "trace") name) [
-          | inl e ↦ Flag e
-          | inr f ↦ Unknown (rw (t, b, s, m, f) refl)
+          | inl e ↦ Marks traces e
+          | inr f ↦ elim (tell (codes "vcd") name) [
+            | inl e ↦ Marks dumps e
+            | inr v ↦ Unknown (rw (t, b, s, m, f, v) refl)
+          ]
         ]
       ]
     ]
@@ -103,8 +106,9 @@ refused_long x xs name value is fails w rows p =
 unknown_fails : (name : Text) (value : Option Text) → arg_by_long rules name ≡ None → (h : Held) → Fails (long_fault rules false (arg_by_long rules name) value h)
 unknown_fails name value e h = (UnknownArgument, [], ap (λ o. long_fault rules false o value h) e)
 
-flag_fails : (name value : Text) → codes "trace" ≡ name → (h : Held) → Fails (long_fault rules false (arg_by_long rules name) (Some value) h)
-flag_fails name value n h = (TooManyValues, [], ap (λ (m : Text). long_fault rules false (arg_by_long rules m) (Some value) h) (sym n))
+flag_fails : (f : Flag) (name value : Text) → flag_name f ≡ name → (h : Held) → Fails (long_fault rules false (arg_by_long rules name) (Some value) h)
+flag_fails traces name value n h = (TooManyValues, [], ap (λ (m : Text). long_fault rules false (arg_by_long rules m) (Some value) h) (sym n))
+flag_fails dumps name value n h = (TooManyValues, [], ap (λ (m : Text). long_fault rules false (arg_by_long rules m) (Some value) h) (sym n))
 
 abbrev first_part : Text → Text
 first_part t = before_first (λ x. eqb x 61) t
@@ -131,8 +135,8 @@ long_with x xs e =
     go (Valued s n) is parts =
         subst Look (written s (second_part (x ∷ xs)) ∙ ap (λ (u : Text). 45 ∷ 45 ∷ u) (ap (λ (m : Text). m ++ 61 ∷ second_part (x ∷ xs)) n ∙ sym parts))
         (With s (second_part (x ∷ xs)))
-    go (Flag n) is parts = Refused (45 ∷ 45 ∷ x ∷ xs) (refused_long x xs (first_part (x ∷ xs)) (Some (second_part (x ∷ xs))) is
-        (flag_fails (first_part (x ∷ xs)) (second_part (x ∷ xs)) n))
+    go (Marks f n) is parts = Refused (45 ∷ 45 ∷ x ∷ xs) (refused_long x xs (first_part (x ∷ xs)) (Some (second_part (x ∷ xs))) is
+        (flag_fails f (first_part (x ∷ xs)) (second_part (x ∷ xs)) n))
     go (Unknown n) is parts = Refused (45 ∷ 45 ∷ x ∷ xs) (refused_long x xs (first_part (x ∷ xs)) (Some (second_part (x ∷ xs))) is
         (unknown_fails (first_part (x ∷ xs)) (Some (second_part (x ∷ xs))) n))
 
@@ -145,7 +149,7 @@ long_alone x xs e = go (named (x ∷ xs))
 
     go : Named (x ∷ xs) → Look (45 ∷ 45 ∷ x ∷ xs)
     go (Valued s n) = subst Look (ap (λ (u : Text). 45 ∷ 45 ∷ u) n) (Alone s)
-    go (Flag n) = subst Look (ap (λ (u : Text). 45 ∷ 45 ∷ u) n) Tracing
+    go (Marks f n) = subst Look (ap (λ (u : Text). 45 ∷ 45 ∷ u) n) (Marked f)
     go (Unknown n) = Refused (45 ∷ 45 ∷ x ∷ xs) (refused_long x xs (x ∷ xs) None is (unknown_fails (x ∷ xs) None n))
 
 -- ---- words that begin with one `-`

@@ -10,7 +10,7 @@ use Rattle.clap.specs.declared.builder.value_parser.Reading.{Reading}
 use Rattle.clap.specs.declared.parser.matches.ValueSource.{ValueSource}
 use Rattle.clap.specs.declared.parser.matches.ValueSource.TheVariants.{CommandLine, DefaultValue}
 use Rattle.command.specs.CommandWords.Arguments.{first, flag_in, kept}
-use Rattle.command.specs.CommandWords.Words.{Said, budget, made, name_of, names, seed, sets, subject_of, top, traces, value_of, values_of}
+use Rattle.command.specs.CommandWords.Words.{Flag, Said, budget, dumps, flag_name, flags, made, name_of, names, seed, sets, subject_of, top, traces, value_of, values_of}
 use Rattle.command.proofs.CommandWordsLemmas.Steps.{put, repeats, rule_for, rules, run}
 
 -- ---- texts and values
@@ -90,7 +90,8 @@ put_is (sets top v) rows e = ap (with_values (codes "top") (reading_by (rule_for
 put_is (sets budget v) rows e = ap (with_values (codes "budget") (reading_by (rule_for (sets budget v))) CommandLine (v ∷ [])) (without_none (codes "budget") rows e)
 put_is (sets seed v) rows e = ap (with_values (codes "seed") (reading_by (rule_for (sets seed v))) CommandLine (v ∷ [])) (without_none (codes "seed") rows e)
 put_is (sets made v) rows e = ap (with_values (codes "made") (reading_by (rule_for (sets made v))) CommandLine (v ∷ [])) (without_none (codes "made") rows e)
-put_is traces rows e = ap (with_values (codes "trace") (reading_by (rule_for traces)) CommandLine (codes "true" ∷ [])) (without_none (codes "trace") rows e)
+put_is (flags traces) rows e = ap (with_values (codes "trace") (reading_by (rule_for (flags traces))) CommandLine (codes "true" ∷ [])) (without_none (codes "trace") rows e)
+put_is (flags dumps) rows e = ap (with_values (codes "vcd") (reading_by (rule_for (flags dumps))) CommandLine (codes "true" ∷ [])) (without_none (codes "vcd") rows e)
 put_is (names file) rows e = refl
 
 -- nothing that may be said once was said before
@@ -119,7 +120,7 @@ run_kept (x ∷ xs) rows end e name =
 
 abbrev pub IsSingle : Said → Type 0
 IsSingle (sets s v) = Unit {0}
-IsSingle traces = Unit {0}
+IsSingle (flags f) = Unit {0}
 IsSingle (names file) = ⊥
 
 abbrev pub AtMostOnce : List Said → List Row → Said → Type 0
@@ -136,13 +137,14 @@ no_file (sets top v) k = refl
 no_file (sets budget v) k = refl
 no_file (sets seed v) k = refl
 no_file (sets made v) k = refl
-no_file traces k = refl
+no_file (flags traces) k = refl
+no_file (flags dumps) k = refl
 no_file (names file) k = absurd k
 
 -- what is said of the same as something that may be said once may be said once
 repeats_is : (x y : Said) (rows : List Row) → IsSingle y → subject_of x ≡ subject_of y → repeats x rows ≡ has_row (subject_of y) rows
 repeats_is (sets s v) y rows k e = ap (λ n. has_row n rows) e
-repeats_is traces y rows k e = ap (λ n. has_row n rows) e
+repeats_is (flags f) y rows k e = ap (λ n. has_row n rows) e
 repeats_is (names file) y rows k e =
     absurd (true≢false (sym (same_text (codes "files")) ∙ ap (bytes_eq (codes "files")) e ∙ no_file y k))
 
@@ -183,12 +185,15 @@ fresh_once (sets s v) xs rows fresh = go (has_row (name_of s) rows) refl
         ap (λ b. cond b (v ∷ values_of (name_of s) xs) (values_of (name_of s) xs)) (same_text (name_of s)) in
         let n = ap (λ (l : List Text). length l) (sym some ∙ none) in
         absurd (omega (arith, n))
-fresh_once traces xs rows fresh = go (has_row (codes "trace") rows) refl
+fresh_once (flags f) xs rows fresh = go (has_row (flag_name f) rows) refl
   where
-    go : (b : Bool) → has_row (codes "trace") rows ≡ b → has_row (codes "trace") rows ≡ false
+    go : (b : Bool) → has_row (flag_name f) rows ≡ b → has_row (flag_name f) rows ≡ false
     go false t = t
     go true t =
-        let n = ap (λ (l : List Text). length l) ((fresh traces tt).1 t) in
+        let none = (fresh (flags f) tt).1 t in
+        let some : values_of (flag_name f) (flags f ∷ xs) ≡ codes "true" ∷ values_of (flag_name f) xs =
+        ap (λ b. cond b (codes "true" ∷ values_of (flag_name f) xs) (values_of (flag_name f) xs)) (same_text (flag_name f)) in
+        let n = ap (λ (l : List Text). length l) (sym some ∙ none) in
         absurd (omega (arith, n))
 fresh_once (names file) xs rows fresh = refl
 
@@ -222,7 +227,7 @@ same true rows = refl
 same false rows = refl
 
 abbrev pub defaulted : List Row → List Row
-defaulted rows = with_default rows (rule_for traces)
+defaulted rows = with_default (with_default rows (rule_for (flags traces))) (rule_for (flags dumps))
 
 pub defaults_are : (rows : List Row) → fold with_default rows rules ≡ defaulted rows
 defaults_are rows =
@@ -232,16 +237,24 @@ defaults_are rows =
     ∙ ap (λ x. fold with_default x (drop 4 rules)) (same (has_row (codes "made") rows) rows)
     ∙ same (has_row (codes "files") (defaulted rows)) (defaulted rows)
 
-abbrev with_no : List Row → List Row
-with_no rows = with_values (codes "trace") (reading_by (rule_for traces)) DefaultValue (codes "false" ∷ []) rows
+abbrev with_no : Flag → List Row → List Row
+with_no f rows = with_values (flag_name f) (reading_by (rule_for (flags f))) DefaultValue (codes "false" ∷ []) rows
 
-pub defaulted_kept : (name : Text) (rows : List Row) → bytes_eq (codes "trace") name ≡ false → kept name (defaulted rows) ≡ kept name rows
-defaulted_kept name rows t = go (has_row (codes "trace") rows)
+default_is : (f : Flag) (rows : List Row) → with_default rows (rule_for (flags f)) ≡ cond (has_row (flag_name f) rows) rows (with_no f rows)
+default_is traces rows = refl
+default_is dumps rows = refl
+
+flag_kept : (f : Flag) (name : Text) (rows : List Row) → bytes_eq (flag_name f) name ≡ false → kept name (with_default rows (rule_for (flags f))) ≡ kept name rows
+flag_kept f name rows t = ap (kept name) (default_is f rows) ∙ go (has_row (flag_name f) rows)
   where
-    go : (b : Bool) → kept name (cond b rows (with_no rows)) ≡ kept name rows
+    go : (b : Bool) → kept name (cond b rows (with_no f rows)) ≡ kept name rows
     go true = refl
-    go false = with_kept (codes "trace") name (reading_by (rule_for traces)) DefaultValue (codes "false" ∷ []) rows
+    go false = with_kept (flag_name f) name (reading_by (rule_for (flags f))) DefaultValue (codes "false" ∷ []) rows
         ∙ ap (λ b. kept name rows ++ cond b (codes "false" ∷ []) []) t ∙ append-nil (kept name rows)
+
+pub defaulted_kept : (name : Text) (rows : List Row) → bytes_eq (codes "trace") name ≡ false → bytes_eq (codes "vcd") name ≡ false
+    → kept name (defaulted rows) ≡ kept name rows
+defaulted_kept name rows t v = flag_kept dumps name (with_default rows (rule_for (flags traces))) v ∙ flag_kept traces name rows t
 
 kept_none : (name : Text) (rows : List Row) → has_row name rows ≡ false → kept name rows ≡ []
 kept_none name [] e = refl
@@ -268,14 +281,22 @@ abbrev AreTrue : List Text → Type 0
 AreTrue [] = Unit {0}
 AreTrue (v ∷ vs) = (v ≡ codes "true") × AreTrue vs
 
-flags_true : (said : List Said) → AreTrue (values_of (codes "trace") said)
-flags_true [] = tt
-flags_true (sets top v ∷ xs) = flags_true xs
-flags_true (sets budget v ∷ xs) = flags_true xs
-flags_true (sets seed v ∷ xs) = flags_true xs
-flags_true (sets made v ∷ xs) = flags_true xs
-flags_true (traces ∷ xs) = (refl, flags_true xs)
-flags_true (names file ∷ xs) = flags_true xs
+flags_true : (f : Flag) (said : List Said) → AreTrue (values_of (flag_name f) said)
+flags_true f [] = tt
+flags_true traces (sets top v ∷ xs) = flags_true traces xs
+flags_true traces (sets budget v ∷ xs) = flags_true traces xs
+flags_true traces (sets seed v ∷ xs) = flags_true traces xs
+flags_true traces (sets made v ∷ xs) = flags_true traces xs
+flags_true traces (flags traces ∷ xs) = (refl, flags_true traces xs)
+flags_true traces (flags dumps ∷ xs) = flags_true traces xs
+flags_true traces (names file ∷ xs) = flags_true traces xs
+flags_true dumps (sets top v ∷ xs) = flags_true dumps xs
+flags_true dumps (sets budget v ∷ xs) = flags_true dumps xs
+flags_true dumps (sets seed v ∷ xs) = flags_true dumps xs
+flags_true dumps (sets made v ∷ xs) = flags_true dumps xs
+flags_true dumps (flags traces ∷ xs) = flags_true dumps xs
+flags_true dumps (flags dumps ∷ xs) = (refl, flags_true dumps xs)
+flags_true dumps (names file ∷ xs) = flags_true dumps xs
 
 one_flag : (vs : List Text) → AreTrue vs → length vs ≤ 1 → flag_in (slice_get vs 0) ≡ vs
 one_flag [] t h = refl
@@ -283,30 +304,42 @@ one_flag (v ∷ []) t h = subst (λ (u : Text). flag_in (Some u) ≡ u ∷ []) (
 one_flag (v ∷ w ∷ vs) t h = absurd (omega (arith, h))
 
 module _ (said : List Said) (end : List Row) (runs : run said [] ≡ Some end) where
-  pub first_is : (y : Said) → IsSingle y → bytes_eq (codes "trace") (subject_of y) ≡ false → first (subject_of y) (defaulted end) ≡ values_of (subject_of y) said
-  first_is y k t =
+  pub first_is : (y : Said) → IsSingle y → bytes_eq (codes "trace") (subject_of y) ≡ false → bytes_eq (codes "vcd") (subject_of y) ≡ false
+      → first (subject_of y) (defaulted end) ≡ values_of (subject_of y) said
+  first_is y k t v =
       ap option_to_list (first_kept (subject_of y) (defaulted end)
-      ∙ ap (λ vs. slice_get vs 0) (defaulted_kept (subject_of y) end t ∙ run_kept said [] end runs (subject_of y)))
+      ∙ ap (λ vs. slice_get vs 0) (defaulted_kept (subject_of y) end t v ∙ run_kept said [] end runs (subject_of y)))
       ∙ one_value (values_of (subject_of y) said) (run_fresh said [] end runs y k).0
 
   pub files_are : kept (codes "files") (defaulted end) ≡ values_of (codes "files") said
-  files_are = defaulted_kept (codes "files") end refl ∙ run_kept said [] end runs (codes "files")
+  files_are = defaulted_kept (codes "files") end refl refl ∙ run_kept said [] end runs (codes "files")
 
-  pub flag_is : flag_in (first_of (codes "trace") (defaulted end)) ≡ values_of (codes "trace") said
-  flag_is = ap flag_in (first_kept (codes "trace") (defaulted end)) ∙ go (has_row (codes "trace") end) refl
+  -- of a flag in rows that have what was said of it
+  flag_at : (f : Flag) (rows : List Row) → kept (flag_name f) rows ≡ values_of (flag_name f) said
+      → flag_in (slice_get (kept (flag_name f) (with_default rows (rule_for (flags f)))) 0) ≡ values_of (flag_name f) said
+  flag_at f rows values = ap (λ (r : List Row). flag_in (slice_get (kept (flag_name f) r) 0)) (default_is f rows) ∙ go (has_row (flag_name f) rows) refl
     where
-      values : kept (codes "trace") end ≡ values_of (codes "trace") said
-      values = run_kept said [] end runs (codes "trace")
-
-      go : (b : Bool) → has_row (codes "trace") end ≡ b
-          → flag_in (slice_get (kept (codes "trace") (cond (has_row (codes "trace") end) end (with_no end))) 0) ≡ values_of (codes "trace") said
+      go : (b : Bool) → has_row (flag_name f) rows ≡ b
+          → flag_in (slice_get (kept (flag_name f) (cond (has_row (flag_name f) rows) rows (with_no f rows))) 0) ≡ values_of (flag_name f) said
       go true t =
-          ap (λ b. flag_in (slice_get (kept (codes "trace") (cond b end (with_no end))) 0)) t
+          ap (λ b. flag_in (slice_get (kept (flag_name f) (cond b rows (with_no f rows))) 0)) t
           ∙ ap (λ vs. flag_in (slice_get vs 0)) values
-          ∙ one_flag (values_of (codes "trace") said) (flags_true said) (run_fresh said [] end runs traces tt).0
+          ∙ one_flag (values_of (flag_name f) said) (flags_true f said) (run_fresh said [] end runs (flags f) tt).0
       go false t =
-          let none = kept_none (codes "trace") end t in
-          ap (λ b. flag_in (slice_get (kept (codes "trace") (cond b end (with_no end))) 0)) t
-          ∙ ap (λ vs. flag_in (slice_get vs 0)) (with_kept (codes "trace") (codes "trace") (reading_by (rule_for traces)) DefaultValue (codes "false" ∷ []) end
-          ∙ ap (λ (k : List Text). k ++ codes "false" ∷ []) none)
+          let none = kept_none (flag_name f) rows t in
+          ap (λ b. flag_in (slice_get (kept (flag_name f) (cond b rows (with_no f rows))) 0)) t
+          ∙ ap (λ vs. flag_in (slice_get vs 0)) (with_kept (flag_name f) (flag_name f) (reading_by (rule_for (flags f))) DefaultValue (codes "false" ∷ []) rows
+          ∙ ap (λ (k : List Text). k ++ cond (bytes_eq (flag_name f) (flag_name f)) (codes "false" ∷ []) []) none
+          ∙ ap (λ b. cond b (codes "false" ∷ []) []) (same_text (flag_name f)))
           ∙ sym none ∙ values
+
+  pub trace_is : flag_in (first_of (codes "trace") (defaulted end)) ≡ values_of (codes "trace") said
+  trace_is =
+      ap flag_in (first_kept (codes "trace") (defaulted end)
+      ∙ ap (λ vs. slice_get vs 0) (flag_kept dumps (codes "trace") (with_default end (rule_for (flags traces))) refl))
+      ∙ flag_at traces end (run_kept said [] end runs (codes "trace"))
+
+  pub vcd_is : flag_in (first_of (codes "vcd") (defaulted end)) ≡ values_of (codes "vcd") said
+  vcd_is =
+      ap flag_in (first_kept (codes "vcd") (defaulted end))
+      ∙ flag_at dumps (with_default end (rule_for (flags traces))) (flag_kept traces (codes "vcd") end refl ∙ run_kept said [] end runs (codes "vcd"))

@@ -5,9 +5,9 @@ use Rattle.clap.specs.Walk.{Row, Text, Waiting, Walk, idle, next, option, reacte
 use Rattle.clap.specs.Kinds.{Kinds, or_else}
 use Rattle.clap.specs.Faults.{react_fault, settle_fault, step_fault, turn_fault, use_fault, walk_fault, word_fault}
 use Rattle.clap.specs.declared.error.kind.ErrorKind.TheVariants.{InvalidValue}
-use Rattle.command.specs.CommandWords.Words.{Apart, Ended, File, IsPlain, Joined, Nothing, Said, Say, Setting, Trace, budget, made, name_of, names, seed, sets, top, traces}
-use Rattle.command.proofs.CommandWordsLemmas.Steps.{Pending, alone, alone_fault, alone_met, dashes_fault, dashes_met, file_turn, held_at, joined, joined_fault, joined_met, open_held, outcome, outcome_next, pick, plain_fault, plain_met, put, ready, rule_for, rules, shape, spot, trace_fault, trace_met, turn_by, value_met}
-use Rattle.command.proofs.CommandWordsLemmas.Looks.{Alone, Dashes, Fails, Look, Plainly, Refused, Tracing, With, look}
+use Rattle.command.specs.CommandWords.Words.{Apart, Ended, File, Flagged, IsPlain, Joined, Nothing, Said, Say, Setting, budget, flags, made, name_of, names, seed, sets, top}
+use Rattle.command.proofs.CommandWordsLemmas.Steps.{Pending, alone, alone_fault, alone_met, dashes_fault, dashes_met, file_turn, flag_fault, flag_met, held_at, joined, joined_fault, joined_met, marked, open_held, outcome, outcome_next, pick, plain_fault, plain_met, put, ready, rule_for, rules, shape, spot, turn_by, value_met}
+use Rattle.command.proofs.CommandWordsLemmas.Looks.{Alone, Dashes, Fails, Look, Marked, Plainly, Refused, With, look}
 
 -- each word is a text
 abbrev pub AreTexts : List Text → Type 0
@@ -115,13 +115,13 @@ opens word words b (Alone s) rest rows p end e =
     (alone_met s (ready b) h) (alone_fault s (ready b) h) in
     closes s words (rest (waits s) (settled_rows rules p rows) None end
     (sym (ap (λ z. outcome z words) turn.1) ∙ goes_on (spot false (ready b) rows p) (alone s) words end e))
-opens word words b Tracing rest rows p end e =
+opens word words b (Marked f) rest rows p end e =
     let h = held_at rows p in
-    let turn = turn_by false (ready b) rows p (codes "--trace") (reacted rules (rule_for traces) [] h) (next idle)
-    (react_fault rules false (rule_for traces) [] h) (trace_met (ready b) h) (trace_fault (ready b) h) in
-    let more = rest (is_ready false) (put traces (settled_rows rules p rows)) None end
-    (sym (ap (λ z. outcome z words) turn.1) ∙ goes_on (spot false (ready b) rows p) (codes "--trace") words end e) in
-    (traces ∷ more.0, Trace words more.0 more.1)
+    let turn = turn_by false (ready b) rows p (marked f) (reacted rules (rule_for (flags f)) [] h) (next idle)
+    (react_fault rules false (rule_for (flags f)) [] h) (flag_met f (ready b) h) (flag_fault f (ready b) h) in
+    let more = rest (is_ready false) (put (flags f) (settled_rows rules p rows)) None end
+    (sym (ap (λ z. outcome z words) turn.1) ∙ goes_on (spot false (ready b) rows p) (marked f) words end e) in
+    (flags f ∷ more.0, Flagged f words more.0 more.1)
 opens word words b (Refused w r) rest rows p end e = absurd (word_stops false (ready b) rows p w words end (r (ready b) rows p) e)
 
 -- a word where an option waits
@@ -147,10 +147,10 @@ fills word words s (With t v) rest rows end e =
 fills word words s (Alone t) rest rows end e =
     let h = held_at rows (Some (name_of s, [])) in
     absurd (waiting_stops s rows (alone t) words end [] (alone_fault t (option (name_of s)) h ∙ whole (settle_fault rules false h)) e)
-fills word words s Tracing rest rows end e =
+fills word words s (Marked f) rest rows end e =
     let h = held_at rows (Some (name_of s, [])) in
-    absurd (waiting_stops s rows (codes "--trace") words end (use_fault false (rule_for traces) [] (settled_rows rules (Some (name_of s, [])) rows))
-    (trace_fault (option (name_of s)) h) e)
+    absurd (waiting_stops s rows (marked f) words end (use_fault false (rule_for (flags f)) [] (settled_rows rules (Some (name_of s, [])) rows))
+    (flag_fault f (option (name_of s)) h) e)
 fills word words s (Refused w r) rest rows end e =
     absurd (word_stops false (option (name_of s)) rows (Some (name_of s, [])) w words end (r (option (name_of s)) rows (Some (name_of s, []))) e)
 

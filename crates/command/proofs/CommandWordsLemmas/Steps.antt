@@ -10,8 +10,8 @@ use Rattle.clap.specs.Simple.{Shape, built, filled, with_index}
 use Rattle.clap.specs.Kinds.{Kinds, or_else}
 use Rattle.clap.specs.Faults.{other_fault, react_fault, settle_fault, step_fault, turn_fault, use_fault, walk_fault, word_fault}
 use Rattle.clap.specs.declared.error.kind.ErrorKind.TheVariants.{ArgumentConflict}
-use Rattle.command.specs.CommandWords.Arguments.{files_rule, option_rule, trace_rule, words_app}
-use Rattle.command.specs.CommandWords.Words.{IsPlain, Said, Setting, budget, made, name_of, names, seed, sets, top, traces}
+use Rattle.command.specs.CommandWords.Arguments.{files_rule, flag_rule, option_rule, words_app}
+use Rattle.command.specs.CommandWords.Words.{Flag, IsPlain, Said, Setting, budget, dumps, flag_name, flags, made, name_of, names, seed, sets, top, traces}
 
 abbrev pub shape : Shape
 shape = (built words_app).top
@@ -59,12 +59,12 @@ outcome_next w word words =
 
 abbrev pub rule_for : Said → Rule
 rule_for (sets s v) = with_index 1 (filled (option_rule (name_of s)))
-rule_for traces = with_index 1 (filled trace_rule)
+rule_for (flags f) = with_index 1 (filled (flag_rule (flag_name f)))
 rule_for (names file) = with_index 1 (filled files_rule)
 
 abbrev pub given : Said → List Text
 given (sets s v) = v ∷ []
-given traces = []
+given (flags f) = []
 given (names file) = file ∷ []
 
 abbrev pub put : Said → List Row → List Row
@@ -73,7 +73,7 @@ put x rows = used (rule_for x) (given x) rows
 -- it was said before, and may be said once
 abbrev pub repeats : Said → List Row → Bool
 repeats (sets s v) rows = has_row (name_of s) rows
-repeats traces rows = has_row (codes "trace") rows
+repeats (flags f) rows = has_row (flag_name f) rows
 repeats (names file) rows = false
 
 abbrev pub run : List Said → List Row → Option (List Row)
@@ -89,7 +89,8 @@ use_is (sets top v) rows = once (has_row (codes "top") rows)
 use_is (sets budget v) rows = once (has_row (codes "budget") rows)
 use_is (sets seed v) rows = once (has_row (codes "seed") rows)
 use_is (sets made v) rows = once (has_row (codes "made") rows)
-use_is traces rows = once (has_row (codes "trace") rows)
+use_is (flags traces) rows = once (has_row (codes "trace") rows)
+use_is (flags dumps) rows = once (has_row (codes "vcd") rows)
 use_is (names file) rows = refl
 
 pub picks : {X : Type 0} (b : Bool) (r : Option X) → pick (cond b (ArgumentConflict ∷ []) []) r ≡ cond b None r
@@ -158,11 +159,17 @@ plain_met b word h p = let f = plain_facts word p in
 pub plain_fault : (w : Waiting) (word : Text) (h : Held) → IsPlain word → word_fault shape [] false w word h ≡ []
 plain_fault w word h p = let f = plain_facts word p in ap (λ o. other_fault shape o word h) (no_sub w word) ∙ rw (f.0, f.1, f.2) refl
 
-pub trace_met : (w : Waiting) (h : Held) → word_met rules [] false w 1 (codes "--trace") h ≡ (reacted rules (rule_for traces) [] h, next idle)
-trace_met w h = ap (λ o. subcommand_or_other rules o w 1 (codes "--trace") h) (no_sub w (codes "--trace"))
+-- the word of a flag
+abbrev pub marked : Flag → Text
+marked f = codes "--" ++ flag_name f
 
-pub trace_fault : (w : Waiting) (h : Held) → word_fault shape [] false w (codes "--trace") h ≡ react_fault rules false (rule_for traces) [] h
-trace_fault w h = ap (λ o. other_fault shape o (codes "--trace") h) (no_sub w (codes "--trace"))
+pub flag_met : (f : Flag) (w : Waiting) (h : Held) → word_met rules [] false w 1 (marked f) h ≡ (reacted rules (rule_for (flags f)) [] h, next idle)
+flag_met traces w h = ap (λ o. subcommand_or_other rules o w 1 (marked traces) h) (no_sub w (marked traces))
+flag_met dumps w h = ap (λ o. subcommand_or_other rules o w 1 (marked dumps) h) (no_sub w (marked dumps))
+
+pub flag_fault : (f : Flag) (w : Waiting) (h : Held) → word_fault shape [] false w (marked f) h ≡ react_fault rules false (rule_for (flags f)) [] h
+flag_fault traces w h = ap (λ o. other_fault shape o (marked traces) h) (no_sub w (marked traces))
+flag_fault dumps w h = ap (λ o. other_fault shape o (marked dumps) h) (no_sub w (marked dumps))
 
 pub joined_met : (s : Setting) (v : Text) (w : Waiting) (h : Held)
     → word_met rules [] false w 1 (joined s v) h ≡ (reacted rules (rule_for (sets s v)) (v ∷ []) h, next idle)

@@ -11,8 +11,9 @@ use Rattle.command.specs.CommandWords.Forms.{Form, IsForm}
 abbrev pub option_rule : Text → Rule
 option_rule name = record (new_rule name) { long = Some name; action = Some Set }
 
-abbrev pub trace_rule : Rule
-trace_rule = record (new_rule (codes "trace")) { long = Some (codes "trace"); action = Some SetTrue }
+-- an option of this name, without a value
+abbrev pub flag_rule : Text → Rule
+flag_rule name = record (new_rule name) { long = Some name; action = Some SetTrue }
 
 abbrev pub files_rule : Rule
 files_rule = record (new_rule (codes "files")) { action = Some Append }
@@ -30,8 +31,8 @@ plain_app = record {
 
 abbrev pub words_rules : List Rule
 words_rules =
-    option_rule (codes "top") ∷ option_rule (codes "budget") ∷ option_rule (codes "seed") ∷ option_rule (codes "made") ∷ trace_rule
-    ∷ files_rule ∷ []
+    option_rule (codes "top") ∷ option_rule (codes "budget") ∷ option_rule (codes "seed") ∷ option_rule (codes "made")
+    ∷ flag_rule (codes "trace") ∷ flag_rule (codes "vcd") ∷ files_rule ∷ []
 
 abbrev pub words_app : App
 words_app = record plain_app { top = record plain_app.top { rules = words_rules } }
@@ -56,3 +57,4 @@ flag_in (Some text) = if bytes_eq text (codes "true") then text ∷ [] else []
 abbrev pub IsFormIn : List Row → Form → Type 0
 IsFormIn rows = IsForm (kept (codes "files") rows) (first (codes "top") rows) (first (codes "made") rows)
     (first (codes "budget") rows) (first (codes "seed") rows) (flag_in (first_of (codes "trace") rows))
+    (flag_in (first_of (codes "vcd") rows))

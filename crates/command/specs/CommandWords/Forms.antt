@@ -1,5 +1,5 @@
 -- What words ask for.
-use Rattle.std.specs.Prelude.{◌≡◌, ◌≢◌, ◌≤◌, ◌∷◌, ℕ, Bool, true, false, List, [], length, Option, Some, None, option_map, codes}
+use Rattle.std.specs.Prelude.{◌≡◌, ◌≢◌, ◌≤◌, ◌∷◌, ◌&&◌, ◌||◌, ℕ, Bool, true, false, not, IsTrue, List, [], length, Option, Some, None, option_map, codes}
 use Rattle.std.specs.Str.Parse.{IsNumeral, digits_value}
 use Rattle.command.specs.CommandWords.Words.{Said, Say, Text, values_of}
 use Rattle.command.specs.declared.command_words.reading.Reading.{Reading}
@@ -16,6 +16,7 @@ pub record Form : Type 0 where
   pub budget : ℕ
   pub seed : ℕ
   pub trace : Bool
+  pub vcd : Bool
 
 -- 1 to 20 digits, of a number in these bounds
 abbrev pub SaysNumber : ℕ → ℕ → Text → ℕ → Type 0
@@ -65,16 +66,26 @@ IsAsked (design ∷ tests ∷ []) tops [] asked = AreFiles design tests tops ask
 IsAsked [] [] (text ∷ []) asked = IsGenerated text asked
 IsAsked _ _ _ asked = ⊥
 
+abbrev pub are_files : Asked → Bool
+are_files (files design tests top) = true
+are_files (made n) = false
+
+-- the VCD text of a run is written of two files alone, and without lines for told changes
+abbrev pub stands_apart : Asked → Bool → Bool → Bool
+stands_apart asked trace vcd = not vcd || (not trace && are_files asked)
+
 -- what is given to each option, and the files, ask for this
-pub record IsForm (files tops mades budgets seeds traces : List Text) (form : Form) : Type 0 where
+pub record IsForm (files tops mades budgets seeds traces vcds : List Text) (form : Form) : Type 0 where
   pub asked : IsAsked files tops mades form.asked
   pub budget : IsBudget budgets form.budget
   pub seed : IsSeed seeds form.seed
   pub trace : IsFlag traces form.trace
+  pub vcd : IsFlag vcds form.vcd
+  pub apart : IsTrue (stands_apart form.asked form.trace form.vcd)
 
 abbrev pub IsFormOf : List Said → Form → Type 0
 IsFormOf said = IsForm (values_of (codes "files") said) (values_of (codes "top") said) (values_of (codes "made") said)
-    (values_of (codes "budget") said) (values_of (codes "seed") said) (values_of (codes "trace") said)
+    (values_of (codes "budget") said) (values_of (codes "seed") said) (values_of (codes "trace") said) (values_of (codes "vcd") said)
 
 -- The words have this reading.
 abbrev pub Reads : List Text → Form → Type 0
@@ -90,4 +101,4 @@ asked_of (work.Made n) = made n
 
 -- what a reading stands for
 abbrev pub form_of : Reading → Form
-form_of r = record { asked = asked_of r.work; budget = r.budget; seed = r.seed; trace = r.trace }
+form_of r = record { asked = asked_of r.work; budget = r.budget; seed = r.seed; trace = r.trace; vcd = r.vcd }

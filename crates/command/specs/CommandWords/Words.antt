@@ -19,10 +19,19 @@ name_of budget = codes "budget"
 name_of seed = codes "seed"
 name_of made = codes "made"
 
--- what one word says, or two: an option has a value, the run is to be traced, or a file has a name
+-- an option without a value: told changes are to have lines, or the VCD text of the run is to be written
+pub data Flag : Type 0 where
+  traces : Flag
+  dumps : Flag
+
+abbrev pub flag_name : Flag → Text
+flag_name traces = codes "trace"
+flag_name dumps = codes "vcd"
+
+-- what one word says, or two: an option has a value, a flag stands there, or a file has a name
 pub data Said : Type 0 where
   sets : Setting → Text → Said
-  traces : Said
+  flags : Flag → Said
   names : Text → Said
 
 -- The word can be a name or a value in a word of its own: it doesn't begin with `-` (45), unless it is the word `-`.
@@ -33,7 +42,7 @@ IsPlain word = (word ≡ codes "-") ⊎ ((rest : Text) → word ≡ 45 ∷ rest 
 pub data Say : List Text → List Said → Type 0 where
   Nothing : Say [] []
   File : (word : Text) (words : List Text) (said : List Said) → IsPlain word → Say words said → Say (word ∷ words) (names word ∷ said)
-  Trace : (words : List Text) (said : List Said) → Say words said → Say (codes "--trace" ∷ words) (traces ∷ said)
+  Flagged : (f : Flag) (words : List Text) (said : List Said) → Say words said → Say ((codes "--" ++ flag_name f) ∷ words) (flags f ∷ said)
   -- `--name=value`
   Joined : (s : Setting) (value : Text) (words : List Text) (said : List Said)
       → Say words said → Say ((codes "--" ++ name_of s ++ codes "=" ++ value) ∷ words) (sets s value ∷ said)
@@ -46,13 +55,13 @@ pub data Say : List Text → List Said → Type 0 where
 -- of what it speaks
 abbrev pub subject_of : Said → Text
 subject_of (sets s value) = name_of s
-subject_of traces = codes "trace"
+subject_of (flags f) = flag_name f
 subject_of (names file) = codes "files"
 
 -- the value of an option, `true` of a flag, or a name
 abbrev pub value_of : Said → Text
 value_of (sets s value) = value
-value_of traces = codes "true"
+value_of (flags f) = codes "true"
 value_of (names file) = file
 
 -- all that is said of a subject, in order

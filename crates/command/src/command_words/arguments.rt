@@ -1,7 +1,7 @@
 //! What `clap` is told of the words of the command.
 ghost use Rattle.std.specs.Prelude.{◌≡◌, IfOk, false, codes};
 ghost use Rattle.clap.specs.Words.{app_of, rule_of};
-ghost use Rattle.command.specs.CommandWords.Arguments.{files_rule, option_rule, plain_app, trace_rule, words_app};
+ghost use Rattle.command.specs.CommandWords.Arguments.{files_rule, flag_rule, option_rule, plain_app, words_app};
 
 use clap::{Arg, ArgAction, Command};
 use std::alloc::{AllocError, Global};
@@ -14,14 +14,12 @@ fn option<'a>(alloc: Global, name: &'a str) -> Arg<'a>
     Arg::new(alloc, name).long(name).action(ArgAction::Set)
 }
 
-/// The flag that asks for a trace.
-fn trace_flag<'a>(alloc: Global) -> Arg<'a>
-    ensures rule { rule_of result ≡ trace_rule }
+/// An option of this name, without a value.
+fn flag<'a>(alloc: Global, name: &'a str) -> Arg<'a>
+    ensures rule { rule_of result ≡ flag_rule name.entry.now }
     ensures own { result.global ≡ false }
 {
-    Arg::new(alloc, "trace")
-        .long("trace")
-        .action(ArgAction::SetTrue)
+    Arg::new(alloc, name).long(name).action(ArgAction::SetTrue)
 }
 
 /// The names of files.
@@ -51,6 +49,7 @@ pub fn simple_command<'a>(alloc: Global) -> Result<Command<'a>, AllocError>
         .arg(option(alloc, "budget"))?
         .arg(option(alloc, "seed"))?
         .arg(option(alloc, "made"))?
-        .arg(trace_flag(alloc))?
+        .arg(flag(alloc, "trace"))?
+        .arg(flag(alloc, "vcd"))?
         .arg(file_names(alloc))
 }

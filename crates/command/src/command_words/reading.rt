@@ -28,6 +28,8 @@ pub struct Reading<'a> {
     pub seed: u64,
     /// Whether each told change of a signal is to be written.
     pub trace: bool,
+    /// Whether the VCD text of the run is to be written (IEEE 1364-2005, clause 18), in place of all its lines.
+    pub vcd: bool,
 }
 
 /// Why no reading is given.

@@ -4,7 +4,7 @@ ghost use Rattle.clap.specs.Walk.{first_of, texts};
 ghost use Rattle.clap.specs.Words.{found_of, rows_of};
 ghost use Rattle.clap.specs.declared.error.kind.ErrorKind.TheVariants.{OutOfMemory};
 ghost use Rattle.command.specs.CommandWords.Arguments.{IsFormIn, first, flag_in, listed};
-ghost use Rattle.command.specs.CommandWords.Forms.{Asked, AreFiles, Form, IsAsked, IsFlag, IsGenerated, Reads, asked_of, form_of};
+ghost use Rattle.command.specs.CommandWords.Forms.{Asked, AreFiles, Form, IsAsked, IsFlag, IsGenerated, Reads, asked_of, form_of, stands_apart};
 
 use crate::command_words::arguments::simple_command;
 use crate::command_words::numbers::{number, number_or};
@@ -64,13 +64,23 @@ fn value_of<'a>(matches: &ArgMatches<'a>, name: &str) -> Option<&'a str>
     matches.get_str(name)
 }
 
-/// Whether the flag for a trace was found.
-fn is_traced(matches: &ArgMatches<'_>) -> bool
-    ensures { IsFlag (flag_in (first_of (codes "trace") (rows_of (found_of matches.now)))) result }
+/// Whether a flag was found.
+fn is_flagged(matches: &ArgMatches<'_>, name: &str) -> bool
+    ensures { IsFlag (flag_in (first_of name.now (rows_of (found_of matches.now)))) result }
 {
-    match matches.get_str("trace") {
+    match matches.get_str(name) {
         Some(text) => text == "true",
         None => false,
+    }
+}
+
+/// Whether a VCD text isn't asked for beside lines for told changes, or of generated texts.
+fn stands_apart(work: Work<'_>, trace: bool, vcd: bool) -> bool
+    ensures { result ≡ stands_apart (asked_of work.entry) trace vcd }
+{
+    match work {
+        Work::Files { .. } => !vcd || !trace,
+        Work::Made(_) => !vcd,
     }
 }
 
@@ -89,12 +99,17 @@ fn reading<'a>(matches: &ArgMatches<'a>) -> Option<Reading<'a>>
     let Some(seed) = number_or(value_of(matches, "seed"), 0, 0, u64::MAX) else {
         return None;
     };
-    let trace = is_traced(matches);
+    let trace = is_flagged(matches, "trace");
+    let vcd = is_flagged(matches, "vcd");
+    if !stands_apart(work, trace, vcd) {
+        return None;
+    }
     Some(Reading {
         work,
         budget,
         seed,
         trace,
+        vcd,
     })
 }
 
@@ -108,8 +123,8 @@ fn fault_of(kind: ErrorKind) -> WordsFault
     }
 }
 
-/// The one reading of the words of the command, without the program's name: `[--top NAME] [--budget N] [--seed N] [--trace] DESIGN TESTS`
-/// or `[--budget N] [--seed N] [--trace] --made N`.
+/// The one reading of the words of the command, without the program's name: `[--top NAME] [--budget N] [--seed N] [--trace | --vcd] DESIGN
+/// TESTS` or `[--budget N] [--seed N] [--trace] --made N`.
 ///
 /// Options and files stand in any order. An option's value is the next word, which doesn't begin with `-` unless it is `-`, or stands
 /// behind `=`. Behind the word `--` all words are files. No option stands twice, no value and no name is empty. A number has 1 to 20

@@ -2,22 +2,19 @@ use Rattle.port_io.specs.Means.{sink_means}
 use Rattle.command.proofs.FileRuns.{file_none, few_cases, maker_sound, opens, engine_cases, engine_runs}
 use Rattle.command.proofs.top.run_file.Goals as goal
 
-pub returns-in_err-load-clause-runs : goal.returns-in_err-load-clause-runs
-returns-in_err-load-clause-runs g c = file_none (sink_means g.O.Sink) c.args.options _ _ _ _ _ c.from_residual.ensures.0
-
 pub returns-in_err-engine-clause-runs : goal.returns-in_err-engine-clause-runs
-returns-in_err-engine-clause-runs g c = file_none (sink_means g.O.Sink) c.args.options _ _ _ _ _ c.from_residual-in_err-engine.ensures.0
+returns-in_err-engine-clause-runs g c = file_none (sink_means g.O.Sink) c.args.options _ _ _ _ _ c.from_residual.ensures.0
 
 pub run_all-requires-clause-fits : goal.run_all-requires-clause-fits
 run_all-requires-clause-fits g c =
-    rw c.in_ok-load.ensures.opening
+    rw c.requires.opening
     (c.in_ok-engine.ensures.fits c.requires.flat (maker_sound c.args.file.now c.new-maker.result.functions.now c.new-maker.ensures c.requires.file))
 
 pub run_all-requires-clause-opening : goal.run_all-requires-clause-opening
 run_all-requires-clause-opening g c = (
   c.args.options.seed,
   opens c.args.options c.args.flat.now c.args.file.now c.new-maker.result.functions.now _ c.new-maker.ensures c.in_ok-engine.ensures.setup
-      (g.K.Gpi.content c.load.new.self) _ c.in_ok-load.ensures.opening (c.in_ok-engine.ensures.empty (g.K.Gpi.content c.load.new.self)),
+      (g.K.Gpi.content c.args.kernel.now) _ c.requires.opening (c.in_ok-engine.ensures.empty (g.K.Gpi.content c.args.kernel.now)),
 )
 
 pub run_all-requires-clause-few : goal.run_all-requires-clause-few
@@ -33,4 +30,4 @@ returns-clause-runs g c =
     (sink_means g.O.Sink) c.run_all.result _ (g.K.Gpi.content c.run_all.new.kernel) c.args.out.now c.run_all.new.out
     (c.run_all.ensures.runs c.args.options.seed
     (opens c.args.options c.args.flat.now c.args.file.now c.new-maker.result.functions.now _ c.new-maker.ensures c.in_ok-engine.ensures.setup
-    (g.K.Gpi.content c.load.new.self) _ c.in_ok-load.ensures.opening (c.in_ok-engine.ensures.empty (g.K.Gpi.content c.load.new.self))))
+    (g.K.Gpi.content c.args.kernel.now) _ c.requires.opening (c.in_ok-engine.ensures.empty (g.K.Gpi.content c.args.kernel.now))))

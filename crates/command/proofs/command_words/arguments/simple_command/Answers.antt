@@ -9,5 +9,6 @@ returns c =
     let budget = c.in_ok-arg-2.ensures.shape c.option-2.ensures.own ∙ ap₂ with_rule top c.option-2.ensures.rule in
     let seed = c.in_ok-arg-3.ensures.shape c.option-3.ensures.own ∙ ap₂ with_rule budget c.option-3.ensures.rule in
     let made = c.in_ok-arg-4.ensures.shape c.option-4.ensures.own ∙ ap₂ with_rule seed c.option-4.ensures.rule in
-    let trace = c.in_ok-arg-5.ensures.shape c.trace_flag.ensures.own ∙ ap₂ with_rule made c.trace_flag.ensures.rule in
-    IfOk-weaker c.arg-6.result _ _ (λ command h. h.shape c.file_names.ensures.own ∙ ap₂ with_rule trace c.file_names.ensures.rule) c.arg-6.ensures
+    let trace = c.in_ok-arg-5.ensures.shape c.flag.ensures.own ∙ ap₂ with_rule made c.flag.ensures.rule in
+    let vcd = c.in_ok-arg-6.ensures.shape c.flag-2.ensures.own ∙ ap₂ with_rule trace c.flag-2.ensures.rule in
+    IfOk-weaker c.arg-7.result _ _ (λ command h. h.shape c.file_names.ensures.own ∙ ap₂ with_rule vcd c.file_names.ensures.rule) c.arg-7.ensures
