@@ -4,7 +4,8 @@
 PROGRAM is `crates/cocorun/out/cocorun`, as `rt ci` or `./cocorun` built it. Each measurement runs it once in a folder of its own on texts that are
 made here, and prints its name, the status, the seconds of the processor, the most memory in MB, and the last line of its output. With names, only
 measurements whose name begins with one of them run. Those of `counter` also run Icarus Verilog (`iverilog`, `vvp`) on the same design with its clock
-in Verilog, where it is installed, and print how many times as long the command took.
+in Verilog, where it is installed, and print how many times as long the command took. Those of `simulator` measure the simulator alone, beside Icarus Verilog:
+each design makes its own clock, and the test waits once.
 
 What is measured stands in docs/PERFORMANCE.md.
 """
@@ -152,6 +153,57 @@ def counter(program):
         print(f"{'counter: Icarus Verilog, its clock in Verilog':70}     {theirs:8.2f} s {memory:7.0f} MB  {time.monotonic() - begin:.2f} s by the clock; the command took {ours / max(theirs, 0.01):.1f} times as long")
 
 
+OWN_CLOCK = "  reg clk;\n  initial clk = 0;\n  always @(clk) clk <= #1 ~clk;\n"
+THEIR_CLOCK = "  reg clk;\n  initial clk = 0;\n  always #1 clk = ~clk;\n"
+
+
+def clocked_designs():
+    """Designs by name, each with how many steps it runs; a clock stands before what is given here."""
+    yield "counter of 8 bits", 2_000_000, "  reg [7:0] q;\n  initial q = 0;\n  always @(posedge clk) q <= q + 1;\n"
+    stages = "".join(f"  reg [31:0] s{n};\n  initial s{n} = {n};\n  always @(posedge clk) s{n} <= s{(n - 1) % 32} + {n + 1};\n" for n in range(32))
+    yield "pipeline of 32 adders", 200_000, stages
+    rows = "".join(f"  wire [31:0] p{n} = p{n - 1} + (a[{n}] ? b << {n} : 32'd0);\n" for n in range(1, 16))
+    feeds = "  reg [15:0] a;\n  reg [31:0] b;\n  initial begin a = 1; b = 3; end\n  always @(posedge clk) begin a <= a * 5 + 7; b <= {16'd0, b[15:0]} + 12345; end\n"
+    yield "multiplier array of 16 by 16", 200_000, feeds + "  wire [31:0] p0 = a[0] ? b : 32'd0;\n" + rows
+    ram = "  reg [11:0] at;\n  reg [7:0] d, q;\n  reg [7:0] m [0:4095];\n  initial begin at = 0; d = 1; end\n"
+    yield "memory of 4,096 words", 1_000_000, ram + "  always @(posedge clk) begin m[at] <= d; q <= m[at]; at <= at + 1; d <= d + 3; end\n"
+    labels = "".join(f"    8'b{'?' * n}1{'0' * (7 - n)}: y = {n + 1};\n" for n in range(8))
+    yield "casez decoder", 1_000_000, "  reg [7:0] k;\n  reg [3:0] y;\n  initial k = 0;\n  always @(posedge clk) k <= k + 1;\n  always @(k) casez (k)\n" + labels + "    default: y = 0;\n  endcase\n"
+    cells = "".join(f"  reg r{n};\n  initial r{n} = 0;\n  always @(posedge clk) r{n} <= {'~' if n == 5_000 else ''}r{n};\n" for n in range(10_000))
+    yield "10,000 flip-flops, of which one changes", 400, cells
+
+
+def waiting_once(steps):
+    return HEAD + TEST + f'    await Timer({steps}, "step")\n'
+
+
+def designs_alone(program):
+    """The simulator alone, beside Icarus Verilog on the same design; and what processes cost that have nothing to do."""
+    for name, steps, body in clocked_designs():
+        begun = measured(program, f"simulator: {name}, opened", [], f"module top;\n{OWN_CLOCK}{body}endmodule\n", waiting_once(1))
+        ours = measured(program, f"simulator: {name}, {steps} steps", ["--budget", "1000000000000"], f"module top;\n{OWN_CLOCK}{body}endmodule\n", waiting_once(steps)) - begun
+        if shutil.which("iverilog"):
+            theirs = icarus(f"module top;\n{THEIR_CLOCK}{body}endmodule\n", steps) - icarus(f"module top;\n{THEIR_CLOCK}{body}endmodule\n", 1)
+            print(f"{'':70}     {theirs:8.2f} s by Icarus Verilog; the command took {ours / max(theirs, 0.001):.2f} times as long", flush=True)
+    for idle in (16, 32_760):
+        cells = "".join(f"  cell c{n}(e);\n" for n in range(idle))
+        text = f"module cell(input e);\n  reg r;\n  always @(posedge e) r <= 0;\nendmodule\nmodule top(input e);\n{OWN_CLOCK}  reg [7:0] q;\n  initial q = 0;\n  always @(posedge clk) q <= q + 1;\n{cells}endmodule\n"
+        words = ["--top", "top", "--budget", "1000000000000"]
+        measured(program, f"simulator: a counter beside {2 * idle} idle processes, opened", words, text, waiting_once(1))
+        measured(program, f"simulator: a counter beside {2 * idle} idle processes, 1000000 steps", words, text, waiting_once(1_000_000))
+    for signals in (16, 65_500):
+        text = f"module top;\n  reg [63:0] m [0:{signals - 1}];\nendmodule\n"
+        measured(program, f"simulator: {signals} words of 64 bits, opened", [], text, waiting_once(1))
+
+
+def icarus(text, steps):
+    """The seconds of the processor that Icarus Verilog's simulator takes for so many steps of a design, without its compiler's."""
+    with tempfile.TemporaryDirectory() as folder:
+        Path(folder, "b.v").write_text(text + f"module bench;\n  top t();\n  initial #{steps} $finish(0);\nendmodule\n")
+        subprocess.run(["iverilog", "-g2005", "-s", "bench", "-o", "b", "b.v"], cwd=folder, check=True)
+        return run(shutil.which("vvp"), ["-n", "b"], folder)[1]
+
+
 def main():
     program, wanted = os.path.realpath(sys.argv[1]), sys.argv[2:]
     for name, words, design, tests in measurements():
@@ -159,6 +211,8 @@ def main():
             measured(program, name, words, design, tests)
     if not wanted or any("counter".startswith(it) for it in wanted):
         counter(program)
+    if not wanted or any("simulator".startswith(it) for it in wanted):
+        designs_alone(program)
 
 
 if __name__ == "__main__":

@@ -53,7 +53,7 @@ LAYERS = [
     ("Vectors and the simulator",
      "What a design does once it is flat: values of four digits, expressions and statements over signals, and the events of a simulator. "
      "The numbers are clauses of IEEE 1364-2005.",
-     r"four_value|gpi|\w+_kernel|v_exec|event_queue|callback_book"),
+     r"four_value|gpi|kernel_base|\w+_kernel|v_exec|event_queue|callback_book"),
     ("The text of a design",
      "Which bytes are a Verilog text: its parts and directives, its tokens, and the grammar of expressions, statements, items and modules.",
      r"v_lex|v_syntax|v_phrase|v_expression|v_statement|v_item|v_parse"),

@@ -17,7 +17,7 @@ from pathlib import Path
 
 TOP = Path(__file__).resolve().parent.parent
 STAND_IN = '#!/bin/sh\nprintf %s "$STAND_IN_LINE"\nexit "$STAND_IN_STATUS"\n'
-USAGE = "usage: cocorun [--top NAME] [--budget N] [--seed N] [--trace] DESIGN TESTS\n"
+USAGE = "usage: cocorun [--top NAME] [--budget N] [--seed N] [--trace | --vcd] DESIGN TESTS\n"
 
 # Files in the folder of each case.
 FILES = {
@@ -50,6 +50,12 @@ WORDS = [
     ("--top --trace d.v t.py", "no value stands behind --top"),
     ("--seed -7 d.v t.py", "no value stands behind --seed"),
     ("--trace=1 d.v t.py", "--trace has no value"),
+    ("--vcd d.v t.py --vcd", "--vcd stands twice"),
+    ("--vcd=1 d.v t.py", "--vcd has no value"),
+    ("--vcd --trace d.v t.py", "--vcd stands without --trace"),
+    ("--trace d.v t.py --vcd", "--vcd stands without --trace"),
+    ("--vcd --made 0", "--vcd stands without --made"),
+    ("--made 0 --vcd", "--vcd stands without --made"),
     ("-x d.v t.py", "there is no option -x"),
     ("--help", "there is no option --help"),
     ("--to top d.v t.py", "there is no option --to"),
@@ -392,6 +398,27 @@ def shows_progress(folder):
     return wanted, [statuses, (folder / "out.txt").read_text(), piped, fits if all(fits) else seen, quick]
 
 
+DUMPS = """#!/bin/sh
+case " $* " in
+*" --vcd "*) echo "#0" ;;
+*) printf '%s\\n' "0 TEST a" "1 PASS a" "2 INFO 5 FAIL x" "3 FAIL b (AssertionError)" "$*" ;;
+esac
+exit 1
+"""
+
+
+def tells_failed_tests(folder):
+    """where a VCD text is written it tells on a terminal how many tests have failed, and else nothing"""
+    program_in(folder / "release", DUMPS, sources_of(folder))
+    asked = [["--vcd", "--seed", "7", "d.v", "t.py"], ["d.v", "t.py"], ["d.v", "--", "--vcd"]]
+    started = [on_a_terminal(folder, subprocess.PIPE, words) for words in asked]
+    lines = [process.communicate()[0].decode().splitlines()[-1] for process, _ in started]
+    seen = [re.sub(r"\d+ s +\r| +\r", "", seen_on(reads)) for _, reads in started]
+    quiet = ran(folder, ["--vcd", "d.v", "t.py"])
+    told = ["cocorun: status 1, 1 of 2 tests failed\n", "", ""]
+    return (["#0", "d.v t.py", "#0"], told, (1, "#0\n", "")), (lines, seen, quiet)
+
+
 def sums_up_a_regression(folder):
     """examples/regression runs twenty seeds, goes on after a failure, and prints what its page says"""
     if not shutil.which("make"):
@@ -430,5 +457,6 @@ def tells_another_machine(folder):
 AROUND = [
     runs_from_elsewhere, sums_once, tells_a_change, tells_an_old_change, tells_new_and_lost_files, tells_proofs_and_the_list_of_crates, tells_the_commit,
     refuses_a_spoiled_release, runs_what_was_built, builds_when_asked, runs_where_nothing_can_be_written, runs_where_no_file_can_be_made, refuses_without_hints,
-    runs_without_standard_error, shows_progress, sums_up_a_regression, tells_what_fails, names_the_program, tells_another_machine,
+    runs_without_standard_error, shows_progress, tells_failed_tests, sums_up_a_regression, tells_what_fails, names_the_program,
+    tells_another_machine,
 ]

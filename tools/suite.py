@@ -40,7 +40,7 @@ PROGRAMS = [TOP / "crates" / name for name in ("cocorun", "cocorun_failed")]
 EXAMPLES = TOP / "examples"
 
 STATUSES = ["Passed", "Failed", "Usage", "DesignRefused", "TestsRefused", "ReadFault", "WriteFault", "NoMemory", "Budget"]
-USAGE = b"usage: cocorun [--top NAME] [--budget N] [--seed N] [--trace] DESIGN TESTS\n"
+USAGE = b"usage: cocorun [--top NAME] [--budget N] [--seed N] [--trace | --vcd] DESIGN TESTS\n"
 SMALL_DESIGN = b"module top(input a);\nendmodule\n"
 SMALL_TESTS = b"import cocotb\n\n@cocotb.test()\nasync def t(dut):\n    pass\n"
 SMALL_LINES = b"0 TEST t\n0 PASS t\n** TESTS=1 PASS=1 FAIL=0 SKIP=0 TIME=0 **\n"

@@ -13,7 +13,7 @@ Asked = namedtuple("Asked", "kind rule parts answer")
 # the statuses, by their numbers
 STATUSES = ["Passed", "Failed", "Usage", "DesignRefused", "TestsRefused", "ReadFault", "WriteFault", "NoMemory", "Budget"]
 # what was put, where the row says so with the status
-USAGE = "usage: cocorun [--top NAME] [--budget N] [--seed N] [--trace] DESIGN TESTS"
+USAGE = "usage: cocorun [--top NAME] [--budget N] [--seed N] [--trace | --vcd] DESIGN TESTS"
 
 
 def quoted(lines):

@@ -1,16 +1,20 @@
 """Rows on VCD texts (IEEE 1364-2005, clause 18, four-state). All by hand.
 
-`TEXTS` are commands with `--vcd`: a design, a body of a test, and the whole text that is put. `READ` are texts with what a reader makes of
+`TEXTS` are commands with `--vcd`: a design, a body of a test, and the whole text that is put; `COMMANDS` are these as rows of the command, with those whose
+puts fail, whose files are refused, and whose words stand in other orders. `READ` are texts with what a reader makes of
 them: the changes that they tell, or the number of the first line that no VCD text has behind the lines before it; `tools/rows/vcd_rows.py`
 compares both with `tools/models/vcd_text.py`.
 """
 from collections import namedtuple
+
+from rows.command_rows import command
 
 # rule, design, the body of a test, the budget, the status and the lines that are put
 Text = namedtuple("Text", "rule design body budget status lines")
 # rule, the text, and its changes as (time, path, digits), or the number of the refused line
 Read = namedtuple("Read", "rule text answer")
 
+HEAD = "import cocotb\nfrom cocotb.triggers import Timer\n\n@cocotb.test()\nasync def t(dut):\n"
 FLIP_FLOP = "module top(input clk, input [7:0] a, output reg [7:0] q); always @(posedge clk) q <= a; endmodule\n"
 START = """\
 $timescale 1 ns $end
@@ -27,6 +31,10 @@ bzzzzzzzz "
 bxxxxxxxx #
 $end
 """
+
+
+def tests_of(body):
+    return HEAD + "".join(f"    {statement}\n" for statement in body.split("; "))
 
 
 def text(rule, design, body, lines, budget=10_000_000, status="Passed"):
@@ -128,6 +136,30 @@ TEXTS = [
     text("a run that ends at its budget", FLIP_FLOP, 'dut.a.value = 5; await Timer(2, "step"); dut.a.value = 6; await Timer(2, "step")',
          START + 'b00000101 "\n', budget=5, status="Budget"),
     text("a failed test", FLIP_FLOP, "dut.a.value = 7; await Timer(1, 'step'); assert False", START + 'b00000111 "\n', status="Failed"),
+]
+
+# ---- rows of the command
+
+def written(row, words, put=0):
+    """A command with these words and the files of the row; where that put fails its own lines are those before."""
+    lines = row.lines.splitlines()
+    status, lines = ("WriteFault", lines[: put - 1]) if put else (row.status, lines)
+    return command(f"VCD text: {row.rule}{f', put {put} fails' * bool(put)}", words, row.design, tests_of(row.body), status, lines, put=put)
+
+
+SMALLEST = text("the first text", FLIP_FLOP, TEXTS[0].body, TEXTS[0].lines)
+COMMANDS = [
+    *[written(row, f"--vcd --budget {row.budget} d.v t.py") for row in TEXTS],
+    *[written(SMALLEST, "--vcd d.v t.py", put) for put in range(1, len(SMALLEST.lines.splitlines()) + 1)],
+    *[
+        written(SMALLEST._replace(rule=f"the words {words}"), words)
+        for words in ["d.v --vcd t.py", "d.v t.py --vcd", "--top top --seed 7 --vcd d.v t.py", "--vcd --budget=9 --top=top d.v -- t.py"]
+    ],
+    command("VCD text: a design that isn't there", "--vcd d.v t.py", None, "", "ReadFault", ["error: cannot read d.v"]),
+    command("VCD text: tests that aren't there", "--vcd d.v t.py", FLIP_FLOP, None, "ReadFault", ["error: cannot read t.py"]),
+    command("VCD text: a design that is refused", "--vcd d.v t.py", "modul", "", "DesignRefused", ["error: d.v: Syntax at 1:1"]),
+    command("VCD text: tests that are refused", "--vcd d.v t.py", FLIP_FLOP, "x\n", "TestsRefused", ["error: t.py: BadLine at line 1"]),
+    command("VCD text: a file named as the flag", "d.v -- --vcd", FLIP_FLOP, "", "ReadFault", ["error: cannot read --vcd"]),
 ]
 
 # ---- texts that are read

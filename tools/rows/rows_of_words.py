@@ -101,6 +101,8 @@ REFUSED = [
         ("a seed below 0", "--seed -1 d.v t.py"), ("a seed that isn't decimal", "--seed 0x7 d.v t.py"), ("a seed with _", "--seed 1_0 d.v t.py"),
         ("a budget twice", "--budget 3 --budget 3 d.v t.py"), ("a budget twice, once behind =", "--budget=3 d.v --budget 3 t.py"),
         ("a seed twice", "--seed 1 --seed 2 d.v t.py"), ("a top twice", "--top top d.v t.py --top top"), ("a trace twice", "--trace --trace d.v t.py"),
+        ("a VCD text twice", "--vcd --vcd d.v t.py"), ("a VCD text with a value", "--vcd=1 d.v t.py"), ("a VCD text with an empty value", "--vcd= d.v t.py"),
+        ("a VCD text and a trace", "--vcd --trace d.v t.py"), ("a trace and a VCD text", "d.v --trace t.py --vcd"), ("a VCD text of one file", "--vcd d.v"),
         ("a trace with a value", "--trace=1 d.v t.py"), ("a trace with an empty value", "--trace= d.v t.py"),
         ("no budget", "d.v t.py --budget"), ("no seed", "d.v t.py --seed"), ("no top", "d.v t.py --top"),
         ("an empty budget", "--budget= d.v t.py"), ("an empty seed", "--seed= d.v t.py"), ("an empty top", "--top= d.v t.py"),
@@ -114,7 +116,8 @@ REFUSED = [
 MADE = [
     usage(*row) for row in [
         ("generated tests under a top", "--top top --made 0"), ("generated tests and a file", "--made 0 d.v"), ("generated tests and two files", "--made 0 d.v t.py"),
-        ("generated tests twice", "--made 0 --made 0"), ("no number of generated tests", "--made"), ("an empty number of generated tests", "--made="),
+        ("generated tests twice", "--made 0 --made 0"), ("a VCD text of generated tests", "--vcd --made 0"),
+        ("generated tests and a VCD text", "--made 0 --vcd"), ("a VCD text of generated tests and two files", "--vcd --made 0 d.v t.py"), ("no number of generated tests", "--made"), ("an empty number of generated tests", "--made="),
         ("a number of generated tests that is too large", "--made 4294967296"), ("a number of generated tests with a letter", "--made a"),
     ]
 ] + [

@@ -6,7 +6,7 @@
     tools/rows/runner_rows.py TABLE ..   lists the rules of these tables, with their numbers of lines in `stdin`
 
 Each row of the tables tools/data/TABLE_rows.txt (`tools/rows/row_texts.py` tells their form) becomes a row `kept`, whose words name its budget, and `--trace` where the
-changes of signals are told. Behind these stand what refusals leave, and the rows of words, tops, refusals, faults and cuts (`tools/rows/command_rows.py` tells their
+changes of signals are told. Behind these stand what refusals leave, and the rows of words, tops, VCD texts, refusals, faults and cuts (`tools/rows/command_rows.py` tells their
 form), of designs (tools/data/design_rows.txt), of tests, and of kills turn by turn. Behind the part's name stands what is asked; crates/runner_tests/src/runner.rt tells which parts follow.
 No answer comes from the program: they were worked out by hand, or come from CPython or from the model of `tools/models/run_model.py`.
 """
@@ -22,6 +22,7 @@ from rows.row_texts import DATA
 from rows.rows_of_faults import FAULTS
 from rows.rows_of_refusals import KEPT, READ, REFUSALS
 from rows.rows_of_tops import TOPS
+from rows.rows_of_vcd import COMMANDS
 from rows.rows_of_words import WORDS
 
 PROGRAM, PART = "runner_tests", "runner"
@@ -54,7 +55,7 @@ def all_rows():
     runs = [run(row) for table in TABLES for row in stored(table)]
     designs = [Asked("design", rule, [text], answer) for rule, text, answer in stored("design")]
     turned = [turns(row) for row in stored("kill")]
-    return [*runs, *KEPT, *WORDS, *TOPS, *REFUSALS, *FAULTS, *designs, *READ, *turned]
+    return [*runs, *KEPT, *WORDS, *TOPS, *COMMANDS, *REFUSALS, *FAULTS, *designs, *READ, *turned]
 
 
 def main(words):

@@ -1,7 +1,7 @@
 #!/usr/bin/env python3
 """Compares the rows on VCD texts, `tools/rows/rows_of_vcd.py`, with the model of such texts, and with a built program.
 
-    tools/rows/vcd_rows.py [PROGRAM]    PROGRAM is a `cocorun` that has `--vcd`
+    tools/rows/vcd_rows.py [PROGRAM]    PROGRAM is a built `cocorun`
 
 The status is 1 where a row differs.
 """
@@ -17,14 +17,9 @@ sys.path.insert(0, str(ROOT / "tools"))
 from models.run_model import model
 from models.vcd_text import BadLine, read, vcd
 from models.verilog_model import flat_of
-from rows.rows_of_vcd import READ, TEXTS
+from rows.rows_of_vcd import READ, TEXTS, tests_of
 
 STATUSES = ["Passed", "Failed", "Usage", "DesignRefused", "TestsRefused", "ReadFault", "WriteFault", "NoMemory", "Budget"]
-HEAD = "import cocotb\nfrom cocotb.triggers import Timer\n\n@cocotb.test()\nasync def t(dut):\n"
-
-
-def tests_of(body):
-    return HEAD + "".join(f"    {statement}\n" for statement in body.split("; "))
 
 
 def answer_of(text):
