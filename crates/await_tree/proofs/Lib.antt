@@ -4,5 +4,7 @@ pub mod Few
 pub mod Building
 pub mod Settled
 pub mod Within
+pub mod Refusing
+pub mod Staying
 pub mod Rows
 pub mod WaitListLemmas

@@ -3,6 +3,7 @@ pub mod Begin
 pub mod Fire
 pub mod Check
 pub mod Steps
+pub mod Staying
 pub mod Shape
 pub mod Whole
 pub mod Settled

@@ -61,6 +61,15 @@ abbrev mutual
   all_leaves NoTree = []
   all_leaves (Then t ts) = leaves t ++ all_leaves ts
 
+-- what a tree waits for that is one leaf, or counts edges
+abbrev pub lone : Tree → Option Awaited
+lone (Over f) = None
+lone (Leaf on trig) = Some on
+lone (Cycles key left trig) = Some (awaited.Key key)
+lone (First ts) = None
+lone (Combine trig ts) = None
+lone (Limit due t) = None
+
 -- ---- parts that are done
 
 abbrev pub over_of : Tree → Option Finish

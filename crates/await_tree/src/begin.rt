@@ -3,6 +3,7 @@ ghost use Rattle.std.specs.Prelude.{◌≡◌, false, true, not};
 ghost use Rattle.await_tree.specs.Begin as begin;
 ghost use Rattle.await_tree.specs.Tree as tree;
 ghost use Rattle.await_tree.specs.Shape.{shape, shapes};
+ghost use Rattle.await_tree.specs.Staying.{is_on_keys};
 
 use crate::cause::Awaited;
 use crate::finish::Finish;
@@ -35,6 +36,19 @@ pub trait Facts {
     fn ended(&self, task: TaskNo) -> Option<bool>
         requires { task.0 < length (facts self.now).tasks }
         ensures { result ≡ begin.ended task (facts self.now) };
+}
+
+impl Node {
+    /// Whether it is one leaf on a key, or counts edges.
+    fn is_on_keys(&self) -> bool
+        ensures { result ≡ is_on_keys (shape self.now) }
+    {
+        match self {
+            Node::Leaf { on, .. } => matches!(on, Awaited::Key(_)),
+            Node::Cycles { .. } => true,
+            _ => false,
+        }
+    }
 }
 
 /// A leaf on a lock begins.
@@ -125,12 +139,15 @@ fn begin_all<Q: Facts>(parts: &mut Parts, facts: &mut Q)
 
 /// A tree begins.
 #[cycle(beginning)]
-#[tactic(auto, using(crate::proofs::BeginLaws::first_begun, crate::proofs::BeginLaws::combine_begun, crate::proofs::BeginLaws::limit_begun))]
+#[tactic(auto, using(crate::proofs::Staying::keys_stay, crate::proofs::BeginLaws::first_begun, crate::proofs::BeginLaws::combine_begun, crate::proofs::BeginLaws::limit_begun))]
 pub fn begin_node<Q: Facts>(node: &mut Node, facts: &mut Q)
     requires { begin.Knows (begin.made (Q.facts facts.old)) (shape node.old) }
     ensures made { begin.made (Q.facts facts.new) ≡ begin.made (Q.facts facts.old) }
     ensures begun { begin.begun (shape node.new) (Q.facts facts.new) ≡ begin.begin (shape node.old) (Q.facts facts.old) }
 {
+    if node.is_on_keys() {
+        return;
+    }
     let old = mem::replace(node, Node::gone());
     *node = match old {
         Node::Over(finish) => Node::Over(finish),

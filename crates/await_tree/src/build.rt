@@ -33,17 +33,38 @@ pub fn refusal(on: Awaited, region: Region) -> Option<Fault>
     }
 }
 
-/// The fault of the first of these leaves that may not begin, if there is one. It takes no memory.
-#[tactic(auto, using(crate::proofs::Building::bad_now, crate::proofs::Building::good_next, crate::proofs::Building::good_end))]
-pub fn refusals(leaves: &[Awaited], region: Region) -> Option<Fault>
-    ensures { result ≡ check.refusals leaves.now region }
+/// The fault of the first waiting leaf of a tree that may not begin, if there is one. It takes no memory.
+#[cycle(refusing)]
+#[tactic(auto, using(crate::proofs::Refusing::refused_one, crate::proofs::Refusing::refused_before, crate::proofs::Refusing::refused_last))]
+pub fn node_refusal(node: &Node, region: Region) -> Option<Fault>
+    ensures { result ≡ check.refusals (tree.leaves (shape node.now)) region }
 {
-    for on in leaves {
-        if let Some(fault) = refusal(*on, region) {
-            return Some(fault);
-        }
+    match node {
+        Node::Over(_) => None,
+        Node::Leaf { on, .. } => refusal(*on, region),
+        Node::Cycles { key, .. } => refusal(Awaited::Key(*key), region),
+        Node::First(parts) => parts_refusal(parts, region),
+        Node::Combine { parts, .. } => parts_refusal(parts, region),
+        Node::Limit { due, inner } => match node_refusal(inner, region) {
+            Some(fault) => Some(fault),
+            None => refusal(Awaited::Key(Key::At(*due)), region),
+        },
     }
-    None
+}
+
+/// The fault of the first waiting leaf of parts that may not begin, if there is one.
+#[cycle(refusing)]
+#[tactic(auto, using(crate::proofs::Refusing::refused_before, crate::proofs::Refusing::refused_later))]
+fn parts_refusal(parts: &Parts, region: Region) -> Option<Fault>
+    ensures { result ≡ check.refusals (tree.all_leaves (shapes parts.now)) region }
+{
+    match parts {
+        Parts::End => None,
+        Parts::Then(first, rest) => match node_refusal(first, region) {
+            Some(fault) => Some(fault),
+            None => parts_refusal(rest, region),
+        },
+    }
 }
 
 /// The key of an edge.

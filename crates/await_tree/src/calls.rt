@@ -1,7 +1,7 @@
 //! What is asked of a tree.
-ghost use Rattle.std.specs.Prelude.{◌≡◌, ◌≤◌, ◌^◌, None, IfOk, OnOk, IfErr};
+ghost use Rattle.std.specs.Prelude.{◌≡◌, ◌≤◌, ◌^◌, ◌∷◌, [], None, IfOk, OnOk, IfErr, IfSome};
 ghost use Rattle.py_value.specs.Trigger.{IsSound};
-ghost use Rattle.await_tree.specs.Tree.{leaves};
+ghost use Rattle.await_tree.specs.Tree.{leaves, lone};
 ghost use Rattle.await_tree.specs.Begin as begin;
 ghost use Rattle.await_tree.specs.Fire as fire;
 ghost use Rattle.await_tree.specs.Check as check;
@@ -10,8 +10,8 @@ ghost use Rattle.await_tree.specs.Shape.{shape};
 ghost use Rattle.await_tree.specs.Whole.{tree_in};
 
 use crate::begin::{Facts, begin_node};
-use crate::build::{node_of, refusals};
-use crate::cause::{Cause, Step, TreeFault};
+use crate::build::{node_of, node_refusal};
+use crate::cause::{Awaited, Cause, Step, TreeFault};
 use crate::fire::fire_node;
 use crate::grant::grant_node;
 use crate::leaves::Leaves;
@@ -28,13 +28,12 @@ fn answered(node: &mut Node) -> Step
     ensures answer { result ≡ step_of (shape node.old) }
     ensures rest { shape node.new ≡ rest_of (shape node.old) }
 {
-    let old = mem::replace(node, Node::gone());
-    match old {
+    if !node.is_over() {
+        return Step::Still;
+    }
+    match mem::replace(node, Node::gone()) {
         Node::Over(finish) => Step::Done(finish.given()),
-        old => {
-            *node = old;
-            Step::Still
-        }
+        _ => unreachable!(),
     }
 }
 
@@ -66,7 +65,7 @@ impl Tree {
             Ok(tree) => tree,
             Err(NoMemory) => return Err(TreeFault::OutOfMemory),
         };
-        match refusals(tree.leaves().as_slice(), region) {
+        match node_refusal(&tree.node, region) {
             Some(fault) => Err(TreeFault::Raised(fault)),
             None => Ok(tree),
         }
@@ -104,6 +103,18 @@ impl Tree {
     {
         grant_node(&mut self.node, lock);
         answered(&mut self.node)
+    }
+
+    /// What a tree waits for that is one leaf or counts edges, and none for others. It takes no memory.
+    pub fn lone(&self) -> Option<Awaited>
+        ensures is { result ≡ lone (tree_in self.now) }
+        ensures leaves { IfSome result (λ on. leaves (tree_in self.now) ≡ on ∷ []) }
+    {
+        match &self.node {
+            Node::Leaf { on, .. } => Some(*on),
+            Node::Cycles { key, .. } => Some(Awaited::Key(*key)),
+            _ => None,
+        }
     }
 
     /// What the waiting leaves wait for, from left to right, the time of a limit behind the leaves of what it limits. It takes no memory.

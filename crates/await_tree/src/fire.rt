@@ -3,6 +3,7 @@ ghost use Rattle.std.specs.Prelude.{◌≡◌};
 ghost use Rattle.await_tree.specs.Tree as tree;
 ghost use Rattle.await_tree.specs.Fire as fire;
 ghost use Rattle.await_tree.specs.Shape.{shape, shapes};
+ghost use Rattle.await_tree.specs.Staying.{is_beyond};
 
 use crate::cause::{Awaited, Cause};
 use crate::finish::Finish;
@@ -10,6 +11,19 @@ use crate::node::{Node, Parts};
 use gpi::Key;
 use py_value::Trig;
 use std::mem;
+
+impl Node {
+    /// Whether it is one leaf or counts edges, and waits for something else than this.
+    fn is_beyond(&self, on: Awaited) -> bool
+        ensures { result ≡ is_beyond on (shape self.now) }
+    {
+        match self {
+            Node::Leaf { on: own, .. } => !on.is_same(*own),
+            Node::Cycles { key, .. } => !on.is_same(Awaited::Key(*key)),
+            _ => false,
+        }
+    }
+}
 
 /// How a leaf is done that the cause reaches.
 fn reached(cause: Cause, trig: Trig) -> Finish
@@ -74,9 +88,13 @@ fn fire_parts(parts: &mut Parts, cause: Cause)
 
 /// All leaves that wait for the cause are reached.
 #[cycle(firing)]
+#[tactic(auto, using(crate::proofs::Staying::beyond_stays))]
 pub fn fire_node(node: &mut Node, cause: Cause)
     ensures { shape node.new ≡ fire.fire cause (shape node.old) }
 {
+    if node.is_beyond(cause.reach()) {
+        return;
+    }
     let old = mem::replace(node, Node::gone());
     *node = match old {
         Node::Over(finish) => Node::Over(finish),

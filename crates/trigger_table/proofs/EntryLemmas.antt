@@ -14,6 +14,7 @@ use Rattle.trigger_table.specs.Indexed.{Sets}
 use Rattle.trigger_table.specs.Kept.{link_of, row_of, rows_of, kept_as, IsSound}
 use Rattle.trigger_table.specs.Links.{IsIn, IsApart}
 use Rattle.trigger_table.specs.Records.{causes_in, rows_in}
+use Rattle.trigger_table.specs.Serving.{leaves_at, leaves_of}
 use Rattle.trigger_table.specs.Tied.{Shrinks}
 use Rattle.trigger_table.specs.declared.records.Records.{Records}
 use Rattle.trigger_table.proofs.RingLemmas.{tidy}
@@ -158,10 +159,15 @@ module _ (causes : Slots CauseRecord) (tasks : Slots TaskRecord) (waiters : Slot
       ∙ ap (λ (x : Waiting). let y : Waiting = record x { tree = rest_of (come x.tree) } in Some y) v in
       rows_entry causes tasks tasks' waiters bc bt o s r t.kept (kept_row r has) t.sets ∙ ap (λ e. with_entry r e (rows_of tasks bc bt o)) made
 
-  pub entry_leaves : (r : ℕ) (found : List Awaited) → ((kept : TaskRecord) → get_or tasks r None ≡ Some kept → found ≡ tree.leaves (tree_in kept.tree)) → (w : Waiting) → entry_at r (rows_of tasks bc bt o) ≡ Some w → found ≡ tree.leaves w.tree
-  entry_leaves r found told w is =
-      let one = entry_kept r w is in
-      told one.0 one.1 ∙ ap (λ (v : Waiting). tree.leaves v.tree) (same_Some _ _ one.2)
+  -- what is told of a record's leaves is told of the task's
+  row_kept : (r : ℕ) (has : HasRow r (rows_of tasks bc bt o)) → leaves_at r (rows_of tasks bc bt o) ≡ tree.leaves (tree_in (kept_of r has).0.tree)
+  row_kept r has = ap leaves_of (entry_is r has ∙ ap kept_as (kept_of r has).1)
+
+  pub row_leaves : (r : ℕ) (found : List Awaited) → ((kept : TaskRecord) → get_or tasks r None ≡ Some kept → found ≡ tree.leaves (tree_in kept.tree)) → HasRow r (rows_of tasks bc bt o) → found ≡ leaves_at r (rows_of tasks bc bt o)
+  row_leaves r found told has = told (kept_of r has).0 (kept_of r has).1 ∙ sym (row_kept r has)
+
+  pub row_lone : (r : ℕ) (found : Option Awaited) → ((kept : TaskRecord) → get_or tasks r None ≡ Some kept → IfSome found (λ on. tree.leaves (tree_in kept.tree) ≡ on ∷ [])) → HasRow r (rows_of tasks bc bt o) → IfSome found (λ on. leaves_at r (rows_of tasks bc bt o) ≡ on ∷ [])
+  row_lone r found told has = subst (λ (xs : List Awaited). IfSome found (λ on. xs ≡ on ∷ [])) (sym (row_kept r has)) (told (kept_of r has).0 (kept_of r has).1)
 
 -- a record that there is
 pub some_cause : (causes : Slots CauseRecord) (number : ℕ) → get_or causes number None ≢ None → (kept : CauseRecord) × (get_or causes number None ≡ Some kept)

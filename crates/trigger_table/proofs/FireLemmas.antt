@@ -92,6 +92,14 @@ pub found_named : (key : Key) (slots : Slots) (res : Option ℕ) → IfSome res 
 found_named key slots None some none = sym (not_named key slots none)
 found_named key slots (Some n) some none = sym (key_named key slots n some)
 
+-- none but an edge has one
+pub unnamed : (key : Key) (names : List Key) → (among key names ≡ true → is_edge key ≡ true) → is_edge key ≡ false → false ≡ among key names
+unnamed key names edges other = go (among key names) edges
+  where
+    go : (b : Bool) → (b ≡ true → is_edge key ≡ true) → false ≡ b
+    go true has = let z : true ≡ false = sym (has refl) ∙ other in absurd (cc)
+    go false has = refl
+
 -- ---- a lock
 
 pub record Unwanted (lock : LockNo) (ws : List Waiting) : Type 0 where

@@ -22,7 +22,7 @@ use Rattle.await_tree.proofs.Within.{leaves_keep_order}
 use Rattle.trigger_table.specs.Entries.{HasCause}
 use Rattle.trigger_table.specs.Links.{IsApart}
 use Rattle.trigger_table.specs.Records.{causes_in, rows_in, state_in}
-use Rattle.trigger_table.specs.Serving.{Served, Settles, Trimmed, Untied}
+use Rattle.trigger_table.specs.Serving.{Served, Settles, Trimmed, Untied, leaves_at, leaves_of}
 use Rattle.trigger_table.specs.State.{AllNeeded, HasRow, Link, Row, State, entry_at, links_at, links_of, numbers_of, waiters_on, with_entry, without_row}
 use Rattle.trigger_table.specs.Tied.{AreOn, AreTied, IsKept, IsTied, IsWaitable, Shrinks, entry_list}
 use Rattle.trigger_table.specs.declared.entries.CauseRecord.{CauseRecord}
@@ -122,6 +122,9 @@ untied_has number step ons s u = go s.rows u.entry
     go rows is = has_entry number rows u.waiting is
 
 -- ---- trees
+
+pub own_leaves : (number : ℕ) (rows : List Row) (w : Waiting) → entry_at number rows ≡ Some w → leaves_at number rows ≡ leaves w.tree
+own_leaves number rows w is = ap leaves_of is
 
 rest_keeps : (u : Tree) (ys : List Awaited) → IsSubsequence (leaves u) ys → IsSubsequence (leaves (rest_of u)) ys
 rest_keeps (Over f) ys h = tt

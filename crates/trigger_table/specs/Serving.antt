@@ -1,5 +1,5 @@
 -- A means of proof: how waiting tasks are served.
-use Rattle.std.specs.Prelude.{◌≡◌, ℕ, ◌≤◌, Bool, false, List, [], ◌∷◌, ◌++◌, length, map, take, drop, Option, Some, slice_get}
+use Rattle.std.specs.Prelude.{◌≡◌, ℕ, ◌≤◌, Bool, false, List, [], ◌∷◌, ◌++◌, length, map, take, drop, Option, None, Some, slice_get}
 use Rattle.await_tree.specs.Fire.{is_same}
 use Rattle.await_tree.specs.Laws.{IsSubsequence}
 use Rattle.await_tree.specs.Steps.{step_of}
@@ -51,6 +51,14 @@ pub record Untied (number : ℕ) (step : Step) (ons : List Awaited) (s : State) 
   pub tree : step ≡ Still → IsWaitable waiting.tree
   pub others : AreTied s.causes (without_row number s.rows)
   pub needed : AllNeeded s
+
+-- what the leaves of a task wait for
+abbrev pub leaves_of : Option Waiting → List Awaited
+leaves_of None = []
+leaves_of (Some w) = leaves w.tree
+
+abbrev pub leaves_at : ℕ → List Row → List Awaited
+leaves_at number rows = leaves_of (entry_at number rows)
 
 -- It waits on if its tree has answered so, and else no more.
 pub record Settles (number : ℕ) (step : Step) (old new : List Row) : Type 0 where

@@ -125,6 +125,44 @@ pub(crate) fn await_all<K: Gpi, L: Ledger>(
     Ok(())
 }
 
+/// A task begins to wait, as the last, for these, which the leaves of its tree wait for. The tree was begun and isn't done. After `NoMemory` the
+/// task waits for nothing, and the same keys are registered as before.
+fn begin_on<K: Gpi, L: Ledger>(
+    kernel: &mut K,
+    records: &mut Records,
+    task: TaskNo,
+    tree: Tree,
+    awaited: &[Awaited],
+    steps: &mut Steps<L>,
+) -> Result<(), NoMemory>
+    requires loaded { K.is_loaded kernel.old }
+    requires new { is_waiting task (waiting_in (rows_in records.old)) ≡ false }
+    requires kept { IsKept (state_in records.old) }
+    requires begun { IsBegun (tree_in tree) }
+    requires leaves { awaited.now ≡ leaves (tree_in tree) }
+    requires keys { AreKeys (K.content kernel.old).keys (record_keys (causes_in records.old)) }
+    requires asked { AreAsked (K.content kernel.old) (tree_keys (tree_in tree)) }
+    ensures ok { OnOk result (waiting_in (rows_in records.new)
+        ≡ waiting_in (rows_in records.old) ++ record { task = task; tree = tree_in tree } ∷ []) }
+    ensures err { OnErr result (rows_in records.new ≡ rows_in records.old) }
+    ensures kept { IsKept (state_in records.new) }
+    ensures held { AreAlike (runner_keys (causes_in records.new)) (runner_keys (causes_in records.old)) }
+    ensures few { length (rows_in records.new) ≤ length (rows_in records.old) + 1 }
+    ensures loaded { K.is_loaded kernel.new }
+    ensures keys { OnOk result (Rekeyed (K.content kernel.old) (K.content kernel.new) (tree_keys (tree_in tree))
+        (record_keys (causes_in records.old)) (record_keys (causes_in records.new))) }
+    ensures back { OnErr result (KeepsKeys (K.content kernel.old) (K.content kernel.new)) }
+    ensures ticks { steps.new ≤ steps.old + 8 * length (leaves (tree_in tree)) + 3 }
+{
+    let number = records.add_task(task, tree, steps)?;
+    if let Err(NoMemory) = await_all(kernel, records, number, awaited, steps) {
+        let none = none_fired();
+        forget_row(kernel, records, number, none, steps);
+        return Err(NoMemory);
+    }
+    Ok(())
+}
+
 /// A task begins to wait, as the last. Its tree was begun and isn't done. After `NoMemory` it waits for nothing, and the same keys are
 /// registered as before.
 pub(crate) fn begin<K: Gpi, L: Ledger>(
@@ -152,12 +190,11 @@ pub(crate) fn begin<K: Gpi, L: Ledger>(
     ensures back { OnErr result (KeepsKeys (K.content kernel.old) (K.content kernel.new)) }
     ensures ticks { steps.new ≤ steps.old + 8 * length (leaves (tree_in tree)) + 3 }
 {
-    let leaves = tree.leaves();
-    let number = records.add_task(task, tree, steps)?;
-    if let Err(NoMemory) = await_all(kernel, records, number, leaves.as_slice(), steps) {
-        let none = none_fired();
-        forget_row(kernel, records, number, none, steps);
-        return Err(NoMemory);
+    match tree.lone() {
+        Some(on) => begin_on(kernel, records, task, tree, &[on], steps),
+        None => {
+            let leaves = tree.leaves();
+            begin_on(kernel, records, task, tree, leaves.as_slice(), steps)
+        }
     }
-    Ok(())
 }

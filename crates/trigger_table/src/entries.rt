@@ -1,6 +1,6 @@
 //! What is kept of what leaves wait for, and of waiting tasks.
 
-use await_tree::{Awaited, Leaves, Step, Tree};
+use await_tree::{Awaited, Tree};
 use py_value::TaskNo;
 
 /// What is kept of a key, an event, a lock or a joined task that leaves wait for or the runner holds.
@@ -16,11 +16,4 @@ pub struct CauseRecord {
 pub struct TaskRecord {
     pub task: TaskNo,
     pub tree: Tree,
-}
-
-/// What a waiting task's tree answers to what it is told, and what its waiting leaves wait for then, from left to right.
-#[derive(Drop)]
-pub struct Reply {
-    pub step: Step,
-    pub leaves: Leaves,
 }

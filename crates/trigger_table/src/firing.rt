@@ -81,11 +81,22 @@ fn reach_one<K: Gpi, L: Ledger>(
     }
 }
 
-/// Whether the key has a record.
-fn is_named<L: Ledger>(records: &Records, key: Key, steps: &mut Steps<L>) -> bool
-    ensures value { result ≡ among key (record_keys (causes_in records.now)) }
-    ensures ticks { steps.new ≡ steps.old + 1 }
+/// Whether the key is that of a rise or a fall.
+fn is_edge(key: Key) -> bool
+    ensures { result ≡ is_edge key }
 {
+    matches!(key, Key::Rise(_) | Key::Fall(_))
+}
+
+/// Whether the key has a record, of which none but that of a rise or a fall may have one.
+fn is_named<L: Ledger>(records: &Records, key: Key, steps: &mut Steps<L>) -> bool
+    requires edges { among key (record_keys (causes_in records.now)) ≡ true → is_edge key ≡ true }
+    ensures value { result ≡ among key (record_keys (causes_in records.now)) }
+    ensures ticks { steps.new ≤ steps.old + 1 }
+{
+    if !is_edge(key) {
+        return false;
+    }
     records.find(Awaited::Key(key), steps).is_some()
 }
 

@@ -24,7 +24,7 @@ mod table;
 mod task_index;
 mod tasks;
 
-pub use entries::{CauseRecord, Reply, TaskRecord};
+pub use entries::{CauseRecord, TaskRecord};
 pub use keeper::TriggerTable;
 pub use members::Member;
 pub use records::Records;

@@ -9,7 +9,7 @@ ghost use Rattle.trigger_table.specs.Entries.{HasCause};
 ghost use Rattle.trigger_table.specs.Keys.{record_keys, runner_keys};
 ghost use Rattle.trigger_table.specs.Links.{IsIn};
 ghost use Rattle.trigger_table.specs.Records.{causes_in, rows_in, state_in};
-ghost use Rattle.trigger_table.specs.Serving.{Trimmed, is_first};
+ghost use Rattle.trigger_table.specs.Serving.{Trimmed, is_first, leaves_at};
 ghost use Rattle.trigger_table.specs.State.{AllNeeded, HasLink, HasRow, HeldStays, drop_link, links_at};
 ghost use Rattle.trigger_table.specs.Tied.{AreOn, Shrinks};
 
@@ -65,7 +65,7 @@ fn is_on<L: Ledger>(
 }
 
 /// The waiters of a task leave but for one on each of its leaves, which are some of those that its waiters are on, in the same order.
-pub(crate) fn trim<K: Gpi, L: Ledger>(
+fn trim<K: Gpi, L: Ledger>(
     kernel: &mut K,
     records: &mut Records,
     number: usize,
@@ -96,5 +96,59 @@ pub(crate) fn trim<K: Gpi, L: Ledger>(
         } else {
             part(kernel, records, waiter, fired, steps);
         }
+    }
+}
+
+/// The waiters of a waiting task leave but for one on each of its tree's leaves.
+fn trim_all<K: Gpi, L: Ledger>(
+    kernel: &mut K,
+    records: &mut Records,
+    number: usize,
+    fired: Fired,
+    steps: &mut Steps<L>,
+)
+    requires loaded { K.is_loaded kernel.old }
+    requires has { HasRow number (rows_in records.old) }
+    requires on { (before : List Awaited) × AreOn (causes_in records.old) (links_at number (rows_in records.old)) before
+        × IsSubsequence (leaves_at number (rows_in records.old)) before }
+    requires needed { AllNeeded (state_in records.old) }
+    requires fits { Fits (K.content kernel.old) (fired_keys fired) (runner_keys (causes_in records.old)) (record_keys (causes_in records.old)) }
+    ensures trimmed { Trimmed number (leaves_at number (rows_in records.old)) (causes_in records.new) (rows_in records.old) (rows_in records.new) }
+    ensures needed { AllNeeded (state_in records.new) }
+    ensures held { HeldStays (causes_in records.old) (causes_in records.new) }
+    ensures shrinks { Shrinks (causes_in records.old) (causes_in records.new) }
+    ensures loaded { K.is_loaded kernel.new }
+    ensures keys { Narrows (K.content kernel.old) (K.content kernel.new) (record_keys (causes_in records.old)) (record_keys (causes_in records.new)) }
+    ensures ticks { steps.new ≤ steps.old + 5 * length (links_at number (rows_in records.old)) + 1 }
+{
+    let leaves = records.leaves(number);
+    trim(kernel, records, number, leaves.as_slice(), fired, steps);
+}
+
+/// The waiters of a waiting task leave but for one on each of its tree's leaves, of which there is mostly one.
+pub(crate) fn trim_row<K: Gpi, L: Ledger>(
+    kernel: &mut K,
+    records: &mut Records,
+    number: usize,
+    fired: Fired,
+    steps: &mut Steps<L>,
+)
+    requires loaded { K.is_loaded kernel.old }
+    requires has { HasRow number (rows_in records.old) }
+    requires on { (before : List Awaited) × AreOn (causes_in records.old) (links_at number (rows_in records.old)) before
+        × IsSubsequence (leaves_at number (rows_in records.old)) before }
+    requires needed { AllNeeded (state_in records.old) }
+    requires fits { Fits (K.content kernel.old) (fired_keys fired) (runner_keys (causes_in records.old)) (record_keys (causes_in records.old)) }
+    ensures trimmed { Trimmed number (leaves_at number (rows_in records.old)) (causes_in records.new) (rows_in records.old) (rows_in records.new) }
+    ensures needed { AllNeeded (state_in records.new) }
+    ensures held { HeldStays (causes_in records.old) (causes_in records.new) }
+    ensures shrinks { Shrinks (causes_in records.old) (causes_in records.new) }
+    ensures loaded { K.is_loaded kernel.new }
+    ensures keys { Narrows (K.content kernel.old) (K.content kernel.new) (record_keys (causes_in records.old)) (record_keys (causes_in records.new)) }
+    ensures ticks { steps.new ≤ steps.old + 5 * length (links_at number (rows_in records.old)) + 1 }
+{
+    match records.lone(number) {
+        Some(on) => trim(kernel, records, number, &[on], fired, steps),
+        None => trim_all(kernel, records, number, fired, steps),
     }
 }

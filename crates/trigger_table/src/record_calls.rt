@@ -25,7 +25,6 @@ ghost use Rattle.std.specs.Prelude.{
 };
 ghost use Rattle.await_tree.specs.Fire as fire;
 ghost use Rattle.await_tree.specs.Steps.{rest_of, step_of};
-ghost use Rattle.await_tree.specs.Tree.{leaves};
 ghost use Rattle.await_tree.specs.Whole.{tree_in};
 ghost use Rattle.trigger_table.specs.Entries.{HasCause};
 ghost use Rattle.trigger_table.specs.declared.entries.CauseRecord.{CauseRecord};
@@ -33,6 +32,7 @@ ghost use Rattle.await_tree.specs.WaitList.Waiting.{Waiting};
 ghost use Rattle.trigger_table.specs.Indexed.{Sets};
 ghost use Rattle.trigger_table.specs.Kept.{kept_as};
 ghost use Rattle.trigger_table.specs.Records.{causes_in, rows_in, state_in};
+ghost use Rattle.trigger_table.specs.Serving.{leaves_at};
 ghost use Rattle.trigger_table.specs.State.{
   HasLink,
   HasNoLinks,
@@ -54,12 +54,12 @@ ghost use Rattle.trigger_table.specs.State.{
 };
 
 use crate::causes::Causes;
-use crate::entries::{CauseRecord, Reply, TaskRecord};
+use crate::entries::{CauseRecord, TaskRecord};
 use crate::records::Records;
 use crate::rings::Rings;
 use crate::tasks::Tasks;
 use await_tree::wait_list::Steps;
-use await_tree::{Awaited, Cause, Tree};
+use await_tree::{Awaited, Cause, Leaves, Step, Tree};
 use port_io::NoMemory;
 use py_value::{LockNo, TaskNo};
 use slab::Slab;
@@ -288,35 +288,45 @@ impl Records {
         self.order.front(0)
     }
 
+    /// What a waiting task's leaves wait for, from left to right. It counts no step.
+    pub(crate) fn leaves(&self, number: usize) -> Leaves
+        requires { HasRow number (rows_in self.now) }
+        ensures { result ≡ leaves_at number (rows_in self.now) }
+    {
+        self.tasks.leaves(number)
+    }
+
+    /// What a waiting task's tree waits for, where it is one leaf or counts edges. It counts no step.
+    pub(crate) fn lone(&self, number: usize) -> Option<Awaited>
+        requires { HasRow number (rows_in self.now) }
+        ensures { IfSome result (λ on. leaves_at number (rows_in self.now) ≡ on ∷ []) }
+    {
+        self.tasks.lone(number)
+    }
+
     /// A waiting task's tree is told the cause. Its waiters stay.
-    pub fn fire<L: Ledger>(&mut self, number: usize, cause: Cause, steps: &mut Steps<L>) -> Reply
+    pub fn fire<L: Ledger>(&mut self, number: usize, cause: Cause, steps: &mut Steps<L>) -> Step
         requires { HasRow number (rows_in self.old) }
-        ensures answer { (w : Waiting) → entry_at number (rows_in self.old) ≡ Some w → result.step ≡ step_of (fire.fire cause w.tree) }
-        ensures leaves { (w : Waiting) → entry_at number (rows_in self.new) ≡ Some w → result.leaves ≡ leaves w.tree }
+        ensures answer { (w : Waiting) → entry_at number (rows_in self.old) ≡ Some w → result ≡ step_of (fire.fire cause w.tree) }
         ensures rows { (w : Waiting) → entry_at number (rows_in self.old) ≡ Some w
             → rows_in self.new ≡ with_entry number (Some (record w { tree = rest_of (fire.fire cause w.tree) })) (rows_in self.old) }
         ensures causes { causes_in self.new ≡ causes_in self.old }
         ensures ticks { steps.new ≡ steps.old + 1 }
     {
         steps.tick();
-        let step = self.tasks.fire(number, cause);
-        let leaves = self.tasks.leaves(number);
-        Reply { step, leaves }
+        self.tasks.fire(number, cause)
     }
 
     /// A waiting task's tree is handed the lock. Its waiters stay.
-    pub fn grant<L: Ledger>(&mut self, number: usize, lock: LockNo, steps: &mut Steps<L>) -> Reply
+    pub fn grant<L: Ledger>(&mut self, number: usize, lock: LockNo, steps: &mut Steps<L>) -> Step
         requires { HasRow number (rows_in self.old) }
-        ensures answer { (w : Waiting) → entry_at number (rows_in self.old) ≡ Some w → result.step ≡ step_of (fire.grant lock w.tree) }
-        ensures leaves { (w : Waiting) → entry_at number (rows_in self.new) ≡ Some w → result.leaves ≡ leaves w.tree }
+        ensures answer { (w : Waiting) → entry_at number (rows_in self.old) ≡ Some w → result ≡ step_of (fire.grant lock w.tree) }
         ensures rows { (w : Waiting) → entry_at number (rows_in self.old) ≡ Some w
             → rows_in self.new ≡ with_entry number (Some (record w { tree = rest_of (fire.grant lock w.tree) })) (rows_in self.old) }
         ensures causes { causes_in self.new ≡ causes_in self.old }
         ensures ticks { steps.new ≡ steps.old + 1 }
     {
         steps.tick();
-        let step = self.tasks.grant(number, lock);
-        let leaves = self.tasks.leaves(number);
-        Reply { step, leaves }
+        self.tasks.grant(number, lock)
     }
 }

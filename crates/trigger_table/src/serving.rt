@@ -10,14 +10,14 @@ ghost use Rattle.trigger_table.specs.Keys.{record_keys, runner_keys};
 ghost use Rattle.trigger_table.specs.Links.{IsIn};
 ghost use Rattle.trigger_table.specs.Members.{after, beyond, members_on, own_members, waiters_of};
 ghost use Rattle.trigger_table.specs.Records.{causes_in, rows_in, state_in};
-ghost use Rattle.trigger_table.specs.Serving.{Served, Settles, Untied};
+ghost use Rattle.trigger_table.specs.Serving.{Served, Settles, Untied, leaves_at};
 ghost use Rattle.trigger_table.specs.State.{AllNeeded, HasRow, HeldStays, entry_at, links_at, without_row};
 ghost use Rattle.trigger_table.specs.Tied.{IsKept, Shrinks, waiting_in};
 ghost use Rattle.trigger_table.specs.Work.{leaf_count, reached_by};
 
-use crate::entries::{Reply, TaskRecord};
+use crate::entries::TaskRecord;
 use crate::members::Member;
-use crate::parting::trim;
+use crate::parting::trim_row;
 use crate::records::Records;
 use crate::table::{drop_row, let_fall};
 use await_tree::wait_list::{Ready, Steps};
@@ -99,19 +99,19 @@ fn settle<K: Gpi, L: Ledger>(
     kernel: &mut K,
     records: &mut Records,
     number: usize,
-    reply: Reply,
+    step: Step,
     fired: Fired,
     ready: &mut Ready,
     steps: &mut Steps<L>,
 )
     requires loaded { K.is_loaded kernel.old }
-    requires untied { Untied number reply.step reply.leaves (state_in records.old) }
+    requires untied { Untied number step (leaves_at number (rows_in records.old)) (state_in records.old) }
     requires some { 0 < length (links_at number (rows_in records.old)) }
     requires room { length ready.old.entries < ready.old.room }
     requires fits { Fits (K.content kernel.old) (fired_keys fired) (runner_keys (causes_in records.old)) (record_keys (causes_in records.old)) }
-    ensures settles { Settles number reply.step (rows_in records.old) (rows_in records.new) }
+    ensures settles { Settles number step (rows_in records.old) (rows_in records.new) }
     ensures ready { (w : Waiting) → entry_at number (rows_in records.old) ≡ Some w
-        → ready.new.entries ≡ ready.old.entries ++ entry_of w.task reply.step }
+        → ready.new.entries ≡ ready.old.entries ++ entry_of w.task step }
     ensures room { ready.new.room ≡ ready.old.room }
     ensures kept { IsKept (state_in records.new) }
     ensures held { HeldStays (causes_in records.old) (causes_in records.new) }
@@ -120,9 +120,8 @@ fn settle<K: Gpi, L: Ledger>(
     ensures keys { Narrows (K.content kernel.old) (K.content kernel.new) (record_keys (causes_in records.old)) (record_keys (causes_in records.new)) }
     ensures ticks { steps.new + 1 ≤ steps.old + 7 * length (links_at number (rows_in records.old)) }
 {
-    let Reply { step, leaves } = reply;
     match step {
-        Step::Still => trim(kernel, records, number, leaves.as_slice(), fired, steps),
+        Step::Still => trim_row(kernel, records, number, fired, steps),
         Step::Done(given) => leave(kernel, records, number, given, fired, ready, steps),
     }
 }
@@ -154,8 +153,8 @@ fn serve_task<K: Gpi, L: Ledger>(
     ensures keys { Narrows (K.content kernel.old) (K.content kernel.new) (record_keys (causes_in records.old)) (record_keys (causes_in records.new)) }
     ensures ticks { steps.new ≤ steps.old + 7 * length (links_at number (rows_in records.old)) }
 {
-    let reply = records.fire(number, cause, steps);
-    settle(kernel, records, number, reply, fired, ready, steps);
+    let step = records.fire(number, cause, steps);
+    settle(kernel, records, number, step, fired, ready, steps);
 }
 
 /// A waiting task is handed the lock. If its tree is done it goes into the ring, and waits no more.
@@ -185,8 +184,8 @@ pub(crate) fn hand<K: Gpi, L: Ledger>(
     ensures keys { Narrows (K.content kernel.old) (K.content kernel.new) (record_keys (causes_in records.old)) (record_keys (causes_in records.new)) }
     ensures ticks { steps.new ≤ steps.old + 7 * length (links_at number (rows_in records.old)) }
 {
-    let reply = records.grant(number, lock, steps);
-    settle(kernel, records, number, reply, fired, ready, steps);
+    let step = records.grant(number, lock, steps);
+    settle(kernel, records, number, step, fired, ready, steps);
 }
 
 /// The tasks that wait on the record of a cause are told it, in the order in which they began to wait. Answers how many there are.

@@ -1,5 +1,5 @@
 //! What is asked of the records of waiting tasks.
-ghost use Rattle.std.specs.Prelude.{◌≡◌, ◌≢◌, ℕ, [], Some, None, IfOk, OnErr, IfSome, IfNone, slice_index_or, ◌<◌};
+ghost use Rattle.std.specs.Prelude.{◌≡◌, ◌≢◌, ℕ, [], ◌∷◌, Some, None, IfOk, OnErr, IfSome, IfNone, slice_index_or, ◌<◌};
 ghost use Rattle.await_tree.specs.Fire as fire;
 ghost use Rattle.await_tree.specs.Tree.{leaves};
 ghost use Rattle.await_tree.specs.Whole.{tree_in};
@@ -9,7 +9,7 @@ ghost use Rattle.trigger_table.specs.declared.entries.TaskRecord.{TaskRecord};
 
 use crate::entries::TaskRecord;
 use crate::tasks::Tasks;
-use await_tree::{Cause, Leaves, Step, Tree};
+use await_tree::{Awaited, Cause, Leaves, Step, Tree};
 use port_io::NoMemory;
 use py_value::{LockNo, TaskNo};
 use slab::Slab;
@@ -81,6 +81,15 @@ impl Tasks {
         ensures { (kept : TaskRecord) → slice_index_or self.now.slab.slots number None ≡ Some kept → result ≡ leaves (tree_in kept.tree) }
     {
         self.slab[number].tree.leaves()
+    }
+
+    /// What the task's tree waits for, where it is one leaf or counts edges.
+    pub(crate) fn lone(&self, number: usize) -> Option<Awaited>
+        requires { slice_index_or self.now.slab.slots number None ≢ None }
+        ensures { (kept : TaskRecord) → slice_index_or self.now.slab.slots number None ≡ Some kept
+            → IfSome result (λ on. leaves (tree_in kept.tree) ≡ on ∷ []) }
+    {
+        self.slab[number].tree.lone()
     }
 
     /// Takes out a record.

@@ -12,6 +12,9 @@ register-requires-clause-asked g c =
     edge_asked (g.K.Gpi.content c.args.kernel.now) c.in-Some.key (c.requires.edges c.in-Some.key (some_key c.args.key c.in-Some.key c.in-Some.is) (sym c.is_named.ensures.value ∙ c.if-is_named.true)).0
     (c.requires.edges c.in-Some.key (some_key c.args.key c.in-Some.key c.in-Some.is) (sym c.is_named.ensures.value ∙ c.if-is_named.true)).1
 
+pub is_named-requires : goal.is_named-requires
+is_named-requires g c = record { edges = λ named. (c.requires.edges c.in-Some.key (some_key c.args.key c.in-Some.key c.in-Some.is) named).0 }
+
 pub register-requires-clause-new : goal.register-requires-clause-new
 register-requires-clause-new g c = c.requires.out c.in-Some.key (some_key c.args.key c.in-Some.key c.in-Some.is)
 

@@ -16,7 +16,7 @@ use Rattle.trigger_table.proofs.BeginLemmas.{absent_of, held_back, held_now, kep
 use Rattle.trigger_table.proofs.HoldLemmas.{same_kept}
 use Rattle.trigger_table.proofs.KeptLemmas.{on_err}
 use Rattle.trigger_table.proofs.TieLemmas.{needed_of}
-use Rattle.trigger_table.proofs.awaiting.begin.Goals as goal
+use Rattle.trigger_table.proofs.awaiting.begin_on.Goals as goal
 
 pub add_task-requires : goal.add_task-requires
 add_task-requires g c = absent_of c.args.task (rows_in c.args.records.now) c.requires.new
@@ -31,7 +31,7 @@ pub await_all-requires-clause-keys : goal.await_all-requires-clause-keys
 await_all-requires-clause-keys g c = subst (λ (cs : List (Option CauseRecord)). AreKeys (g.K.Gpi.content c.args.kernel.now).keys (record_keys cs)) (sym c.add_task.ensures.causes) c.requires.keys
 
 pub await_all-requires-clause-asked : goal.await_all-requires-clause-asked
-await_all-requires-clause-asked g c = subst (λ (xs : List Awaited). AreAsked (g.K.Gpi.content c.args.kernel.now) (keys_among xs)) (sym (c.as_slice.ensures.is ∙ c.leaves-leaves.ensures)) c.requires.asked
+await_all-requires-clause-asked g c = subst (λ (xs : List Awaited). AreAsked (g.K.Gpi.content c.args.kernel.now) (keys_among xs)) (sym c.requires.leaves) c.requires.asked
 
 pub forget_row-requires-clause-has : goal.forget_row-requires-clause-has
 forget_row-requires-clause-has g c =
@@ -80,24 +80,24 @@ returns-in-Err-clause-back g c =
     (g.K.Gpi.content c.args.kernel.now) (g.K.Gpi.content c.await_all.new.kernel) (g.K.Gpi.content c.forget_row.new.kernel) c.requires.keys c.in-Err.ensures.err.steady c.in-Err.ensures.err.keys c.forget_row.ensures.keys
 
 pub returns-in-Err-clause-ticks : goal.returns-in-Err-clause-ticks
-returns-in-Err-clause-ticks g c = omega (arith, links_now c.args.records.now c.add_task.new.self c.in_ok-number.number (record { task = c.args.task; tree = tree_in c.args.tree }) c.in_ok-number.ensures.ok c.add_task.ensures.causes c.await_all.new.records c.in-Err.ensures.err.ons c.in-Err.ensures.err.reaches, c.in-Err.ensures.err.few, ap (λ (xs : List Awaited). length xs) (c.as_slice.ensures.is ∙ c.leaves-leaves.ensures))
+returns-in-Err-clause-ticks g c = omega (arith, links_now c.args.records.now c.add_task.new.self c.in_ok-number.number (record { task = c.args.task; tree = tree_in c.args.tree }) c.in_ok-number.ensures.ok c.add_task.ensures.causes c.await_all.new.records c.in-Err.ensures.err.ons c.in-Err.ensures.err.reaches, c.in-Err.ensures.err.few, ap (λ (xs : List Awaited). length xs) c.requires.leaves)
 
 pub returns-clause-ok : goal.returns-clause-ok
-returns-clause-ok g c = waiting_now c.args.records.now c.add_task.new.self c.in_ok-number.number (record { task = c.args.task; tree = tree_in c.args.tree }) c.in_ok-number.ensures.ok c.add_task.ensures.causes c.await_all.new.records c.as_slice.result.now c.in_default.ensures.ok
+returns-clause-ok g c = waiting_now c.args.records.now c.add_task.new.self c.in_ok-number.number (record { task = c.args.task; tree = tree_in c.args.tree }) c.in_ok-number.ensures.ok c.add_task.ensures.causes c.await_all.new.records c.args.awaited.now c.in_default.ensures.ok
 
 pub returns-clause-kept : goal.returns-clause-kept
-returns-clause-kept g c = kept_now c.args.records.now c.add_task.new.self c.in_ok-number.number (record { task = c.args.task; tree = tree_in c.args.tree }) c.in_ok-number.ensures.ok c.add_task.ensures.causes c.await_all.new.records c.as_slice.result.now c.in_default.ensures.ok c.requires.kept (c.as_slice.ensures.is ∙ c.leaves-leaves.ensures) (waitable (tree_in c.args.tree) c.requires.begun)
+returns-clause-kept g c = kept_now c.args.records.now c.add_task.new.self c.in_ok-number.number (record { task = c.args.task; tree = tree_in c.args.tree }) c.in_ok-number.ensures.ok c.add_task.ensures.causes c.await_all.new.records c.args.awaited.now c.in_default.ensures.ok c.requires.kept c.requires.leaves (waitable (tree_in c.args.tree) c.requires.begun)
 
 pub returns-clause-held : goal.returns-clause-held
-returns-clause-held g c = held_now c.args.records.now c.add_task.new.self c.in_ok-number.number (record { task = c.args.task; tree = tree_in c.args.tree }) c.in_ok-number.ensures.ok c.add_task.ensures.causes c.await_all.new.records c.as_slice.result.now c.in_default.ensures.ok
+returns-clause-held g c = held_now c.args.records.now c.add_task.new.self c.in_ok-number.number (record { task = c.args.task; tree = tree_in c.args.tree }) c.in_ok-number.ensures.ok c.add_task.ensures.causes c.await_all.new.records c.args.awaited.now c.in_default.ensures.ok
 
 pub returns-clause-few : goal.returns-clause-few
-returns-clause-few g c = omega (arith, ap (λ (rs : List Row). length rs) (rows_now c.args.records.now c.add_task.new.self c.in_ok-number.number (record { task = c.args.task; tree = tree_in c.args.tree }) c.in_ok-number.ensures.ok c.add_task.ensures.causes c.await_all.new.records c.as_slice.result.now c.in_default.ensures.ok), length-append (rows_in c.args.records.now) ((let r : Row = record { number = c.in_ok-number.number; entry = Some (record { task = c.args.task; tree = tree_in c.args.tree }); links = c.in_default.ensures.ok.links } in r) ∷ []))
+returns-clause-few g c = omega (arith, ap (λ (rs : List Row). length rs) (rows_now c.args.records.now c.add_task.new.self c.in_ok-number.number (record { task = c.args.task; tree = tree_in c.args.tree }) c.in_ok-number.ensures.ok c.add_task.ensures.causes c.await_all.new.records c.args.awaited.now c.in_default.ensures.ok), length-append (rows_in c.args.records.now) ((let r : Row = record { number = c.in_ok-number.number; entry = Some (record { task = c.args.task; tree = tree_in c.args.tree }); links = c.in_default.ensures.ok.links } in r) ∷ []))
 
 pub returns-clause-keys : goal.returns-clause-keys
 returns-clause-keys g c =
-    subst (λ (xs : List Awaited). Rekeyed (g.K.Gpi.content c.args.kernel.now) (g.K.Gpi.content c.await_all.new.kernel) (keys_among xs) (record_keys (causes_in c.args.records.now)) (record_keys (causes_in c.await_all.new.records))) (c.as_slice.ensures.is ∙ c.leaves-leaves.ensures)
-    (subst (λ (cs : List (Option CauseRecord)). Rekeyed (g.K.Gpi.content c.args.kernel.now) (g.K.Gpi.content c.await_all.new.kernel) (keys_among c.as_slice.result.now) (record_keys cs) (record_keys (causes_in c.await_all.new.records))) c.add_task.ensures.causes c.in_default.ensures.adds)
+    subst (λ (xs : List Awaited). Rekeyed (g.K.Gpi.content c.args.kernel.now) (g.K.Gpi.content c.await_all.new.kernel) (keys_among xs) (record_keys (causes_in c.args.records.now)) (record_keys (causes_in c.await_all.new.records))) c.requires.leaves
+    (subst (λ (cs : List (Option CauseRecord)). Rekeyed (g.K.Gpi.content c.args.kernel.now) (g.K.Gpi.content c.await_all.new.kernel) (keys_among c.args.awaited.now) (record_keys cs) (record_keys (causes_in c.await_all.new.records))) c.add_task.ensures.causes c.in_default.ensures.adds)
 
 pub returns-clause-ticks : goal.returns-clause-ticks
-returns-clause-ticks g c = omega (arith, ap (λ (xs : List Awaited). length xs) (c.as_slice.ensures.is ∙ c.leaves-leaves.ensures))
+returns-clause-ticks g c = omega (arith, ap (λ (xs : List Awaited). length xs) c.requires.leaves)
