@@ -7,7 +7,7 @@ use Rattle.gpi.specs.State.{State}
 use Rattle.gpi.specs.Content.{IsAsked}
 use Rattle.callback_book.specs.declared.book.Watch.{Watch}
 use Rattle.callback_book.specs.declared.book.Book.{Book}
-use Rattle.callback_book.specs.Books.{keys_of, no_watch, signals_of, IsPlaced}
+use Rattle.callback_book.specs.Books.{keys_with, no_watch, signals_of, IsPlaced}
 
 pub asked_placed : (n : ℕ) (s : State) (k : Key) → IsAsked n s k → IsPlaced n k
 asked_placed n s (At t) h = tt
@@ -23,11 +23,11 @@ inside f [] s e h = absurd (let g : false ≡ true = sym e ∙ h in cc)
 inside f (w ∷ ws) zero e h = omega arith
 inside f (w ∷ ws) (suc s) e h = let k = inside f ws s e h in omega arith
 
-pub has_placed : (b : Book) (k : Key) → IsTrue (has k (keys_of b)) → IsPlaced (signals_of b) k
-has_placed b (At t) h = tt
-has_placed b (Rise sig) h = inside (λ w. w.rise) b.watches.items sig.0 refl h
-has_placed b (Fall sig) h = inside (λ w. w.fall) b.watches.items sig.0 refl h
-has_placed b (Change sig) h = inside (λ w. w.change) b.watches.items sig.0 refl h
-has_placed b ReadWrite h = tt
-has_placed b ReadOnly h = tt
-has_placed b NextStep h = tt
+pub has_placed : (ts : List ℕ) (b : Book) (k : Key) → IsTrue (has k (keys_with ts b)) → IsPlaced (signals_of b) k
+has_placed ts b (At t) h = tt
+has_placed ts b (Rise sig) h = inside (λ w. w.rise) b.watches.items sig.0 refl h
+has_placed ts b (Fall sig) h = inside (λ w. w.fall) b.watches.items sig.0 refl h
+has_placed ts b (Change sig) h = inside (λ w. w.change) b.watches.items sig.0 refl h
+has_placed ts b ReadWrite h = tt
+has_placed ts b ReadOnly h = tt
+has_placed ts b NextStep h = tt

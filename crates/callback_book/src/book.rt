@@ -1,35 +1,32 @@
 //! The registered keys, and the counts.
-ghost use Rattle.std.specs.Prelude.{
-  ◌≡◌,
-  ◌<◌,
-  ◌||◌,
-  ◌&&◌,
-  ◌++◌,
-  ◌∷◌,
-  [],
-  IsTrue,
-  true,
-  false,
-  length,
-  OnOk,
-  OnErr,
-  IfOk,
-  replicate,
-  if◌then◌else◌,
-};
-ghost use Rattle.gpi.specs.Keys.{has, no_keys, is_time, least, same_key, among, fired_of, raised, IsWith, IsWithout};
+ghost use Rattle.std.specs.Prelude.{◌≡◌, ℕ, ◌<◌, ◌++◌, ◌∷◌, [], List, false, length, IfOk, replicate, if◌then◌else◌};
+ghost use Rattle.gpi.specs.Keys.{has, holds, no_keys, is_time, same_key, among, fired_of, raised, raised_by, IsWith, IsWithout};
 ghost use Rattle.gpi.specs.declared.types.Key.{Key as AnyKey};
 ghost use Rattle.gpi.specs.declared.types.Key.TheVariants.{At, Change, NextStep};
 ghost use Rattle.gpi.specs.Events.{edge_keys, if_has};
 ghost use Rattle.gpi.specs.Content.{no_counts};
-ghost use Rattle.callback_book.specs.Books.{keys_of, counts_of, signals_of, no_watch, IsPlaced, option_list, level_part, Fires};
+ghost use Rattle.kernel_base.specs.TimeSets.{IsWithoutTime};
+ghost use Rattle.callback_book.specs.Books.{
+  flag_of,
+  keys_with,
+  counts_of,
+  signals_of,
+  no_watch,
+  IsPlaced,
+  AddsTime,
+  DropsTime,
+  option_list,
+  if_flag,
+  if_there,
+  level_part,
+  Fires,
+};
 
 use four_value::Digit;
 use gpi::{Counts, Fired, Key, Report};
 use kernel_base::low_digit;
 use port_io::NoMemory;
 use std::alloc::{AllocError, Global};
-use std::collections::BTreeSet;
 
 /// Which keys of a signal are registered.
 #[derive(Clone, Copy)]
@@ -39,28 +36,17 @@ pub struct Watch {
     change: bool,
 }
 
-/// The registered keys of a simulator, and how many were registered, removed and fired.
+/// The registered keys of a simulator but for the times, and how many keys were registered, removed and fired, times among them.
 ///
-/// Contracts see the keys as a set (`keys_of`), the counts (`counts_of`), and of how many signals it holds keys (`signals_of`).
-/// Only [`new`](Book::new) and [`add`](Book::add) of a time take memory.
+/// Which times are registered its user knows, and tells where it counts: contracts see the keys as a set, whatever the times are (`keys_with`), the counts
+/// (`counts_of`), and of how many signals it holds keys (`signals_of`). Only [`new`](Book::new) takes memory.
 #[derive(Drop)]
 pub struct Book {
     watches: Vec<Watch>,
-    times: BTreeSet<u64>,
     read_write: bool,
     read_only: bool,
     next_step: bool,
     counts: Counts,
-}
-
-/// The least of the times.
-fn least_of(times: &BTreeSet<u64>) -> Option<u64>
-    ensures { result ≡ least times.now.keys }
-{
-    match times.first() {
-        Some(time) => Some(*time),
-        None => None,
-    }
 }
 
 /// Watches of so many signals, none of them set.
@@ -83,12 +69,11 @@ fn unwatched(alloc: Global, signals: usize) -> Result<Vec<Watch>, AllocError>
 impl Book {
     /// A book of no signals. It takes no memory.
     pub fn of_none(alloc: Global) -> Book
-        ensures keys { keys_of result ≡ no_keys }
+        ensures keys { keys_with [] result ≡ no_keys }
         ensures counts { counts_of result ≡ no_counts }
     {
         Book {
             watches: Vec::new(alloc),
-            times: BTreeSet::new(alloc),
             read_write: false,
             read_only: false,
             next_step: false,
@@ -102,14 +87,13 @@ impl Book {
 
     /// A book of so many signals, in which nothing is registered, with the counts 0. Its one error is the want of memory.
     pub fn new(alloc: Global, signals: u32) -> Result<Book, NoMemory>
-        ensures keys { IfOk result (λ book. keys_of book ≡ no_keys) }
+        ensures keys { IfOk result (λ book. keys_with [] book ≡ no_keys) }
         ensures counts { IfOk result (λ book. counts_of book ≡ no_counts) }
         ensures signals { IfOk result (λ book. signals_of book ≡ signals) }
     {
         let watches = unwatched(alloc, signals as usize)?;
         Ok(Book {
             watches,
-            times: BTreeSet::new(alloc),
             read_write: false,
             read_only: false,
             next_step: false,
@@ -121,14 +105,14 @@ impl Book {
         })
     }
 
-    /// Whether the key is registered.
-    #[tactic(auto, using(crate::proofs::Keys::holds_keys))]
+    /// Whether the key, which is no time, is registered.
     pub fn has(&self, key: Key) -> bool
-        requires { IsPlaced (signals_of self.now) key }
-        ensures { result ≡ has key (keys_of self.now) }
+        requires placed { IsPlaced (signals_of self.now) key }
+        requires other { is_time key ≡ false }
+        ensures { result ≡ flag_of self.now key }
     {
         match key {
-            Key::At(time) => self.times.contains(&time),
+            Key::At(_) => false,
             Key::Rise(sig) => self.watches[sig.0 as usize].rise,
             Key::Fall(sig) => self.watches[sig.0 as usize].fall,
             Key::Change(sig) => self.watches[sig.0 as usize].change,
@@ -136,13 +120,6 @@ impl Book {
             Key::ReadOnly => self.read_only,
             Key::NextStep => self.next_step,
         }
-    }
-
-    /// The least registered time, in steps.
-    pub fn least_time(&self) -> Option<u64>
-        ensures { result ≡ least (keys_of self.now).times }
-    {
-        least_of(&self.times)
     }
 
     /// How many keys were registered, removed and fired. A count that has reached 2^64 - 1 stays there.
@@ -156,7 +133,7 @@ impl Book {
     fn set(&mut self, key: Key, on: bool)
         requires placed { IsPlaced (signals_of self.old) key }
         requires other { is_time key ≡ false }
-        ensures is { (k : AnyKey) → has k (keys_of self.new) ≡ (if same_key k key then on else has k (keys_of self.old)) }
+        ensures is { (k : AnyKey) → flag_of self.new k ≡ (if same_key k key then on else flag_of self.old k) }
         ensures counts { counts_of self.new ≡ counts_of self.old }
         ensures signals { signals_of self.new ≡ signals_of self.old }
     {
@@ -171,100 +148,72 @@ impl Book {
         }
     }
 
-    /// The key isn't registered any more.
-    fn off(&mut self, key: Key)
+    /// A key is registered, or isn't any more. Of a time nothing is noted.
+    fn note(&mut self, key: Key, on: bool)
         requires { IsPlaced (signals_of self.old) key }
-        ensures is { IsWithout (key ∷ []) (keys_of self.old) (keys_of self.new) }
+        ensures is { (k : AnyKey) → is_time k ≡ false → flag_of self.new k ≡ (if same_key k key then on else flag_of self.old k) }
         ensures counts { counts_of self.new ≡ counts_of self.old }
         ensures signals { signals_of self.new ≡ signals_of self.old }
     {
         match key {
-            Key::At(time) => {
-                self.times.remove(&time);
-            }
-            _ => self.set(key, false),
+            Key::At(_) => {}
+            _ => self.set(key, on),
         }
     }
 
-    /// The key is registered.
-    fn on(&mut self, key: Key) -> Result<(), NoMemory>
+    /// Registers the key, and counts it; a time is counted alone. It takes no memory.
+    pub fn add(&mut self, key: Key)
         requires { IsPlaced (signals_of self.old) key }
-        ensures is { OnOk result (IsWith key (keys_of self.old) (keys_of self.new)) }
-        ensures kept { OnErr result (keys_of self.new ≡ keys_of self.old) }
-        ensures cause { OnErr result (IsTrue (is_time key)) }
-        ensures counts { counts_of self.new ≡ counts_of self.old }
+        ensures is { (ts us : List ℕ) → AddsTime key ts us → IsWith key (keys_with ts self.old) (keys_with us self.new) }
+        ensures counts { counts_of self.new ≡ record (counts_of self.old) { primed = raised (counts_of self.old).primed } }
         ensures signals { signals_of self.new ≡ signals_of self.old }
     {
-        match key {
-            Key::At(time) => {
-                self.times.insert(time)?;
-                Ok(())
-            }
-            _ => {
-                self.set(key, true);
-                Ok(())
-            }
-        }
+        self.note(key, true);
+        self.counts.primed = self.counts.primed.saturating_add(1);
     }
 
-    /// Registers the key, and counts it. Its one error is the want of memory, for a time alone, and then nothing has changed.
-    pub fn add(&mut self, key: Key) -> Result<(), NoMemory>
-        requires { IsPlaced (signals_of self.old) key }
-        ensures is { OnOk result (IsWith key (keys_of self.old) (keys_of self.new)) }
-        ensures counts { OnOk result (counts_of self.new ≡ record (counts_of self.old) { primed = raised (counts_of self.old).primed }) }
-        ensures kept { OnErr result ((keys_of self.new ≡ keys_of self.old) × (counts_of self.new ≡ counts_of self.old)) }
-        ensures cause { OnErr result (IsTrue (is_time key)) }
-        ensures signals { signals_of self.new ≡ signals_of self.old }
-    {
-        match self.on(key) {
-            Ok(()) => {
-                self.counts.primed = self.counts.primed.saturating_add(1);
-                Ok(())
-            }
-            Err(e) => Err(e),
-        }
-    }
-
-    /// Removes the key, and counts it.
+    /// Removes the key, and counts it; a time is counted alone.
     pub fn remove(&mut self, key: Key)
         requires { IsPlaced (signals_of self.old) key }
-        ensures is { IsWithout (key ∷ []) (keys_of self.old) (keys_of self.new) }
+        ensures is { (ts us : List ℕ) → DropsTime key ts us → IsWithout (key ∷ []) (keys_with ts self.old) (keys_with us self.new) }
         ensures counts { counts_of self.new ≡ record (counts_of self.old) { removed = raised (counts_of self.old).removed } }
         ensures signals { signals_of self.new ≡ signals_of self.old }
     {
-        self.off(key);
+        self.note(key, false);
         self.counts.removed = self.counts.removed.saturating_add(1);
     }
 
-    /// Fires the key if it is registered, and tells whether it was.
+    /// Fires the key, which is no time, if it is registered, and tells whether it was.
     pub fn take(&mut self, key: Key) -> bool
-        requires { IsPlaced (signals_of self.old) key }
-        ensures there { result ≡ has key (keys_of self.old) }
-        ensures fires { Fires (if_has key (keys_of self.old)) self.old self.new }
+        requires placed { IsPlaced (signals_of self.old) key }
+        requires other { is_time key ≡ false }
+        ensures there { result ≡ flag_of self.old key }
+        ensures fires { (ts : List ℕ) → Fires (if_flag key self.old) ts self.old ts self.new }
         ensures kept { result ≡ false → self.new ≡ self.old }
     {
         if !self.has(key) {
             return false;
         }
-        self.off(key);
+        self.note(key, false);
         self.counts.fired = self.counts.fired.saturating_add(1);
         true
     }
 
-    /// Fires the key if it is registered, and answers it then.
+    /// Fires the key, which is no time, if it is registered, and answers it then.
     fn taken(&mut self, key: Key) -> Option<Key>
-        requires { IsPlaced (signals_of self.old) key }
-        ensures fired { option_list result ≡ if_has key (keys_of self.old) }
-        ensures is { Fires (option_list result) self.old self.new }
+        requires placed { IsPlaced (signals_of self.old) key }
+        requires other { is_time key ≡ false }
+        ensures fired { option_list result ≡ if_flag key self.old }
+        ensures is { (ts : List ℕ) → Fires (option_list result) ts self.old ts self.new }
     {
         if self.take(key) { Some(key) } else { None }
     }
 
-    /// Fires the key of the edge that a change of one bit is, if it is registered.
+    /// Fires the key of the edge that a change of one bit is (IEEE 1364-2005, clause 9.7), if it is registered.
     fn take_level(&mut self, report: &Report) -> Option<Key>
         requires { report.now.sig.0 < signals_of self.old }
-        ensures fired { option_list result ≡ level_part report.now (keys_of self.old) }
-        ensures is { Fires (option_list result) self.old self.new }
+        ensures fired { option_list result ≡ level_part report.now (keys_with [] self.old) }
+        ensures is { (ts : List ℕ) → Fires (option_list result) ts self.old ts self.new }
         ensures other { among (Change report.now.sig) (option_list result) ≡ false }
     {
         if report.after.width() == 1 {
@@ -278,25 +227,43 @@ impl Book {
         }
     }
 
-    /// Fires those of the edge keys of a change (IEEE 1364-2005, clause 9.7.2) that are registered, and answers them in order.
+    /// Fires those of the edge keys of a change that are registered, and answers them in order.
     pub fn change(&mut self, report: &Report) -> Fired
         requires { report.now.sig.0 < signals_of self.old }
-        ensures fired { result ≡ fired_of (edge_keys report.now (keys_of self.old)) }
-        ensures is { Fires (edge_keys report.now (keys_of self.old)) self.old self.new }
+        ensures fired { (ts : List ℕ) → result ≡ fired_of (edge_keys report.now (keys_with ts self.old)) }
+        ensures is { (ts : List ℕ) → Fires (edge_keys report.now (keys_with ts self.old)) ts self.old ts self.new }
     {
         let first = self.take_level(report);
         let second = self.taken(Key::Change(report.sig));
         in_order(first, second)
     }
 
-    /// Fires the keys of a time step that begins at this time, where they are registered, and answers them in order.
-    pub fn begin_step(&mut self, time: u64) -> Fired
-        ensures fired { result ≡ fired_of (if_has NextStep (keys_of self.old) ++ if_has (At time) (keys_of self.old)) }
-        ensures is { Fires (if_has NextStep (keys_of self.old) ++ if_has (At time) (keys_of self.old)) self.old self.new }
+    /// Fires the keys of a time step that begins at this time, where they are registered, and answers them in order. Whether the time is registered
+    /// is told by who calls, and it isn't any more.
+    pub fn begin_step(&mut self, time: u64, there: bool) -> Fired
+        ensures fired { (ts : List ℕ) → there ≡ holds time ts
+            → result ≡ fired_of (if_has NextStep (keys_with ts self.old) ++ if_has (At time) (keys_with ts self.old)) }
+        ensures is { (ts us : List ℕ) → there ≡ holds time ts → IsWithoutTime time ts us
+            → Fires (if_has NextStep (keys_with ts self.old) ++ if_has (At time) (keys_with ts self.old)) ts self.old us self.new }
     {
         let first = self.taken(Key::NextStep);
-        let second = self.taken(Key::At(time));
+        let second = self.taken_time(time, there);
         in_order(first, second)
+    }
+
+    /// Counts a time as fired if it was registered, and answers it then.
+    fn taken_time(&mut self, time: u64, there: bool) -> Option<Key>
+        ensures fired { option_list result ≡ if_there there time }
+        ensures is { (k : AnyKey) → flag_of self.new k ≡ flag_of self.old k }
+        ensures counts { counts_of self.new
+            ≡ record (counts_of self.old) { fired = raised_by (if_there there time) (counts_of self.old).fired } }
+        ensures signals { signals_of self.new ≡ signals_of self.old }
+    {
+        if !there {
+            return None;
+        }
+        self.counts.fired = self.counts.fired.saturating_add(1);
+        Some(Key::At(time))
     }
 }
 

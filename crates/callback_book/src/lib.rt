@@ -1,7 +1,7 @@
 //! The registered keys of a simulator.
 //!
-//! A [`Book`] holds a flag for each edge key of each signal and for each of the three phases, and an ordered set of times; and it counts what was
-//! registered, removed and fired. Begin with [`Book::new`].
+//! A [`Book`] holds a flag for each edge key of each signal and for each of the three phases, and it counts what was registered, removed and fired.
+//! Which times are registered is known to what holds the book. Begin with [`Book::new`].
 #![tactic(auto)]
 
 mod book;

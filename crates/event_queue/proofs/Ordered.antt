@@ -1,23 +1,21 @@
 -- Updates in the order of their time.
-use Rattle.std.proofs.Common.{◌≡◌, ℕ, zero, suc, ◌+◌, ◌-◌, ◌<◌, ◌≤◌, ◌==◌, ◌&&◌, nat_le, nat_lt, not, Bool, true, false, if◌then◌else◌, List, [], ◌∷◌, ◌++◌, length, take, drop, get_or, Option, Some, None, IsTrue, refl, sym, ap, ◌∙◌, arith, min, add-one, append-nil, append_assoc}
-use Rattle.std.specs.List.{filter, insert}
+use Rattle.std.proofs.Common.{◌≡◌, ℕ, zero, suc, ◌+◌, ◌-◌, ◌<◌, ◌≤◌, ◌==◌, ◌&&◌, nat_le, nat_lt, not, Bool, true, false, if◌then◌else◌, List, [], ◌∷◌, ◌++◌, length, take, drop, Option, Some, None, IsTrue, refl, sym, ap, ◌∙◌, arith, min, add-one, append-nil, append_assoc}
 use Rattle.std.proofs.lemmas.Bool.{and_parts}
 use Rattle.std.proofs.lemmas.Bool.Decides.{nat_tests}
-use Rattle.std.proofs.lemmas.List.{drop_more, drop_all}
 use Rattle.gpi.specs.declared.types.Update.{Update}
 use Rattle.gpi.specs.declared.types.Delayed.{Delayed}
 use Rattle.gpi.specs.Keys.{least, lesser}
 use Rattle.gpi.specs.State.{with_delayed, arriving, waiting_on, delayed_times}
 use Rattle.kernel_base.specs.Lists.{is_empty}
-use Rattle.event_queue.specs.Waiting.{are_from, are_in_order, Arrives}
+use Rattle.event_queue.specs.Waiting.{are_from, are_in_order, sorted_of, time_of_first, Arrives}
 
-not_above : (m n : ℕ) → nat_le m n ≡ true → m ≤ n
+pub not_above : (m n : ℕ) → nat_le m n ≡ true → m ≤ n
 not_above m n h = grind (arith, nat_tests)
 
 is_above : (m n : ℕ) → n < m → nat_le m n ≡ false
 is_above m n h = grind (arith, nat_tests)
 
-is_at_most : (m n : ℕ) → m ≤ n → nat_le m n ≡ true
+pub is_at_most : (m n : ℕ) → m ≤ n → nat_le m n ≡ true
 is_at_most m n h = grind (arith, nat_tests)
 
 apart : (m n : ℕ) → m < n → (n == m) ≡ false
@@ -25,35 +23,27 @@ apart m n h = grind (arith, nat_tests)
 
 -- ---- where an update belongs
 
-pub before_later : (d e : Delayed) (ds : List Delayed) → d.time < e.time → with_delayed d (e ∷ ds) ≡ d ∷ e ∷ ds
+before_later : (d e : Delayed) (ds : List Delayed) → d.time < e.time → with_delayed d (e ∷ ds) ≡ d ∷ e ∷ ds
 before_later d e ds h = rw (is_above e.time d.time h) refl
 
-behind : (d e : Delayed) (ds : List Delayed) → e.time ≤ d.time → with_delayed d (e ∷ ds) ≡ e ∷ with_delayed d ds
+pub behind : (d e : Delayed) (ds : List Delayed) → e.time ≤ d.time → with_delayed d (e ∷ ds) ≡ e ∷ with_delayed d ds
 behind d e ds h = rw (is_at_most e.time d.time h) refl
 
-pub place_step : (d e : Delayed) (ds : List Delayed) (n : ℕ) → n < length ds → e ≡ get_or ds n e → d.time < e.time → with_delayed d (drop n ds) ≡ d ∷ drop n ds
-place_step d e ds n h q t = rw (drop_more ds n e h, ← q) (before_later d e (drop (n + 1) ds) t)
+-- it belongs before those that are all later
+pub before_all : (t : ℕ) (d : Delayed) (ds : List Delayed) → d.time < t → are_from t ds ≡ true → with_delayed d ds ≡ d ∷ ds
+before_all t d [] h f = refl
+before_all t d (e ∷ es) h f =
+    let p = and_parts (nat_le t e.time) (are_from t es) f in
+    let l : t ≤ e.time = not_above t e.time p.0 in
+    before_later d e es (omega arith)
 
-from_at : (t : ℕ) (ds : List Delayed) (n : ℕ) (e : Delayed) → n < length ds → e ≡ get_or ds n e → are_from t ds ≡ true → t ≤ e.time
-from_at t [] n e h q f = absurd (omega arith)
-from_at t (x ∷ ds) zero e h q f = let p = and_parts (nat_le t x.time) (are_from t ds) f in rw q (not_above t x.time p.0)
-from_at t (x ∷ ds) (suc n) e h q f = let p = and_parts (nat_le t x.time) (are_from t ds) f in from_at t ds n e (omega arith) q p.1
+length_choice : (b : Bool) (d e : Delayed) (xs es : List Delayed) → length xs ≡ suc (length es) → length (if b then e ∷ xs else d ∷ e ∷ es) ≡ suc (suc (length es))
+length_choice true d e xs es h = ap suc h
+length_choice false d e xs es h = refl
 
--- it belongs behind one that isn't later, where it belongs at the front of what is behind that
-pub placed : (d e : Delayed) (ds : List Delayed) (n : ℕ) → n < length ds → e ≡ get_or ds n e → e.time ≤ d.time → are_in_order ds ≡ true
-    → with_delayed d (drop (suc n) ds) ≡ d ∷ drop (suc n) ds → with_delayed d ds ≡ insert ds (suc n) d
-placed d e [] n h q t o w = absurd (omega arith)
-placed d e (x ∷ ds) zero h q t o w = behind d x ds (rw (← q) t) ∙ ap (λ (es : List Delayed). x ∷ es) w
-placed d e (x ∷ ds) (suc n) h q t o w =
-    let p = and_parts (are_from x.time ds) (are_in_order ds) o in
-    let k : n < length ds = omega arith in
-    let l : x.time ≤ e.time = from_at x.time ds n e k q p.0 in
-    behind d x ds (omega arith) ∙ ap (λ (es : List Delayed). x ∷ es) (placed d e ds n k q t p.1 w)
-
-pub placed_at : (d e : Delayed) (ds : List Delayed) (n : ℕ) → 0 < n → n ≤ length ds → e ≡ get_or ds (n - 1) e → e.time ≤ d.time → are_in_order ds ≡ true
-    → with_delayed d (drop n ds) ≡ d ∷ drop n ds → with_delayed d ds ≡ insert ds n d
-placed_at d e ds zero z h q t o w = absurd (omega arith)
-placed_at d e ds (suc n) z h q t o w = let k : suc n - 1 ≡ n = omega arith in placed d e ds n (omega arith) (rw k at q) t o w
+pub length_with : (d : Delayed) (ds : List Delayed) → length (with_delayed d ds) ≡ suc (length ds)
+length_with d [] = refl
+length_with d (e ∷ es) = length_choice (nat_le e.time d.time) d e (with_delayed d es) es (length_with d es)
 
 -- ---- the least time
 
@@ -67,15 +57,12 @@ from_lesser t (d ∷ ds) h =
     let p = and_parts (nat_le t d.time) (are_from t ds) h in
     lesser_step t d.time (least (delayed_times ds)) (not_above t d.time p.0) (from_lesser t ds p.1)
 
-pub first_least : (d : Delayed) (ds : List Delayed) → 0 < length ds → d ≡ get_or ds 0 d → are_in_order ds ≡ true → Some d.time ≡ least (delayed_times ds)
-first_least d [] l e h = absurd (omega arith)
-first_least d (x ∷ rest) l e h =
-    let p = and_parts (are_from x.time rest) (are_in_order rest) h in
-    ap (λ (y : Delayed). Some y.time) e ∙ sym (from_lesser x.time rest p.0)
+pub first_least : (d : Delayed) (ds : List Delayed) → are_in_order (d ∷ ds) ≡ true → Some d.time ≡ least (delayed_times (d ∷ ds))
+first_least d ds h = let p = and_parts (are_from d.time ds) (are_in_order ds) h in sym (from_lesser d.time ds p.0)
 
 -- ---- those that arrive
 
-none_arrives : (t : ℕ) (ds : List Delayed) (x : ℕ) → t < x → are_from x ds ≡ true → (arriving t ds ≡ []) × (waiting_on t ds ≡ ds)
+pub none_arrives : (t : ℕ) (ds : List Delayed) (x : ℕ) → t < x → are_from x ds ≡ true → (arriving t ds ≡ []) × (waiting_on t ds ≡ ds)
 none_arrives t [] x h f = (refl, refl)
 none_arrives t (d ∷ ds) x h f =
     let p = and_parts (nat_le x d.time) (are_from x ds) f in
@@ -97,6 +84,21 @@ all_arrived t (d ∷ ds) after o f a =
     let r = none_arrives t ds d.time l q.0 in
     (rw a.0 r.0, rw a.0 (ap (λ (es : List Delayed). d ∷ es) r.1) ∙ sym a.1)
 
+pub none_there : (t : ℕ) (ds : List Delayed) → None ≡ time_of_first ds → Arrives t ds None ds
+none_there t [] e = refl
+none_there t (d ∷ ds) e = absurd (cc)
+
+pub other_first : (t u : ℕ) (ds : List Delayed) → Some u ≡ time_of_first ds → (u == t) ≡ false → Arrives t ds None ds
+other_first t u [] e h = absurd (cc)
+other_first t u (d ∷ ds) e h = let f : u ≡ d.time = cc in (rw (← f) h, refl)
+
+pub first_taken : (t u : ℕ) (p : (ℕ × ℕ) × Update) (old new : List ((ℕ × ℕ) × Update)) → Some u ≡ time_of_first (sorted_of old) → (u == t) ≡ true → old ≡ p ∷ new
+    → Arrives t (sorted_of old) (Some p.1) (sorted_of new)
+first_taken t u p old new e h r =
+    let f : Some u ≡ Some p.0.0 = e ∙ ap (λ (es : List ((ℕ × ℕ) × Update)). time_of_first (sorted_of es)) r in
+    let g : u ≡ p.0.0 = cc in
+    (record { time = p.0.0; update = p.1 }, ap sorted_of r, rw (← g) h, refl)
+
 -- the first arrives
 pub one_arrived : (t : ℕ) (before after : List Delayed) (u : Update) (us : List Update) → Arrives t before (Some u) after
     → ((us ++ u ∷ []) ++ arriving t after ≡ us ++ arriving t before) × (waiting_on t after ≡ waiting_on t before)
@@ -116,7 +118,7 @@ from_if : (c : Bool) (t : ℕ) (ds es : List Delayed) → are_from t ds ≡ true
 from_if true t ds es h k = h
 from_if false t ds es h k = k
 
-both : (a b : Bool) → a ≡ true → b ≡ true → (a && b) ≡ true
+pub both : (a b : Bool) → a ≡ true → b ≡ true → (a && b) ≡ true
 both true b h k = k
 both false b h k = h
 
@@ -137,7 +139,7 @@ order_if : (c : Bool) (ds es : List Delayed) → (c ≡ true → are_in_order ds
 order_if true ds es h k = h refl
 order_if false ds es h k = k refl
 
-not_at_most : (m n : ℕ) → nat_le m n ≡ false → n ≤ m
+pub not_at_most : (m n : ℕ) → nat_le m n ≡ false → n ≤ m
 not_at_most m n h = grind (arith, nat_tests)
 
 pub ordered_with : (d : Delayed) (ds : List Delayed) → are_in_order ds ≡ true → are_in_order (with_delayed d ds) ≡ true
@@ -148,7 +150,7 @@ ordered_with d (e ∷ es) o =
     (λ c. both _ _ (from_with e.time d es (not_above e.time d.time c) p.0) (ordered_with d es p.1))
     (λ c. let l : d.time ≤ e.time = not_at_most e.time d.time c in both _ _ (both _ _ (is_at_most d.time e.time l) (from_less d.time e.time es l p.0)) o)
 
-from_waiting : (s t : ℕ) (ds : List Delayed) → are_from s ds ≡ true → are_from s (waiting_on t ds) ≡ true
+pub from_waiting : (s t : ℕ) (ds : List Delayed) → are_from s ds ≡ true → are_from s (waiting_on t ds) ≡ true
 from_waiting s t [] f = refl
 from_waiting s t (d ∷ ds) f =
     let p = and_parts (nat_le s d.time) (are_from s ds) f in

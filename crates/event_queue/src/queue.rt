@@ -1,27 +1,30 @@
 //! What a simulator has still to do.
-ghost use Rattle.std.specs.Prelude.{◌≡◌, ◌<◌, ◌++◌, ◌∷◌, [], IsTrue, not, length, IfOk, OnOk, OnErr, MatchOption, IfSome, slice_get, if◌then◌else◌};
+ghost use Rattle.std.specs.Prelude.{◌≡◌, ◌<◌, ◌++◌, ◌∷◌, [], IsTrue, false, not, length, IfOk, OnOk, OnErr, MatchOption, IfSome, slice_get, if◌then◌else◌};
 ghost use Rattle.gpi.specs.Keys.{holds, least};
 ghost use Rattle.gpi.specs.State.{at_once, with_delayed, all_delaying, arriving, waiting_on, delayed_times};
 ghost use Rattle.kernel_base.specs.Lists.{is_empty};
+ghost use Rattle.kernel_base.specs.TimeSets.{IsWithTime, IsWithoutTime};
 ghost use Rattle.event_queue.specs.Waiting.{are_from, Takes};
 ghost use Rattle.event_queue.specs.Queues.{held, processes_of, none_held, HasRoomFor};
 
 use crate::ring::Ring;
 use crate::updates::Updates;
 use gpi::{Delayed, Update};
+use kernel_base::Times;
 use port_io::NoMemory;
 use std::alloc::Global;
 
-/// What a simulator has still to do: the active processes, each once, and the updates that are due, that wait for the running processes
-/// and that wait for their time (IEEE 1364-2005, clauses 9.2.2 and 11.3).
+/// What a simulator has still to do: the active processes, each once, the updates that are due, that wait for the running processes and that
+/// wait for their time (IEEE 1364-2005, clauses 9.2.2 and 11.3), and the times for which something is registered.
 ///
-/// Contracts see these four lists (`held`), of how many processes it knows (`processes_of`), and for how many more updates it has
-/// room (`HasRoom`). Only [`new`](Queue::new), [`make_room`](Queue::make_room), [`later`](Queue::later) and [`delay`](Queue::delay) take
-/// memory.
+/// Contracts see these lists (`held`), of how many processes it knows (`processes_of`), and for how many more updates it has room
+/// (`HasRoom`). Only [`new`](Queue::new), [`make_room`](Queue::make_room), [`later`](Queue::later), [`delay`](Queue::delay) and
+/// [`add_time`](Queue::add_time) take memory.
 #[derive(Drop)]
 pub struct Queue {
     active: Ring,
     updates: Updates,
+    times: Times,
 }
 
 impl Queue {
@@ -34,6 +37,7 @@ impl Queue {
         Ok(Queue {
             active,
             updates: Updates::new(alloc),
+            times: Times::new(alloc),
         })
     }
 
@@ -45,6 +49,7 @@ impl Queue {
             held self.new ≡ record h { active = if holds process h.active then h.active else h.active ++ process ∷ [] } }
         ensures processes { processes_of self.new ≡ processes_of self.old }
         ensures updates { self.new.updates ≡ self.old.updates }
+        ensures times { self.new.times ≡ self.old.times }
     {
         self.active.wake(process)
     }
@@ -54,6 +59,7 @@ impl Queue {
         ensures is { MatchOption result (((held self.old).active ≡ []) × (self.new ≡ self.old))
             (λ process. (held self.old).active ≡ process ∷ (held self.new).active) }
         ensures updates { self.new.updates ≡ self.old.updates }
+        ensures times { self.new.times ≡ self.old.times }
         ensures processes { processes_of self.new ≡ processes_of self.old }
     {
         self.active.next()
@@ -120,6 +126,7 @@ impl Queue {
         ensures is { Takes (held self.old).due (held self.old).later result (held self.new).due (held self.new).later }
         ensures delayed { (held self.new).delayed ≡ (held self.old).delayed }
         ensures active { self.new.active ≡ self.old.active }
+        ensures times { self.new.times ≡ self.old.times }
     {
         self.updates.take()
     }
@@ -145,7 +152,8 @@ impl Queue {
         self.updates.least_delayed()
     }
 
-    /// The updates that wait for this time become the later ones, in order. None may wait for an earlier time.
+    /// The updates that wait for this time become the later ones, in order; later ones that are there are given up. None may wait for an earlier
+    /// time.
     pub fn arrive(&mut self, time: u64)
         requires { IsTrue (are_from time (held self.old).delayed) }
         ensures held { let h = held self.old in
@@ -153,5 +161,43 @@ impl Queue {
         ensures processes { processes_of self.new ≡ processes_of self.old }
     {
         self.updates.arrive(time);
+    }
+
+    /// A time, in steps, is registered; it may not be so already. Its one error is the want of memory, and then nothing has changed.
+    pub fn add_time(&mut self, time: u64) -> Result<(), NoMemory>
+        requires { holds time (held self.old).times ≡ false }
+        ensures times { OnOk result (IsWithTime time (held self.old).times (held self.new).times) }
+        ensures others { held self.new ≡ record (held self.old) { times = (held self.new).times } }
+        ensures kept { OnErr result (held self.new ≡ held self.old) }
+        ensures processes { processes_of self.new ≡ processes_of self.old }
+    {
+        self.times.add(time)
+    }
+
+    /// A registered time isn't so any more.
+    pub fn drop_time(&mut self, time: u64)
+        requires { IsTrue (holds time (held self.old).times) }
+        ensures times { IsWithoutTime time (held self.old).times (held self.new).times }
+        ensures others { held self.new ≡ record (held self.old) { times = (held self.new).times } }
+        ensures processes { processes_of self.new ≡ processes_of self.old }
+    {
+        self.times.take(time);
+    }
+
+    /// A time isn't registered any more; tells whether it was.
+    pub fn take_time(&mut self, time: u64) -> bool
+        ensures there { result ≡ holds time (held self.old).times }
+        ensures times { IsWithoutTime time (held self.old).times (held self.new).times }
+        ensures others { held self.new ≡ record (held self.old) { times = (held self.new).times } }
+        ensures processes { processes_of self.new ≡ processes_of self.old }
+    {
+        self.times.take(time)
+    }
+
+    /// The least registered time, in steps.
+    pub fn least_time(&self) -> Option<u64>
+        ensures { result ≡ least (held self.now).times }
+    {
+        self.times.least()
     }
 }

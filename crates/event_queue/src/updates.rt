@@ -1,9 +1,9 @@
 //! The updates that are due or wait.
-ghost use Rattle.std.specs.Prelude.{◌≤◌, ◌+◌, IsTrue};
+ghost use Rattle.std.specs.Prelude.{◌≤◌, ◌+◌, IsTrue, length};
 ghost use Rattle.std.specs.VecDeque.{deque_len, deque_capacity};
-ghost use Rattle.event_queue.specs.Waiting.{are_in_order};
+ghost use Rattle.event_queue.specs.Delays.{waiting_in};
 
-use crate::delayed::{insert_delayed, least_time, move_arrived};
+use crate::delayed::Delays;
 use gpi::{Delayed, LATEST_UPDATE, Update};
 use port_io::NoMemory;
 use std::alloc::Global;
@@ -17,15 +17,14 @@ pub struct Updates {
     ready: VecDeque<Update>,
     /// How many are due.
     due: usize,
-    /// Those that wait for their time, by rising time.
-    delayed: VecDeque<Delayed>,
+    /// Those that wait for their time.
+    delayed: Delays,
     ghost due_inside: { due ≤ deque_len ready },
-    ghost arrivals_fit: { deque_len ready + deque_len delayed ≤ deque_capacity ready },
-    ghost ordered: { IsTrue (are_in_order delayed.items) },
+    ghost arrivals_fit: { deque_len ready + length (waiting_in delayed) ≤ deque_capacity ready },
 }
 
 impl Updates {
-    ghost use Rattle.std.specs.Prelude.{◌≡◌, ◌++◌, ◌∷◌, [], ℕ, not, OnOk, length};
+    ghost use Rattle.std.specs.Prelude.{◌≡◌, ◌++◌, ◌∷◌, [], ℕ, not, OnOk};
     ghost use Rattle.gpi.specs.Keys.{least};
     ghost use Rattle.gpi.specs.State.{at_once, delaying, all_delaying, with_delayed, arriving, waiting_on, delayed_times};
     ghost use Rattle.kernel_base.specs.Lists.{is_empty};
@@ -41,7 +40,7 @@ impl Updates {
         Updates {
             ready: VecDeque::new(alloc),
             due: 0,
-            delayed: VecDeque::new(alloc),
+            delayed: Delays::new(alloc),
         }
     }
 
@@ -54,7 +53,7 @@ impl Updates {
             return Err(NoMemory);
         };
         self.ready.reserve(most)?;
-        self.delayed.reserve(more)?;
+        self.delayed.make_room(more)?;
         Ok(())
     }
 
@@ -77,7 +76,7 @@ impl Updates {
         ensures delayed { delayed_of self.new ≡ with_delayed delayed.now (delayed_of self.old) }
         ensures room { (more : ℕ) → HasRoom (1 + more) self.old → HasRoom more self.new }
     {
-        insert_delayed(&mut self.delayed, delayed);
+        self.delayed.push(delayed);
     }
 
     /// An update of an activation at this time goes to where it waits. One that would come later than the latest time is given up.
@@ -146,10 +145,10 @@ impl Updates {
     pub fn least_delayed(&self) -> Option<u64>
         ensures { result ≡ least (delayed_times (delayed_of self.now)) }
     {
-        least_time(&self.delayed)
+        self.delayed.least_time()
     }
 
-    /// The updates that wait for this time become the later ones. None may wait for an earlier time.
+    /// The updates that wait for this time become the later ones, in place of those that are. None may wait for an earlier time.
     pub fn arrive(&mut self, time: u64)
         requires { IsTrue (are_from time (delayed_of self.old)) }
         ensures due { due_of self.new ≡ due_of self.old }
@@ -157,6 +156,6 @@ impl Updates {
         ensures delayed { delayed_of self.new ≡ waiting_on time (delayed_of self.old) }
     {
         self.ready.truncate(self.due);
-        move_arrived(&mut self.delayed, time, &mut self.ready);
+        self.delayed.arrive(time, &mut self.ready);
     }
 }

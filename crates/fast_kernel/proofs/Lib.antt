@@ -7,5 +7,7 @@ pub mod Told
 pub mod Woken
 pub mod Loaded
 pub mod Next
+pub mod Fired
+pub mod Phases
 pub mod Ran
 pub mod Opened

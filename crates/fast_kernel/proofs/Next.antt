@@ -5,19 +5,6 @@ use Rattle.gpi.specs.declared.types.Delayed.{Delayed}
 use Rattle.gpi.specs.Keys.{least, lesser}
 use Rattle.gpi.specs.State.{delayed_times}
 use Rattle.event_queue.specs.Waiting.{are_from}
-use Rattle.fast_kernel.specs.Times.{sooner}
-
-lesser_twice : (x u : ℕ) (o : Option ℕ) → lesser x (lesser u o) ≡ lesser (min x u) o
-lesser_twice x u None = refl
-lesser_twice x u (Some v) = ap Some (omega arith)
-
-lesser_sooner : (x : ℕ) (a b : Option ℕ) → lesser x (sooner a b) ≡ sooner (lesser x a) b
-lesser_sooner x None b = refl
-lesser_sooner x (Some u) b = lesser_twice x u b
-
-pub least_both : (xs ys : List ℕ) → sooner (least xs) (least ys) ≡ least (xs ++ ys)
-least_both [] ys = refl
-least_both (x ∷ xs) ys = sym (lesser_sooner x (least xs) (least ys)) ∙ ap (lesser x) (least_both xs ys)
 
 -- no time before t
 abbrev NotBefore : ℕ → Option ℕ → Type 0

@@ -23,7 +23,7 @@ use Rattle.kernel_base.proofs.Lists.{holds_push}
 use Rattle.v_exec.specs.declared.code.Code.{Code}
 use Rattle.v_exec.specs.Code.{run_of, StandsFor, IsSoundCode}
 use Rattle.v_exec.specs.Workspace.{IsReady}
-use Rattle.callback_book.specs.Books.{keys_of, counts_of, signals_of}
+use Rattle.callback_book.specs.Books.{keys_with, counts_of, signals_of}
 use Rattle.event_queue.specs.Queues.{Held, held, processes_of, none_held}
 use Rattle.fast_kernel.specs.declared.header.Header.{Header}
 use Rattle.fast_kernel.specs.declared.simulation.Simulation.{Simulation}
@@ -94,10 +94,11 @@ stands_procs flat code s =
 
 pub opened_content : (s : Simulation) (flat : Flat) → procs_in s ≡ procs_of flat.processes → s.nets.items ≡ nets_of flat.signals → s.shown.items ≡ start_map flat.signals
     → s.hidden.items ≡ start_hidden flat.signals → held s.queue ≡ record none_held { active = starters 0 (procs_of flat.processes) } → pending s ≡ [] → s.time ≡ 0 → s.region ≡ region.Begin
-    → keys_of s.book ≡ no_keys → counts_of s.book ≡ no_counts → content_of s ≡ opening flat
+    → keys_with [] s.book ≡ no_keys → counts_of s.book ≡ no_counts → content_of s ≡ opening flat
 opened_content s flat p n m h q r t g k l =
     let c = content_of s in
-    ap (λ (x : Held). record c { state = record c.state { active = x.active; due = x.due; later = x.later; delayed = x.delayed } }) q ∙ rw (p, n, m, h, r, t, g, k, l) refl
+    ap (λ (x : Held). record c { state = record c.state { active = x.active; due = x.due; later = x.later; delayed = x.delayed }; keys = keys_with x.times s.book }) q
+    ∙ rw (p, n, m, h, r, t, g, k, l) refl
 
 none_queued : (h : Held) (ws : List ℕ) → h.due ≡ [] → h.later ≡ [] → h.delayed ≡ [] → AreQueued h ws
 none_queued h ws d l e = record { due = rw d tt; later = rw l tt; delayed = rw e tt }

@@ -30,6 +30,9 @@ use Rattle.v_exec.specs.declared.workspace.Touched.{Touched}
 use Rattle.v_exec.specs.declared.workspace.Workspace.{Workspace}
 use Rattle.v_exec.specs.Code.{run_of, IsSoundCode, HasRun}
 use Rattle.v_exec.specs.Workspace.{AreTouched, AreEarlier, IsReady, IsWorkspace, sigs_of}
+use Rattle.kernel_base.specs.declared.times.Times.{Times}
+use Rattle.kernel_base.specs.TimeSets.{times_of}
+use Rattle.callback_book.specs.Books.{keys_with}
 use Rattle.event_queue.specs.declared.queue.Queue.{Queue}
 use Rattle.event_queue.specs.declared.updates.Updates.{Updates}
 use Rattle.event_queue.specs.Held.{due_of, later_of, delayed_of}
@@ -111,10 +114,12 @@ body_content s p m h shown hidden us vs work q queue all hides reports after app
     ran_from 0 p p s.headers.items s.code s.shown.items s.hidden.items k (sym (zero-add p)) ∙ rw (em, eh) refl in
     let g : held queue ≡ record (held s.queue) { later = (held s.queue).later ++ at_once us; delayed = all_delaying s.time us (held s.queue).delayed } = queued_is s.time us vs (held s.queue) (held q) (held queue) ev eq ee in
     let u : us ≡ run.updates = r.appended ∙ rw a refl in
-    ap (λ (st : State). record c { state = st })
+    let st : State = noted c.state (ran (slice_get c.procs p) c.state.signals c.state.hidden) in
+    ap (λ (z : State). record c { state = z; keys = keys_with (held queue).times s.book })
     (noted_is c.state (slice_get c.procs p) run all.items hides.items (held queue).active reports.items (held queue).due (held queue).later (held queue).delayed us f
     (ea ∙ r.shown_are) (ei ∙ r.hidden_are) u (ap (λ (x : Held). x.active) g) (ap (λ (x : Held). x.due) g) (ap (λ (x : Held). x.later) g) (ap (λ (x : Held). x.delayed) g)
     (er ∙ rw (em, ea) refl))
+    ∙ ap (λ (x : Held). record c { state = st; keys = keys_with x.times s.book }) g
 
 -- ---- the facts behind a body
 
@@ -229,11 +234,15 @@ next_rest old mid rest p (Some q) other e f h =
     let l : q ≡ p = cc in
     g ∙ ap (λ (x : ℕ). x ∷ rest) l
 
-pub next_content : (t : Simulation) (q : Queue) → q.updates ≡ t.queue.updates
+pub next_content : (t : Simulation) (q : Queue) → q.updates ≡ t.queue.updates → q.times ≡ t.queue.times
     → content_of (record t { queue = q }) ≡ (let m = content_of t in record m { state = record m.state { active = (held q).active } })
-next_content t q h =
+next_content t q h k =
     let m = content_of t in
-    ap (λ (u : Updates). record m { state = record m.state { active = (held q).active; due = due_of u; later = later_of u; delayed = delayed_of u } }) h
+    ap (λ (u : Updates). record m {
+      state = record m.state { active = (held q).active; due = due_of u; later = later_of u; delayed = delayed_of u };
+      keys = keys_with (held q).times t.book;
+    }) h
+    ∙ ap (λ (x : Times). record m { state = record m.state { active = (held q).active }; keys = keys_with (times_of x) t.book }) k
 
 pub ran_content : (b m n e : Content) (p : ℕ) (rest : List ℕ) → m ≡ record b { state = noted b.state (ran (slice_get b.procs p) b.state.signals b.state.hidden) }
     → n ≡ record m { state = record m.state { active = rest } } → e ≡ record n { state = woken_by n.procs n.state (own_in (slice_get n.procs p) p) }
@@ -253,4 +262,7 @@ woken_content s p x waiters queue reports own k e r o h =
     let c = content_of s in
     let f : own ≡ own_in (slice_get c.procs p) p = o ∙ sym (ap (λ (q : Option Proc). own_in q p) (proc_from 0 p p s.headers.items s.code x k e (sym (zero-add p)))) in
     let g : held queue ≡ record (held s.queue) { active = (held s.queue).active ++ woken 0 (procs_in s) (pending s) (barred (own_in (slice_get c.procs p) p) (held s.queue).active) } = h ∙ rw (r, f) refl in
-    ap (λ (q : Held). record c { state = record c.state { active = q.active; due = q.due; later = q.later; delayed = q.delayed; region = region.Active } }) g
+    ap (λ (q : Held). record c {
+      state = record c.state { active = q.active; due = q.due; later = q.later; delayed = q.delayed; region = region.Active };
+      keys = keys_with q.times s.book;
+    }) g

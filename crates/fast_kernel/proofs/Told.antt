@@ -23,7 +23,7 @@ use Rattle.kernel_base.proofs.Same.{same_self}
 
 -- ---- one more touched signal
 
-found_at : (m : Map) (s : ℕ) (ds : List Digit) → s < length m → ds ≡ get_or m s ds → ds ≡ slice_index_or m s []
+pub found_at : (m : Map) (s : ℕ) (ds : List Digit) → s < length m → ds ≡ get_or m s ds → ds ≡ slice_index_or m s []
 found_at [] s ds h e = absurd (omega arith)
 found_at (x ∷ m) zero ds h e = e
 found_at (x ∷ m) (suc s) ds h e = found_at m s ds (omega arith) e

@@ -14,7 +14,7 @@ use Rattle.v_exec.specs.Code.{run_of, IsSoundCode}
 use Rattle.v_exec.specs.Workspace.{IsReady}
 use Rattle.kernel_base.specs.Lists.{updates_in, barred, own_of}
 use Rattle.kernel_base.specs.Steps.{AreInside, with_run}
-use Rattle.callback_book.specs.Books.{keys_of, counts_of, signals_of}
+use Rattle.callback_book.specs.Books.{keys_with, counts_of, signals_of}
 use Rattle.event_queue.specs.Queues.{Held, held, processes_of}
 use Rattle.fast_kernel.specs.Waiters.{AreWaiters, AreOf}
 use Rattle.fast_kernel.specs.declared.header.Header.{Header}
@@ -47,7 +47,7 @@ content_of s = record {
     time = s.time;
     region = s.region;
   };
-  keys = keys_of s.book;
+  keys = keys_with (held s.queue).times s.book;
   counts = counts_of s.book;
 }
 

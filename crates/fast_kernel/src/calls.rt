@@ -6,6 +6,7 @@ ghost use Rattle.gpi.specs.Content.{Does, Answers, IsAsked, Registers, Removes, 
 ghost use Rattle.gpi.specs.Terms.{widths_of};
 ghost use Rattle.fast_kernel.specs.Kernel.{content_of, IsLoaded, Stays};
 
+use crate::queued::{add_time, drop_time};
 use crate::simulation::Simulation;
 use four_value::Bits;
 use gpi::{Advance, Fired, Key, Region, SigId};
@@ -46,12 +47,15 @@ impl Simulation {
     pub fn register(&mut self, key: Key) -> Result<(), NoMemory>
         requires loaded { IsLoaded self.old }
         requires asked { IsAsked (length self.old.shown.items) (content_of self.old).state key }
+        requires new { has key (content_of self.old).keys ≡ false }
         ensures stays { Stays self.old self.new }
         ensures is { OnOk result (Registers (content_of self.old) key (content_of self.new)) }
         ensures kept { OnErr result (content_of self.new ≡ content_of self.old) }
         ensures cause { OnErr result (IsTrue (is_time key)) }
     {
-        self.book.add(key)
+        add_time(&mut self.queue, key)?;
+        self.book.add(key);
+        Ok(())
     }
 
     /// Removes a registered key.
@@ -62,6 +66,7 @@ impl Simulation {
         ensures stays { Stays self.old self.new }
         ensures is { Removes (content_of self.old) key (content_of self.new) }
     {
+        drop_time(&mut self.queue, key);
         self.book.remove(key);
     }
 

@@ -7,9 +7,10 @@ ghost use Rattle.kernel_base.specs.Lists.{is_empty};
 ghost use Rattle.kernel_base.specs.Steps.{Answered, from_time, from_end, from_settle, from_later};
 ghost use Rattle.fast_kernel.specs.Kernel.{content_of, pending, IsLoaded, Stays};
 
-use crate::queued::{next_report, sooner, take_due, take_later};
+use crate::queued::{next_report, take_due, take_later};
 use crate::simulation::Simulation;
 use gpi::{Fired, Key, Moved, Region};
+use kernel_base::sooner;
 
 impl Simulation {
     /// 1: a report is told.
@@ -88,7 +89,7 @@ impl Simulation {
     pub fn next_time(&self) -> Option<u64>
         ensures { let c = content_of self.now in result ≡ least (delayed_times c.state.delayed ++ c.keys.times) }
     {
-        sooner(self.queue.least_delayed(), self.book.least_time())
+        sooner(self.queue.least_delayed(), self.queue.least_time())
     }
 
     /// 7: time moves on, and the updates that waited for it become the later ones.
@@ -98,7 +99,8 @@ impl Simulation {
         ensures is { Answered (content_of self.old) (from_time (content_of self.old)) result (content_of self.new) }
     {
         let time = self.next_time()?;
-        let fired = self.book.begin_step(time);
+        let there = self.queue.take_time(time);
+        let fired = self.book.begin_step(time, there);
         self.queue.arrive(time);
         self.time = time;
         self.region = Region::Begin;

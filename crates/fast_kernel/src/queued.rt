@@ -1,10 +1,13 @@
-//! What is next among the reports, the updates and the times.
-ghost use Rattle.std.specs.Prelude.{◌≡◌, ◌∷◌, [], MatchOption, drop};
+//! What is next among the reports and the updates, and the times among the keys.
+ghost use Rattle.std.specs.Prelude.{◌≡◌, ◌∷◌, [], IsTrue, MatchOption, OnErr, OnOk, drop};
+ghost use Rattle.gpi.specs.Keys.{is_time};
+ghost use Rattle.callback_book.specs.Books.{AddsTime, DropsTime};
 ghost use Rattle.event_queue.specs.Queues.{held, processes_of};
-ghost use Rattle.fast_kernel.specs.Times.{sooner};
+ghost use Rattle.fast_kernel.specs.Times.{IsNewTime, IsOldTime};
 
 use event_queue::Queue;
-use gpi::{Report, Update};
+use gpi::{Key, Report, Update};
+use port_io::NoMemory;
 
 /// The next report, of which so many were told.
 pub fn next_report(reports: &[Report], told: &mut usize) -> Option<Report>
@@ -42,13 +45,30 @@ pub fn take_later(queue: &mut Queue) -> Option<Update>
     queue.due()
 }
 
-/// The lesser of two times, where there are any.
-pub fn sooner(first: Option<u64>, second: Option<u64>) -> Option<u64>
-    ensures { result ≡ sooner first second }
+/// A key that is a time is put among the registered ones. Its one error is the want of memory, and then nothing has changed.
+pub fn add_time(queue: &mut Queue, key: Key) -> Result<(), NoMemory>
+    requires { IsNewTime key (held queue.old).times }
+    ensures times { OnOk result (AddsTime key (held queue.old).times (held queue.new).times) }
+    ensures others { held queue.new ≡ record (held queue.old) { times = (held queue.new).times } }
+    ensures kept { OnErr result (held queue.new ≡ held queue.old) }
+    ensures cause { OnErr result (IsTrue (is_time key)) }
+    ensures processes { processes_of queue.new ≡ processes_of queue.old }
 {
-    match (first, second) {
-        (None, other) => other,
-        (Some(time), Some(other)) if other < time => Some(other),
-        (Some(time), _) => Some(time),
+    match key {
+        Key::At(time) => queue.add_time(time),
+        _ => Ok(()),
+    }
+}
+
+/// A key that is a time is taken out of the registered ones.
+pub fn drop_time(queue: &mut Queue, key: Key)
+    requires { IsOldTime key (held queue.old).times }
+    ensures times { DropsTime key (held queue.old).times (held queue.new).times }
+    ensures others { held queue.new ≡ record (held queue.old) { times = (held queue.new).times } }
+    ensures processes { processes_of queue.new ≡ processes_of queue.old }
+{
+    match key {
+        Key::At(time) => queue.drop_time(time),
+        _ => {}
     }
 }

@@ -1,4 +1,5 @@
 pub mod Same
+pub mod TimeSets
 pub mod Lists
 pub mod KeySets
 pub mod Delays

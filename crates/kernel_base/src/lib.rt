@@ -1,4 +1,5 @@
-//! What simulators of designs have alike: the opening state of the signals, tests of digits, and the answer to an event that tells nothing.
+//! What simulators of designs have alike: the opening state of the signals, tests of digits, a set of times, and the answer to an event that tells
+//! nothing.
 //!
 //! Their proofs share the definitions of `specs/`, which part an event into its cases, and the lemmas of `proofs/`.
 #![tactic(auto)]
@@ -6,7 +7,9 @@
 mod digits;
 mod quiet;
 mod start;
+mod times;
 
 pub use digits::{are_same, low_digit, meets_edge};
 pub use quiet::{own_of, unseen};
 pub use start::{copy_wakes, start_nets, start_signals, unforced};
+pub use times::{Times, sooner};

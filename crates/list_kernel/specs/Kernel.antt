@@ -13,7 +13,7 @@ use Rattle.gpi.specs.Soundness.{AreProcesses}
 use Rattle.gpi.specs.Events.{Event, report_case, due_case, active_case, later_case, settle_case, end_case, time_case, or_else}
 use Rattle.gpi.specs.Content.{Content, Does}
 use Rattle.list_kernel.specs.declared.kernel.ListKernel.{ListKernel}
-use Rattle.callback_book.specs.Books.{keys_of, counts_of, signals_of}
+use Rattle.list_kernel.specs.Registered.{keys_of, counts_of, signals_of}
 use Rattle.kernel_base.specs.Steps.{AreInside}
 use Rattle.list_kernel.specs.Values.{AreValues}
 use Rattle.list_kernel.specs.Updates.{AreUpdates}

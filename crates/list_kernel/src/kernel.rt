@@ -63,11 +63,11 @@ ghost use Rattle.kernel_base.specs.Steps.{
   from_reports,
 };
 
+use crate::registered::Registered;
 use crate::run::activate;
 use crate::updates::{Updates, soonest};
 use crate::values::Values;
 use crate::wake::{tell_changes, wake};
-use callback_book::Book;
 use four_value::Bits;
 use gpi::{
     Advance, Counts, Fired, Flat, Gpi, Key, Kind, Moved, Process, Region, Report, SigId, Told,
@@ -89,7 +89,7 @@ pub struct ListKernel {
     updates: Updates,
     time: u64,
     region: Region,
-    book: Book,
+    book: Registered,
 }
 
 impl ListKernel {
@@ -597,7 +597,7 @@ impl ListKernel {
             updates: Updates::new(alloc),
             time: 0,
             region: Region::Begin,
-            book: Book::of_none(alloc),
+            book: Registered::of_none(alloc),
         }
     }
 }
@@ -612,7 +612,7 @@ fn opened(alloc: Global, flat: &Flat) -> Result<ListKernel, NoMemory>
     let values = Values::opened(alloc, &flat.signals)?;
     let active = start_active(alloc, &processes)?;
     let reports = Vec::with_capacity(alloc, flat.signals.len())?;
-    let book = Book::new(alloc, flat.signals.len() as u32)?;
+    let book = Registered::new(alloc, flat.signals.len() as u32)?;
     Ok(ListKernel {
         processes,
         nets,

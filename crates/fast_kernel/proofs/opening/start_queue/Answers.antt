@@ -14,6 +14,7 @@ loop-at-preserved c =
       due = ap (λ (h : Held). h.due) w ∙ i.due;
       later = ap (λ (h : Held). h.later) w ∙ i.later;
       delayed = ap (λ (h : Held). h.delayed) w ∙ i.delayed;
+      times = ap (λ (h : Held). h.times) w ∙ i.times;
       made = started c.args.processes.now at x active (held c.start.new.queue).active c.get.ensures (i.fresh at (omega arith)) a i.made;
       fresh = still_fresh at x.kind active (held c.start.new.queue).active (i.fresh at (omega arith)) a i.fresh;
       processes = c.start.ensures.processes ∙ i.processes;

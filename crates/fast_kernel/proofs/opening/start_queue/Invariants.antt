@@ -9,6 +9,7 @@ invariant-loop-at l = record {
   due : (held l.queue).due ≡ [];
   later : (held l.queue).later ≡ [];
   delayed : (held l.queue).delayed ≡ [];
+  times : (held l.queue).times ≡ [];
   made : (held l.queue).active ++ starters l.at (procs_of (drop l.at l.processes)) ≡ starters 0 (procs_of l.processes);
   fresh : (q : ℕ) → l.at ≤ q → holds q (held l.queue).active ≡ false;
   processes : processes_of l.queue ≡ length l.processes;

@@ -23,6 +23,7 @@ loop-process-preserved c =
       due = ap (λ (h : Held). h.due) w ∙ i.due;
       later = ap (λ (h : Held). h.later) w ∙ i.later;
       delayed = ap (λ (h : Held). h.delayed) w ∙ i.delayed;
+      times = ap (λ (h : Held). h.times) w ∙ i.times;
       active = found_step c.args.own first active next found n p c.loop-process-test.true refl a (first_fresh c.args.own first active found n p c.loop-process-test.true refl i.fresh) i.active;
       fresh = fresh_step c.args.own first active next found n p c.loop-process-test.true refl c.requires.distinct a i.fresh;
       processes = c.wake_other.ensures.processes ∙ i.processes;

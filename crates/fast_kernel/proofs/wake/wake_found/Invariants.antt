@@ -10,6 +10,7 @@ invariant-loop-process l = record {
   due : (held l.queue).due ≡ (held l.fn.queue).due;
   later : (held l.queue).later ≡ (held l.fn.queue).later;
   delayed : (held l.queue).delayed ≡ (held l.fn.queue).delayed;
+  times : (held l.queue).times ≡ (held l.fn.queue).times;
   active : (held l.queue).active ++ unbarred (barred l.own (held l.fn.queue).active) (drop l.process-index l.found)
       ≡ (held l.fn.queue).active ++ unbarred (barred l.own (held l.fn.queue).active) l.found;
   fresh : (q : ℕ) → holds q (drop l.process-index l.found) ≡ true → holds q (held l.queue).active ≡ holds q (held l.fn.queue).active;

@@ -29,4 +29,4 @@ returns-in-Ok-clause-is c =
     let active : (held s.queue).active ≡ p ∷ rest =
     next_rest (held s.queue).active (held t.queue).active rest p c.next.result _ c.in-Some.ensures.is (ap (λ (x : Content). x.state.active) m) c.next.ensures.is in
     subst (λ (x : Moved). Answered b (active_case b.procs b.state b.state.active) (Some x) e) (sym c.unseen.ensures)
-    (ran_content b (content_of t) _ e p rest m (next_content t c.next.new.self c.next.ensures.updates) c.end_activation.ensures.is active (some_from 0 p s.headers.items s.code inside))
+    (ran_content b (content_of t) _ e p rest m (next_content t c.next.new.self c.next.ensures.updates c.next.ensures.times) c.end_activation.ensures.is active (some_from 0 p s.headers.items s.code inside))

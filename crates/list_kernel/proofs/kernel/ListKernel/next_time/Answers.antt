@@ -1,5 +1,5 @@
 use Rattle.std.proofs.Common.{◌∙◌}
-use Rattle.callback_book.specs.Books.{keys_of}
+use Rattle.list_kernel.specs.Registered.{keys_of}
 use Rattle.list_kernel.proofs.Queues.{soonest_is}
 use Rattle.list_kernel.proofs.kernel.ListKernel.next_time.Goals as goal
 

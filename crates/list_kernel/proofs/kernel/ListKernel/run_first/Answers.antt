@@ -3,10 +3,9 @@ use Rattle.gpi.specs.declared.types.Moved.{Moved}
 use Rattle.gpi.specs.Design.{procs_of}
 use Rattle.gpi.specs.State.{State}
 use Rattle.gpi.specs.Events.{active_case}
-use Rattle.callback_book.specs.declared.book.Book.{Book}
-use Rattle.callback_book.specs.Books.{keys_of}
 use Rattle.kernel_base.specs.Lists.{AreBelow}
 use Rattle.kernel_base.specs.Steps.{Answered}
+use Rattle.list_kernel.specs.Registered.{keys_of, counts_of}
 use Rattle.list_kernel.specs.Kernel.{content_of}
 use Rattle.kernel_base.proofs.Activated.{ran_state}
 use Rattle.list_kernel.proofs.Procs.{some_at, head_tail}
@@ -31,4 +30,4 @@ returns-in-Ok-clause-is c =
     let state = ran_state b.procs (procs_of c.run_body.new.self.processes.items) b.state (content_of c.run_body.new.self).state a.state c.run_body.new.self.values.shown_before.items p rest
     (some_at c.args.self.now.processes.items p below.0) procs c.in-Ok.ensures.is c.run_body.ensures.before c.end_activation.ensures.is in
     subst (λ (m : Moved). Answered b (active_case b.procs b.state b.state.active) (Some m) a) (sym c.unseen.ensures)
-    (ran_case b a p rest first all_procs all_nets state (ap keys_of book) (ap (λ (k : Book). k.counts) book))
+    (ran_case b a p rest first all_procs all_nets state (ap keys_of book) (ap counts_of book))
