@@ -1,0 +1,5 @@
+pub mod OpenCallLemmas
+pub mod StatementLemmas
+pub mod BlocksLemmas
+pub mod FlowLemmas
+pub mod StatesLemmas

@@ -1,0 +1,3 @@
+pub mod Unwound
+pub mod Naming
+pub mod Ends

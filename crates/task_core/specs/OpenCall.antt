@@ -1,0 +1,4 @@
+pub mod Slots
+pub mod Course
+pub mod Parts
+pub mod Call
