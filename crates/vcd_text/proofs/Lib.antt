@@ -11,4 +11,15 @@ pub mod Written
 pub mod Wholes
 pub mod Decided
 pub mod OneList
+pub mod FormLaws
+pub mod StateLaws
+pub mod LinesOf
+pub mod Once
+pub mod TakeLaws
+pub mod ReadLaws
+pub mod Visits
+pub mod Walks
+pub mod Fed
+pub mod Keeps
+pub mod GoesOn
 mod Rows

@@ -92,7 +92,7 @@ on_ok (Err e) f h = tt
 
 -- ---- the lines of opening values
 
-time_zero : (35 ∷ 48 ∷ 10 ∷ []) ≡ time_line 0
+pub time_zero : (35 ∷ 48 ∷ 10 ∷ []) ≡ time_line 0
 time_zero = sym (ap (λ (l : List ℕ). line (codes "#" ++ l)) (decimal_digit 0 (omega arith)))
 
 pub opening_made : (flat : Flat) (numbers : List ℕ) (old a b c d new : List (List ℕ)) → numbers ≡ traced_signals flat

@@ -13,16 +13,17 @@ use Rattle.std.proofs.lemmas.Fmt.{decimal_is_IsNumeral, decimal_injective}
 use Rattle.port_io.specs.ToldLaws.{joined, joined_then}
 use Rattle.gpi.specs.declared.design.Flat.{Flat}
 use Rattle.vcd_text.specs.Spelling.{is_digit, code, code_digits, value_front, value_line, time_line}
+use Rattle.vcd_text.specs.Forms.{number_of}
 use Rattle.vcd_text.specs.Changes.{ValueChange, IsChangeOf}
 use Rattle.vcd_text.specs.Text.{begin_lines, lines_of_change, change_lines}
 use Rattle.vcd_text.specs.Readable.{One_list}
 
 -- ---- texts without a byte
 
-abbrev lacks : ℕ → List ℕ → Bool
+abbrev pub lacks : ℕ → List ℕ → Bool
 lacks k text = list_all (λ byte. not (byte == k)) text
 
-is_there : (k b : ℕ) → not (b == k) ≡ true → b ≡ k → ⊥
+pub is_there : (k b : ℕ) → not (b == k) ≡ true → b ≡ k → ⊥
 is_there k b h e = by (eqb_tells b k)
   where
     by : (((b == k) ≡ true) × (b ≡ k)) ⊎ (((b == k) ≡ false) × (b ≢ k)) → ⊥
@@ -36,19 +37,19 @@ other_byte k b other = by (eqb_tells b k)
     by (inl t) = absurd (other t.1)
     by (inr t) = ap not t.0
 
-lacks_head : (k b : ℕ) (bs : List ℕ) → lacks k (b ∷ bs) ≡ true → b ≡ k → ⊥
+pub lacks_head : (k b : ℕ) (bs : List ℕ) → lacks k (b ∷ bs) ≡ true → b ≡ k → ⊥
 lacks_head k b bs h = is_there k b (and_parts (not (b == k)) (lacks k bs) h).0
 
-lacks_tail : (k b : ℕ) (bs : List ℕ) → lacks k (b ∷ bs) ≡ true → lacks k bs ≡ true
+pub lacks_tail : (k b : ℕ) (bs : List ℕ) → lacks k (b ∷ bs) ≡ true → lacks k bs ≡ true
 lacks_tail k b bs h = (and_parts (not (b == k)) (lacks k bs) h).1
 
-lacks_more : (k b : ℕ) (bs : List ℕ) → (b ≡ k → ⊥) → lacks k bs ≡ true → lacks k (b ∷ bs) ≡ true
+pub lacks_more : (k b : ℕ) (bs : List ℕ) → (b ≡ k → ⊥) → lacks k bs ≡ true → lacks k (b ∷ bs) ≡ true
 lacks_more k b bs other h = ap (λ (x : Bool). x && lacks k bs) (other_byte k b other) ∙ h
 
-lacks_both : (k : ℕ) (xs ys : List ℕ) → lacks k xs ≡ true → lacks k ys ≡ true → lacks k (xs ++ ys) ≡ true
+pub lacks_both : (k : ℕ) (xs ys : List ℕ) → lacks k xs ≡ true → lacks k ys ≡ true → lacks k (xs ++ ys) ≡ true
 lacks_both k xs ys h g = list_all-append (λ byte. not (byte == k)) xs ys ∙ (ap (λ (x : Bool). x && lacks k ys) h ∙ g)
 
-cut_once : (k : ℕ) (a b c d : List ℕ) → lacks k a ≡ true → lacks k c ≡ true → a ++ k ∷ b ≡ c ++ k ∷ d → (a ≡ c) × (b ≡ d)
+pub cut_once : (k : ℕ) (a b c d : List ℕ) → lacks k a ≡ true → lacks k c ≡ true → a ++ k ∷ b ≡ c ++ k ∷ d → (a ≡ c) × (b ≡ d)
 cut_once k [] b [] d p q e = let t : b ≡ d = cc in (refl, t)
 cut_once k [] b (y ∷ c) d p q e = let h : k ≡ y = cc in absurd (lacks_head k y c q (sym h))
 cut_once k (x ∷ a) b [] d p q e = let h : x ≡ k = cc in absurd (lacks_head k x a p h)
@@ -57,7 +58,7 @@ cut_once k (x ∷ a) b (y ∷ c) d p q e =
     let more = cut_once k a b c d (lacks_tail k x a p) (lacks_tail k y c q) t in
     (ap (λ (n : ℕ). n ∷ a) h ∙ ap (λ (l : List ℕ). y ∷ l) more.0, more.1)
 
-digits_lack : (k : ℕ) → is_digit k ≡ false → (digits : List ℕ) → list_all is_digit digits ≡ true → lacks k digits ≡ true
+pub digits_lack : (k : ℕ) → is_digit k ≡ false → (digits : List ℕ) → list_all is_digit digits ≡ true → lacks k digits ≡ true
 digits_lack k none [] h = refl
 digits_lack k none (b ∷ digits) h =
     let parts = and_parts (is_digit b) (list_all is_digit digits) h in
@@ -66,7 +67,7 @@ digits_lack k none (b ∷ digits) h =
 no_feed_digit : (b : ℕ) → digit_value b < 10 → b ≡ 10 → ⊥
 no_feed_digit b h e = let f : digit_value 10 < 10 = subst (λ (k : ℕ). digit_value k < 10) e h in omega (arith, f)
 
-numeral_lacks : (digits : List ℕ) → AllDigits 10 digits → lacks 10 digits ≡ true
+pub numeral_lacks : (digits : List ℕ) → AllDigits 10 digits → lacks 10 digits ≡ true
 numeral_lacks [] h = refl
 numeral_lacks (b ∷ digits) h = lacks_more 10 b digits (no_feed_digit b h.0) (numeral_lacks digits h.1)
 
@@ -76,28 +77,23 @@ rest_lacks : (k : ℕ) (last : Bool) (more : List ℕ) → lacks k more ≡ true
 rest_lacks k true more h = refl
 rest_lacks k false more h = h
 
-code_lacks : (k : ℕ) → k < 33 → (digits n : ℕ) → lacks k (code_digits digits n) ≡ true
+pub code_lacks : (k : ℕ) → k < 33 → (digits n : ℕ) → lacks k (code_digits digits n) ≡ true
 code_lacks k small zero n = refl
 code_lacks k small (suc digits) n =
     lacks_more k (33 + n % 94) (if nat_lt n 94 then [] else code_digits digits (n / 94)) (λ e. absurd (omega (arith, e, small)))
     (rest_lacks k (nat_lt n 94) (code_digits digits (n / 94)) (code_lacks k small digits (n / 94)))
-
--- the number of a code
-abbrev number_of : List ℕ → ℕ
-number_of [] = 0
-number_of (b ∷ code) = (b - 33) + 94 * number_of code
 
 number_last : (n : ℕ) (more : List ℕ) (last : Bool) → nat_lt n 94 ≡ last → (last ≡ false → number_of more ≡ n / 94)
     → ((33 + n % 94) - 33) + 94 * number_of (if last then [] else more) ≡ n
 number_last n more true e h = let l : n < 94 = grind (arith, nat_tests) in omega (arith, l)
 number_last n more false e h = let v = h refl in omega (arith, v)
 
-number_is : (digits n : ℕ) → n < digits → number_of (code_digits digits n) ≡ n
+pub number_is : (digits n : ℕ) → n < digits → number_of (code_digits digits n) ≡ n
 number_is zero n h = absurd (omega (arith, h))
 number_is (suc digits) n h =
     number_last n (code_digits digits (n / 94)) (nat_lt n 94) refl (λ big. number_is digits (n / 94) (let l : 94 ≤ n = grind (arith, nat_tests) in omega (arith, l, h)))
 
-code_once : (m n : ℕ) → code m ≡ code n → m ≡ n
+pub code_once : (m n : ℕ) → code m ≡ code n → m ≡ n
 code_once m n e = sym (number_is (suc m) m (omega arith)) ∙ (ap number_of e ∙ number_is (suc n) n (omega arith))
 
 -- ---- values
@@ -105,18 +101,18 @@ code_once m n e = sym (number_is (suc m) m (omega arith)) ∙ (ap number_of e �
 abbrev front_as : Bool → List ℕ → List ℕ
 front_as one digits = if one then digits else codes "b" ++ digits ++ codes " "
 
-one_digit : (digits : List ℕ) → length digits ≡ 1 → (x : ℕ) × (digits ≡ x ∷ [])
+pub one_digit : (digits : List ℕ) → length digits ≡ 1 → (x : ℕ) × (digits ≡ x ∷ [])
 one_digit [] h = absurd (omega (arith, h))
 one_digit (x ∷ []) h = (x, refl)
 one_digit (x ∷ y ∷ digits) h = absurd (omega (arith, h))
 
-len_one : (digits : List ℕ) → (length digits == 1) ≡ true → length digits ≡ 1
+pub len_one : (digits : List ℕ) → (length digits == 1) ≡ true → length digits ≡ 1
 len_one digits h = grind (arith, nat_tests)
 
-not_b : (x : ℕ) → is_digit x ≡ true → x ≡ 98 → ⊥
+pub not_b : (x : ℕ) → is_digit x ≡ true → x ≡ 98 → ⊥
 not_b x h e = true≢false (sym h ∙ ap is_digit e)
 
-head_digit : (x : ℕ) (digits : List ℕ) → digits ≡ x ∷ [] → list_all is_digit digits ≡ true → is_digit x ≡ true
+pub head_digit : (x : ℕ) (digits : List ℕ) → digits ≡ x ∷ [] → list_all is_digit digits ≡ true → is_digit x ≡ true
 head_digit x digits e h = (and_parts (is_digit x) true (subst (λ (l : List ℕ). list_all is_digit l ≡ true) e h)).0
 
 vector_is : (digits more : List ℕ) → front_as false digits ++ more ≡ 98 ∷ (digits ++ 32 ∷ more)
@@ -158,12 +154,12 @@ front_lacks false digits h = lacks_both 10 (98 ∷ digits) (32 ∷ []) (digits_l
     digits_lack_b : (digits : List ℕ) → list_all is_digit digits ≡ true → lacks 10 (98 ∷ digits) ≡ true
     digits_lack_b digits h = lacks_more 10 98 digits (λ e. absurd (omega (arith, e))) (digits_lack 10 refl digits h)
 
-value_lacks : (signal : ℕ) (digits : List ℕ) → list_all is_digit digits ≡ true → lacks 10 (value_front digits ++ code signal) ≡ true
+pub value_lacks : (signal : ℕ) (digits : List ℕ) → list_all is_digit digits ≡ true → lacks 10 (value_front digits ++ code signal) ≡ true
 value_lacks signal digits h =
     lacks_both 10 (value_front digits) (code signal) (front_lacks (length digits == 1) digits h) (code_lacks 10 (omega arith) (suc signal) signal)
 
 -- a value and what stands behind its line
-value_once : (m n : ℕ) (c d more others : List ℕ) → list_all is_digit c ≡ true → list_all is_digit d ≡ true → value_line m c ++ more ≡ value_line n d ++ others
+pub value_once : (m n : ℕ) (c d more others : List ℕ) → list_all is_digit c ≡ true → list_all is_digit d ≡ true → value_line m c ++ more ≡ value_line n d ++ others
     → (c ≡ d) × (m ≡ n) × (more ≡ others)
 value_once m n c d more others h g e = (fronts.0, code_once m n fronts.1, lines.1)
   where
@@ -176,7 +172,7 @@ value_once m n c d more others h g e = (fronts.0, code_once m n fronts.1, lines.
 
 -- ---- times
 
-time_once : (s t : ℕ) (more others : List ℕ) → s < 2 ^ 64 → t < 2 ^ 64 → time_line s ++ more ≡ time_line t ++ others → (s ≡ t) × (more ≡ others)
+pub time_once : (s t : ℕ) (more others : List ℕ) → s < 2 ^ 64 → t < 2 ^ 64 → time_line s ++ more ≡ time_line t ++ others → (s ≡ t) × (more ≡ others)
 time_once s t more others h g e = (decimal_injective s t h g (ap (drop 1) lines.0), lines.1)
   where
     hash_lacks : (n : ℕ) → n < 2 ^ 64 → lacks 10 (35 ∷ decimal n) ≡ true
@@ -196,7 +192,7 @@ front_no_hash true digits more rest p h e =
     let same : x.0 ≡ 35 = cc in true≢false (sym (head_digit x.0 digits x.1 h) ∙ ap is_digit same)
 front_no_hash false digits more rest p h e = let same = heads_same 98 35 ((digits ++ 32 ∷ []) ++ more) rest e in absurd (omega (arith, same))
 
-value_no_hash : (signal : ℕ) (digits more rest : List ℕ) → list_all is_digit digits ≡ true → value_line signal digits ++ more ≡ 35 ∷ rest → ⊥
+pub value_no_hash : (signal : ℕ) (digits more rest : List ℕ) → list_all is_digit digits ≡ true → value_line signal digits ++ more ≡ 35 ∷ rest → ⊥
 value_no_hash signal digits more rest h e =
     front_no_hash (length digits == 1) digits (code signal ++ (10 ∷ more)) rest refl h
     (sym (append_assoc (value_front digits) (code signal) (10 ∷ more)) ∙ (sym (append_assoc (value_front digits ++ code signal) (10 ∷ []) more) ∙ e))
@@ -226,7 +222,7 @@ same_change c d t s g =
     ∙ (ap (λ (signal : ℕ). record { time = d.time; signal = signal; digits = c.digits }) s
     ∙ ap (λ (digits : List ℕ). record { time = d.time; signal = d.signal; digits = digits }) g)
 
-time_is : (t last : ℕ) → (t == last) ≡ true → t ≡ last
+pub time_is : (t last : ℕ) → (t == last) ≡ true → t ≡ last
 time_is t last h = grind (arith, nat_tests)
 
 text_once : (flat : Flat) (last : ℕ) (c d : ValueChange) (u v : Bool) (more others : List ℕ) → IsChangeOf flat c → IsChangeOf flat d → (c.time == last) ≡ u → (d.time == last) ≡ v

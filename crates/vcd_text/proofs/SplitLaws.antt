@@ -45,7 +45,7 @@ has_blank (b ∷ front) back h = has_blank front back (no_blank_tail b (front ++
 digit_is : (b : ℕ) → is_digit b ≡ true → b ≡ 32 → ⊥
 digit_is b h e = let f : false ≡ true = subst (λ (k : ℕ). is_digit k ≡ true) e h in true≢false (sym f)
 
-digits_no_blank : (digits : List ℕ) → list_all is_digit digits ≡ true → has_no_blank digits ≡ true
+pub digits_no_blank : (digits : List ℕ) → list_all is_digit digits ≡ true → has_no_blank digits ≡ true
 digits_no_blank [] h = refl
 digits_no_blank (b ∷ digits) h =
     let parts = and_parts (is_digit b) (list_all is_digit digits) h in

@@ -14,4 +14,8 @@ pub mod Told
 pub mod Sink
 pub mod WholeTexts
 pub mod Reading
+pub mod Forms
+pub mod Found
+pub mod Rules
+pub mod Reader
 pub mod Readable

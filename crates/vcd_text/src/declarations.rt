@@ -31,7 +31,7 @@ fn kind_word(start: Digit) -> &'static [u8]
 }
 
 /// What stands behind the name of a signal of that width: the places of a vector's digits, and nothing for one digit.
-fn range_text(alloc: Global, width: u8) -> Result<Vec<u8>, NoMemory>
+pub(crate) fn range_text(alloc: Global, width: u8) -> Result<Vec<u8>, NoMemory>
     ensures { IfOk result (λ text. text.items ≡ meaning.range_text width) }
 {
     let mut text = Vec::new(alloc);

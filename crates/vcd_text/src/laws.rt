@@ -1,6 +1,6 @@
 //! Laws of the lines that are written.
 ghost use Rattle.vcd_text.specs.TracedLines.{Same_changes, Some_changes, Traced_lines_become_changes};
-ghost use Rattle.vcd_text.specs.Readable.{One_list};
+ghost use Rattle.vcd_text.specs.Readable.{Fronts_go_on, No_text_goes_on, One_list, Reads_back, Reads_once, Reads_or_refuses, Refuses_once};
 ghost use Rattle.vcd_text.specs.WholeTexts.{WritesFront, WritesWhole};
 
 use port_io::Sink;
@@ -27,4 +27,28 @@ pub fn changes_are_told()
 /// The bytes of a text of a design are those of one list of changes: two lists have two texts.
 pub fn texts_tell_changes()
     ensures { One_list }
+{}
+
+/// The text of a design and changes of it keeps the rules of a reader, and tells exactly these changes, in order: so `read` gives them, or wants
+/// memory.
+pub fn texts_read_back()
+    ensures { Reads_back }
+{}
+
+/// What `read` answers is all that a text comes to: it tells one list of changes, or it is refused at one line, and not both.
+pub fn texts_are_read_once()
+    ensures changes { Reads_once }
+    ensures refused { Refuses_once }
+    ensures apart { Reads_or_refuses }
+{}
+
+/// Where a line is refused the text of no design and changes goes on with it behind the lines before it; where the end is refused the text is that
+/// of none.
+pub fn refused_texts_are_none()
+    ensures { No_text_goes_on }
+{}
+
+/// Lines that keep the rules can go on to a whole text that does: so no line is taken behind which no text ends.
+pub fn fronts_go_on()
+    ensures { Fronts_go_on }
 {}

@@ -182,7 +182,7 @@ fn add_inner(
 }
 
 /// A digit as it is written.
-fn digit_byte(digit: Digit) -> u8
+pub(crate) fn digit_byte(digit: Digit) -> u8
     ensures { result ≡ digit_byte digit }
 {
     match digit {

@@ -25,7 +25,7 @@ pub(crate) struct Parts<'a> {
 }
 
 /// What stands before the first blank and behind it.
-fn split_first(text: &[u8]) -> Option<(&[u8], &[u8])>
+pub(crate) fn split_first(text: &[u8]) -> Option<(&[u8], &[u8])>
     ensures { MatchOption result (IsTrue (has_no_blank text.now)) (λ x. SplitsFirst text.now x.0.now x.1.now) }
 {
     for at in 0..text.len() {
@@ -52,7 +52,7 @@ fn split_last(text: &[u8]) -> Option<(&[u8], &[u8])>
 }
 
 /// What stands before the line feed that ends a line.
-fn without_feed(line: &[u8]) -> Option<&[u8]>
+pub(crate) fn without_feed(line: &[u8]) -> Option<&[u8]>
     ensures { MatchOption result ((text : List ℕ) → line.now ≡ text ++ 10 ∷ [] → ⊥) (λ text. line.now ≡ text.now ++ 10 ∷ []) }
 {
     let (last, text) = line.split_last()?;
@@ -70,14 +70,14 @@ fn behind_word(text: &[u8]) -> Option<&[u8]>
 }
 
 /// Whether a byte is `0`, `1`, `x` or `z`.
-fn is_digit(byte: u8) -> bool
+pub(crate) fn is_digit(byte: u8) -> bool
     ensures { result ≡ is_digit byte }
 {
     byte == b'0' || byte == b'1' || byte == b'x' || byte == b'z'
 }
 
 /// Whether all bytes are digits.
-fn are_digits(text: &[u8]) -> bool
+pub(crate) fn are_digits(text: &[u8]) -> bool
     ensures { result ≡ list_all is_digit text.now }
 {
     text.iter().all(|byte| is_digit(*byte))
@@ -137,7 +137,7 @@ fn same_time(alloc: Global, text: &[u8], time: u64) -> Result<Option<u64>, NoMem
 }
 
 /// The time that a text says as it is written. Only want of memory is an error.
-fn time_of(alloc: Global, text: &[u8]) -> Result<Option<u64>, NoMemory>
+pub(crate) fn time_of(alloc: Global, text: &[u8]) -> Result<Option<u64>, NoMemory>
     ensures { IfOk result (λ found. MatchOption found
         ((time : ℕ) → time < 2 ^ 64 → text.now ≡ decimal time → ⊥) (λ time. text.now ≡ decimal time)) }
 {
