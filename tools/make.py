@@ -57,6 +57,7 @@ TABLES = [
     Step("models/random_rows.py", into="crates/run_view/specs/RandomStream/Rows.antt"),
     Step("models/run_model.py", ["@crates/cocorun/args"], into="crates/cocorun/stdout", at="crates/cocorun/data"),
     Step("models/run_model.py", ["@crates/cocorun_failed/args"], into="crates/cocorun_failed/stdout", at="crates/cocorun_failed/data"),
+    Step("rows/vcd_rows.py", ["--write"], files=["crates/vcd_tests/stdin", "crates/vcd_tests/stdout"]),
     Step("crate_table.py", files=["docs/ARCHITECTURE.md"]),
     Step("definitions.py", files=["docs/DEFINITIONS.md"]),
     Step("left_out.py", files=["docs/PYTHON.md", "docs/VERILOG.md"]),

@@ -177,7 +177,7 @@ class Reader:
 
     def take_time(self, line):
         found = re.fullmatch(r"#(0|[1-9]\d*)", line)
-        if not found or self.timed or not self.last < int(found[1]) < 2**64:
+        if not found or self.timed or not self.signals or not self.last < int(found[1]) < 2**64:
             return False
         self.last, self.timed = int(found[1]), True
         return True

@@ -176,6 +176,8 @@ def bad(rule, number, line):
     return Read(rule, with_line(number, line), number)
 
 
+NO_SIGNAL = "$timescale 1 ns $end\n$scope module top $end\n$upscope $end\n$enddefinitions $end\n#0\n$dumpvars\n$end\n"
+
 READ = [
     Read("one change", START + 'b00000101 "\n', [(0, "top.a", "00000101")]),
     Read("no change", START, []),
@@ -246,6 +248,8 @@ READ = [
     Read("a blank at the end of a line", START + "0! \n", 14),
     Read("an empty line", START + "\n", 14),
     Read("a carriage return", START + "0!\r\n", 14),
+    Read("a time of a design without signals, which no value can have", NO_SIGNAL + "#3\n0!\n", 8),
+    Read("a design without signals", NO_SIGNAL, []),
     # texts that end too early
     Read("an empty text", "", 1),
     Read("a text that ends within its first line", "$time", 1),

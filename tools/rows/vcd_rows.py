@@ -2,8 +2,10 @@
 """Compares the rows on VCD texts, `tools/rows/rows_of_vcd.py`, with the model of such texts, and with a built program.
 
     tools/rows/vcd_rows.py [PROGRAM]    PROGRAM is a built `cocorun`
+    tools/rows/vcd_rows.py --write      writes the rows of the reader, crates/vcd_tests/stdin, and their answers, stdout
 
-The status is 1 where a row differs.
+Each text that is read is a row of `vcd_tests`, and so is each text that is written, with the changes that the model reads of it. The status is 1 where a row
+differs.
 """
 import re
 import subprocess
@@ -17,7 +19,8 @@ sys.path.insert(0, str(ROOT / "tools"))
 from models.run_model import model
 from models.vcd_text import BadLine, read, vcd
 from models.verilog_model import flat_of
-from rows.rows_of_vcd import READ, TEXTS, tests_of
+from rows.row_texts import escaped
+from rows.rows_of_vcd import READ, TEXTS, Read, tests_of
 
 STATUSES = ["Passed", "Failed", "Usage", "DesignRefused", "TestsRefused", "ReadFault", "WriteFault", "NoMemory", "Budget"]
 
@@ -40,7 +43,23 @@ def put(program, row, folder):
     return STATUSES[done.returncode], done.stdout
 
 
+def shown(answer):
+    """An answer as `vcd_tests` prints it."""
+    if isinstance(answer, int):
+        return f" BadLine {answer}"
+    return "".join(f" {time} {path} {digits}" for time, path, digits in answer)
+
+
+def write():
+    rows = [*READ, *[Read(f"{row.rule}, written", row.lines, answer_of(row.lines)) for row in TEXTS]]
+    folder = ROOT / "crates" / "vcd_tests"
+    (folder / "stdin").write_text("".join(f"{row.rule}\t{escaped(row.text)}\n" for row in rows), encoding="ascii")
+    (folder / "stdout").write_text("".join(f"{row.rule}:{shown(row.answer)}\n" for row in rows), encoding="ascii")
+
+
 def main():
+    if sys.argv[1:] == ["--write"]:
+        return write()
     faults = [row.rule for row in READ if answer_of(row.text) != row.answer]
     faults += [row.rule for row in TEXTS if written(row) != (row.status, row.lines)]
     if len(sys.argv) > 1:
