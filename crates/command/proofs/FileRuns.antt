@@ -15,9 +15,13 @@ use Rattle.test_meaning.specs.Body.BodyTrees as trees
 use Rattle.test_meaning.specs.Body.BodyTrees.{Case}
 use Rattle.test_meaning.specs.Body.Sound.{is_sound, is_sound_case, is_sound_function, most_cases}
 use Rattle.test_meaning.specs.Body.Views.{view_case, view_file, view_function}
-use Rattle.test_meaning.specs.declared.body.file.Function.{Function}
 use Rattle.test_meaning.specs.declared.body.file.TestFile.{TestFile}
 use Rattle.rig_model.specs.Task.Known.{AreSoundFunctions}
+use Rattle.task_compile.specs.Reading.{functions_in}
+use Rattle.task_compile.specs.declared.program.Program.{Program}
+use Rattle.task_core.specs.Code.Functions.{function_of}
+use Rattle.task_core.specs.States.{read_at}
+use Rattle.state_task.specs.declared.functions.StateFunctions.{StateFunctions}
 use Rattle.rig_model.specs.Run.Case.{emptied}
 use Rattle.rig_model.specs.Run.Rig.{Rig, Setup}
 use Rattle.rig_model.specs.Run.Run.{IsStart, opening, opening_sim, steps, written}
@@ -60,18 +64,24 @@ module _ (file : TestFile) (sound : is_sound (view_file file) ≡ true) where
 
 -- ---- the opening of a run
 
--- what tests share, with functions that a maker borrows
-abbrev lent_setup : Bool → Flat → List Function → Setup
-lent_setup trace flat lent = record { functions = map view_function lent; flat = flat; trace = trace }
+-- what tests share, with the functions of a maker
+abbrev made_setup : Bool → Flat → List trees.Function → Setup
+made_setup trace flat made = record { functions = made; flat = flat; trace = trace }
 
--- a maker that borrows the functions of a file
-pub maker_sound : (file : TestFile) (lent : List Function) → lent ≡ file.functions → is_sound (view_file file) ≡ true → AreSoundFunctions (map view_function lent)
-maker_sound file lent are sound = subst (λ (fs : List Function). AreSoundFunctions (map view_function fs)) (sym are) (sound_functions file sound)
+-- a maker of the functions of a file
+pub maker_sound : (file : TestFile) (made : List trees.Function) → made ≡ map view_function file.functions → is_sound (view_file file) ≡ true → AreSoundFunctions made
+maker_sound file made are sound = subst (λ (fs : List trees.Function). AreSoundFunctions fs) (sym are) (sound_functions file sound)
 
-module _ (options : RunOptions) (flat : Flat) (file : TestFile) (lent : List Function) (setup : Setup)
-    (lent_are : lent ≡ file.functions) (setup_is : setup ≡ lent_setup options.trace flat lent) where
+-- what a maker over the states of the file's program makes tasks of
+pub program_functions : (file : TestFile) (program : Program) (all lent : StateFunctions) → lent ≡ all
+    → map (function_of read_at) all.functions.items ≡ functions_in program → functions_in program ≡ map view_function file.functions
+    → map (function_of read_at) lent.functions.items ≡ map view_function file.functions
+program_functions file program all lent same are is = ap (λ (fs : StateFunctions). map (function_of read_at) fs.functions.items) same ∙ are ∙ is
+
+module _ (options : RunOptions) (flat : Flat) (file : TestFile) (made : List trees.Function) (setup : Setup)
+    (made_are : made ≡ map view_function file.functions) (setup_is : setup ≡ made_setup options.trace flat made) where
   pub setup_same : setup ≡ setup_with options.trace flat (view_file file)
-  setup_same = setup_is ∙ ap (lent_setup options.trace flat) lent_are
+  setup_same = setup_is ∙ ap (made_setup options.trace flat) made_are
 
   -- an engine stands in the opening configuration of its design
   pub opens : (c : Content) (rig : Rig) → c ≡ content.opening flat → rig ≡ emptied c.state (seeded options.seed) c.counts

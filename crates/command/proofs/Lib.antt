@@ -11,4 +11,5 @@ pub mod Words
 pub mod AnswerLaws
 pub mod AlikeRuns
 pub mod OneReading
+pub mod VcdReads
 pub mod FirstSteps

@@ -10,6 +10,7 @@
 
 pub mod command_words;
 mod decision;
+mod file_runner;
 mod files;
 pub mod last_line;
 mod laws;
@@ -18,11 +19,14 @@ pub mod made_texts;
 mod options;
 mod process;
 pub mod regression;
+mod state_runner;
 mod top;
 
 pub use decision::Decision;
+pub use file_runner::{FileRunner, run_with};
 pub use files::decide;
-pub use laws::{alike_designs_run_alike, one_answer};
+pub use laws::{alike_designs_run_alike, one_answer, vcd_answers_read_back};
 pub use options::{RunOptions, Shown};
 pub use process::run_process;
+pub use state_runner::StateRunner;
 pub use top::cocorun;

@@ -8,7 +8,9 @@ ghost use Rattle.command.specs.Answer.{LeavesKernel};
 ghost use Rattle.command.specs.Process.{AnswersGiven, EndsProcess, GivesWords, HasWords, IsFault, WordsOf};
 
 use crate::command_words::WordsFault;
+use crate::file_runner::FileRunner;
 use crate::regression::Status;
+use crate::state_runner::StateRunner;
 use crate::top::{cocorun, refuse_words};
 use await_tree::wait_list::Steps;
 use gpi::Gpi;
@@ -61,8 +63,9 @@ fn words_of(alloc: Global, given: io::Result<Args>) -> Result<Vec<String>, Words
 /// Runs the command with the words of the process, by what the system's library gave of them. What is put and the status are those of `cocorun`
 /// with the words behind the program's name; where a word is no UTF-8 it is the usage line and `Usage`, and nothing is read; where there
 /// was no memory for them it is `NoMemory`. The blank is for the counter of steps of work.
-fn run_words<S: Store, O: Sink, K: Gpi, L: Ledger>(
+fn run_words<S: Store, O: Sink, K: Gpi, L: Ledger, R: FileRunner>(
     alloc: Global,
+    runner: &R,
     given: io::Result<Args>,
     store: &mut S,
     out: &mut O,
@@ -78,7 +81,7 @@ fn run_words<S: Store, O: Sink, K: Gpi, L: Ledger>(
 {
     let mut steps = Steps::<L>::new(blank);
     match words_of(alloc, given) {
-        Ok(words) => cocorun(alloc, &words, store, out, kernel, &mut steps),
+        Ok(words) => cocorun(alloc, runner, &words, store, out, kernel, &mut steps),
         Err(WordsFault::Usage) => refuse_words(alloc, out),
         Err(WordsFault::OutOfMemory) => Status::NoMemory,
     }
@@ -97,8 +100,9 @@ pub fn run_process<'a, R: Env + Files + Print + AllocGlobal, K: Gpi>(
 {
     let mut store = DirStore::new(rt);
     let mut out = WriteSink::new(io::writer(rt));
-    let status = run_words::<_, _, K, Brand>(
+    let status = run_words::<_, _, K, Brand, _>(
         rt.alloc(),
+        &StateRunner,
         env::args(rt),
         &mut store,
         &mut out,

@@ -6,25 +6,23 @@ ghost use Rattle.gpi.specs.Soundness.{IsSoundFlat};
 ghost use Rattle.test_meaning.specs.Body.Sound.{is_sound};
 ghost use Rattle.test_meaning.specs.Body.Views.{view_file};
 ghost use Rattle.command.specs.Regression.Runs.{EndsTo, status_in};
-ghost use Rattle.command.specs.Answer.{Answered, Answers, LeavesKernel, Quit, RaisedAt, RefusesWords, RunsFile, RunsLast, RunsShown, RunsText, setup_with};
+ghost use Rattle.command.specs.Answer.{Answered, Answers, LeavesKernel, Quit, RaisedAt, RefusesWords, RunsLast, RunsShown, RunsText, setup_with};
 ghost use Rattle.command.specs.Reading.{CanRun, reading_of};
 
 use crate::command_words::{WordsFault, read_words};
 use crate::decision::Decision;
+use crate::file_runner::FileRunner;
 use crate::files::decide_work;
 use crate::last_line::LastLine;
 use crate::lines::usage_text;
 use crate::options::{RunOptions, Shown, options_of};
-use crate::regression::{Status, run_all};
+use crate::regression::Status;
 use await_tree::wait_list::Steps;
 use gpi::{Flat, Gpi};
-use plain_task::flow::TreeMaker;
 use port_io::{NoMemory, Sink, SinkFault, Store};
-use scheduler::Engine;
 use std::alloc::Global;
 use std::sync::ledger::Ledger;
 use test_meaning::body::TestFile;
-use trigger_table::TriggerTable;
 use vcd_text::{TracedSignals, VcdSink};
 
 /// Puts the one line of an answer, which has this status where it is taken.
@@ -45,33 +43,10 @@ pub(crate) fn refuse_words<O: Sink>(alloc: Global, out: &mut O) -> Status
     }
 }
 
-/// Runs the tests of the file on a design, which the simulator holds in its opening state, and puts all lines of the run. Only want of memory is an
-/// error.
-fn run_file<O: Sink, K: Gpi, L: Ledger>(
-    alloc: Global,
-    flat: &Flat,
-    file: &TestFile,
-    options: RunOptions,
-    kernel: &mut K,
-    out: &mut O,
-    steps: &mut Steps<L>,
-) -> Result<Status, NoMemory>
-    requires flat { IsSoundFlat flat.now }
-    requires file { is_sound (view_file file.now) ≡ true }
-    requires loaded { K.is_loaded kernel.old }
-    requires opening { K.content kernel.old ≡ content.opening flat.now }
-    ensures runs { RunsFile (sink_means O.Sink) options flat.now (view_file file.now) (status_in result) (K.content kernel.new) out.old out.new }
-    ensures loaded { OnOk result (K.is_loaded kernel.new) }
-{
-    let maker = TreeMaker::new(file);
-    let awaits = TriggerTable::new(alloc);
-    let mut engine = Engine::new(alloc, maker, awaits, flat, options.seed, options.trace)?;
-    Ok(run_all(alloc, file, &mut engine, kernel, out, options.budget, steps))
-}
-
 /// Runs the tests of the file on a design, which the simulator holds so, and puts the last line of the run alone. Only want of memory is an error, and then nothing was put.
-fn run_last<O: Sink, K: Gpi, L: Ledger>(
+fn run_last<O: Sink, K: Gpi, L: Ledger, R: FileRunner>(
     alloc: Global,
+    runner: &R,
     flat: &Flat,
     file: &TestFile,
     options: RunOptions,
@@ -87,15 +62,16 @@ fn run_last<O: Sink, K: Gpi, L: Ledger>(
     ensures loaded { OnOk result (K.is_loaded kernel.new) }
 {
     let mut last = LastLine::new(alloc);
-    match run_file(alloc, flat, file, options, kernel, &mut last, steps)? {
+    match runner.run_file(alloc, flat, file, options, kernel, &mut last, steps)? {
         Status::NoMemory => Err(NoMemory),
         own => Ok(put_line(alloc, own, last.bytes(), out)),
     }
 }
 
 /// Runs the tests of the file on a design, which the simulator holds so, and puts the VCD text of the run. Only want of memory is an error.
-fn run_text<O: Sink, K: Gpi, L: Ledger>(
+fn run_text<O: Sink, K: Gpi, L: Ledger, R: FileRunner>(
     alloc: Global,
+    runner: &R,
     flat: &Flat,
     file: &TestFile,
     options: RunOptions,
@@ -114,15 +90,16 @@ fn run_text<O: Sink, K: Gpi, L: Ledger>(
     let signals = TracedSignals::new(alloc, flat)?;
     let mut text = VcdSink::new(&signals, out);
     match text.begin(alloc) {
-        Ok(()) => run_file(alloc, flat, file, options, kernel, &mut text, steps),
+        Ok(()) => runner.run_file(alloc, flat, file, options, kernel, &mut text, steps),
         Err(SinkFault::Failed) => Ok(Status::WriteFault),
         Err(SinkFault::OutOfMemory) => Err(NoMemory),
     }
 }
 
 /// Runs the tests of the file on a design, and puts of the run what the options ask for. Only want of memory is an error.
-fn run_shown<O: Sink, K: Gpi, L: Ledger>(
+fn run_shown<O: Sink, K: Gpi, L: Ledger, R: FileRunner>(
     alloc: Global,
+    runner: &R,
     flat: &Flat,
     file: &TestFile,
     options: RunOptions,
@@ -138,15 +115,16 @@ fn run_shown<O: Sink, K: Gpi, L: Ledger>(
 {
     kernel.load(alloc, flat)?;
     match options.shown {
-        Shown::AllLines => run_file(alloc, flat, file, options, kernel, out, steps),
-        Shown::LastLine => run_last(alloc, flat, file, options, kernel, out, steps),
-        Shown::VcdText => run_text(alloc, flat, file, options, kernel, out, steps),
+        Shown::AllLines => runner.run_file(alloc, flat, file, options, kernel, out, steps),
+        Shown::LastLine => run_last(alloc, runner, flat, file, options, kernel, out, steps),
+        Shown::VcdText => run_text(alloc, runner, flat, file, options, kernel, out, steps),
     }
 }
 
 /// Does what was decided.
-fn answer<O: Sink, K: Gpi, L: Ledger>(
+fn answer<O: Sink, K: Gpi, L: Ledger, R: FileRunner>(
     alloc: Global,
+    runner: &R,
     decision: &Decision,
     options: RunOptions,
     kernel: &mut K,
@@ -160,7 +138,7 @@ fn answer<O: Sink, K: Gpi, L: Ledger>(
     match decision {
         Decision::Refused(own, line) => put_line(alloc, *own, line.as_slice(), out),
         Decision::Runs(flat, file) => {
-            match run_shown(alloc, flat, file, options, kernel, out, steps) {
+            match run_shown(alloc, runner, flat, file, options, kernel, out, steps) {
                 Ok(status) => status,
                 Err(NoMemory) => Status::NoMemory,
             }
@@ -186,22 +164,24 @@ fn answer<O: Sink, K: Gpi, L: Ledger>(
 /// - else the lines of the run of all tests, in which random numbers are drawn by the seed of `--seed`, or of seed 0, and in which each
 ///   told change of a signal has a line where `--trace` asks for it; with `--made`, and without `--trace`, the last of these lines alone; with
 ///   `--vcd` the VCD text of what these lines tell (IEEE 1364-2005, clause 18), and no other line. The status is `Passed`, or `Failed` where a
-///   test failed. Where the next step doesn't fit what is left of the budget it is `Budget`, and the last line is `BUDGET <budget>`: the budget of
-///   `--budget`, or 10,000,000.
+///   test failed. Where the next step doesn't fit what is left of the budget it is `Budget`, and the run's last line, which a VCD text doesn't have,
+///   is `BUDGET <budget>`: the budget of `--budget`, or 10,000,000.
 ///
 /// Where the store tells its files, the texts are the first bytes of the files that it told when it was handed in.
 ///
 /// `WriteFault` comes where a put failed, and nothing is put after it. `NoMemory` comes where memory was short, and then a front of
-/// that answer was put, which may be nothing; of a VCD text nothing is said then. The count of faults of the store rose where the status is
-/// `ReadFault`, and that of the sink where it is `WriteFault`.
+/// that answer was put, which may be nothing; of a VCD text the lines before its changes were put as far as memory went, or all of them were taken,
+/// and of those behind them nothing is said. The count of faults of the store rose where the status is `ReadFault`, and that of the sink where it is
+/// `WriteFault`.
 ///
 /// The run is simulated by `kernel`, whatever it held before: the design is loaded into it once both texts are accepted. After
 /// `Passed`, `Failed` and `Budget` it stands for the run's last configuration: it holds that configuration's state, its awaited keys are
 /// the registered ones, and its counts are those of the run. After `Usage`, `DesignRefused`,
 /// `TestsRefused` and `ReadFault` it is as it was handed in. After `WriteFault` it holds a design, or it is as it was handed in. After
-/// `NoMemory` nothing is said of it. `steps` counts the steps of work of the keeper of waiting tasks, if that keeper counts them.
-pub fn cocorun<S: Store, O: Sink, K: Gpi, L: Ledger>(
+/// `NoMemory` nothing is said of it. Tasks and those that wait are kept by `runner`, of which nothing else rests; `steps` counts the steps of work of the keeper of waiting tasks, if that keeper counts them.
+pub fn cocorun<S: Store, O: Sink, K: Gpi, L: Ledger, R: FileRunner>(
     alloc: Global,
+    runner: &R,
     words: &[String],
     store: &mut S,
     out: &mut O,
@@ -221,7 +201,15 @@ pub fn cocorun<S: Store, O: Sink, K: Gpi, L: Ledger>(
         Err(WordsFault::OutOfMemory) => return Status::NoMemory,
     };
     match decide_work(alloc, reading.work, store) {
-        Ok(decision) => answer(alloc, &decision, options_of(reading), kernel, out, steps),
+        Ok(decision) => answer(
+            alloc,
+            runner,
+            &decision,
+            options_of(reading),
+            kernel,
+            out,
+            steps,
+        ),
         Err(NoMemory) => Status::NoMemory,
     }
 }

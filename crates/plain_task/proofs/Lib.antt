@@ -1,3 +1,1 @@
-pub mod StatementLemmas
-pub mod BlocksLemmas
-pub mod FlowLemmas
+pub mod TreeLemmas

@@ -1,8 +1,15 @@
-//! Tasks over trees: the plain maker of tasks, which keeps the statements of each open call as they stand in the file.
+//! Tasks over trees: the plain maker of tasks, which keeps places in the trees of the file.
 //!
-//! [`flow::TreeFlow`] is the maker, by the trait `Flow` of `rig_model`; [`statement`] and [`blocks`] do a statement and begin or end a block.
+//! [`TreeMaker`] makes tasks of the [`TreeFunctions`] of a file; what a step of one does is in `task_core`, and [`Tree`] is the place of which it
+//! does the first statement.
 #![tactic(auto)]
 
-pub mod blocks;
-pub mod flow;
-pub mod statement;
+mod flow;
+mod functions;
+mod maker;
+mod tree;
+
+pub use flow::TreeFlow;
+pub use functions::TreeFunctions;
+pub use maker::TreeMaker;
+pub use tree::Tree;

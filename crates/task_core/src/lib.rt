@@ -12,4 +12,4 @@ pub mod open_call;
 pub mod statement;
 pub mod states;
 
-pub use states::{Numbered, StateFlow, StateMaker, numbered_functions};
+pub use states::{Numbered, numbered_functions};

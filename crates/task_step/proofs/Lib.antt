@@ -1,4 +1,3 @@
 pub mod LoopSpanLemmas
 pub mod StatementValuesLemmas
-pub mod OpenCallLemmas
 pub mod TaskValuesLemmas

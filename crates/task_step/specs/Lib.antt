@@ -1,4 +1,3 @@
 pub mod LoopSpan
 pub mod StatementValues
-pub mod OpenCall
 pub mod TaskValues

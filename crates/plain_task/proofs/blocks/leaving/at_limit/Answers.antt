@@ -1,4 +1,0 @@
-use Rattle.plain_task.proofs.blocks.leaving.at_limit.Goals as goal
-
-pub returns-in-Throw : goal.returns-in-Throw
-returns-in-Throw c = rw c.in-Throw.is c.fault_at_limit.ensures

@@ -1,3 +1,0 @@
-pub mod Unwound
-pub mod Naming
-pub mod Ends

@@ -1,5 +1,0 @@
-use Rattle.task_step.proofs.OpenCallLemmas.Naming.{Passed}
-use Rattle.task_step.proofs.open_call.slots.Slots.place.Given as goal
-
-abbrev pub invariant-loop-at : goal.invariant-loop-at
-invariant-loop-at l = Passed l.self.slots.items l.at l.name

@@ -1,4 +1,0 @@
-pub mod Slots
-pub mod Course
-pub mod Parts
-pub mod Call
