@@ -213,15 +213,15 @@ def main():
     words.add_argument("--read", action="store_true")
     words.add_argument("files", nargs="+")
     given = words.parse_args()
-    texts = [Path(name).read_text(encoding="latin-1") for name in given.files]
     if given.read:
         try:
-            for change in read(texts[0]):
+            for change in read(Path(given.files[0]).read_bytes().decode("latin-1")):
                 print(*change)
         except BadLine as bad:
             print(bad)
             return 1
         return 0
+    texts = [Path(name).read_text(encoding="latin-1") for name in given.files]
     run = model(*texts, given.budget, given.seed, True, given.top)
     sys.stdout.write(vcd(flat_of(texts[0], given.top), run.lines))
     return 0

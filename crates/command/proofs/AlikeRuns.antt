@@ -30,11 +30,11 @@ use Rattle.rig_model.specs.Task.Step.{next}
 use Rattle.rig_model.specs.declared.task.task.Turned.{Turned}
 use Rattle.rig_model.specs.declared.task.task.Turned.TheVariants as turned
 use Rattle.await_tree.specs.declared.wait_list.ready.Entry.{Entry}
-use Rattle.rig_model.specs.Run.Case.{emptied, test_begun, values_of, with_test}
+use Rattle.rig_model.specs.Run.Case.{emptied, values_of, with_test}
 use Rattle.rig_model.specs.Run.Counts.{counted}
-use Rattle.rig_model.specs.Run.Effect.{effect, effect_of, gives_value, puts, write_by}
+use Rattle.rig_model.specs.Run.Effect.{effect, effect_of, gives_value, write_by}
 use Rattle.rig_model.specs.Run.Rig.{After, Rig, Running, Setup, awaited, event_of, followed_by, told_line, told_lines, view_of}
-use Rattle.rig_model.specs.Run.Run.{Begins, IsRun, Over, Place, Run, Runs, Waits, begun, cost_at, cost_in, goes, is_over, judged, opening, placed, planned, skipped, step, step_at, step_in, steps, test_ended, unskipped, with_skips, within, written}
+use Rattle.rig_model.specs.Run.Run.{Begins, IsRun, Over, Place, Run, Runs, Waits, begun, cost_at, cost_in, goes, is_over, judged, opening, placed, planned, skipped, step, step_at, step_in, steps, unskipped, with_skips, within, written}
 use Rattle.rig_model.specs.Run.Line.{budget_line}
 use Rattle.rig_model.specs.Run.Serve.{after_put, deposit, ended_if, flushed, flushed_if, is_due, serve, serve_keys, served, with_fired, written as event_of_write}
 use Rattle.rig_model.specs.Run.Step.{Stepped, after_event, chosen, costing, event_step, kept, resumed, rig_step, stepped, taken, task_at}

@@ -1,14 +1,12 @@
 -- Words and files that are told have one answer.
-use Rattle.std.proofs.Common.{◌≡◌, ◌⊎◌, inl, inr, ℕ, List, [], ◌∷◌, Option, None, Some, IsSomeAnd, refl, ap, sym, subst, ◌∙◌, take}
+use Rattle.std.proofs.Common.{◌≡◌, inl, inr, ℕ, List, [], ◌∷◌, Option, None, Some, IsSomeAnd, refl, ap, sym, subst, ◌∙◌, take}
 use Rattle.port_io.specs.Ports.{GivesFile}
 use Rattle.gpi.specs.declared.design.Flat.{Flat}
-use Rattle.vcd_text.specs.Changes.{ValueChange}
 use Rattle.vcd_text.specs.Text.{vcd}
 use Rattle.vcd_text.specs.TracedLines.{TellAll}
 use Rattle.vcd_text.proofs.Decided.{same_changes}
 use Rattle.test_meaning.specs.Body.BodyTrees.{TestFile}
-use Rattle.rig_model.specs.Run.Rig.{Setup}
-use Rattle.rig_model.specs.Run.Run.{IsRun, Run, written}
+use Rattle.rig_model.specs.Run.Run.{Run, written}
 use Rattle.rig_model.proofs.RunLemmas.Whole.{run_unique}
 use Rattle.command.specs.CommandWords.Forms as words
 use Rattle.command.specs.CommandWords.Forms.{Asked, Form}
@@ -18,7 +16,6 @@ use Rattle.v_design.specs.Designs as design_text
 use Rattle.v_design.specs.Words as design_words
 use Rattle.v_design.specs.declared.fault.DesignRefusal.{DesignRefusal}
 use Rattle.v_design.proofs.AnswerLaws as designs
-use Rattle.test_file.specs.Text.Tests as tests_text
 use Rattle.test_file.specs.Text.Words as tests_words
 use Rattle.test_file.specs.declared.text.fault.TestsRefusal.{TestsRefusal}
 use Rattle.test_file.proofs.TextLemmas.AnswerLaws as tests

@@ -1,8 +1,9 @@
 -- A run whose lines went into a sink that writes its VCD text.
-use Rattle.std.proofs.Common.{◌≡◌, ◌⊎◌, ℕ, ◌≤◌, ◌<◌, Bool, false, List, [], ◌∷◌, ◌++◌, Option, None, Some, Result, Ok, Err, IsErr, refl, ap, sym, subst, ◌∙◌, append_assoc, append-nil, inl, inr}
+use Rattle.std.proofs.Common.{◌≡◌, ℕ, false, List, [], ◌∷◌, ◌++◌, Option, None, Some, Result, Ok, Err, IsErr, refl, ap, sym, subst, ◌∙◌, append_assoc, append-nil, inl, inr}
 use Rattle.std.specs.Prelude.{slice_get}
 use Rattle.std.specs.Result.{result_err}
 use Rattle.port_io.specs.Means.{PutsTo, SinkMeans}
+use Rattle.port_io.proofs.PartLaws.{part_none}
 use Rattle.gpi.specs.Content.{Content}
 use Rattle.gpi.specs.declared.design.Flat.{Flat}
 use Rattle.gpi.specs.declared.design.Node.{Node}
@@ -11,14 +12,14 @@ use Rattle.vcd_text.specs.Changes.{IsChangeOf, ValueChange}
 use Rattle.vcd_text.specs.Hierarchy.{is_word}
 use Rattle.vcd_text.specs.Sink.{BreaksLine, IsSameSink, TakesLine}
 use Rattle.vcd_text.specs.Text.{begin_lines, change_lines, lines_of_change, vcd}
-use Rattle.vcd_text.specs.TracedLines.{HasPath, TellAll, TellsChange, TellsNone}
+use Rattle.vcd_text.specs.TracedLines.{HasPath, TellAll, TellsChange}
 use Rattle.vcd_text.specs.WholeTexts.{HasBegun}
 use Rattle.vcd_text.specs.declared.sink.VcdSink.{VcdSink}
-use Rattle.vcd_text.proofs.Decided.{same_changes, some_changes}
+use Rattle.vcd_text.proofs.Decided.{same_changes}
 use Rattle.vcd_text.proofs.Wholes.{writes_front, writes_whole}
 use Rattle.test_meaning.specs.Body.BodyTrees.{Case, TestFile}
 use Rattle.rig_model.specs.Run.Rig.{Rig, Setup}
-use Rattle.rig_model.specs.Run.Run.{IsStart, opening, steps, written}
+use Rattle.rig_model.specs.Run.Run.{written}
 use Rattle.command.specs.Answer.{BrokenText, RunsFile, RunsShown, RunsText, WholeText, setup_with}
 use Rattle.command.proofs.FileRuns.{file_none, start_none}
 use Rattle.command.proofs.LastRuns.{last_none}
@@ -108,7 +109,7 @@ module _ {O : Type 0} (sink : SinkMeans O) (setup : Setup) (seed : ℕ) (cases :
   runs_text status.Failed e w = whole_text status.Failed e w
   runs_text status.Budget e w = whole_text status.Budget e w
   runs_text status.WriteFault e b = broken_text b
-  runs_text status.NoMemory e u = tt
+  runs_text status.NoMemory e u = inr (before.out.now, begun.begun)
   runs_text status.Usage e w = absurd w
   runs_text status.DesignRefused e w = absurd w
   runs_text status.TestsRefused e w = absurd w
@@ -148,7 +149,7 @@ pub shown_none : {O : Type 0} (sink : SinkMeans O) (options : RunOptions) (flat 
 shown_none sink options flat file AllLines r content out e = file_none sink options flat file r content out e
 shown_none sink options flat file LastLine r content out e = last_none sink options flat file r content out e
 shown_none sink options flat file VcdText (Ok s) content out e = cc
-shown_none sink options flat file VcdText (Err fault) content out e = tt
+shown_none sink options flat file VcdText (Err fault) content out e = inl (part_none sink.takes sink.told out (begin_lines flat))
 
 -- ---- designs with the same signals and nodes
 

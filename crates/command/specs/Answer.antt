@@ -4,11 +4,11 @@ use Rattle.std.specs.Io.KnownBytes.{Appends}
 use Rattle.port_io.specs.Ports.{AppendsPart, IsRaised}
 use Rattle.port_io.specs.Means.{StoreMeans, SinkMeans, PutsTo}
 use Rattle.port_io.specs.ToldLaws.{joined}
-use Rattle.port_io.specs.declared.ports.SinkFault.TheVariants.{Failed}
+use Rattle.port_io.specs.declared.ports.SinkFault.TheVariants.{Failed, OutOfMemory}
 use Rattle.gpi.specs.Content.{Content}
 use Rattle.gpi.specs.declared.design.Flat.{Flat}
 use Rattle.vcd_text.specs.Changes.{ValueChange}
-use Rattle.vcd_text.specs.Text.{vcd}
+use Rattle.vcd_text.specs.Text.{begin_lines, vcd}
 use Rattle.vcd_text.specs.TracedLines.{TellAll}
 use Rattle.test_meaning.specs.Body.BodyTrees.{Case, TestFile}
 use Rattle.rig_model.specs.Run.Rig.{Rig, Setup}
@@ -90,13 +90,19 @@ pub record BrokenText {O : Type 0} (sink : SinkMeans O) (setup : Setup) (seed : 
   pub tell : TellAll setup.flat lines changes
   pub puts : PutsTo sink out (vcd setup.flat changes) (Some Failed) out'
 
--- The tests are run, and the VCD text of the run is put. Of the sink nothing is said where memory was short.
+-- Memory was short: the lines of the VCD text before its changes were put as far as memory went, or all of them were taken, and of what was put
+-- behind these nothing is said.
+abbrev pub ShortText : {O : Type 0} → SinkMeans O → Flat → O → O → Type 0
+ShortText {O} sink flat out out' =
+    PutsTo sink out (begin_lines flat) (Some OutOfMemory) out' ⊎ ((mid : O) × PutsTo sink out (begin_lines flat) None mid)
+
+-- The tests are run, and the VCD text of the run is put.
 abbrev pub RunsText : {O : Type 0} → SinkMeans O → Setup → ℕ → List Case → ℕ → Status → Content → O → O → Type 0
 RunsText sink setup seed cases budget status.Passed content out out' = WholeText sink setup seed cases budget status.Passed content out out'
 RunsText sink setup seed cases budget status.Failed content out out' = WholeText sink setup seed cases budget status.Failed content out out'
 RunsText sink setup seed cases budget status.Budget content out out' = WholeText sink setup seed cases budget status.Budget content out out'
 RunsText sink setup seed cases budget status.WriteFault content out out' = BrokenText sink setup seed cases budget out out'
-RunsText sink setup seed cases budget status.NoMemory content out out' = Unit {0}
+RunsText sink setup seed cases budget status.NoMemory content out out' = ShortText sink setup.flat out out'
 RunsText sink setup seed cases budget status.Usage content out out' = ⊥
 RunsText sink setup seed cases budget status.DesignRefused content out out' = ⊥
 RunsText sink setup seed cases budget status.TestsRefused content out out' = ⊥

@@ -2,3 +2,4 @@ pub mod SeparateTestsLemmas
 pub mod RemainderLemmas
 pub mod PlacesLemmas
 pub mod ItemsLemmas
+pub mod WavesLemmas

@@ -46,7 +46,7 @@ pub record Steps (ms : Modules) (P : ModuleTree → Outside → Design → Type 
   pub closes : (m : ModuleTree) (path : Path) (out : Outside) (d : Design) (ds : List Declared) (t : State) → J m out d ds t → I m out d (closed path (length d.nodes) t)
 
 -- there is room for an instance that is walked
-room_there : (i : Identifier) (room : ℕ) (above : List (List ℕ)) (d : Design) (o : Option ModuleTree) (m : ModuleTree) → ended (module_there i room above d o) ≡ Ok m → nat_lt 0 room ≡ true
+pub room_there : (i : Identifier) (room : ℕ) (above : List (List ℕ)) (d : Design) (o : Option ModuleTree) (m : ModuleTree) → ended (module_there i room above d o) ≡ Ok m → nat_lt 0 room ≡ true
 room_there i room above d None m e = cc
 room_there i room above d (Some n) m e =
     first_true (nat_lt 0 room) (nat_lt (length d.nodes) most_parts)

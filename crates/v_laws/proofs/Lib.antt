@@ -24,3 +24,11 @@ pub mod Settled
 pub mod Steady
 pub mod Awaited
 pub mod Waiting
+pub mod Spelled
+pub mod Filled
+pub mod Deep
+pub mod Climbs
+pub mod Ordered
+pub mod Covered
+pub mod Numbered
+pub mod Traces

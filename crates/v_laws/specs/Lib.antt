@@ -5,3 +5,4 @@ pub mod Least
 pub mod Steps
 pub mod Joints
 pub mod Reads
+pub mod Traces

@@ -4,6 +4,7 @@ ghost use Rattle.v_laws.specs.Drivers.{One_driver, Processes_keep_to_their_kind,
 ghost use Rattle.v_laws.specs.Instances.{Names_differ, Names_have_their_paths};
 ghost use Rattle.v_laws.specs.Joints.{Joints_are_counted};
 ghost use Rattle.v_laws.specs.Least.{First_faults_count, First_faults_end_procedures};
+ghost use Rattle.v_laws.specs.Traces.{Designs_are_traceable};
 ghost use Rattle.v_laws.specs.Reads.{
   Assignments_wait_for_enough,
   Expressions_read_enough,
@@ -92,4 +93,9 @@ pub fn assignments_wait_for_enough()
 /// process waits for, an activation makes the same updates, at once and for later, in the same order (IEEE 1364-2005, clause 9.7.5).
 pub fn procedures_wait_for_enough()
     ensures { Procedures_wait_for_enough }
+{}
+
+/// Of each sound flat design that a text stands for a VCD text can be written (IEEE 1364-2005, clause 18), where its names are names of such a text.
+pub fn designs_are_traceable()
+    ensures { Designs_are_traceable }
 {}

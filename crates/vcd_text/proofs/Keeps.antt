@@ -19,7 +19,7 @@ use Rattle.vcd_text.specs.Traceable.{IsOpening, IsTraceable}
 use Rattle.vcd_text.specs.Changes.{ValueChange, IsChangeOf, AreChangesOf, times_rise}
 use Rattle.vcd_text.specs.Text.{begin_lines, change_lines, declaration_line, opening_line, opening_lines, signal_line, step_line, vcd}
 use Rattle.vcd_text.specs.Forms.{IsVar}
-use Rattle.vcd_text.specs.Readable.{No_text_goes_on, Reads_back, path_of, told_change}
+use Rattle.vcd_text.specs.Readable.{No_text_ends, No_text_goes_on, Reads_back, path_of, told_change}
 use Rattle.vcd_text.specs.Rules.{ReadState, IsOver, IsRead, Takes, TakesIn, TakesLines, begun, goes_to, inner_path, with_end, with_instance, with_opening, with_signal, with_time, with_top, with_value}
 use Rattle.vcd_text.specs.declared.change.Change.{Change}
 use Rattle.vcd_text.specs.declared.reader.Known.{Known}
@@ -484,21 +484,14 @@ reads_back flat changes t fit =
       told = kept.3;
     }
 
--- where a text is refused no text of a design goes on with that line, or this one is none
+-- no text of a design goes on with a line that is refused
 pub no_text_goes_on : No_text_goes_on
-no_text_goes_on text number (lines, open_line, split, inl b) = (
-  lines,
-  open_line,
-  split,
-  inl (λ begins.
-      let kept = keeps begins.0.flat begins.0.traceable begins.0.changes begins.0.fit in
-      let cut = taken_cut begun (map line (take number lines)) begins.1 kept.0 (subst (λ (l : List (List ℕ)). TakesLines begun l kept.0) begins.2 kept.1) in b.broken cut.0 cut.1),
-)
-no_text_goes_on text number (lines, open_line, split, inr e) = (
-  lines,
-  open_line,
-  split,
-  inr (λ trace is.
-      e.unended (map (told_change trace.flat.signals) trace.changes)
-      (subst (λ (l : List ℕ). IsRead l (map (told_change trace.flat.signals) trace.changes)) (sym is) (reads_back trace.flat trace.changes trace.traceable trace.fit))),
-)
+no_text_goes_on text lines open_line number split b begins =
+    let kept = keeps begins.0.flat begins.0.traceable begins.0.changes begins.0.fit in
+    let cut = taken_cut begun (map line (take number lines)) begins.1 kept.0 (subst (λ (l : List (List ℕ)). TakesLines begun l kept.0) begins.2 kept.1) in b.broken cut.0 cut.1
+
+-- a text that is refused where it ends is that of no design
+pub no_text_ends : No_text_ends
+no_text_ends text lines open_line number split e trace is =
+    e.unended (map (told_change trace.flat.signals) trace.changes)
+    (subst (λ (l : List ℕ). IsRead l (map (told_change trace.flat.signals) trace.changes)) (sym is) (reads_back trace.flat trace.changes trace.traceable trace.fit))

@@ -1,5 +1,5 @@
 -- A means of proof: that a VCD text can be read: it is the text of one list of changes.
-use Rattle.std.specs.Prelude.{◌≡◌, ◌⊎◌, ℕ, List, [], map, take, Option, None, Some, slice_get}
+use Rattle.std.specs.Prelude.{◌≡◌, ℕ, List, [], map, take, Option, None, Some, slice_get}
 use Rattle.port_io.specs.ToldLaws.{joined}
 use Rattle.gpi.specs.declared.design.Signal.{Signal}
 use Rattle.gpi.specs.declared.design.Flat.{Flat}
@@ -7,7 +7,7 @@ use Rattle.vcd_text.specs.Changes.{ValueChange, AreChangesOf}
 use Rattle.vcd_text.specs.Text.{vcd}
 use Rattle.vcd_text.specs.Traceable.{IsTraceable}
 use Rattle.vcd_text.specs.Reading.{BeginSome, HasLines, IsVcdOf, Trace}
-use Rattle.vcd_text.specs.Rules.{IsOver, IsRead, IsRefused, ReadState, TakesLines, begun}
+use Rattle.vcd_text.specs.Rules.{BreaksAt, EndsEarly, IsOver, IsRead, IsRefused, ReadState, TakesLines, begun}
 use Rattle.vcd_text.specs.declared.change.Change.{Change}
 
 -- two lists of changes of runs on one design have two texts
@@ -38,10 +38,15 @@ Reads_or_refuses = (text : List ℕ) (changes : List Change) (number : ℕ) → 
 abbrev pub Refuses_once : Type 0
 Refuses_once = (text : List ℕ) (m n : ℕ) → IsRefused text m → IsRefused text n → m ≡ n
 
--- where a text is refused at a line, no text of a design begins with the lines up to that one; or all lines may stand so, and the text is none of a design
+-- where a line of a text is refused, no text of a design and changes begins with the lines up to that one
 abbrev pub No_text_goes_on : Type 0
-No_text_goes_on = (text : List ℕ) (number : ℕ) → IsRefused text number
-    → (lines : List (List ℕ)) × (open_line : List ℕ) × HasLines text lines open_line × ((BeginSome (take number lines) → ⊥) ⊎ ((trace : Trace) → IsVcdOf trace text → ⊥))
+No_text_goes_on = (text : List ℕ) (lines : List (List ℕ)) (open_line : List ℕ) (number : ℕ) → HasLines text lines open_line → BreaksAt lines number
+    → BeginSome (take number lines) → ⊥
+
+-- where all lines of a text may stand so, but it can't end there, it is the text of no design and changes
+abbrev pub No_text_ends : Type 0
+No_text_ends = (text : List ℕ) (lines : List (List ℕ)) (open_line : List ℕ) (number : ℕ) → HasLines text lines open_line → EndsEarly text lines open_line number
+    → (trace : Trace) → IsVcdOf trace text → ⊥
 
 -- lines that keep the rules can go on to a whole text that does
 abbrev pub Fronts_go_on : Type 0

@@ -19,9 +19,10 @@ pub record OpenScope : Type 0 where
   pub path : List ℕ
   pub uses : List ℕ → Bool
 
--- Where a text stands behind some of its lines. `part` says of what part of the text the next line is; `outer` are the open instances around the
--- innermost one, from the top on. A signal may be declared where no instance stands in the innermost one yet (`fresh`), with a number that is at
--- least `free`. So many instances there are, so many opening values are told, and this is the last time, which waits for a value or not.
+-- A means of proof: where a text stands behind some of its lines, as a reader of it keeps that. `part` says of what part of the text the next line
+-- is; `outer` are the open instances around the innermost one, from the top on. A signal may be declared where no instance stands in the innermost
+-- one yet (`fresh`), with a number that is at least `free`. So many instances there are, so many opening values are told, and this is the last time,
+-- which waits for a value or not.
 pub record ReadState : Type 0 where
   pub part : Part
   pub scope : OpenScope

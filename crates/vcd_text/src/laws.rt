@@ -1,6 +1,6 @@
 //! Laws of the lines that are written.
 ghost use Rattle.vcd_text.specs.TracedLines.{Same_changes, Some_changes, Traced_lines_become_changes};
-ghost use Rattle.vcd_text.specs.Readable.{Fronts_go_on, No_text_goes_on, One_list, Reads_back, Reads_once, Reads_or_refuses, Refuses_once};
+ghost use Rattle.vcd_text.specs.Readable.{Fronts_go_on, No_text_ends, No_text_goes_on, One_list, Reads_back, Reads_once, Reads_or_refuses, Refuses_once};
 ghost use Rattle.vcd_text.specs.WholeTexts.{WritesFront, WritesWhole};
 
 use port_io::Sink;
@@ -35,17 +35,22 @@ pub fn texts_read_back()
     ensures { Reads_back }
 {}
 
-/// What `read` answers is all that a text comes to: it tells one list of changes, or it is refused at one line, and not both.
+/// By the rules of a reader a text tells one list of changes at the most, or is refused at one line at the most, and not both.
 pub fn texts_are_read_once()
     ensures changes { Reads_once }
     ensures refused { Refuses_once }
     ensures apart { Reads_or_refuses }
 {}
 
-/// Where a line is refused the text of no design and changes goes on with it behind the lines before it; where the end is refused the text is that
-/// of none.
-pub fn refused_texts_are_none()
+/// A line that is refused stands in no text of a design that can be traced and changes of it behind the lines before it: no such text begins with
+/// the lines up to that one.
+pub fn refused_lines_are_in_no_text()
     ensures { No_text_goes_on }
+{}
+
+/// A text that is refused where it ends is that of no design that can be traced and changes of it.
+pub fn refused_ends_are_of_no_text()
+    ensures { No_text_ends }
 {}
 
 /// Lines that keep the rules can go on to a whole text that does: so no line is taken behind which no text ends.

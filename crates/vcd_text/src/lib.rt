@@ -22,8 +22,9 @@ mod traced_line;
 
 pub use change::{Change, VcdFault};
 pub use laws::{
-    changes_are_told, fronts_go_on, refused_texts_are_none, texts_are_read_once, texts_are_whole,
-    texts_read_back, texts_tell_changes, traced_lines_become_changes,
+    changes_are_told, fronts_go_on, refused_ends_are_of_no_text, refused_lines_are_in_no_text,
+    texts_are_read_once, texts_are_whole, texts_read_back, texts_tell_changes,
+    traced_lines_become_changes,
 };
 pub use read_text::read;
 pub use signals::TracedSignals;

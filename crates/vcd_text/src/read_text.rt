@@ -66,9 +66,10 @@ fn can_end(reader: &Reader, rest: &[u8]) -> bool
     rest.is_empty() && reader.is_over()
 }
 
-/// The changes that a VCD text tells, in order (IEEE 1364-2005, clause 18.2). The text is one that a [`VcdSink`](crate::VcdSink) writes.
-/// `BadLine` is told of the first line that can't stand behind those before it, by its number from 1. Where all lines can, but the text can't end
-/// there, it is told of the last one, and of line 1 of an empty text. `OutOfMemory` comes only from want of memory.
+/// The changes that a VCD text tells, in order (IEEE 1364-2005, clause 18.2), where it keeps the rules of the texts that a
+/// [`VcdSink`](crate::VcdSink) writes, line by line. `BadLine` is told of the first line that by these rules can't stand behind those before it, by
+/// its number from 1. Where all lines can, but the text can't end there, it is told of the last one, and of line 1 of an empty text. `OutOfMemory`
+/// comes only from want of memory.
 pub fn read(alloc: Global, text: &[u8]) -> Result<Vec<Change>, VcdFault>
     ensures changes { IfOk result (λ changes. IsRead text.now changes.items) }
     ensures refused { (line : ℕ) → IsErrOf result (BadLine line) → IsRefused text.now line }

@@ -35,7 +35,7 @@ test_fired : (setup : Setup) (case : Case) (r : Answer (List Value)) (c : Rig) �
 test_fired setup case (Ok values) c = limit_fired setup.flat.step_fs case.time _
 test_fired setup case (Err kind) c = refl
 
-begun_fired : (setup : Setup) (case : Case) (c : Rig) → (test_begun setup case c).fired ≡ c.fired
+pub begun_fired : (setup : Setup) (case : Case) (c : Rig) → (test_begun setup case c).fired ≡ c.fired
 begun_fired setup case c = test_fired setup case (values_of case.arguments) c
 
 -- between two steps no key is left to be served
@@ -54,7 +54,7 @@ among_more : (k : Key) (xs ys : List Key) → among k (xs ++ ys) ≡ (among k xs
 among_more k [] ys = refl
 among_more k (x ∷ xs) ys = ap (λ (b : Bool). same_key k x || b) (among_more k xs ys) ∙ sym (or_or (same_key k x) (among k xs) (among k ys))
 
-all_kept : (ks : List Key) → filter (λ (k : Key). not (among k [])) ks ≡ ks
+pub all_kept : (ks : List Key) → filter (λ (k : Key). not (among k [])) ks ≡ ks
 all_kept [] = refl
 all_kept (k ∷ ks) = ap (λ (xs : List Key). k ∷ xs) (all_kept ks)
 

@@ -1,8 +1,7 @@
-use Rattle.std.proofs.Common.{Some, None, ap, subst, sym, ◌∙◌}
+use Rattle.std.proofs.Common.{Some, None, ap, inl, subst, sym, ◌∙◌}
 use Rattle.std.specs.Result.{result_err}
-use Rattle.gpi.specs.declared.design.Flat.{Flat}
 use Rattle.port_io.specs.Means.{PutsTo, sink_means}
-use Rattle.port_io.specs.declared.ports.SinkFault.TheVariants.{Failed}
+use Rattle.port_io.specs.declared.ports.SinkFault.TheVariants.{Failed, OutOfMemory}
 use Rattle.vcd_text.specs.Text.{begin_lines}
 use Rattle.test_meaning.specs.Body.Views.{view_file}
 use Rattle.command.specs.Answer.{setup_with}
@@ -31,3 +30,10 @@ returns-in-Err-Failed-clause-runs g c =
     (sym (c.in-Err-Failed.out-in-Err-1-own.given.1 (sym c.new-text.ensures.same_reference ∙ sym c.begin.ensures.same.same_reference)))
     (begin_puts (sink_means g.O.Sink) c.args.flat.now c.new-text.result c.begin.new.self c.args.out.now c.begin.result (Some Failed)
     (c.new-text.ensures.design ∙ c.in_ok-signals.ensures) c.new-text.ensures.now (ap result_err c.in-Err-Failed.is ∙ ap Some c.in-Err-Failed.field-0-is) c.begin.ensures.puts))
+
+pub returns-clause-runs : goal.returns-clause-runs
+returns-clause-runs g c =
+    inl (subst (λ (o : g.row.O.Denot). PutsTo (sink_means g.O.Sink) c.args.out.now (begin_lines c.args.flat.now) (Some OutOfMemory) o)
+    (sym (c.in-Err-OutOfMemory.out-in-Err-1-own.given.1 (sym c.new-text.ensures.same_reference ∙ sym c.begin.ensures.same.same_reference)))
+    (begin_puts (sink_means g.O.Sink) c.args.flat.now c.new-text.result c.begin.new.self c.args.out.now c.begin.result (Some OutOfMemory)
+    (c.new-text.ensures.design ∙ c.in_ok-signals.ensures) c.new-text.ensures.now (ap result_err c.in-Err-OutOfMemory.is ∙ ap Some c.in-Err-OutOfMemory.field-0-is) c.begin.ensures.puts))
