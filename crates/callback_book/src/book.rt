@@ -209,7 +209,7 @@ impl Book {
         if self.take(key) { Some(key) } else { None }
     }
 
-    /// Fires the key of the edge that a change of one bit is (IEEE 1364-2005, clause 9.7), if it is registered.
+    /// Fires the key of the edge that a change of one bit is (IEEE 1364-2005, clause 9.7.2), if it is registered.
     fn take_level(&mut self, report: &Report) -> Option<Key>
         requires { report.now.sig.0 < signals_of self.old }
         ensures fired { option_list result ≡ level_part report.now (keys_with [] self.old) }

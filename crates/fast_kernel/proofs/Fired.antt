@@ -1,20 +1,18 @@
 -- Keys that fire, and times that are registered.
-use Rattle.std.proofs.Common.{◌≡◌, ◌∙◌, ◌++◌, ◌∷◌, ℕ, Bool, true, false, List, [], length, set, get_or, Option, Some, None, Vec, Global, IsTrue, refl, sym, ap, subst, Result, Ok, Err, OnOk, OnErr}
+use Rattle.std.proofs.Common.{◌≡◌, ◌∙◌, ◌++◌, ◌∷◌, ℕ, Bool, false, List, [], set, get_or, Option, Some, None, IsTrue, refl, sym, ap, subst}
 use Rattle.four_value.specs.declared.Digit.{Digit}
 use Rattle.four_value.specs.Vector.{same_digits}
-use Rattle.port_io.specs.declared.ports.NoMemory.{NoMemory}
 use Rattle.gpi.specs.declared.types.Fired.{Fired}
 use Rattle.gpi.specs.declared.types.Key.{Key}
 use Rattle.gpi.specs.declared.types.Key.TheVariants as key
 use Rattle.gpi.specs.declared.types.Moved.{Moved}
-use Rattle.gpi.specs.declared.types.Region.{Region}
 use Rattle.gpi.specs.declared.types.Region.TheVariants as region
 use Rattle.gpi.specs.declared.types.Report.{Report}
 use Rattle.gpi.specs.declared.types.SigId.{SigId}
-use Rattle.gpi.specs.Keys.{has, holds, fired_of, raised, raised_by, IsWith, IsWithout, least}
-use Rattle.gpi.specs.State.{State, woken, arriving, waiting_on}
-use Rattle.gpi.specs.Events.{show, tells, edge_keys, if_has, value_at, time_case}
-use Rattle.gpi.specs.Content.{Content, Registers, Removes}
+use Rattle.gpi.specs.Keys.{has, holds, fired_of, raised, IsWith, IsWithout}
+use Rattle.gpi.specs.State.{woken, arriving, waiting_on}
+use Rattle.gpi.specs.Events.{show, edge_keys, if_has, value_at, time_case}
+use Rattle.gpi.specs.Content.{Registers, Removes}
 use Rattle.kernel_base.specs.Steps.{TellsIt, Answered}
 use Rattle.kernel_base.specs.TimeSets.{IsWithoutTime}
 use Rattle.kernel_base.proofs.Told.{time_case_is}
@@ -23,7 +21,6 @@ use Rattle.callback_book.specs.Books.{keys_with, counts_of, Fires, AddsTime, Dro
 use Rattle.event_queue.specs.declared.queue.Queue.{Queue}
 use Rattle.event_queue.specs.Queues.{Held, held}
 use Rattle.fast_kernel.specs.declared.simulation.Simulation.{Simulation}
-use Rattle.fast_kernel.specs.declared.waiters.Waiters.{Waiters}
 use Rattle.fast_kernel.specs.Kernel.{content_of, procs_in}
 use Rattle.fast_kernel.specs.Times.{IsNewTime, IsOldTime}
 

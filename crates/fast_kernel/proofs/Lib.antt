@@ -11,3 +11,4 @@ pub mod Fired
 pub mod Phases
 pub mod Ran
 pub mod Opened
+pub mod Taken

@@ -1,16 +1,15 @@
 -- What the calls of a simulation leave of its facts.
-use Rattle.std.proofs.Common.{◌≡◌, ℕ, suc, ◌<◌, ◌≤◌, List, [], ◌∷◌, length, set, get_or, refl, sym, ◌∙◌, ap, subst, arith, Vec, Global, vec_capacity, Option}
+use Rattle.std.proofs.Common.{◌≡◌, ℕ, ◌<◌, List, [], length, set, get_or, refl, sym, ◌∙◌, ap, subst, arith, Vec, Global, Option}
 use Rattle.std.proofs.lemmas.List.{length-set}
 use Rattle.four_value.specs.declared.Digit.{Digit}
 use Rattle.gpi.specs.Terms.{widths_of}
-use Rattle.gpi.specs.Activation.{Hidden, AreHidden}
+use Rattle.gpi.specs.Activation.{AreHidden}
 use Rattle.gpi.specs.Design.{Proc}
 use Rattle.gpi.specs.declared.types.Region.{Region}
 use Rattle.gpi.specs.State.{arriving, waiting_on}
 use Rattle.kernel_base.proofs.Delays.{fitting_arriving, fitting_waiting}
 use Rattle.gpi.proofs.Widths.{widths_set, get_or_widths}
 use Rattle.kernel_base.specs.Steps.{AreInside}
-use Rattle.v_exec.specs.declared.code.Code.{Code}
 use Rattle.v_exec.specs.Code.{IsSoundCode}
 use Rattle.v_exec.specs.Workspace.{IsReady}
 use Rattle.callback_book.specs.declared.book.Book.{Book}
@@ -19,10 +18,9 @@ use Rattle.event_queue.specs.declared.queue.Queue.{Queue}
 use Rattle.event_queue.specs.Queues.{Held, held, processes_of}
 use Rattle.fast_kernel.specs.declared.waiters.Waiters.{Waiters}
 use Rattle.fast_kernel.specs.declared.simulation.Simulation.{Simulation}
-use Rattle.fast_kernel.specs.declared.header.Header.{Header}
-use Rattle.fast_kernel.specs.Waiters.{AreOf, AreWaiters, chain_of, awaiting}
+use Rattle.fast_kernel.specs.Waiters.{AreOf, AreWaiters, chain_of}
 use Rattle.fast_kernel.specs.Woken.{KeepsWaiters}
-use Rattle.fast_kernel.specs.Kernel.{AreQueued, AreAwaited, IsLoaded, Stays, procs_from, procs_in, pending}
+use Rattle.fast_kernel.specs.Kernel.{AreQueued, AreAwaited, IsLoaded, Stays, procs_in, pending}
 
 -- a value of its width leaves all widths
 pub widths_kept : (m : List (List Digit)) (s : ℕ) (v : List Digit) → s < length m → length v ≡ length (get_or m s []) → widths_of (set m s v) ≡ widths_of m

@@ -1,19 +1,16 @@
 -- Keys of phases that fire, and changes that are told.
-use Rattle.std.proofs.Common.{◌≡◌, ◌∙◌, ℕ, Bool, true, false, not, List, [], ◌∷◌, Some, None, refl, sym, ap, subst}
+use Rattle.std.proofs.Common.{◌≡◌, ℕ, Bool, true, false, List, [], Some, None, refl}
 use denote.Enum.Bare.{sameb}
 use Rattle.gpi.specs.contracts.types.Region.{the_type}
-use Rattle.gpi.specs.declared.types.Fired.{Fired}
 use Rattle.gpi.specs.declared.types.Key.{Key}
 use Rattle.gpi.specs.declared.types.Key.TheVariants as key
 use Rattle.gpi.specs.declared.types.Region.{Region}
 use Rattle.gpi.specs.declared.types.Region.TheVariants as region
-use Rattle.gpi.specs.declared.types.Report.{Report}
-use Rattle.gpi.specs.Keys.{fired_of}
 use Rattle.gpi.specs.State.{is_end}
-use Rattle.gpi.specs.Events.{tells, edge_keys, settle_case, end_case}
-use Rattle.kernel_base.specs.Steps.{TellsIt, Answered}
+use Rattle.gpi.specs.Events.{settle_case, end_case}
+use Rattle.kernel_base.specs.Steps.{Answered}
 use Rattle.callback_book.specs.declared.book.Book.{Book}
-use Rattle.callback_book.specs.Books.{keys_with, flag_of, if_flag, signals_of, Fires}
+use Rattle.callback_book.specs.Books.{flag_of, if_flag, signals_of, Fires}
 use Rattle.event_queue.specs.Queues.{held}
 use Rattle.fast_kernel.specs.declared.simulation.Simulation.{Simulation}
 use Rattle.fast_kernel.specs.Kernel.{content_of, IsLoaded, Stays}
@@ -24,16 +21,6 @@ book_stays s r book h b = time_stays s s.queue s.time r book h refl h.queued b
 
 pub taken_stays : (s : Simulation) (r : Region) (book : Book) (k : Key) → IsLoaded s → ((ts : List ℕ) → Fires (if_flag k s.book) ts s.book ts book) → Stays s (record s { region = r; book = book })
 taken_stays s r book k h f = let g = f [] in book_stays s r book h g.signals
-
-pub tell_tells : (s : Simulation) (r : Report) (book : Book) (fired : Fired) → ((ts : List ℕ) → fired ≡ fired_of (edge_keys r (keys_with ts s.book)))
-    → ((ts : List ℕ) → Fires (edge_keys r (keys_with ts s.book)) ts s.book ts book)
-    → (let c = content_of s in TellsIt c (record { state = record c.state { region = region.Active }; told = tells r; fired = edge_keys r c.keys })
-    (record { change = Some (record { sig = r.sig; bits = r.after }); fired = fired }) (content_of (record s { region = region.Active; book = book })))
-tell_tells s r book fired e f =
-    let g = f (held s.queue).times in record {
-      tells = rw (e (held s.queue).times) refl;
-      does = record { procs = refl; nets = refl; state = refl; keys = g.keys; counts = g.counts };
-    }
 
 pub settles : (s : Simulation) (book : Book) → flag_of s.book key.ReadWrite ≡ true → is_end s.region ≡ false → ((ts : List ℕ) → Fires (if_flag key.ReadWrite s.book) ts s.book ts book)
     → (let c = content_of s in Answered c (settle_case c.state c.keys) (Some (record { change = None; fired = record { first = Some key.ReadWrite; second = None } }))

@@ -1,5 +1,5 @@
 -- What the body of a process leaves of a simulation.
-use Rattle.std.proofs.Common.{◌≡◌, ℕ, zero, suc, ◌+◌, ◌<◌, ◌≤◌, Bool, true, false, List, [], ◌∷◌, ◌++◌, length, drop, get_or, Option, Some, None, slice_get, refl, sym, ap, ◌∙◌, subst, arith, Vec, Global, vec_capacity, zero-add, add-suc}
+use Rattle.std.proofs.Common.{◌≡◌, ℕ, zero, suc, ◌+◌, ◌<◌, ◌≤◌, List, [], ◌∷◌, ◌++◌, length, get_or, Option, Some, None, slice_get, refl, sym, ap, ◌∙◌, subst, arith, Vec, Global, vec_capacity, zero-add}
 use Rattle.std.specs.Vec.{with_items}
 use Rattle.std.specs.Option.{MatchOption}
 use Rattle.std.proofs.lemmas.List.{with_items_is}
@@ -9,7 +9,6 @@ use Rattle.gpi.specs.declared.types.Delayed.{Delayed}
 use Rattle.gpi.specs.declared.types.Report.{Report}
 use Rattle.gpi.specs.Terms.{widths_of}
 use Rattle.gpi.specs.Targets.{AreFitting}
-use Rattle.gpi.specs.Keys.{holds}
 use Rattle.gpi.specs.Activation.{Map, Hidden, Run, AreHidden}
 use Rattle.gpi.specs.Design.{Proc}
 use Rattle.gpi.specs.State.{State, changes, woken, at_once, all_delaying}
@@ -18,9 +17,8 @@ use Rattle.gpi.specs.declared.types.Region.TheVariants as region
 use Rattle.gpi.specs.Keys.{fired_of}
 use Rattle.gpi.specs.Events.{activate, active_case}
 use Rattle.gpi.specs.Content.{Content}
-use Rattle.gpi.proofs.Widths.{length_widths}
 use Rattle.kernel_base.specs.Lists.{barred, own_of, AreBelow, AreDistinct}
-use Rattle.kernel_base.specs.Steps.{AreInside, Answered, ran, with_run}
+use Rattle.kernel_base.specs.Steps.{Answered, ran}
 use Rattle.kernel_base.proofs.Told.{ran_case}
 use Rattle.kernel_base.proofs.Activated.{changes_of, own_barred}
 use Rattle.kernel_base.proofs.Hiding.{same_places, hidden_places}

@@ -9,7 +9,7 @@ use Rattle.kernel_base.specs.Lists.{barred, AreBelow, AreDistinct}
 use Rattle.kernel_base.specs.Steps.{AreInside}
 use Rattle.kernel_base.proofs.Lists.{itself, holds_push, apart}
 use Rattle.fast_kernel.specs.declared.waiters.Waiters.{Waiters}
-use Rattle.fast_kernel.specs.Waiters.{AreOf, AreWaiters, picked, waiting, is_reached}
+use Rattle.fast_kernel.specs.Waiters.{AreOf, picked, is_reached}
 use Rattle.fast_kernel.specs.Woken.{unbarred}
 use Rattle.fast_kernel.proofs.Waiting.{found_waiting, woken_waiting}
 

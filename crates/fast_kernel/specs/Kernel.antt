@@ -8,7 +8,7 @@ use Rattle.gpi.specs.Activation.{AreHidden, Run}
 use Rattle.gpi.specs.State.{State, changes, woken}
 use Rattle.gpi.specs.declared.design.Process.{Process}
 use Rattle.gpi.specs.Design.{Proc}
-use Rattle.gpi.specs.Content.{Content, no_design}
+use Rattle.gpi.specs.Content.{Content}
 use Rattle.v_exec.specs.declared.code.Code.{Code}
 use Rattle.v_exec.specs.Code.{run_of, IsSoundCode}
 use Rattle.v_exec.specs.Workspace.{IsReady}

@@ -1,21 +1,19 @@
-//! An activation of the first active process.
-ghost use Rattle.std.specs.Prelude.{◌≡◌, ◌<◌, ◌≤◌, [], ℕ, length, OnOk, OnErr, IfOk, None, slice_get, vec_capacity};
+//! An activation of a process.
+ghost use Rattle.std.specs.Prelude.{◌≡◌, ◌<◌, ◌≤◌, ℕ, length, OnOk, OnErr, slice_get, vec_capacity};
 ghost use Rattle.gpi.specs.Activation.{Map};
 ghost use Rattle.gpi.specs.State.{changes};
-ghost use Rattle.gpi.specs.Events.{active_case};
-ghost use Rattle.gpi.specs.Content.{IsRunning};
 ghost use Rattle.v_exec.specs.declared.code.Code.{Code as AnyCode};
 ghost use Rattle.v_exec.specs.Workspace.{AreTouched, AreMarks, IsWorkspace, IsReady, sigs_of};
 ghost use Rattle.kernel_base.specs.Lists.{AreBelow, AreDistinct};
-ghost use Rattle.kernel_base.specs.Steps.{Answered, ran, from_active, from_due, from_reports};
-ghost use Rattle.fast_kernel.specs.Kernel.{content_of, pending, IsLoaded, Stays, noted, woken_by, own_in};
+ghost use Rattle.kernel_base.specs.Steps.{ran};
+ghost use Rattle.fast_kernel.specs.Kernel.{content_of, IsLoaded, Stays, noted, woken_by, own_in};
 
 use crate::changes::tell_changes;
 use crate::simulation::Simulation;
 use crate::wake::wake;
 use four_value::Bits;
-use gpi::{Moved, Region, Report};
-use kernel_base::{own_of, unseen};
+use gpi::{Region, Report};
+use kernel_base::own_of;
 use port_io::NoMemory;
 use v_exec::Workspace;
 
@@ -37,7 +35,7 @@ fn note_changes(work: &mut Workspace, shown: &[Bits], reports: &mut Vec<Report>)
 
 impl Simulation {
     /// Runs the body of a process, and notes its changes.
-    fn run_body(&mut self, process: u32) -> Result<(), NoMemory>
+    pub fn run_body(&mut self, process: u32) -> Result<(), NoMemory>
         requires loaded { IsLoaded self.old }
         requires below { process < length self.old.headers.items }
         ensures stays { Stays self.old self.new }
@@ -63,7 +61,7 @@ impl Simulation {
     }
 
     /// The processes that wait for the changes of an activation become active, but for the one that ran if it is an `always`.
-    fn end_activation(&mut self, process: u32)
+    pub fn end_activation(&mut self, process: u32)
         requires loaded { IsLoaded self.old }
         requires below { process < length self.old.headers.items }
         requires untold { self.old.told ≡ 0 }
@@ -79,75 +77,5 @@ impl Simulation {
             &mut self.queue,
         );
         self.region = Region::Active;
-    }
-
-    /// 3: a process is run.
-    fn run_first(&mut self) -> Result<Option<Moved>, NoMemory>
-        requires loaded { IsLoaded self.old }
-        requires quiet { pending self.old ≡ [] }
-        ensures stays { Stays self.old self.new }
-        ensures is { let c = content_of self.old in IfOk result
-            (λ answer. Answered c (active_case c.procs c.state c.state.active) answer (content_of self.new)) }
-        ensures kept { OnErr result (content_of self.new ≡ content_of self.old) }
-        ensures due { IfOk result (λ answer. answer ≡ None → (content_of self.new).state.due ≡ (content_of self.old).state.due) }
-        ensures cause { OnErr result (0 < length (content_of self.old).state.active) }
-    {
-        let Some(process) = self.queue.first() else {
-            return Ok(None);
-        };
-        match self.run_body(process) {
-            Ok(()) => {
-                self.queue.next();
-                self.end_activation(process);
-                Ok(Some(unseen()))
-            }
-            Err(e) => Err(e),
-        }
-    }
-
-    /// From 3 on.
-    fn from_active(&mut self) -> Result<Option<Moved>, NoMemory>
-        requires loaded { IsLoaded self.old }
-        requires quiet { pending self.old ≡ [] }
-        requires none { (content_of self.old).state.due ≡ [] }
-        ensures stays { Stays self.old self.new }
-        ensures is { IfOk result (λ answer. Answered (content_of self.old) (from_active (content_of self.old)) answer (content_of self.new)) }
-        ensures kept { OnErr result (content_of self.new ≡ content_of self.old) }
-        ensures cause { OnErr result (IsRunning (content_of self.old).state) }
-    {
-        match self.run_first() {
-            Ok(Some(moved)) => Ok(Some(moved)),
-            Ok(None) => Ok(self.from_later()),
-            Err(e) => Err(e),
-        }
-    }
-
-    /// From 2 on.
-    fn from_due(&mut self) -> Result<Option<Moved>, NoMemory>
-        requires loaded { IsLoaded self.old }
-        requires quiet { pending self.old ≡ [] }
-        ensures stays { Stays self.old self.new }
-        ensures is { IfOk result (λ answer. Answered (content_of self.old) (from_due (content_of self.old)) answer (content_of self.new)) }
-        ensures kept { OnErr result (content_of self.new ≡ content_of self.old) }
-        ensures cause { OnErr result (IsRunning (content_of self.old).state) }
-    {
-        match self.due_first() {
-            Some(moved) => Ok(Some(moved)),
-            None => self.from_active(),
-        }
-    }
-
-    /// All cases.
-    pub fn one_event(&mut self) -> Result<Option<Moved>, NoMemory>
-        requires { IsLoaded self.old }
-        ensures stays { Stays self.old self.new }
-        ensures is { IfOk result (λ answer. Answered (content_of self.old) (from_reports (content_of self.old)) answer (content_of self.new)) }
-        ensures kept { OnErr result (content_of self.new ≡ content_of self.old) }
-        ensures cause { OnErr result (IsRunning (content_of self.old).state) }
-    {
-        match self.report_first() {
-            Some(moved) => Ok(Some(moved)),
-            None => self.from_due(),
-        }
     }
 }

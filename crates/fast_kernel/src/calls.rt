@@ -1,47 +1,16 @@
 //! The calls of a simulator, on a design that is simulated.
-ghost use Rattle.std.specs.Prelude.{◌≡◌, ◌<◌, length, false, IsTrue, IfOk, OnOk, OnErr};
-ghost use Rattle.gpi.specs.Keys.{has, fired_of, is_time};
-ghost use Rattle.gpi.specs.Events.{event, idle, force, release, value_at};
-ghost use Rattle.gpi.specs.Content.{Does, Answers, IsAsked, Registers, Removes, IsRunning, IsToldOf};
-ghost use Rattle.gpi.specs.Terms.{widths_of};
+ghost use Rattle.std.specs.Prelude.{◌≡◌, length, false, IsTrue, OnOk, OnErr};
+ghost use Rattle.gpi.specs.Keys.{has, is_time};
+ghost use Rattle.gpi.specs.Events.{idle};
+ghost use Rattle.gpi.specs.Content.{IsAsked, Registers, Removes};
 ghost use Rattle.fast_kernel.specs.Kernel.{content_of, IsLoaded, Stays};
 
 use crate::queued::{add_time, drop_time};
 use crate::simulation::Simulation;
-use four_value::Bits;
-use gpi::{Advance, Fired, Key, Region, SigId};
-use kernel_base::unseen;
+use gpi::{Key, Region};
 use port_io::NoMemory;
 
 impl Simulation {
-    /// Forces a signal, and answers the keys that fired.
-    pub fn force(&mut self, sig: SigId, bits: Bits) -> Fired
-        requires loaded { IsLoaded self.old }
-        requires sig { sig.0 < length self.old.shown.items }
-        requires width { length bits ≡ length (value_at (content_of self.old).state sig) }
-        ensures stays { Stays self.old self.new }
-        ensures is { let c = content_of self.old in let e = force c.procs c.state c.keys sig bits in
-            (result ≡ fired_of e.fired) × Does c e (content_of self.new) }
-    {
-        let stored = self.stored(sig);
-        self.hide(sig, stored);
-        self.show(sig, bits).fired
-    }
-
-    /// Ends a force, and answers the keys that fired.
-    pub fn release(&mut self, sig: SigId) -> Fired
-        requires loaded { IsLoaded self.old }
-        requires sig { sig.0 < length self.old.shown.items }
-        ensures stays { Stays self.old self.new }
-        ensures is { let c = content_of self.old in let e = release c.procs c.nets c.state c.keys sig in
-            (result ≡ fired_of e.fired) × Does c e (content_of self.new) }
-    {
-        match self.hidden_of(sig) {
-            Some(bits) => self.release_forced(sig, bits).fired,
-            None => unseen().fired,
-        }
-    }
-
     /// Registers a key. Its one error is the want of memory, for a time alone, and then nothing has changed.
     #[tactic(auto, using(callback_book::proofs::Placed::asked_placed))]
     pub fn register(&mut self, key: Key) -> Result<(), NoMemory>
@@ -84,22 +53,5 @@ impl Simulation {
             && !(self.book.has(Key::ReadWrite) && open)
             && !(self.book.has(Key::ReadOnly) && open)
             && self.next_time().is_none()
-    }
-
-    /// One event.
-    pub fn advance(&mut self) -> Result<Advance, NoMemory>
-        requires { IsLoaded self.old }
-        ensures stays { Stays self.old self.new }
-        ensures is { let c = content_of self.old in
-            IfOk result (λ answer. Answers c (event c.procs c.state c.keys) answer (content_of self.new)) }
-        ensures told { IfOk result (IsToldOf (length self.old.shown.items)) }
-        ensures kept { OnErr result (content_of self.new ≡ content_of self.old) }
-        ensures cause { OnErr result (IsRunning (content_of self.old).state) }
-    {
-        match self.one_event() {
-            Ok(Some(moved)) => Ok(Advance::Moved(moved)),
-            Ok(None) => Ok(Advance::Idle),
-            Err(e) => Err(e),
-        }
     }
 }

@@ -7,6 +7,7 @@ use crate::opening::opened;
 use crate::simulation::Simulation;
 use four_value::Bits;
 use gpi::{Advance, Counts, Fired, Flat, Gpi, Key, Region, SigId};
+use kernel_base::Simulated;
 use port_io::NoMemory;
 use std::alloc::Global;
 
@@ -72,16 +73,16 @@ impl Gpi for FastKernel {
     }
 
     fn force(&mut self, sig: SigId, bits: Bits) -> Fired {
-        self.simulation.as_mut().unwrap().force(sig, bits)
+        self.simulation.as_mut().unwrap().put_force(sig, bits).fired
     }
 
     fn release(&mut self, sig: SigId) -> Fired {
-        self.simulation.as_mut().unwrap().release(sig)
+        self.simulation.as_mut().unwrap().end_force(sig).fired
     }
 
     #[tactic(auto, using(kernel_base::proofs::Hiding::hidden_places))]
     fn is_forced(&self, sig: SigId) -> bool {
-        self.simulation.as_ref().unwrap().is_forced(sig)
+        self.simulation.as_ref().unwrap().hidden_at(sig).is_some()
     }
 
     fn register(&mut self, key: Key) -> Result<(), NoMemory> {
@@ -97,6 +98,6 @@ impl Gpi for FastKernel {
     }
 
     fn advance(&mut self) -> Result<Advance, NoMemory> {
-        self.simulation.as_mut().unwrap().advance()
+        self.simulation.as_mut().unwrap().one_event()
     }
 }

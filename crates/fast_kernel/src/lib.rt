@@ -3,12 +3,13 @@
 
 mod activation;
 mod calls;
-mod cases;
 mod changes;
 mod header;
 mod kernel;
+mod left;
 mod opening;
 mod queued;
+mod simulated;
 mod simulation;
 mod waiters;
 mod wake;

@@ -27,7 +27,6 @@ ghost use Rattle.gpi.specs.Limits.{most_elements};
 ghost use Rattle.gpi.specs.Keys.{holds};
 ghost use Rattle.gpi.specs.Design.{procs_of};
 ghost use Rattle.gpi.specs.Soundness.{are_wakes};
-ghost use Rattle.kernel_base.specs.Lists.{AreBelow, AreDistinct};
 ghost use Rattle.kernel_base.specs.Steps.{AreInside};
 ghost use Rattle.fast_kernel.specs.Waiters.{
   AreWaiters,
@@ -46,7 +45,7 @@ ghost use Rattle.fast_kernel.specs.Waiters.{
 
 use four_value::edge;
 use gpi::{Process, Report, Wake, WakeEdge};
-use kernel_base::{low_digit, meets_edge};
+use kernel_base::{low_digit, meets_edge, push_once};
 use port_io::{NoMemory, Sequence};
 use std::alloc::Global;
 
@@ -225,22 +224,6 @@ impl Chains {
     }
 }
 
-/// Puts a process at the end of a list of processes, each of which stands there once; there are `count` processes.
-#[tactic(auto, using(kernel_base::proofs::Lists::pushes))]
-fn add_once(processes: &mut Vec<u32>, process: u32, count: usize)
-    requires inside { process < count }
-    requires new { holds process processes.old.items ≡ false }
-    requires below { AreBelow count processes.old.items }
-    requires distinct { AreDistinct processes.old.items }
-    requires room { count ≤ vec_capacity processes.old }
-    ensures is { processes.new.items ≡ processes.old.items ++ process ∷ [] }
-    ensures below { AreBelow count processes.new.items }
-    ensures distinct { AreDistinct processes.new.items }
-    ensures room { vec_capacity processes.old ≤ vec_capacity processes.new }
-{
-    processes.push(process).unwrap();
-}
-
 impl Finds {
     /// Adds a process, if it isn't there.
     fn add(&mut self, process: u32)
@@ -252,7 +235,7 @@ impl Finds {
     {
         if !self.is_found[process as usize] {
             self.is_found[process as usize] = true;
-            add_once(&mut self.processes, process, self.is_found.len());
+            push_once(&mut self.processes, process, self.is_found.len());
         }
     }
 

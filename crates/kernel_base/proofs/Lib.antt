@@ -6,8 +6,6 @@ pub mod Delays
 pub mod Hiding
 pub mod Opening
 pub mod Fits
-pub mod Chain
 pub mod Told
-pub mod Forces
 pub mod Idle
 pub mod Activated

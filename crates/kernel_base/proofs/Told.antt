@@ -1,10 +1,11 @@
 -- What an event tells is of the design; and an activation as the answer of a simulator.
-use Rattle.std.proofs.Common.{◌≡◌, ℕ, ◌<◌, ◌&&◌, Bool, true, false, not, if◌then◌else◌, List, [], ◌∷◌, ◌++◌, length, Option, Some, None, refl, sym, ◌∙◌, ap, subst, arith, slice_get}
+use Rattle.std.proofs.Common.{◌≡◌, ℕ, ◌<◌, ◌&&◌, Bool, true, false, not, if◌then◌else◌, List, [], ◌∷◌, ◌++◌, length, Option, Some, None, Result, Ok, Err, IfOk, refl, sym, ◌∙◌, ap, subst, arith, slice_get}
+use Rattle.port_io.specs.declared.ports.NoMemory.{NoMemory}
+use Rattle.gpi.specs.declared.types.Advance.{Advance}
 use Rattle.gpi.specs.declared.types.Key.TheVariants as key
 use Rattle.gpi.specs.declared.types.Moved.{Moved}
 use Rattle.gpi.specs.declared.types.Region.TheVariants as region
 use Rattle.gpi.specs.declared.types.SigId.{SigId}
-use Rattle.gpi.specs.declared.types.Told.{Told}
 use Rattle.gpi.specs.declared.types.Report.{Report}
 use Rattle.gpi.specs.declared.types.Update.{Update}
 use Rattle.four_value.specs.declared.Digit.{Digit}
@@ -17,7 +18,7 @@ use Rattle.gpi.specs.declared.types.Key.{Key}
 use Rattle.gpi.specs.Keys.{Keys, has, fired_of, least, raised_by, IsWithout}
 use Rattle.gpi.specs.State.{State, delayed_times, arriving, waiting_on, is_end}
 use Rattle.gpi.specs.Events.{Event, or_else, if_has, activate, value_at, hidden_at, stored_at, put_over, report_case, due_case, active_case, later_case, settle_case, end_case, time_case}
-use Rattle.gpi.specs.Content.{Content, IsChangeOf}
+use Rattle.gpi.specs.Content.{Content, Answers, IsChangeOf, IsToldOf}
 use Rattle.gpi.proofs.Widths.{length_widths}
 use Rattle.kernel_base.specs.Steps.{Answered, AreInside, from_time, from_end, from_settle, from_later, from_active, from_due, from_reports}
 use Rattle.kernel_base.proofs.KeySets.{keep_all}
@@ -76,11 +77,14 @@ event_tells c r d l =
     (or_tells n (end_case c.state c.keys) (from_time c) (if_tells n (has key.ReadOnly c.keys && not (is_end c.state.region)) _ tt)
     (time_tells n c.state c.keys (least (delayed_times c.state.delayed ++ c.keys.times))))))))
 
-pub told_of : (b a : Content) (e : Option Event) (m : Moved) (n : ℕ) → Answered b e (Some m) a → Tells n e → IsChangeOf n m.change
-told_of b a None m n h t = absurd (let f = h.0 in cc)
-told_of b a (Some x) m n h t =
-    let f : m ≡ record { change = x.told; fired = fired_of x.fired } = (let g = h.0 in cc) in
-    subst (λ (c : Option Told). IsChangeOf n c) (sym (ap (λ (q : Moved). q.change) f)) (t x refl)
+answer_told : (b a : Content) (e : Option Event) (x : Advance) (n : ℕ) → Answers b e x a → Tells n e → IsToldOf n x
+answer_told b a None x n h t = subst (λ (y : Advance). IsToldOf n y) (sym h.0) tt
+answer_told b a (Some e) x n h t = subst (λ (y : Advance). IsToldOf n y) (sym h.0) (t e refl)
+
+-- what is told of an event is of the design
+pub told_answers : (b a : Content) (e : Option Event) (r : Result Advance NoMemory) (n : ℕ) → IfOk r (λ x. Answers b e x a) → Tells n e → IfOk r (IsToldOf n)
+told_answers b a e (Ok x) n h t = answer_told b a e x n h t
+told_answers b a e (Err y) n h t = h
 
 -- the activation of the first active process
 pub ran_case : (b a : Content) (p : ℕ) (rest : List ℕ) → b.state.active ≡ p ∷ rest → a.procs ≡ b.procs → a.nets ≡ b.nets

@@ -1,5 +1,5 @@
 -- A means of proof: the cases of an event one after the other, for the proofs of simulators.
-use Rattle.std.specs.Prelude.{◌≡◌, ℕ, ◌<◌, List, [], ◌∷◌, ◌++◌, Option, None, Some, if◌then◌else◌}
+use Rattle.std.specs.Prelude.{◌≡◌, ℕ, ◌<◌, List, [], ◌∷◌, ◌++◌, Bool, true, false, Option, None, Some, if◌then◌else◌}
 use Rattle.gpi.specs.declared.types.Moved.{Moved}
 use Rattle.gpi.specs.declared.types.Report.{Report}
 use Rattle.gpi.specs.Keys.{fired_of, least}
@@ -24,6 +24,11 @@ pub record TellsIt (before : Content) (e : Event) (told : Moved) (after : Conten
 abbrev pub Answered : Content → Option Event → Option Moved → Content → Type 0
 Answered before None answer after = (answer ≡ None) × (after ≡ before)
 Answered before (Some e) answer after = (answer ≡ Some (record { change = e.told; fired = fired_of e.fired })) × Does before e after
+
+-- what is answered where a process ran, and where none is active
+abbrev pub moved_if : Bool → Option Moved
+moved_if true = Some (record { change = None; fired = fired_of [] })
+moved_if false = None
 
 -- the cases of an event, from one on
 abbrev pub from_time : Content → Option Event

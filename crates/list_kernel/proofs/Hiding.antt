@@ -1,6 +1,6 @@
 -- The hidden values of the signals.
-use Rattle.std.proofs.Common.{◌≡◌, ℕ, zero, suc, ◌<◌, ◌≤◌, Bool, true, false, List, [], ◌∷◌, ◌++◌, length, set, get_or, replicate, Option, Some, None, refl, sym, ap, ◌∙◌, subst, arith, if◌then◌else◌, map}
-use Rattle.std.proofs.lemmas.List.{length-replicate, length-set}
+use Rattle.std.proofs.Common.{◌≡◌, ℕ, zero, suc, ◌≤◌, List, [], ◌∷◌, length, replicate, Option, Some, None, refl, sym, ap, ◌∙◌, subst, arith}
+use Rattle.std.proofs.lemmas.List.{length-replicate}
 use Rattle.four_value.specs.declared.Digit.{Digit}
 use Rattle.four_value.specs.declared.Digit.TheVariants.{Zero, One, X, Z}
 use Rattle.gpi.specs.declared.types.Update.{Update}
@@ -11,14 +11,13 @@ use Rattle.gpi.specs.Terms.{value, read, widths_of}
 use Rattle.gpi.specs.Cases.{first_match}
 use Rattle.gpi.specs.Targets.{updates_of}
 use Rattle.gpi.specs.Limits.{most_elements}
-use Rattle.gpi.specs.Design.{start_map, start_hidden}
-use Rattle.gpi.specs.Events.{or_shown}
-use Rattle.gpi.specs.Activation.{Map, Hidden, Run, activation, activations, activation_at, blocking, written, written_over, hidden_in, by_truth, by_item, IsHidden, AreHidden}
-use Rattle.gpi.proofs.Widths.{length_widths, get_or_widths}
+use Rattle.gpi.specs.Design.{start_map}
+use Rattle.gpi.specs.Activation.{Map, Hidden, Run, activation, activations, activation_at, blocking, written, written_over, hidden_in, by_truth, by_item, AreHidden}
+use Rattle.gpi.proofs.Widths.{length_widths}
 use Rattle.list_kernel.specs.declared.values.Values.{Values}
 use Rattle.list_kernel.specs.Values.{AreSized, AreValues}
 use Rattle.kernel_base.proofs.Opening.{start_length}
-use Rattle.kernel_base.proofs.Hiding.{hidden_places, same_places, none_hidden, hides, unhides, hidden_width, stored_width}
+use Rattle.kernel_base.proofs.Hiding.{hidden_places, same_places, none_hidden}
 
 pub sized_after : (v w : Values) → AreSized v → widths_of w.shown.items ≡ widths_of v.shown.items → AreHidden w.hidden.items (widths_of v.shown.items)
     → length w.shown_before.items ≡ length v.shown_before.items → length w.hidden_before.items ≡ length v.hidden_before.items → AreSized w

@@ -3,3 +3,4 @@ pub mod Loaded
 pub mod Procs
 pub mod Hiding
 pub mod Queues
+pub mod Taken

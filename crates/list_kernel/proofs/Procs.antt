@@ -1,21 +1,17 @@
 -- One process of the list.
-use Rattle.std.proofs.Common.{◌≡◌, ℕ, zero, suc, ◌+◌, ◌<◌, ◌≤◌, Bool, true, false, List, [], ◌∷◌, ◌++◌, length, get_or, refl, sym, ap, subst, arith, slice_get, Some, None, Option, Result, Ok, Err, OnOk, drop, ◌∙◌, if◌then◌else◌}
+use Rattle.std.proofs.Common.{◌≡◌, ℕ, zero, suc, ◌<◌, List, [], ◌∷◌, ◌++◌, length, get_or, refl, sym, ap, subst, arith, slice_get, Some, None, Option, Result, Ok, Err, OnOk, drop}
 use Rattle.gpi.specs.declared.design.Process.{Process}
 use Rattle.gpi.specs.Activation.{IsSound, Map, Hidden, activation}
 use Rattle.gpi.specs.Soundness.{AreProcesses}
-use Rattle.gpi.specs.Design.{Proc, proc_of, procs_of}
+use Rattle.gpi.specs.Design.{proc_of, procs_of}
 use Rattle.kernel_base.specs.Lists.{barred, own_of}
-use Rattle.gpi.specs.declared.design.Kind.{Kind}
-use Rattle.gpi.specs.declared.design.Kind.TheVariants.{Assign, Always, Initial}
 use Rattle.kernel_base.specs.Steps.{ran, with_run, ended}
 use Rattle.kernel_base.proofs.Activated.{own_barred}
-use Rattle.four_value.specs.Vector.{same_digits}
 use Rattle.gpi.specs.declared.types.Report.{Report}
 use Rattle.gpi.specs.declared.types.Region.TheVariants as region
 use Rattle.gpi.specs.declared.types.Update.{Update}
 use Rattle.gpi.specs.declared.types.Delayed.{Delayed}
-use Rattle.gpi.specs.State.{State, changes, woken, bars_itself, at_once, all_delaying}
-use Rattle.gpi.specs.Events.{activate}
+use Rattle.gpi.specs.State.{State, changes, woken, at_once, all_delaying}
 
 pub sound_at : (ps : List Process) (p : ℕ) (x : Process) (ws : List ℕ) → p < length ps → x ≡ get_or ps p x → AreProcesses ps ws → IsSound x.body ws
 sound_at [] p x ws h e s = absurd (omega arith)

@@ -1,17 +1,10 @@
 -- A means of proof: what the plain simulator holds, for its proofs.
-use Rattle.std.specs.Prelude.{◌≡◌, ℕ, ◌<◌, ◌≤◌, List, [], ◌∷◌, ◌++◌, length, vec_capacity, Option, None, Some, if◌then◌else◌}
+use Rattle.std.specs.Prelude.{◌≡◌, ◌≤◌, length, vec_capacity}
 use Rattle.gpi.specs.Limits.{most_elements}
 use Rattle.gpi.specs.Terms.{widths_of}
-use Rattle.gpi.specs.declared.types.Moved.{Moved}
-use Rattle.gpi.specs.declared.types.Report.{Report}
-use Rattle.gpi.specs.Keys.{fired_of, least}
-use Rattle.gpi.specs.Activation.{Map, Hidden, Run}
-use Rattle.gpi.specs.State.{State, changes, woken, bars_itself, at_once, all_delaying, delayed_times}
-use Rattle.gpi.specs.declared.types.Region.TheVariants as region
-use Rattle.gpi.specs.Design.{Proc, procs_of}
+use Rattle.gpi.specs.Design.{procs_of}
 use Rattle.gpi.specs.Soundness.{AreProcesses}
-use Rattle.gpi.specs.Events.{Event, report_case, due_case, active_case, later_case, settle_case, end_case, time_case, or_else}
-use Rattle.gpi.specs.Content.{Content, Does}
+use Rattle.gpi.specs.Content.{Content}
 use Rattle.list_kernel.specs.declared.kernel.ListKernel.{ListKernel}
 use Rattle.list_kernel.specs.Registered.{keys_of, counts_of, signals_of}
 use Rattle.kernel_base.specs.Steps.{AreInside}

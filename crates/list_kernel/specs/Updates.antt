@@ -1,6 +1,5 @@
 -- A means of proof: the updates that wait, for the proofs of the plain simulator.
 use Rattle.std.specs.Prelude.{◌≡◌, ℕ, ◌+◌, ◌++◌, ◌≤◌, List, [], ◌∷◌, length, vec_capacity, Option}
-use Rattle.gpi.specs.declared.types.Update.{Update}
 use Rattle.gpi.specs.declared.types.Delayed.{Delayed}
 use Rattle.gpi.specs.Keys.{lesser}
 use Rattle.gpi.specs.Targets.{AreFitting}

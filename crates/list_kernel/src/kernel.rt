@@ -71,9 +71,9 @@ use crate::wake::{tell_changes, wake};
 use four_value::Bits;
 use gpi::{
     Advance, Counts, Fired, Flat, Gpi, Key, Kind, Moved, Process, Region, Report, SigId, Told,
-    Update, placed,
+    Update,
 };
-use kernel_base::{are_same, copy_wakes, own_of, start_nets, unseen};
+use kernel_base::{Simulated, are_same, copy_wakes, own_of, start_nets, unseen};
 use port_io::{NoMemory, Sequence};
 use std::alloc::Global;
 use std::mem::swap;
@@ -93,201 +93,6 @@ pub struct ListKernel {
 }
 
 impl ListKernel {
-    /// A signal shows these digits from now on.
-    #[tactic(auto, using(gpi::proofs::Widths::widths, crate::proofs::Loaded::loaded))]
-    fn show(&mut self, sig: SigId, bits: Bits) -> Moved
-        requires loaded { IsLoaded self.old }
-        requires sig { sig.0 < length self.old.values.shown.items }
-        requires width { length bits ≡ length (value_at (content_of self.old).state sig) }
-        ensures stays { Stays self.old self.new }
-        ensures is { let c = content_of self.old in TellsIt c (show c.procs c.state c.keys sig bits) result (content_of self.new) }
-    {
-        let before = self.values.shown[sig.0 as usize];
-        if are_same(before, bits) {
-            return unseen();
-        }
-        self.values.show(sig, bits);
-        let reports = [Report {
-            sig,
-            before,
-            after: bits,
-        }];
-        wake(&self.processes, &reports, &mut self.active, None);
-        let fired = self.book.change(&reports[0]);
-        Moved {
-            change: Some(Told { sig, bits }),
-            fired,
-        }
-    }
-
-    /// A signal gets a hidden value, or another one.
-    #[tactic(auto, using(kernel_base::proofs::Hiding::hidden_places))]
-    fn hide(&mut self, sig: SigId, bits: Bits)
-        requires loaded { IsLoaded self.old }
-        requires sig { sig.0 < length self.old.values.shown.items }
-        requires width { length bits ≡ length (value_at (content_of self.old).state sig) }
-        ensures stays { Stays self.old self.new }
-        ensures is { let c = content_of self.old in
-            content_of self.new ≡ record c { state = with_hidden c.state sig (Some bits) } }
-    {
-        self.values.hide(sig, bits);
-    }
-
-    /// A signal has no hidden value any more.
-    fn unhide(&mut self, sig: SigId)
-        requires loaded { IsLoaded self.old }
-        requires sig { sig.0 < length self.old.values.shown.items }
-        ensures stays { Stays self.old self.new }
-        ensures is { let c = content_of self.old in
-            content_of self.new ≡ record c { state = with_hidden c.state sig None } }
-    {
-        self.values.unhide(sig);
-    }
-
-    /// Writes a signal: of a forced one the hidden value alone.
-    #[tactic(auto, using(kernel_base::proofs::Hiding::hidden_places))]
-    fn put(&mut self, sig: SigId, bits: Bits) -> Moved
-        requires loaded { IsLoaded self.old }
-        requires sig { sig.0 < length self.old.values.shown.items }
-        requires width { length bits ≡ length (value_at (content_of self.old).state sig) }
-        ensures stays { Stays self.old self.new }
-        ensures is { let c = content_of self.old in TellsIt c (put c.procs c.state c.keys sig bits) result (content_of self.new) }
-    {
-        if self.values.is_forced(sig) {
-            self.hide(sig, bits);
-            return unseen();
-        }
-        self.show(sig, bits)
-    }
-
-    /// Whether a signal is a net.
-    fn is_net(&self, sig: SigId) -> bool
-        requires { sig.0 < length self.now.nets.items }
-        ensures { result ≡ slice_index_or self.now.nets.items sig.0 false }
-    {
-        self.nets[sig.0 as usize]
-    }
-
-    /// Releases a forced signal with this hidden value: a net shows it, a register goes on with what it shows.
-    fn release_forced(&mut self, sig: SigId, bits: Bits) -> Moved
-        requires loaded { IsLoaded self.old }
-        requires sig { sig.0 < length self.old.values.shown.items }
-        requires width { length bits ≡ length (value_at (content_of self.old).state sig) }
-        ensures stays { Stays self.old self.new }
-        ensures is { let c = content_of self.old in
-            TellsIt c (release_over (Some bits) (slice_index_or c.nets sig.0 false) c.procs c.state c.keys sig) result (content_of self.new) }
-    {
-        let net = self.is_net(sig);
-        self.unhide(sig);
-        if net {
-            return self.show(sig, bits);
-        }
-        unseen()
-    }
-
-    /// A report is told.
-    fn tell(&mut self, report: &Report) -> Moved
-        requires loaded { IsLoaded self.old }
-        requires sig { report.now.sig.0 < length self.old.values.shown.items }
-        ensures stays { Stays self.old self.new }
-        ensures is { let c = content_of self.old in TellsIt c (record {
-          state = record c.state { region = Region.Active };
-          told = tells report.now;
-          fired = edge_keys report.now c.keys;
-        }) result (content_of self.new) }
-    {
-        self.region = Region::Active;
-        let fired = self.book.change(report);
-        Moved {
-            change: Some(Told {
-                sig: report.sig,
-                bits: report.after,
-            }),
-            fired,
-        }
-    }
-
-    /// An update is applied.
-    #[tactic(auto, using(kernel_base::proofs::Hiding::hidden_places, kernel_base::proofs::Hiding::stored_width))]
-    fn apply(&mut self, update: &Update) -> Moved
-        requires loaded { IsLoaded self.old }
-        requires sig { update.now.sig.0 < length self.old.values.shown.items }
-        requires inside { update.now.low + length update.now.bits ≤ length (value_at (content_of self.old).state update.now.sig) }
-        ensures stays { Stays self.old self.new }
-        ensures is { let c = content_of self.old in
-            TellsIt c (put c.procs (record c.state { region = Region.Active }) c.keys update.now.sig
-            (with_part (stored_at c.state update.now.sig) update.now.low update.now.bits)) result (content_of self.new) }
-    {
-        self.region = Region::Active;
-        let bits = placed(self.values.stored(update.sig), update.low, update.bits);
-        self.put(update.sig, bits)
-    }
-
-    /// 1: a report is told.
-    fn report_first(&mut self) -> Option<Moved>
-        requires { IsLoaded self.old }
-        ensures stays { Stays self.old self.new }
-        ensures is { Answered (content_of self.old)
-            (report_case (content_of self.old).state (content_of self.old).keys (content_of self.old).state.reports) result (content_of self.new) }
-        ensures none { result ≡ None → self.new.reports.items ≡ [] }
-    {
-        let report = take_first(&mut self.reports)?;
-        Some(self.tell(&report))
-    }
-
-    /// 2: a due update is applied.
-    fn due_first(&mut self) -> Option<Moved>
-        requires { IsLoaded self.old }
-        ensures stays { Stays self.old self.new }
-        ensures is { let c = content_of self.old in Answered c (due_case c.procs c.state c.keys c.state.due) result (content_of self.new) }
-        ensures none { result ≡ None → self.new.updates.due.items ≡ [] }
-        ensures quiet { self.old.reports.items ≡ [] → self.new.reports.items ≡ [] }
-    {
-        let update = take_first(&mut self.updates.due)?;
-        Some(self.apply(&update))
-    }
-
-    /// 4: later updates become due.
-    fn later_first(&mut self) -> Option<Moved>
-        requires loaded { IsLoaded self.old }
-        requires none { self.old.updates.due.items ≡ [] }
-        ensures stays { Stays self.old self.new }
-        ensures is { let c = content_of self.old in Answered c (later_case c.procs c.state c.keys) result (content_of self.new) }
-    {
-        match take_first(&mut self.updates.later) {
-            Some(update) => {
-                swap(&mut self.updates.due, &mut self.updates.later);
-                Some(self.apply(&update))
-            }
-            None => None,
-        }
-    }
-
-    /// 3: a process is run.
-    fn run_first(&mut self) -> Result<Option<Moved>, NoMemory>
-        requires loaded { IsLoaded self.old }
-        requires quiet { self.old.reports.items ≡ [] }
-        ensures stays { Stays self.old self.new }
-        ensures is { let c = content_of self.old in IfOk result
-            (λ answer. Answered c (active_case c.procs c.state c.state.active) answer (content_of self.new)) }
-        ensures kept { OnErr result (content_of self.new ≡ content_of self.old) }
-        ensures due { self.new.updates.due.items ≡ self.old.updates.due.items }
-        ensures cause { OnErr result (0 < length self.old.active.items) }
-    {
-        if self.active.is_empty() {
-            return Ok(None);
-        }
-        let p = self.active[0];
-        match self.run_body(p) {
-            Ok(()) => {
-                self.active.remove(0);
-                self.end_activation(p);
-                Ok(Some(unseen()))
-            }
-            Err(e) => Err(e),
-        }
-    }
-
     /// Runs the body of a process. The values keep what was shown before it.
     fn run_body(&mut self, p: u32) -> Result<(), NoMemory>
         requires loaded { IsLoaded self.old }
@@ -338,119 +143,119 @@ impl ListKernel {
         self.region = Region::Active;
     }
 
-    /// The cases of an event, from 6 on.
-    fn from_end(&mut self) -> Option<Moved>
-        requires { IsLoaded self.old }
-        ensures stays { Stays self.old self.new }
-        ensures is { Answered (content_of self.old) (from_end (content_of self.old)) result (content_of self.new) }
-    {
-        match self.end() {
-            Some(moved) => Some(moved),
-            None => self.move_time(),
-        }
-    }
-
-    /// From 5 on.
-    fn from_settle(&mut self) -> Option<Moved>
-        requires { IsLoaded self.old }
-        ensures stays { Stays self.old self.new }
-        ensures is { Answered (content_of self.old) (from_settle (content_of self.old)) result (content_of self.new) }
-    {
-        match self.settle() {
-            Some(moved) => Some(moved),
-            None => self.from_end(),
-        }
-    }
-
-    /// From 4 on.
-    fn from_later(&mut self) -> Option<Moved>
-        requires loaded { IsLoaded self.old }
-        requires none { self.old.updates.due.items ≡ [] }
-        ensures stays { Stays self.old self.new }
-        ensures is { Answered (content_of self.old) (from_later (content_of self.old)) result (content_of self.new) }
-    {
-        match self.later_first() {
-            Some(moved) => Some(moved),
-            None => self.from_settle(),
-        }
-    }
-
-    /// From 3 on.
-    fn from_active(&mut self) -> Result<Option<Moved>, NoMemory>
-        requires loaded { IsLoaded self.old }
-        requires quiet { self.old.reports.items ≡ [] }
-        requires none { self.old.updates.due.items ≡ [] }
-        ensures stays { Stays self.old self.new }
-        ensures is { IfOk result (λ answer. Answered (content_of self.old) (from_active (content_of self.old)) answer (content_of self.new)) }
-        ensures kept { OnErr result (content_of self.new ≡ content_of self.old) }
-        ensures cause { OnErr result (IsRunning (content_of self.old).state) }
-    {
-        match self.run_first() {
-            Ok(Some(moved)) => Ok(Some(moved)),
-            Ok(None) => Ok(self.from_later()),
-            Err(e) => Err(e),
-        }
-    }
-
-    /// From 2 on.
-    fn from_due(&mut self) -> Result<Option<Moved>, NoMemory>
-        requires loaded { IsLoaded self.old }
-        requires quiet { self.old.reports.items ≡ [] }
-        ensures stays { Stays self.old self.new }
-        ensures is { IfOk result (λ answer. Answered (content_of self.old) (from_due (content_of self.old)) answer (content_of self.new)) }
-        ensures kept { OnErr result (content_of self.new ≡ content_of self.old) }
-        ensures cause { OnErr result (IsRunning (content_of self.old).state) }
-    {
-        match self.due_first() {
-            Some(moved) => Ok(Some(moved)),
-            None => self.from_active(),
-        }
-    }
-
-    /// All cases.
-    fn one_event(&mut self) -> Result<Option<Moved>, NoMemory>
-        requires { IsLoaded self.old }
-        ensures stays { Stays self.old self.new }
-        ensures is { IfOk result (λ answer. Answered (content_of self.old) (from_reports (content_of self.old)) answer (content_of self.new)) }
-        ensures kept { OnErr result (content_of self.new ≡ content_of self.old) }
-        ensures cause { OnErr result (IsRunning (content_of self.old).state) }
-    {
-        match self.report_first() {
-            Some(moved) => Ok(Some(moved)),
-            None => self.from_due(),
-        }
-    }
-
     /// The next time at which something is to happen: a registered one, or that of a delayed update.
     fn next_time(&self) -> Option<u64>
         ensures { let c = content_of self.now in result ≡ least (delayed_times c.state.delayed ++ c.keys.times) }
     {
         soonest(&self.updates.delayed, self.book.least_time())
     }
+}
 
-    /// 7: time moves on, and the updates that waited for it become the later ones.
-    fn move_time(&mut self) -> Option<Moved>
-        requires { IsLoaded self.old }
-        ensures stays { Stays self.old self.new }
-        ensures is { Answered (content_of self.old) (from_time (content_of self.old)) result (content_of self.new) }
-    {
-        let time = self.next_time()?;
-        let fired = self.book.begin_step(time);
-        self.updates.arrive(time);
-        self.time = time;
-        self.region = Region::Begin;
+impl Simulated for ListKernel {
+    ghost use Rattle.list_kernel.specs.Kernel.{content_of, IsLoaded};
+
+    ghost held = { content_of };
+
+    ghost is_held = { IsLoaded };
+
+    fn enter(&mut self, region: Region) {
+        self.region = region;
+    }
+
+    fn shown_at(&self, sig: SigId) -> Bits {
+        self.values.shown[sig.0 as usize]
+    }
+
+    #[tactic(auto, using(kernel_base::proofs::Hiding::hidden_places))]
+    fn hidden_at(&self, sig: SigId) -> Option<Bits> {
+        self.values.hidden[sig.0 as usize]
+    }
+
+    #[tactic(auto, using(kernel_base::proofs::Hiding::hidden_places))]
+    fn hide(&mut self, sig: SigId, bits: Bits) {
+        self.values.hide(sig, bits);
+    }
+
+    fn unhide(&mut self, sig: SigId) {
+        self.values.unhide(sig);
+    }
+
+    fn is_net(&self, sig: SigId) -> bool {
+        self.nets[sig.0 as usize]
+    }
+
+    #[tactic(auto, using(gpi::proofs::Widths::widths, crate::proofs::Loaded::loaded))]
+    fn show(&mut self, sig: SigId, bits: Bits) -> Moved {
+        let before = self.values.shown[sig.0 as usize];
+        if are_same(before, bits) {
+            return unseen();
+        }
+        self.values.show(sig, bits);
+        let reports = [Report {
+            sig,
+            before,
+            after: bits,
+        }];
+        wake(&self.processes, &reports, &mut self.active, None);
+        let fired = self.book.change(&reports[0]);
+        Moved {
+            change: Some(Told { sig, bits }),
+            fired,
+        }
+    }
+
+    fn fire(&mut self, report: &Report) -> Fired {
+        self.book.change(report)
+    }
+
+    fn next_report(&mut self) -> Option<Report> {
+        take_first(&mut self.reports)
+    }
+
+    fn next_due(&mut self) -> Option<Update> {
+        take_first(&mut self.updates.due)
+    }
+
+    fn next_later(&mut self) -> Option<Update> {
+        match take_first(&mut self.updates.later) {
+            Some(update) => {
+                swap(&mut self.updates.due, &mut self.updates.later);
+                Some(update)
+            }
+            None => None,
+        }
+    }
+
+    fn run_first(&mut self) -> Result<bool, NoMemory> {
+        if self.active.is_empty() {
+            return Ok(false);
+        }
+        let p = self.active[0];
+        match self.run_body(p) {
+            Ok(()) => {
+                self.active.remove(0);
+                self.end_activation(p);
+                Ok(true)
+            }
+            Err(e) => Err(e),
+        }
+    }
+
+    fn settle(&mut self) -> Option<Moved> {
+        if self.region == Region::End || !self.book.take(Key::ReadWrite) {
+            return None;
+        }
+        self.region = Region::Settle;
         Some(Moved {
             change: None,
-            fired,
+            fired: Fired {
+                first: Some(Key::ReadWrite),
+                second: None,
+            },
         })
     }
 
-    /// 6: ReadOnly fires.
-    fn end(&mut self) -> Option<Moved>
-        requires { IsLoaded self.old }
-        ensures stays { Stays self.old self.new }
-        ensures is { Answered (content_of self.old) (end_case (content_of self.old).state (content_of self.old).keys) result (content_of self.new) }
-    {
+    fn end(&mut self) -> Option<Moved> {
         if self.region == Region::End || !self.book.take(Key::ReadOnly) {
             return None;
         }
@@ -464,23 +269,15 @@ impl ListKernel {
         })
     }
 
-    /// 5: ReadWrite fires.
-    fn settle(&mut self) -> Option<Moved>
-        requires { IsLoaded self.old }
-        ensures stays { Stays self.old self.new }
-        ensures is { Answered (content_of self.old)
-            (settle_case (content_of self.old).state (content_of self.old).keys) result (content_of self.new) }
-    {
-        if self.region == Region::End || !self.book.take(Key::ReadWrite) {
-            return None;
-        }
-        self.region = Region::Settle;
+    fn move_time(&mut self) -> Option<Moved> {
+        let time = self.next_time()?;
+        let fired = self.book.begin_step(time);
+        self.updates.arrive(time);
+        self.time = time;
+        self.region = Region::Begin;
         Some(Moved {
             change: None,
-            fired: Fired {
-                first: Some(Key::ReadWrite),
-                second: None,
-            },
+            fired,
         })
     }
 }
@@ -525,24 +322,16 @@ impl Gpi for ListKernel {
         self.put(sig, bits).fired
     }
 
-    #[tactic(auto, using(kernel_base::proofs::Hiding::hidden_places))]
     fn force(&mut self, sig: SigId, bits: Bits) -> Fired {
-        let stored = self.values.stored(sig);
-        self.hide(sig, stored);
-        self.show(sig, bits).fired
+        self.put_force(sig, bits).fired
     }
 
-    #[tactic(auto, using(kernel_base::proofs::Hiding::hidden_places))]
     fn release(&mut self, sig: SigId) -> Fired {
-        match self.values.hidden_of(sig) {
-            Some(bits) => self.release_forced(sig, bits).fired,
-            None => unseen().fired,
-        }
+        self.end_force(sig).fired
     }
 
-    #[tactic(auto, using(kernel_base::proofs::Hiding::hidden_places))]
     fn is_forced(&self, sig: SigId) -> bool {
-        self.values.is_forced(sig)
+        self.hidden_at(sig).is_some()
     }
 
     #[tactic(auto, using(callback_book::proofs::Placed::asked_placed))]
@@ -568,11 +357,7 @@ impl Gpi for ListKernel {
     }
 
     fn advance(&mut self) -> Result<Advance, NoMemory> {
-        match self.one_event() {
-            Ok(Some(moved)) => Ok(Advance::Moved(moved)),
-            Ok(None) => Ok(Advance::Idle),
-            Err(e) => Err(e),
-        }
+        self.one_event()
     }
 }
 

@@ -8,7 +8,7 @@ ghost use Rattle.kernel_base.specs.Lists.{barred, AreBelow, AreDistinct};
 
 use four_value::{Bits, edge};
 use gpi::{Process, Report, SigId, Wake};
-use kernel_base::{are_same, low_digit, meets_edge};
+use kernel_base::{are_same, low_digit, meets_edge, push_once};
 use port_io::Sequence;
 
 /// Whether the number is in the list.
@@ -80,22 +80,6 @@ pub fn tell_changes(before: &[Bits], signals: &[Bits], reports: &mut Vec<Report>
     }
 }
 
-/// Puts a process at the end of the active list; there are `count` processes.
-#[tactic(auto, using(kernel_base::proofs::Lists::pushes))]
-fn add_active(active: &mut Vec<u32>, n: u32, count: usize)
-    requires inside { n < count }
-    requires new { holds n active.old.items ≡ false }
-    requires below { AreBelow count active.old.items }
-    requires distinct { AreDistinct active.old.items }
-    requires room { count ≤ vec_capacity active.old }
-    ensures is { active.new.items ≡ active.old.items ++ n ∷ [] }
-    ensures below { AreBelow count active.new.items }
-    ensures distinct { AreDistinct active.new.items }
-    ensures room { vec_capacity active.old ≤ vec_capacity active.new }
-{
-    active.push(n).unwrap();
-}
-
 /// Whether the changes wake this process: it waits for one of them, and isn't barred.
 #[tactic(auto, using(crate::proofs::Wakes::turned))]
 fn is_woken(process: &Process, n: u32, reports: &[Report], own: Option<u32>, active: &[u32]) -> bool
@@ -137,7 +121,7 @@ fn wake_each(processes: &[Process], reports: &[Report], active: &mut Vec<u32>, o
     let mut n = 0;
     while n < processes.len() {
         if is_woken(&processes[n], n as u32, reports, own, &active[..len]) {
-            add_active(active, n as u32, processes.len());
+            push_once(active, n as u32, processes.len());
         }
         n += 1;
     }

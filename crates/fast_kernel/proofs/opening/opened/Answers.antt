@@ -1,6 +1,5 @@
-use Rattle.std.proofs.Common.{◌≡◌, ◌∙◌, ◌≤◌, Bool, ℕ, List, None, length, replicate, refl, sym, ap, subst, arith, vec_capacity}
-use Rattle.gpi.specs.Activation.{Hidden}
-use Rattle.gpi.specs.Design.{procs_of, widths, start_hidden}
+use Rattle.std.proofs.Common.{◌≡◌, ◌∙◌, ◌≤◌, ℕ, List, None, length, replicate, refl, sym, ap, subst, arith, vec_capacity}
+use Rattle.gpi.specs.Design.{widths, start_hidden}
 use Rattle.v_exec.specs.Workspace.{IsReady}
 use Rattle.kernel_base.proofs.Hiding.{start_unforced}
 use Rattle.gpi.specs.declared.types.Region.TheVariants as region

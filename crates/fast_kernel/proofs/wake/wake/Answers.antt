@@ -1,8 +1,7 @@
-use Rattle.std.proofs.Common.{◌≡◌, ◌∙◌, ◌++◌, ℕ, List, length, ap, sym, subst, arith, zero-add}
-use Rattle.gpi.specs.Keys.{holds}
-use Rattle.kernel_base.specs.Lists.{barred, AreBelow, AreDistinct}
-use Rattle.event_queue.specs.Queues.{Held, held, processes_of}
-use Rattle.fast_kernel.specs.Waiters.{picked, is_reached}
+use Rattle.std.proofs.Common.{◌∙◌, ◌++◌, ℕ, List, length, ap, arith}
+use Rattle.kernel_base.specs.Lists.{barred}
+use Rattle.event_queue.specs.Queues.{held, processes_of}
+use Rattle.fast_kernel.specs.Waiters.{is_reached}
 use Rattle.fast_kernel.specs.Woken.{unbarred}
 use Rattle.fast_kernel.proofs.Woken.{picked_below, picked_distinct, found_woken}
 use Rattle.fast_kernel.proofs.wake.wake.Goals as goal

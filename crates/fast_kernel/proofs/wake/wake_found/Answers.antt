@@ -1,4 +1,4 @@
-use Rattle.std.proofs.Common.{◌≡◌, ◌∙◌, ℕ, List, get_or, ap, refl, sym, subst, ◌<◌}
+use Rattle.std.proofs.Common.{◌∙◌, ℕ, get_or, ap, refl, sym, subst, ◌<◌}
 use Rattle.event_queue.specs.Queues.{Held, held, processes_of}
 use Rattle.fast_kernel.proofs.Woken.{below_at, found_step, fresh_step, first_fresh}
 use Rattle.fast_kernel.proofs.wake.wake_found.Goals as goal

@@ -1,8 +1,8 @@
-use Rattle.std.proofs.Common.{refl, ap}
+use Rattle.std.proofs.Common.{ap}
 use Rattle.gpi.specs.Terms.{widths_of}
 use Rattle.event_queue.specs.Queues.{Held, held}
-use Rattle.fast_kernel.proofs.Loaded.{same_queued, time_stays, queue_stays}
-use Rattle.fast_kernel.proofs.Fired.{new_time, registers, same_content}
+use Rattle.fast_kernel.proofs.Loaded.{same_queued, time_stays}
+use Rattle.fast_kernel.proofs.Fired.{new_time, registers}
 use Rattle.fast_kernel.proofs.simulation.Simulation.register.Goals as goal
 
 pub add_time-requires : goal.add_time-requires
