@@ -1,5 +1,5 @@
 -- The instructions of statements do what the statements do.
-use Rattle.std.proofs.Common.{◌≡◌, ℕ, ◌+◌, ◌-◌, ◌≤◌, List, [], ◌∷◌, ◌++◌, length, max, refl, ap, sym, subst, ◌∙◌, arith, length-append}
+use Rattle.std.proofs.Common.{◌≡◌, ℕ, zero, suc, ◌+◌, ◌-◌, ◌≤◌, List, [], ◌∷◌, ◌++◌, length, max, refl, ap, sym, subst, ◌∙◌, arith, length-append}
 use Rattle.four_value.specs.declared.Digit.{Digit}
 use Rattle.four_value.specs.declared.Digit.TheVariants as digit
 use Rattle.gpi.specs.declared.acts.Act.{Act}
@@ -16,9 +16,9 @@ use Rattle.v_exec.specs.declared.instruction.Mode.TheVariants as mode
 use Rattle.v_exec.specs.declared.packing.needs.Needs.{Needs}
 use Rattle.v_exec.specs.Machine.{Machine, exec, unless}
 use Rattle.v_exec.specs.Fits.{Room, Fits}
-use Rattle.v_exec.specs.Packing.{term_front, term_depth, deepest, target_front, target_depth, target_stores, blocking_front}
+use Rattle.v_exec.specs.Packing.{term_front, term_depth, deepest, target_front, target_depth, target_stores, blocking_front, skip_front}
 use Rattle.v_exec.specs.Packed.{EndsBy, between, FitsUpTo, Packs, PacksAct}
-use Rattle.v_exec.proofs.Terms.{term_runs, term_fits, term_stands, front_more, front_both}
+use Rattle.v_exec.proofs.Terms.{term_runs, term_fits, term_stands, front_both}
 use Rattle.v_exec.proofs.Targets.{later_runs, blocking_runs, target_fits, blocking_fits, target_stands, blocking_stands}
 
 -- ---- passing over
@@ -116,6 +116,25 @@ packs_later is n target t depth a needs ad sd td nd ns few_d few_s =
       stores = few_s;
     }
 
+-- ---- jumps; to pass over none takes no jump
+
+pub skip_ends : (k : ℕ) (other : List Instruction) → EndsBy other (skip_front k other)
+skip_ends zero other = ([], refl)
+skip_ends (suc k) other = (code.Skip (suc k) ∷ [], refl)
+
+pub skip_length : (k : ℕ) (other : List Instruction) → length other ≤ length (skip_front k other)
+skip_length k other = ends_length other (skip_front k other) (skip_ends k other)
+
+pub skip_runs : (is other : List Instruction) (k : ℕ) (st : List (List Digit)) (r : Run) → EndsBy is other → k ≡ length other - length is
+    → exec (skip_front k other) 0 (between st r) ≡ exec is 0 (between st r)
+skip_runs is other zero st r e h = exec_to is other 0 (between st r) e h
+skip_runs is other (suc k) st r e h = exec_to is other (suc k) (between st r) e h
+
+pub skip_fits : (is other : List Instruction) (k : ℕ) (room : Room) (ws st : List ℕ) (j : ℕ) → EndsBy is other → k ≡ length other - length is
+    → Fits room ws is 0 (record { stack = st; stores = j }) → Fits room ws (skip_front k other) 0 (record { stack = st; stores = j })
+skip_fits is other zero room ws st j e h f = fits_to is other 0 room ws st j e h f
+skip_fits is other (suc k) room ws st j e h f = (tt, fits_to is other (suc k) room ws st j e h f)
+
 -- ---- choices
 
 choice_run : (d : Digit) (n : ℕ) (first is : List Instruction) (st : List (List Digit)) (r a b : Run)
@@ -127,14 +146,15 @@ choice_run digit.X n first is st r a b x y = y
 choice_run digit.Z n first is st r a b x y = y
 
 pub packs_choice : (is other first : List Instruction) (t : Term) (a b : Act) (n k depth : ℕ) (na nb needs : Needs)
-    → PacksAct is other b nb → k ≡ length other - length is → PacksAct (code.Skip k ∷ other) first a na → n ≡ length first - length other
+    → PacksAct is other b nb → k ≡ length other - length is → PacksAct (skip_front k other) first a na → n ≡ length first - length other
     → depth ≡ term_depth t
     → needs.depth ≡ max depth (max na.depth nb.depth) → needs.stores ≡ max na.stores nb.stores
     → depth + length first + 1 ≤ length (term_front t (code.Unless n ∷ first))
     → Packs is (term_front t (code.Unless n ∷ first)) (λ r. by_truth (truth (value t (read r.signals))) (activation a r) (activation b r))
     (λ ws. term.IsSound t ws × IsSound a ws × IsSound b ws) needs
 packs_choice is other first t a b n k depth na nb needs pb ek pa en td nd ns few =
-    let skipped : EndsBy other first = front_more other (code.Skip k) first pa.ends in
+    let skipped : EndsBy other first = front_both other (skip_front k other) first (skip_ends k other) pa.ends in
+    let ls = skip_length k other in
     let all = front_both is other first pb.ends skipped in
     let lo = ends_length is other pb.ends in
     let lf = ends_length other first skipped in
@@ -144,16 +164,16 @@ packs_choice is other first t a b n k depth na nb needs pb ek pa en td nd ns few
       runs = λ st r.
           term_runs t (code.Unless n ∷ first) (between st r)
           ∙ choice_run (truth (value t (read r.signals))) n first is st r (activation a r) (activation b r)
-          (pa.runs st r ∙ exec_to is other k (between st (activation a r)) pb.ends ek)
+          (pa.runs st r ∙ skip_runs is other k st (activation a r) pb.ends ek)
           (exec_to other first n (between st r) skipped en ∙ pb.runs st r);
       fits = λ room ws st c s d l x j m.
           let rest : FitsUpTo room ws is st (c + na.stores) = λ i h. x i (omega (arith, h, ns)) in
-          let behind : FitsUpTo room ws (code.Skip k ∷ other) st (c + na.stores) =
-          λ i h. (tt, fits_to is other k room ws st i pb.ends ek (rest i h)) in
+          let behind : FitsUpTo room ws (skip_front k other) st (c + na.stores) =
+          λ i h. skip_fits is other k room ws st i pb.ends ek (rest i h) in
           let yes = pa.fits room ws st c s.1 (omega (arith, d, nd)) (omega (arith, l, ns)) behind in
           let no = pb.fits room ws st c s.2 (omega (arith, d, nd)) (omega (arith, l, ns)) (λ i h. x i (omega (arith, h, ns))) in
           term_fits t room ws (code.Unless n ∷ first) (record { stack = st; stores = j }) s.0 (omega (arith, d, nd, td))
           (tt, (yes j m, fits_to other first n room ws st j skipped en (no j m)));
-      depth = omega (arith, nd, few, pa.depth, pb.depth, lo, lf);
-      stores = omega (arith, ns, few, pa.stores, pb.stores, lo, lf);
+      depth = omega (arith, nd, few, pa.depth, pb.depth, lo, lf, ls);
+      stores = omega (arith, ns, few, pa.stores, pb.stores, lo, lf, ls);
     }

@@ -14,10 +14,10 @@ use Rattle.v_exec.specs.declared.instruction.Instruction.TheVariants as code
 use Rattle.v_exec.specs.declared.packing.needs.Needs.{Needs}
 use Rattle.v_exec.specs.Machine.{Machine, exec}
 use Rattle.v_exec.specs.Fits.{Room, Fits}
-use Rattle.v_exec.specs.Packing.{term_front, term_depth}
+use Rattle.v_exec.specs.Packing.{term_front, term_depth, skip_front}
 use Rattle.v_exec.specs.Packed.{EndsBy, between, FitsUpTo, Packs, PacksAct, ItemStands, ItemsStand, labels_front, labels_depth}
 use Rattle.v_exec.proofs.Terms.{term_runs, term_fits, term_stands, front_more, front_both}
-use Rattle.v_exec.proofs.Acts.{exec_to, fits_to, ends_length}
+use Rattle.v_exec.proofs.Acts.{exec_to, fits_to, ends_length, skip_ends, skip_length, skip_runs, skip_fits}
 
 -- ---- items
 
@@ -53,15 +53,15 @@ items_none is n e g = record {
 }
 
 -- one more item, whose instructions were put in front
-item_new : (is old mid : List Instruction) (a : Act) (k : ℕ) (n : Needs) → EndsBy is old → k ≡ length old - length is → PacksAct (code.Skip k ∷ old) mid a n
+item_new : (is old mid : List Instruction) (a : Act) (k : ℕ) (n : Needs) → EndsBy is old → k ≡ length old - length is → PacksAct (skip_front k old) mid a n
     → ItemStands is (code.Discard ∷ mid) (length mid + 1) a n
 item_new is old mid a k n e g p = record {
   here = code.Discard ∷ mid;
   ends = ([], refl);
   long = omega arith;
-  runs = λ ds st r. p.runs st r ∙ exec_to is old k (between st (activation a r)) e g;
+  runs = λ ds st r. p.runs st r ∙ skip_runs is old k st (activation a r) e g;
   fits = λ w room ws st c s d l x j m.
-      (tt, p.fits room ws st c s d l (λ i h. (tt, fits_to is old k room ws st i e g (x i h))) j m);
+      (tt, p.fits room ws st c s d l (λ i h. skip_fits is old k room ws st i e g (x i h)) j m);
 }
 
 pub at_push : {A : Type 0} (P : ℕ → A → Type 0) (starts : List ℕ) (items : List A) (start : ℕ) (a : A) → length starts ≡ length items
@@ -76,15 +76,16 @@ at_push {A} P (s ∷ starts) (y ∷ items) start a e f p (suc k) x g =
     at_push P starts items start a (omega (arith, e)) (λ i z h. f (suc i) z h) p k x g
 
 pub items_next : (is old mid : List Instruction) (starts : List ℕ) (items : List Act) (a : Act) (k start : ℕ) (n m needs : Needs)
-    → ItemsStand is old starts items n → k ≡ length old - length is → PacksAct (code.Skip k ∷ old) mid a m → start ≡ length (code.Discard ∷ mid)
+    → ItemsStand is old starts items n → k ≡ length old - length is → PacksAct (skip_front k old) mid a m → start ≡ length (code.Discard ∷ mid)
     → needs.depth ≡ max n.depth m.depth → needs.stores ≡ max n.stores m.stores
     → ItemsStand is (code.Discard ∷ mid) (starts ++ start ∷ []) (items ++ a ∷ []) needs
 items_next is old mid starts items a k start n m needs i g p s hd hs =
     let new = code.Discard ∷ mid in
-    let skipped : EndsBy old mid = front_more old (code.Skip k) mid p.ends in
+    let skipped : EndsBy old mid = front_both old (skip_front k old) mid (skip_ends k old) p.ends in
     let behind : EndsBy old new = (code.Discard ∷ skipped.0, ap (λ (xs : List Instruction). code.Discard ∷ xs) skipped.1) in
     let lo = ends_length is old i.ends in
-    let ln = ends_length (code.Skip k ∷ old) mid p.ends in
+    let ln = ends_length (skip_front k old) mid p.ends in
+    let ls = skip_length k old in
     let e : length mid + 1 ≡ start = omega (arith, s) in
     let here : ItemStands is new start a needs =
     item_more is new new start a m needs (omega (arith, hd)) (omega (arith, hs)) ([], refl)
@@ -94,8 +95,8 @@ items_next is old mid starts items a k start n m needs i g p s hd hs =
       count = omega (arith, length-append starts (start ∷ []), length-append items (a ∷ []), i.count);
       each = at_push (λ (j : ℕ) (x : Act). ItemStands is new j x needs) starts items start a i.count
           (λ c x h. item_more is old new (slice_index starts c) x n needs (omega (arith, hd)) (omega (arith, hs)) behind (i.each c x h)) here;
-      depth = omega (arith, hd, i.depth, p.depth, lo, ln);
-      stores = omega (arith, hs, i.stores, p.stores, lo, ln);
+      depth = omega (arith, hd, i.depth, p.depth, lo, ln, ls);
+      stores = omega (arith, hs, i.stores, p.stores, lo, ln, ls);
     }
 
 -- ---- labels
@@ -176,7 +177,7 @@ labels_fit kind starts (label ∷ ls) is all last items n room ws st w c i e h a
 -- ---- the whole statement
 
 pub packs_case : (is all mid : List Instruction) (kind : CaseKind) (t : Term) (starts : List ℕ) (labels : List Label) (items : List Act) (other : Act)
-    (k labels_room depth : ℕ) (n m needs : Needs) → ItemsStand is all starts items n → k ≡ length all - length is → PacksAct (code.Skip k ∷ all) mid other m
+    (k labels_room depth : ℕ) (n m needs : Needs) → ItemsStand is all starts items n → k ≡ length all - length is → PacksAct (skip_front k all) mid other m
     → AreItems labels (length items)
     → labels_room ≡ labels_depth labels → depth ≡ term_depth t
     → needs.depth ≡ max depth (max labels_room (max n.depth m.depth)) → needs.stores ≡ max n.stores m.stores
@@ -188,13 +189,14 @@ pub packs_case : (is all mid : List Instruction) (kind : CaseKind) (t : Term) (s
 packs_case is all mid kind t starts labels items other k labels_room depth n m needs i ek p inside el et nd ns few_labels few =
     let last = code.Discard ∷ mid in
     let code_of_labels = labels_front kind starts labels last in
-    let skipped : EndsBy all mid = front_more all (code.Skip k) mid p.ends in
+    let skipped : EndsBy all mid = front_both all (skip_front k all) mid (skip_ends k all) p.ends in
     let behind : EndsBy all last = (code.Discard ∷ skipped.0, ap (λ (xs : List Instruction). code.Discard ∷ xs) skipped.1) in
     let end_last : EndsBy is last = front_both is all last i.ends behind in
     let end_labels : EndsBy is code_of_labels = front_both is last code_of_labels end_last (labels_stand kind starts labels last) in
     let ll = ends_length last code_of_labels (labels_stand kind starts labels last) in
     let la = ends_length is all i.ends in
-    let lm = ends_length (code.Skip k ∷ all) mid p.ends in
+    let lm = ends_length (skip_front k all) mid p.ends in
+    let ls = skip_length k all in
     let lt = ends_length code_of_labels (term_front t code_of_labels) (term_stands t code_of_labels) in
     record {
       ends = front_both is code_of_labels _ end_labels (term_stands t code_of_labels);
@@ -202,15 +204,15 @@ packs_case is all mid kind t starts labels items other k labels_room depth n m n
           let ds = value t (read r.signals) in
           term_runs t code_of_labels (between st r)
           ∙ labels_run kind starts labels is all last items other n ds st r i behind inside
-          (p.runs st r ∙ exec_to is all k (between st (activation other r)) i.ends ek);
+          (p.runs st r ∙ skip_runs is all k st (activation other r) i.ends ek);
       fits = λ room ws st c s d l x j h.
           let rest : FitsUpTo room ws is st (c + m.stores) = λ a g. x a (omega (arith, g, ns)) in
-          let skip : FitsUpTo room ws (code.Skip k ∷ all) st (c + m.stores) = λ a g. (tt, fits_to is all k room ws st a i.ends ek (rest a g)) in
+          let skip : FitsUpTo room ws (skip_front k all) st (c + m.stores) = λ a g. skip_fits is all k room ws st a i.ends ek (rest a g) in
           let default : FitsUpTo room ws last (width t ∷ st) c =
           λ a g. (tt, p.fits room ws st c s.4 (omega (arith, d, nd)) (omega (arith, l, ns)) skip a g) in
           term_fits t room ws code_of_labels (record { stack = st; stores = j }) s.0 (omega (arith, d, nd, et))
           (labels_fit kind starts labels is all last items n room ws st (width t) c i behind s.2 s.1 s.3
           (omega (arith, d, nd, el)) (omega (arith, l, ns)) (λ a g. x a (omega (arith, g, ns))) default j h);
-      depth = omega (arith, nd, few, few_labels, i.depth, p.depth, ll, la, lm, lt);
-      stores = omega (arith, ns, i.stores, p.stores, ll, la, lm, lt);
+      depth = omega (arith, nd, few, few_labels, i.depth, p.depth, ll, la, lm, lt, ls);
+      stores = omega (arith, ns, i.stores, p.stores, ll, la, lm, lt, ls);
     }

@@ -1,4 +1,5 @@
 pub mod Operands
+pub mod Skips
 pub mod Touches
 pub mod Agree
 pub mod Steps

@@ -16,9 +16,9 @@ use Rattle.v_exec.specs.declared.instruction.Instruction.TheVariants as code
 use Rattle.v_exec.specs.declared.instruction.Mode.TheVariants as mode
 use Rattle.v_exec.specs.declared.packing.needs.Needs.{Needs}
 use Rattle.v_exec.specs.Machine.{exec}
-use Rattle.v_exec.specs.Packing.{term_front, term_depth, deepest, target_front, target_depth, target_stores, blocking_front}
+use Rattle.v_exec.specs.Packing.{term_front, term_depth, deepest, target_front, target_depth, target_stores, blocking_front, skip_front}
 use Rattle.v_exec.specs.Packed.{between, Packs, PacksAct, PacksActs, ItemsStand, AreStarts, labels_front, labels_depth}
-use Rattle.v_exec.proofs.Acts.{packs_then, packs_choice, packs_blocking, packs_later, ends_length}
+use Rattle.v_exec.proofs.Acts.{packs_then, packs_choice, packs_blocking, packs_later, ends_length, skip_length}
 use Rattle.v_exec.proofs.Cases.{packs_case, items_next, at_item}
 use Rattle.v_exec.proofs.Labels.{take_next}
 
@@ -33,6 +33,10 @@ packs_as is new f S a n e s p = record {
   stores = p.stores;
 }
 
+pub packs_same : {E : Type 0} (act a : Act) (is new : List Instruction) (r : Result Needs E) → act ≡ a
+    → IfOk r (λ n. PacksAct is new a n) → IfOk r (λ n. PacksAct is new act n)
+packs_same {E} act a is new r e p = subst (λ (x : Act). IfOk r (λ n. PacksAct is new x n)) (sym e) p
+
 pub packs_block : {E : Type 0} (act : Act) (list : Acts) (is new : List Instruction) (r : Result Needs E) → act ≡ Block list
     → IfOk r (λ n. PacksActs is new (acts_of list) n) → IfOk r (λ n. PacksAct is new act n)
 packs_block {E} act list is new (Ok n) e p =
@@ -42,7 +46,7 @@ packs_block {E} act list is new (Err x) e p = p
 
 pub packs_if : (act a b : Act) (t : Term) (first second : Box Act Global) (is other skipped first_code tested new : List Instruction) (k n depth : ℕ) (na nb either needs : Needs)
     → act ≡ If t first second → a ≡ first.value → b ≡ second.value
-    → PacksAct is other b nb → k ≡ length other - length is → skipped ≡ code.Skip k ∷ other
+    → PacksAct is other b nb → k ≡ length other - length is → skipped ≡ skip_front k other
     → PacksAct skipped first_code a na → n ≡ length first_code - length other → tested ≡ code.Unless n ∷ first_code
     → new ≡ term_front t tested → depth ≡ term_depth t → depth + length tested ≤ length new
     → either ≡ record { depth = max na.depth nb.depth; stores = max na.stores nb.stores }
@@ -50,8 +54,8 @@ pub packs_if : (act a b : Act) (t : Term) (first second : Box Act Global) (is ot
     → PacksAct is new act needs
 packs_if act a b t first second is other skipped first_code tested new k n depth na nb either needs e ea eb pb ek es pa en et enew ed few ee eneeds =
     let pb' : PacksAct is other second.value nb = subst (λ (x : Act). PacksAct is other x nb) eb pb in
-    let pa' : PacksAct (code.Skip k ∷ other) first_code first.value na =
-    subst (λ (x : Act). PacksAct (code.Skip k ∷ other) first_code x na) ea (subst (λ (xs : List Instruction). PacksAct xs first_code a na) es pa) in
+    let pa' : PacksAct (skip_front k other) first_code first.value na =
+    subst (λ (x : Act). PacksAct (skip_front k other) first_code x na) ea (subst (λ (xs : List Instruction). PacksAct xs first_code a na) es pa) in
     let whole : new ≡ term_front t (code.Unless n ∷ first_code) = enew ∙ ap (term_front t) et in
     let d : needs.depth ≡ max depth (max na.depth nb.depth) =
     ap (λ (x : Needs). x.depth) eneeds ∙ ap (λ (x : Needs). max depth x.depth) ee in
@@ -64,7 +68,7 @@ packs_if act a b t first second is other skipped first_code tested new k n depth
 pub packs_case_act : (act a : Act) (kind : CaseKind) (t : Term) (labels : List Label) (items : Acts) (other : Box Act Global)
     (starts starts' : List ℕ) (is all skipped mid last tested new : List Instruction) (k room depth : ℕ) (n m either labelled needs : Needs) (ws : List ℕ)
     → act ≡ Case kind t labels items other → a ≡ other.value → starts' ≡ starts → IsSound act ws
-    → ItemsStand is all starts (acts_of items) n → k ≡ length all - length is → skipped ≡ code.Skip k ∷ all
+    → ItemsStand is all starts (acts_of items) n → k ≡ length all - length is → skipped ≡ skip_front k all
     → PacksAct skipped mid a m → last ≡ code.Discard ∷ mid
     → tested ≡ labels_front kind starts' labels last → room ≡ labels_depth labels → room + length last ≤ length tested + 1
     → new ≡ term_front t tested → depth ≡ term_depth t → depth + length tested ≤ length new
@@ -75,8 +79,8 @@ pub packs_case_act : (act a : Act) (kind : CaseKind) (t : Term) (labels : List L
 packs_case_act act a kind t labels items other starts starts' is all skipped mid last tested new k room depth n m either labelled needs ws
     e ea est sound i ek es p el etest eroom fewl enew ed few ee elab eneeds =
     let inside = (case_back t labels items other.value ws (subst (λ (x : Act). IsSound x ws) e sound)).2 in
-    let p' : PacksAct (code.Skip k ∷ all) mid other.value m =
-    subst (λ (x : Act). PacksAct (code.Skip k ∷ all) mid x m) ea (subst (λ (xs : List Instruction). PacksAct xs mid a m) es p) in
+    let p' : PacksAct (skip_front k all) mid other.value m =
+    subst (λ (x : Act). PacksAct (skip_front k all) mid x m) ea (subst (λ (xs : List Instruction). PacksAct xs mid a m) es p) in
     let tests : tested ≡ labels_front kind starts labels (code.Discard ∷ mid) =
     etest ∙ (ap (λ (xs : List ℕ). labels_front kind xs labels last) est ∙ ap (labels_front kind starts labels) el) in
     let whole : new ≡ term_front t (labels_front kind starts labels (code.Discard ∷ mid)) = enew ∙ ap (term_front t) tests in
@@ -135,7 +139,7 @@ acts_next xs at a is mid new n m needs h g p q e =
     (ap (λ (x : Needs). x.depth) e) (ap (λ (x : Needs). x.stores) e) q p)
 
 pub items_push : (xs : List Act) (at : ℕ) (a : Act) (is old skipped mid new : List Instruction) (starts starts' : List ℕ) (k start : ℕ) (n m needs : Needs)
-    → slice_get xs at ≡ Some a → ItemsStand is old starts (take at xs) n → k ≡ length old - length is → skipped ≡ code.Skip k ∷ old
+    → slice_get xs at ≡ Some a → ItemsStand is old starts (take at xs) n → k ≡ length old - length is → skipped ≡ skip_front k old
     → PacksAct skipped mid a m → new ≡ code.Discard ∷ mid → start ≡ length new → starts' ≡ starts ++ start ∷ []
     → needs ≡ record { depth = max n.depth m.depth; stores = max n.stores m.stores }
     → ItemsStand is new starts' (take (at + 1) xs) needs
@@ -150,7 +154,7 @@ items_push xs at a is old skipped mid new starts starts' k start n m needs g i e
 
 -- the starts of items lie in the code, also where more stands in front
 pub starts_inside : (is all skipped mid last : List Instruction) (starts starts' : List ℕ) (items : List Act) (a : Act) (k : ℕ) (n m : Needs)
-    → ItemsStand is all starts items n → starts' ≡ starts → skipped ≡ code.Skip k ∷ all → PacksAct skipped mid a m → last ≡ code.Discard ∷ mid
+    → ItemsStand is all starts items n → starts' ≡ starts → skipped ≡ skip_front k all → PacksAct skipped mid a m → last ≡ code.Discard ∷ mid
     → AreStarts starts' (length last)
 starts_inside is all skipped mid last starts starts' items a k n m i est es p el j h =
     let h' : j < length items = omega (arith, h, ap length est, i.count) in
@@ -159,7 +163,7 @@ starts_inside is all skipped mid last starts starts' items a k n m i est es p el
     let longer = ends_length s.here all s.ends in
     let longest = ends_length skipped mid p.ends in
     let e : slice_index starts' j ≡ slice_index starts j = ap (λ (ys : List ℕ). slice_index ys j) est in
-    omega (arith, e, s.long, longer, longest, ap length es, ap length el)
+    omega (arith, e, s.long, longer, longest, ap length es, skip_length k all, ap length el)
 
 pub items_known : (t : Term) (act : Act) (kind : CaseKind) (labels : List Label) (items : Acts) (other : Box Act Global) (ws : List ℕ)
     (is all : List Instruction) (starts starts' : List ℕ) (n : Needs)

@@ -1,5 +1,5 @@
 -- A means of proof: the instructions of expressions and targets, in front of those that follow them.
-use Rattle.std.specs.Prelude.{ℕ, ◌+◌, List, ◌∷◌, max}
+use Rattle.std.specs.Prelude.{ℕ, zero, suc, ◌+◌, List, ◌∷◌, max}
 use Rattle.gpi.specs.declared.selects.Range.{Range}
 use Rattle.gpi.specs.declared.terms.Term.{Term}
 use Rattle.gpi.specs.declared.terms.Term.TheVariants.{Const, Signal, Word', Select', Unary', Arith', Compare', Logic', Reduce', Shift', Cond', Concat', Repeat', Resize'}
@@ -18,6 +18,11 @@ use Rattle.v_exec.specs.declared.instruction.Mode.TheVariants as mode
 -- more instructions than a list in memory can hold
 abbrev pub too_many : ℕ
 too_many = 9223372036854775808
+
+-- a jump over so many instructions in front of these; to pass over none takes no jump
+abbrev pub skip_front : ℕ → List Instruction → List Instruction
+skip_front zero is = is
+skip_front (suc n) is = code.Skip (suc n) ∷ is
 
 -- ---- expressions
 

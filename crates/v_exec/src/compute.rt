@@ -26,22 +26,22 @@ pub(crate) fn compute(instruction: &Instruction, shown: &[Bits], stack: &mut Sta
     ensures widths { widths_of (stack_of stack.new) ≡ leaves_stack instruction.now (widths_of shown.now) (widths_of (stack_of stack.old)) }
     ensures room { stack_room stack.new ≡ stack_room stack.old }
 {
-    match *instruction {
-        Instruction::Constant(bits) => stack.push(bits),
+    match instruction {
+        Instruction::Constant(bits) => stack.push(*bits),
         Instruction::Signal(sig) => stack.push(shown[sig.0 as usize]),
         Instruction::Word(words, width) => {
             let index = stack.pop().to_number();
-            stack.push(word(words, index, width, shown));
+            stack.push(word(*words, index, *width, shown));
         }
         Instruction::Select(range, width) => {
             let index = stack.pop().to_number();
             let from = stack.pop();
-            stack.push(range.select(from, index, width));
+            stack.push(range.select(from, index, *width));
         }
         Instruction::Part { low, width } => {
             let whole = stack.pop();
             stack.push(whole);
-            stack.push(whole.slice(low, width));
+            stack.push(whole.slice(*low, *width));
         }
         Instruction::Discard => {
             stack.pop();
@@ -60,7 +60,7 @@ fn operate(instruction: &Instruction, stack: &mut Stack)
     ensures widths { widths_of (stack_of stack.new) ≡ leaves_stack instruction.now [] (widths_of (stack_of stack.old)) }
     ensures room { stack_room stack.new ≡ stack_room stack.old }
 {
-    match *instruction {
+    match instruction {
         Instruction::Unary(op) => {
             let a = stack.pop();
             stack.push(op.apply(a));
@@ -71,11 +71,11 @@ fn operate(instruction: &Instruction, stack: &mut Stack)
         }
         Instruction::Repeat(n) => {
             let a = stack.pop();
-            stack.push(repeated(n, a));
+            stack.push(repeated(*n, a));
         }
         Instruction::Resize(width) => {
             let a = stack.pop();
-            stack.push(a.resize(width));
+            stack.push(a.resize(*width));
         }
         _ => operate_more(instruction, stack),
     }

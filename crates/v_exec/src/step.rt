@@ -43,24 +43,16 @@ pub(crate) fn step(
     ensures few { length later.new.items ≤ stores_after instruction.now 0 + length later.old.items }
     ensures room { vec_capacity later.new ≡ vec_capacity later.old }
 {
-    match *instruction {
-        Instruction::Stop => None,
-        Instruction::Skip(n) => Some(n),
-        Instruction::Unless(n) => Some(unless(n, &mut work.stack)),
-        Instruction::Match(kind, n) => Some(match_label(kind, n, &mut work.stack)),
-        Instruction::Store(place, mode) => {
-            store(place, mode, shown, hidden, later, work);
-            Some(0)
-        }
-        Instruction::WriteNoted => {
-            write_noted(shown, hidden, work);
-            Some(0)
-        }
-        _ => {
-            compute(instruction, shown, &mut work.stack);
-            Some(0)
-        }
+    match instruction {
+        Instruction::Stop => return None,
+        Instruction::Skip(n) => return Some(*n),
+        Instruction::Unless(n) => return Some(unless(*n, &mut work.stack)),
+        Instruction::Match(kind, n) => return Some(match_label(*kind, *n, &mut work.stack)),
+        Instruction::Store(place, mode) => store(*place, *mode, shown, hidden, later, work),
+        Instruction::WriteNoted => write_noted(shown, hidden, work),
+        _ => compute(instruction, shown, &mut work.stack),
     }
+    Some(0)
 }
 
 /// Takes a condition off: 0 where it is true, else `n` (clause 9.4).

@@ -121,7 +121,8 @@ fn write(
     ensures few { length touched.new.items ≤ length touched.old.items + 1 }
     ensures room { vec_capacity touched.new ≡ vec_capacity touched.old }
 {
-    let at = update.sig.0 as usize;
+    let sig = update.sig;
+    let at = sig.0 as usize;
     let kept = hidden[at];
     match kept {
         Some(bits) => hidden[at] = Some(placed(bits, update.low, update.bits)),
@@ -130,10 +131,7 @@ fn write(
             shown[at] = placed(before, update.low, update.bits);
             if !flags[at] {
                 flags[at] = true;
-                touched.push_reserved(Touched {
-                    sig: update.sig,
-                    before,
-                });
+                touched.push_reserved(Touched { sig, before });
             }
         }
     }
@@ -168,12 +166,11 @@ pub(crate) fn store(
         match mode {
             Mode::Now => write(update, shown, hidden, &mut work.touched, &mut work.flags),
             Mode::Noted => work.noted.push_reserved(update),
-            Mode::Later(delay) => later.push_reserved(Update {
-                sig: update.sig,
-                low: update.low,
-                bits: update.bits,
-                delay,
-            }),
+            Mode::Later(delay) => {
+                let mut waiting = update;
+                waiting.delay = delay;
+                later.push_reserved(waiting);
+            }
         }
     }
 }

@@ -3,6 +3,8 @@ ghost use Rattle.std.specs.Prelude.{◌≡◌, ◌+◌, ◌≤◌, ◌<◌, [], 
 ghost use Rattle.gpi.specs.Cases.{AreItems};
 ghost use Rattle.gpi.specs.Activation.{acts_of, IsSound, SoundList};
 ghost use Rattle.gpi.specs.Design.{widths};
+ghost use Rattle.gpi.specs.Targets.{IsSoundTarget};
+ghost use Rattle.gpi.specs.declared.acts.Act.{Blocking, Nonblocking};
 ghost use Rattle.v_exec.specs.Packing.{too_many};
 ghost use Rattle.v_exec.specs.Packed.{PacksAct, PacksActs, ItemsStand, AreStarts, labels_front, labels_depth};
 
@@ -10,7 +12,7 @@ use super::backwards::Backwards;
 use super::needs::Needs;
 use super::terms::deepest;
 use crate::instruction::{Instruction, Mode};
-use gpi::{Act, Acts, CaseKind, Label, Signal};
+use gpi::{Act, Acts, CaseKind, Label, Signal, Target, Term};
 use port_io::{NoMemory, Sequence};
 use std::alloc::Global;
 
@@ -35,36 +37,61 @@ impl Backwards {
                 let end = self.len();
                 let second = self.act(alloc, second, signals)?;
                 let other = self.len();
-                self.put(Instruction::Skip(other - end))?;
+                self.skip(other - end)?;
                 let first = self.act(alloc, first, signals)?;
                 let passed = self.len() - other;
                 self.put(Instruction::Unless(passed))?;
-                let condition = self.term(condition)?;
-                Ok(first.or(second).behind(condition))
+                Ok(first.or(second).behind(self.term(condition)?))
             }
             Act::Case(kind, value, labels, items, other) => {
                 let end = self.len();
                 let mut starts = Vec::new(alloc);
                 let items = self.items(alloc, items, &mut starts, signals)?;
                 let passed = self.len() - end;
-                self.put(Instruction::Skip(passed))?;
+                self.skip(passed)?;
                 let other = self.act(alloc, other, signals)?;
                 self.put(Instruction::Discard)?;
                 let labels = self.labels(*kind, labels, &starts)?;
-                let value = self.term(value)?;
-                Ok(items.or(other).behind(labels).behind(value))
+                Ok(items.or(other).behind(labels).behind(self.term(value)?))
             }
-            Act::Blocking(target, value) => {
-                let target = self.blocking(target, signals)?;
-                let value = self.term(value)?;
-                Ok(target.above(value))
-            }
-            Act::Nonblocking(target, value, delay) => {
-                let target = self.target(target, Mode::Later(*delay), signals)?;
-                let value = self.term(value)?;
-                Ok(target.above(value))
-            }
+            Act::Blocking(target, value) => self.at_once(target, value, signals),
+            Act::Nonblocking(target, value, delay) => self.later(target, value, *delay, signals),
         }
+    }
+
+    /// The same of a blocking assignment.
+    fn at_once(
+        &mut self,
+        target: &Target,
+        value: &Term,
+        signals: &Sequence<Signal>,
+    ) -> Result<Needs, NoMemory>
+        requires small { length self.old < too_many }
+        requires sound { IsSoundTarget target.now (widths signals.now) }
+        ensures packs { IfOk result (λ needs. PacksAct self.old self.new (Blocking target.now value.now) needs) }
+        ensures fits { OnOk result (length self.new < too_many) }
+    {
+        let target = self.blocking(target, signals)?;
+        let value = self.term(value)?;
+        Ok(target.above(value))
+    }
+
+    /// The same of a nonblocking one.
+    fn later(
+        &mut self,
+        target: &Target,
+        value: &Term,
+        delay: u64,
+        signals: &Sequence<Signal>,
+    ) -> Result<Needs, NoMemory>
+        requires small { length self.old < too_many }
+        requires sound { IsSoundTarget target.now (widths signals.now) }
+        ensures packs { IfOk result (λ needs. PacksAct self.old self.new (Nonblocking target.now value.now delay) needs) }
+        ensures fits { OnOk result (length self.new < too_many) }
+    {
+        let target = self.target(target, Mode::Later(delay), signals)?;
+        let value = self.term(value)?;
+        Ok(target.above(value))
     }
 
     /// The same of statements that run one after the other.
@@ -111,7 +138,7 @@ impl Backwards {
         let mut needs = Needs::none();
         for at in 0..items.len() {
             let passed = self.len() - end;
-            self.put(Instruction::Skip(passed))?;
+            self.skip(passed)?;
             let item = self.act(alloc, sound_statement(items, at, signals), signals)?;
             self.put(Instruction::Discard)?;
             starts.push(self.len())?;

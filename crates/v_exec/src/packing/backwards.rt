@@ -1,6 +1,6 @@
 //! Instructions that are made from the last to the first.
 ghost use Rattle.std.specs.Prelude.{◌≡◌, ◌∷◌, ◌++◌, ◌<◌, [], length, OnOk};
-ghost use Rattle.v_exec.specs.Packing.{too_many};
+ghost use Rattle.v_exec.specs.Packing.{too_many, skip_front};
 
 use crate::instruction::Instruction;
 use port_io::NoMemory;
@@ -40,6 +40,19 @@ impl Backwards {
     {
         self.list.push(instruction)?;
         Ok(())
+    }
+
+    /// Adds a jump over so many instructions, in front of all others; to pass over none takes no jump.
+    #[tactic(auto, using(crate::proofs::Skips::skips))]
+    pub(crate) fn skip(&mut self, passed: usize) -> Result<(), NoMemory>
+        requires { length self.old < too_many }
+        ensures is { OnOk result (self.new ≡ skip_front passed self.old) }
+        ensures fits { OnOk result (length self.new < too_many) }
+    {
+        if passed == 0 {
+            return Ok(());
+        }
+        self.put(Instruction::Skip(passed))
     }
 
     /// How many instructions there are.

@@ -1,5 +1,6 @@
 //! The instructions of targets.
-ghost use Rattle.std.specs.Prelude.{◌≡◌, ◌+◌, ◌≤◌, ◌<◌, length, max, OnOk, IfOk};
+ghost use Rattle.v_exec.specs.declared.instruction.Instruction.TheVariants as code;
+ghost use Rattle.std.specs.Prelude.{◌≡◌, ◌∷◌, ◌+◌, ◌≤◌, ◌<◌, length, max, OnOk, IfOk};
 ghost use Rattle.gpi.specs.Design.{widths};
 ghost use Rattle.gpi.specs.Targets.{target_width, IsSoundTarget};
 ghost use Rattle.v_exec.specs.Packing.{
@@ -54,21 +55,20 @@ impl Backwards {
                 let (high_width, low_width) = (width_of(high, signals), width_of(low, signals));
                 self.put(Instruction::Discard)?;
                 let low = self.target(low, mode, signals)?;
-                self.put(Instruction::Part {
-                    low: 0,
-                    width: low_width,
-                })?;
+                self.part(0, low_width)?;
                 let high = self.target(high, mode, signals)?;
-                self.put(Instruction::Part {
-                    low: low_width,
-                    width: high_width,
-                })?;
-                Ok(Needs {
-                    depth: high.depth.max(low.depth) + 1,
-                    stores: high.stores + low.stores,
-                })
+                self.part(low_width, high_width)?;
+                Ok(high.then(low).above(0))
             }
         }
+    }
+
+    /// Adds the instruction that pushes so many digits of the top, from a place on, in front of all others.
+    fn part(&mut self, low: u8, width: u8) -> Result<(), NoMemory>
+        ensures is { OnOk result (self.new ≡ code.Part low width ∷ self.old) }
+        ensures fits { OnOk result (length self.new < too_many) }
+    {
+        self.put(Instruction::Part { low, width })
     }
 
     /// The same for a blocking assignment: the parts of a braced target are noted, and then written (clause 9.2.1).
