@@ -1,8 +1,16 @@
-"""Rows on reads and puts that fail, each in turn, and on the least run's two texts, each cut after each byte. All by hand."""
+"""Rows on reads and puts that fail, each in turn, and on the two texts of two runs, each cut after each byte.
+
+One is the least run; the other has a queue, a forced signal, a delayed assignment and `--vcd`. By hand, but for the lines of cut texts that run, which
+are the models'.
+"""
 import re
 
+from models.run_model import model
+from models.vcd_text import vcd
+from models.verilog_model import flat_of
 from rows.command_rows import USAGE, command, model_lines
 from rows.row_texts import DESIGN, HEADER, SMALL, test
+from rows.rows_of_budgets import BUSY
 from rows.rows_of_refusals import BAD_DESIGN, BAD_TESTS
 from rows.rows_worked import EXACT, FLIP_FLOP, FLIP_FLOP_TESTS, ORDERED, ORDERED_TEST, PORT
 
@@ -35,6 +43,8 @@ RUNS = [
     *failing("told changes", "--trace d.v t.py", DESIGN, EXACT, {"trace": True}),
     *failing("the end of a budget", "--trace --budget 5 d.v t.py", DESIGN, EXACT, {"trace": True, "budget": 5}),
     *failing("a skipped test and a failed one", "d.v t.py", SMALL, SKIPPED, {}),
+    *failing("a queue, a forced signal and a delayed update", "--trace --budget 20 d.v t.py", BUSY.design, BUSY.tests,
+             {"trace": True, "budget": 20}),
 ]
 
 
@@ -58,22 +68,28 @@ ONE_LINE = "module top(input a); endmodule"
 
 
 def design_rule(cut):
-    """Why the front of the least design is refused: what has no form in its place, else the text's end."""
+    """Why the front of such a design of one line is refused: what has no form in its place, else the text's end."""
     if not cut:
         return "NoTop at 1:1"
     if len(cut) < len("module"):
         return "Syntax at 1:1"
-    # `end` is reserved, and the other fronts of `endmodule` name a module that is instantiated
-    return "Syntax at 1:22" if cut.endswith(" end") else f"Syntax at 1:{len(cut) + 1}"
+    # `end` is reserved, and the other fronts of `endmodule` name a module that is instantiated; an assignment has no `<`
+    refused = next((mark for mark in ("end", "<") if cut.endswith(f" {mark}")), "")
+    return f"Syntax at 1:{len(cut) + 1 - len(refused)}"
 
 
 # the last line of a cut, without the blanks and line feeds behind it, and the rule that it breaks
 LAST_LINES = [
     (r"|import cocotb", "NoTests"), (r"import \w+", "UnknownImport"), (r"from cocotb\.\w+ import \w+(, \w+)*", "names"), (r"@cocotb\.test\(\)", "Misplaced"),
-    (r"@cocotb\.test\(|async def t\([a-z]*", "UnclosedText"), (r"async def t\(dut\):", "NoBlock"), (r"    pass", "runs"), (r".*", "BadLine"),
+    (r"@cocotb\.test\(|async def t\([a-z]*", "UnclosedText"), (r"async def t\(dut\):", "NoBlock"), (r"    pass", "runs"),
+    # of the other run: what stands open, what is a form without its call or of no name, and what runs
+    (r"    [^()]*\([^)]*", "UnclosedText"), (r"    (\w+ = await p(\.\w+)?|await Timer\(.*\)|.*\(\d?\)|.* = \d)", "runs"),
+    (r"    (\w+ = )?await", "BadLine"), (r"    (.* = Queue|.* = Force|await Timer)", "Misplaced"), (r"    (.* = \w+|await \w+)", "UnknownName"),
+    (r".*", "BadLine"),
 ]
 LISTED = {
-    "cocotb.triggers": "Combine Edge Event First Join Lock ReadOnly RisingEdge Timer TriggerException with_timeout".split(), "cocotb.result": ["SimTimeoutError"],
+    "cocotb.triggers": "Combine Edge Event First Join Lock ReadOnly RisingEdge Timer TriggerException with_timeout".split(),
+    "cocotb.result": ["SimTimeoutError"], "cocotb.queue": ["Queue"], "cocotb.handle": ["Force"],
 }
 
 
@@ -99,8 +115,28 @@ def tests_cut(end):
     return command(rule, words, *texts, "TestsRefused", [f"error: t.py: {why[0]} at line {why[1]}"])
 
 
+LATE = "module top(input c, output reg q); always @(posedge c) q <= #3 ~q; endmodule"
+HELD = "import cocotb\nfrom cocotb.queue import Queue\nfrom cocotb.handle import Force\nfrom cocotb.triggers import Timer\n" + test(
+    'p = Queue(1); p.put_nowait(1); dut.q.value = Force(1); x = await p.get(); dut.c.value = 1; await Timer(4, "step")')
+
+
+def held_cut(end):
+    """The tests of the other run, cut: its line of a refusal, or its waves."""
+    why = tests_rule(HELD[:end])
+    rule, words, texts = f"the tests of a run of a queue and a Force, cut after {end} bytes", "--vcd d.v t.py", (LATE, HELD[:end])
+    if why is None:
+        run = model(*texts, trace=True)
+        return command(rule, words, *texts, run.status, vcd(flat_of(LATE), run.lines).splitlines())
+    return command(rule, words, *texts, "TestsRefused", [f"error: t.py: {why[0]} at line {why[1]}"])
+
+
+OTHER_CUTS = [
+    command(f"the design of a delayed update, cut after {end} bytes", "--vcd d.v t.py", LATE[:end], HELD, "DesignRefused",
+            [f"error: d.v: {design_rule(LATE[:end])}"])
+    for end in range(len(LATE))
+] + [held_cut(end) for end in range(len(HELD) + 1)]
 CUTS = [
     command(f"the design of the least run, cut after {end} bytes", "d.v t.py", ONE_LINE[:end], LEAST, "DesignRefused", [f"error: d.v: {design_rule(ONE_LINE[:end])}"])
     for end in range(len(ONE_LINE))
 ] + [tests_cut(end) for end in range(len(LEAST) + 1)]
-FAULTS = [*RUNS, *LINES, *CUTS]
+FAULTS = [*RUNS, *LINES, *CUTS, *OTHER_CUTS]

@@ -1,10 +1,11 @@
 """Runs on kills: each kind of waiting, killed before the task's first turn, while it waits, and when it was woken but had no turn since.
 
-In each of them the task would log `alive` if it went on, and the test goes on for three steps behind the kill. Lines by hand.
+In each of them the task would log `alive` if it went on, and the test goes on for three steps behind the kill. Behind these stand waits at queues, with
+a staged Force, and for the update of a delayed assignment. Lines by hand.
 """
 from collections import namedtuple
 
-from rows.row_texts import HEADER, MORE, Row, failing, function, passing, test
+from rows.row_texts import DESIGN, HEADER, MORE, Row, failing, function, passing, test
 
 # waits: what the task awaits; high: what the helper writes to clk at 2; wakes: what the test does until the task was woken;
 # first: does the task have its first turn before that; at: the time at which the task was woken
@@ -42,6 +43,34 @@ def killed(kind, rule, start, wakes, time):
 BEFORE = [killed(kind, "before its first turn", SOON, "", 0) for kind in KINDS]
 WHILE = [killed(kind, "while it waits", FIRST_TURN, "", 0) for kind in KINDS]
 WOKEN = [killed(kind, "when it was woken", FIRST_TURN if kind.first else SOON, kind.wakes, kind.at) for kind in KINDS]
+
+# `p` has no item, and `r` no room; the rise of `clk` at 1 gives `q` an update for 3, which is 1 where it isn't forced
+LATE_FLOP = "module top(input clk, input [7:0] a, output reg q);\n  initial q = 0;\n  always @(posedge clk) q <= #2 1;\nendmodule\n"
+QUEUES = "from cocotb.queue import Queue\nfrom cocotb.handle import Force\n"
+RISES = 'dut.clk.setimmediatevalue(0); await Timer(1, "step"); dut.clk.setimmediatevalue(1); '
+OTHER_KINDS = [
+    (DESIGN, "", 0, Kind("a get of an empty queue", "p.get()", "p.put_nowait(1)", 0, 1, True)),
+    (DESIGN, "", 0, Kind("a put to a full queue", "r.put(2)", "x = r.get_nowait()", 0, 1, True)),
+    (LATE_FLOP, RISES, 1, Kind("an edge of a delayed update", "RisingEdge(dut.q)", "await RisingEdge(dut.q)", 3)),
+    # the victim has its turn before the test has the next one, so it isn't killed between
+    (LATE_FLOP, RISES + "dut.q.value = Force(1); ", 1, Kind("an edge that a staged Force makes", "RisingEdge(dut.q)", None, 1)),
+]
+
+
+def killed_beside(design, before, begun, kind, rule, start, wakes, time):
+    """The same with two queues, on a design of its own, behind what brings the test to the time at which it begins."""
+    victim = function("v(dut, p, r)", f'await {kind.waits}; dut._log.info("alive")')
+    queues, started = "p = Queue(); r = Queue(1); r.put_nowait(1); ", start.replace("(dut, e, l, j)", "(dut, p, r)")
+    body, end = queues + before + started + (wakes + "; " if wakes else "") + BEHIND, max(time, begun)
+    lines = passing(end + 3, f"{end} INFO True")
+    return Row(f"{kind.name}, killed {rule}", HEADER + MORE + QUEUES + victim + test(body), lines, keys=True, design=design)
+
+
+OTHERS_BEFORE = [killed_beside(*kind, "before its first turn", SOON, "", 0) for kind in OTHER_KINDS]
+OTHERS_WHILE = [killed_beside(*kind, "while it waits", FIRST_TURN, "", 0) for kind in OTHER_KINDS]
+OTHERS_WOKEN = [
+    killed_beside(*kind, "when it was woken", FIRST_TURN if kind[3].first else SOON, kind[3].wakes, kind[3].at) for kind in OTHER_KINDS[:3]
+]
 
 
 def row(rule, functions, body, lines, counts=None):
@@ -82,4 +111,4 @@ OTHERS = [
         'k = cocotb.start_soon(late(dut)); cocotb.start_soon(j(dut, k)); await Timer(1, "step"); k.kill(); await Timer(1, "step")',
         failing(1, "ValueError: mine"), (3, 2, 1)),
 ]
-KILLS = [*BEFORE, *WHILE, *WOKEN, *OTHERS]
+KILLS = [*BEFORE, *WHILE, *WOKEN, *OTHERS, *OTHERS_BEFORE, *OTHERS_WHILE, *OTHERS_WOKEN]

@@ -1,4 +1,4 @@
-"""Rows on VCD texts (IEEE 1364-2005, clause 18, four-state). All by hand.
+"""Rows on VCD texts (IEEE 1364-2005, clause 18, four-state). By hand, but for those of oscillations, which are the models'.
 
 `TEXTS` are commands with `--vcd`: a design, a body of a test, and the whole text that is put; `COMMANDS` are these as rows of the command, with those whose
 puts fail, whose files are refused, and whose words stand in other orders. `READ` are texts with what a reader makes of
@@ -7,7 +7,12 @@ compares both with `tools/models/vcd_text.py`.
 """
 from collections import namedtuple
 
+from models.run_model import model
+from models.vcd_text import vcd
+from models.verilog_model import flat_of
 from rows.command_rows import command
+from rows.rows_of_budgets import BUSY
+from rows.rows_worked import WORKED
 
 # rule, design, the body of a test, the budget, the status and the lines that are put
 Text = namedtuple("Text", "rule design body budget status lines")
@@ -147,6 +152,14 @@ def written(row, words, put=0):
     return command(f"VCD text: {row.rule}{f', put {put} fails' * bool(put)}", words, row.design, tests_of(row.body), status, lines, put=put)
 
 
+def within(row, budget):
+    """The waves of a run within a budget."""
+    run = model(row.design, row.tests, budget, trace=True)
+    lines = vcd(flat_of(row.design), run.lines).splitlines()
+    return command(f"VCD text: {row.rule}, within {budget}", f"--vcd --budget {budget} d.v t.py", row.design, row.tests, run.status, lines)
+
+
+OSCILLATIONS = [next(row for row in WORKED if row.rule == "an oscillation"), BUSY]
 SMALLEST = text("the first text", FLIP_FLOP, TEXTS[0].body, TEXTS[0].lines)
 COMMANDS = [
     *[written(row, f"--vcd --budget {row.budget} d.v t.py") for row in TEXTS],
@@ -155,6 +168,7 @@ COMMANDS = [
         written(SMALLEST._replace(rule=f"the words {words}"), words)
         for words in ["d.v --vcd t.py", "d.v t.py --vcd", "--top top --seed 7 --vcd d.v t.py", "--vcd --budget=9 --top=top d.v -- t.py"]
     ],
+    *[within(row, budget) for row in OSCILLATIONS for budget in range(1, 21)],
     command("VCD text: a design that isn't there", "--vcd d.v t.py", None, "", "ReadFault", ["error: cannot read d.v"]),
     command("VCD text: tests that aren't there", "--vcd d.v t.py", FLIP_FLOP, None, "ReadFault", ["error: cannot read t.py"]),
     command("VCD text: a design that is refused", "--vcd d.v t.py", "modul", "", "DesignRefused", ["error: d.v: Syntax at 1:1"]),

@@ -14,13 +14,17 @@
 //! - `turns`: a design and tests: how many keys are registered after each turn of the first test, but the one in which it ends.
 //!
 //! Where it is another word, the answer is `not asked`.
+//!
+//! Each row is answered twice, over plain parts and over those of the program `cocorun`, and what both come to is the answer.
 
 mod answer;
 mod commands;
 mod designs;
 mod files;
+mod plain;
 mod texts;
 mod turns;
 mod words;
 
 pub use answer::answer;
+pub use plain::PlainRunner;

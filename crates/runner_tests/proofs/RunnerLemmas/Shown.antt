@@ -6,8 +6,6 @@ use Rattle.port_io.specs.declared.ports.NoMemory.{NoMemory}
 use Rattle.gpi.specs.Content.{Content}
 use Rattle.command.specs.declared.regression.status.Status.{Status}
 use Rattle.command.specs.Answer.{LeavesKernel}
-use Rattle.list_kernel.specs.Kernel.{IsLoaded, content_of}
-use Rattle.list_kernel.specs.declared.kernel.ListKernel.{ListKernel}
 use Rattle.runner_tests.specs.Runner.Commands.{Ends, RowEnds, ShowsCommand, ShowsKept, ShowsLong}
 use Rattle.runner_tests.specs.Runner.Files.{long_store, sink_failing}
 use Rattle.runner_tests.specs.Runner.Words.{counted_word, ended_word}
@@ -26,17 +24,17 @@ command_shown bytes row content own out lines ends same (Ok text) shows = record
 }
 
 -- a command with its counts
-pub kept_shown : {T : Type 0} (bytes : T → List ℕ) (row : List ℕ) (before after : ListKernel) (own : Status) (out : Lines) (lines : List ℕ)
-    → RowEnds row (content_of after) own out → LeavesKernel IsLoaded own before after → lines ≡ out.bytes
-    → (r : Result T NoMemory) → IfOk r (λ text. bytes text ≡ counted_word own (content_of after).counts lines)
-    → IfOk r (λ text. ShowsKept row before after (bytes text))
-kept_shown bytes row before after own out lines ends leaves same (Err no_memory) shows = tt
-kept_shown bytes row before after own out lines ends leaves same (Ok text) shows = record {
+pub kept_shown : {T K : Type 0} (content : K → Content) (loaded : K → Type 0) (bytes : T → List ℕ) (row : List ℕ) (before after : K) (own : Status) (out : Lines) (lines : List ℕ)
+    → RowEnds row (content after) own out → LeavesKernel loaded own before after → lines ≡ out.bytes
+    → (r : Result T NoMemory) → IfOk r (λ text. bytes text ≡ counted_word own (content after).counts lines)
+    → IfOk r (λ text. ShowsKept content loaded row before after (bytes text))
+kept_shown content loaded bytes row before after own out lines ends leaves same (Err no_memory) shows = tt
+kept_shown content loaded bytes row before after own out lines ends leaves same (Ok text) shows = record {
   own = own;
   out = out;
   ends = ends;
   leaves = leaves;
-  shows = shows ∙ ap (counted_word own (content_of after).counts) same;
+  shows = shows ∙ ap (counted_word own (content after).counts) same;
 }
 
 -- a command over long files

@@ -5,8 +5,6 @@ use Rattle.port_io.specs.Memory.{Files, Lines}
 use Rattle.gpi.specs.Content.{Content}
 use Rattle.command.specs.declared.regression.status.Status.{Status}
 use Rattle.command.specs.Answer.{Answered, LeavesKernel, Quit}
-use Rattle.list_kernel.specs.Kernel.{IsLoaded, content_of}
-use Rattle.list_kernel.specs.declared.kernel.ListKernel.{ListKernel}
 use Rattle.table_rows.specs.Rows.{is_byte, part_at}
 use Rattle.table_rows.specs.Shown.{latin}
 use Rattle.runner_tests.specs.Runner.Files.{decimal_at, file_means, line_means, long_store, sink_failing, store_at}
@@ -40,12 +38,12 @@ pub record ShowsCommand (row text : List ℕ) : Type 0 where
   pub shows : text ≡ ended_word own out.bytes
 
 -- The status, the counts of the simulator, and what was put; the simulator was the first one and is the second one then.
-pub record ShowsKept (row : List ℕ) (before after : ListKernel) (text : List ℕ) : Type 0 where
+pub record ShowsKept {K : Type 0} (content : K → Content) (loaded : K → Type 0) (row : List ℕ) (before after : K) (text : List ℕ) : Type 0 where
   pub own : Status
   pub out : Lines
-  pub ends : RowEnds row (content_of after) own out
-  pub leaves : LeavesKernel IsLoaded own before after
-  pub shows : text ≡ counted_word own (content_of after).counts out.bytes
+  pub ends : RowEnds row (content after) own out
+  pub leaves : LeavesKernel loaded own before after
+  pub shows : text ≡ counted_word own (content after).counts out.bytes
 
 -- The status of the command over the long files of a row, and what was put.
 pub record ShowsLong (row text : List ℕ) : Type 0 where

@@ -7,7 +7,8 @@ use crate::runner::commands::{command_text, kept_text, long_text};
 use crate::runner::designs::design_text;
 use crate::runner::texts::tests_text;
 use crate::runner::turns::turns_text;
-use list_kernel::ListKernel;
+use command::FileRunner;
+use gpi::Gpi;
 use port_io::NoMemory;
 use std::alloc::Global;
 use table_rows::{Row, push_bytes};
@@ -50,21 +51,23 @@ fn asked_by(word: &[u8]) -> Option<Asked>
     }
 }
 
-/// What a row comes to that asks this. The kernel is that of the `kept` rows: no other row touches it, and after an Err of such a row
-/// nothing is said of it. Only want of memory is an error, here and below.
-fn asked_text(
+/// What a row comes to that asks this, where tests are run so. The first kernel is that of the `kept` rows: no other row touches it, and after an Err
+/// of such a row nothing is said of it. The second one is that of the other commands. Only want of memory is an error, here and below.
+fn asked_text<K: Gpi, R: FileRunner>(
     alloc: Global,
     asked: Asked,
+    runner: &R,
     row: &Row<'_>,
-    kernel: &mut ListKernel,
+    kept: &mut K,
+    other: &mut K,
 ) -> Result<String, NoMemory>
-    ensures shows { IfOk result (λ text. ShowsAsked asked row.now kernel.old kernel.new (string_bytes text)) }
-    ensures leaves { LeavesKept (Some asked) kernel.old kernel.new }
+    ensures shows { IfOk result (λ text. ShowsAsked K.content K.is_loaded asked row.now kept.old kept.new (string_bytes text)) }
+    ensures leaves { LeavesKept (Some asked) kept.old kept.new }
 {
     match asked {
-        Asked::Command => command_text(alloc, row),
-        Asked::Kept => kept_text(alloc, row, kernel),
-        Asked::Long => long_text(alloc, row),
+        Asked::Command => command_text(alloc, runner, row, other),
+        Asked::Kept => kept_text(alloc, runner, row, kept),
+        Asked::Long => long_text(alloc, runner, row, other),
         Asked::Design => design_text(alloc, row),
         Asked::Tests => tests_text(alloc, row),
         Asked::Turns => turns_text(alloc, row),
@@ -72,26 +75,39 @@ fn asked_text(
 }
 
 /// The same by the row's first word.
-fn shown(alloc: Global, row: &Row<'_>, kernel: &mut ListKernel) -> Result<String, NoMemory>
-    ensures shows { IfOk result (λ text. ShowsWord (asked_by (part_at 0 row.now)) row.now kernel.old kernel.new (string_bytes text)) }
-    ensures leaves { LeavesKept (asked_by (part_at 0 row.now)) kernel.old kernel.new }
+fn shown<K: Gpi, R: FileRunner>(
+    alloc: Global,
+    runner: &R,
+    row: &Row<'_>,
+    kept: &mut K,
+    other: &mut K,
+) -> Result<String, NoMemory>
+    ensures shows { IfOk result
+        (λ text. ShowsWord K.content K.is_loaded (asked_by (part_at 0 row.now)) row.now kept.old kept.new (string_bytes text)) }
+    ensures leaves { LeavesKept (asked_by (part_at 0 row.now)) kept.old kept.new }
 {
     match asked_by(row.part(0)) {
-        Some(asked) => asked_text(alloc, asked, row, kernel),
+        Some(asked) => asked_text(alloc, asked, runner, row, kept, other),
         None => Ok(String::from_str(alloc, "not asked")?),
     }
 }
 
 /// The rule of a row, and what the row comes to.
-pub fn answer(alloc: Global, line: &[u8], kernel: &mut ListKernel) -> Result<String, NoMemory>
-    ensures shows { IfOk result (λ out. ShowsRow line.now kernel.old kernel.new (string_bytes out)) }
-    ensures leaves { LeavesKept (asked_by (part_at 0 line.now)) kernel.old kernel.new }
+pub fn answer<K: Gpi, R: FileRunner>(
+    alloc: Global,
+    runner: &R,
+    line: &[u8],
+    kept: &mut K,
+    other: &mut K,
+) -> Result<String, NoMemory>
+    ensures shows { IfOk result (λ out. ShowsRow K.content K.is_loaded line.now kept.old kept.new (string_bytes out)) }
+    ensures leaves { LeavesKept (asked_by (part_at 0 line.now)) kept.old kept.new }
 {
     let row = Row::of(line);
     let mut out = String::new(alloc);
     push_bytes(&mut out, row.part(1))?;
     out.push_str(": ")?;
-    let shown = shown(alloc, &row, kernel)?;
+    let shown = shown(alloc, runner, &row, kept, other)?;
     out.push_str(&shown)?;
     Ok(out)
 }

@@ -5,6 +5,8 @@ ghost use Rattle.port_io.specs.Memory.{Lines};
 ghost use Rattle.gpi.specs.Soundness.{IsSoundFlat};
 ghost use Rattle.test_meaning.specs.Body.Sound.{is_sound, is_sound_case};
 ghost use Rattle.test_meaning.specs.Body.Views.{view_case, view_file, view_function};
+ghost use Rattle.task_core.specs.Code.Functions.{function_of};
+ghost use Rattle.plain_task.specs.Tree.{read_tree};
 ghost use Rattle.table_rows.specs.Rows.{part_at, written};
 ghost use Rattle.command.specs.Answer.{setup_with};
 ghost use Rattle.scheduler.specs.Engine.{Holds, rig_of, setup_of};
@@ -19,7 +21,7 @@ use crate::runner::texts::tests_of;
 use await_tree::wait_list::{Awaits, Steps};
 use gpi::{Flat, Gpi};
 use list_kernel::ListKernel;
-use plain_task::flow::TreeMaker;
+use plain_task::{TreeFunctions, TreeMaker};
 use plain_waits::WaitList;
 use port_io::{MemSink, NoMemory, Sink};
 use rig_model::task::FlowMaker;
@@ -92,6 +94,31 @@ fn begun_told<O: Sink, K: Gpi, L: Ledger, M: FlowMaker + Drop, W: Awaits>(
     }
 }
 
+/// Tells the turns of a test of a file on a design, by the file's functions.
+fn functions_told<O: Sink, K: Gpi, L: Ledger>(
+    alloc: Global,
+    functions: &TreeFunctions,
+    flat: &Flat,
+    file: &TestFile,
+    case: &TestCase,
+    kernel: &mut K,
+    out: &mut O,
+    steps: &mut Steps<L>,
+) -> Result<String, NoMemory>
+    requires functions { map (function_of read_tree) functions.now.functions.items ≡ map view_function file.now.functions }
+    requires flat { IsSoundFlat flat.now }
+    requires file { is_sound (view_file file.now) ≡ true }
+    requires case { is_sound_case (map view_function file.now.functions) (view_case case.now) ≡ true }
+    ensures { IfOk result (λ text. TellsTest (sink_means O.Sink) (setup_with false flat.now (view_file file.now))
+        (view_case case.now) (opening_rig (setup_with false flat.now (view_file file.now))) out.old (string_bytes text)) }
+{
+    kernel.load(alloc, flat)?;
+    let maker = TreeMaker::new(functions);
+    let awaits = WaitList::new(alloc);
+    let mut engine = Engine::new(alloc, maker, awaits, flat, 0, false)?;
+    begun_told(alloc, case, &mut engine, kernel, out, steps)
+}
+
 /// Tells the turns of a test of a file on a design.
 fn test_told<O: Sink, K: Gpi, L: Ledger>(
     alloc: Global,
@@ -108,11 +135,8 @@ fn test_told<O: Sink, K: Gpi, L: Ledger>(
     ensures { IfOk result (λ text. TellsTest (sink_means O.Sink) (setup_with false flat.now (view_file file.now))
         (view_case case.now) (opening_rig (setup_with false flat.now (view_file file.now))) out.old (string_bytes text)) }
 {
-    kernel.load(alloc, flat)?;
-    let maker = TreeMaker::new(file);
-    let awaits = WaitList::new(alloc);
-    let mut engine = Engine::new(alloc, maker, awaits, flat, 0, false)?;
-    begun_told(alloc, case, &mut engine, kernel, out, steps)
+    let functions = TreeFunctions::of(alloc, file)?;
+    functions_told(alloc, &functions, flat, file, case, kernel, out, steps)
 }
 
 /// The same on a new simulator. The blank is for the counter of steps of work.

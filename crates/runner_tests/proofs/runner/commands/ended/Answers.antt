@@ -26,7 +26,7 @@ unfolding with_failing_put
 sink_is call sink failing e is_sink = e ∙ ap (with_failing_put call) is_sink
 
 pub returns-clause-ends : goal.returns-clause-ends
-returns-clause-ends c =
+returns-clause-ends g c =
     ends c.args.text.now (map string_bytes c.deref.result.now) c.args.store c.run-status.new.store c.args.failing c.fail_at.new.self
     c.run-status.new.sink c.run-status.result _ c.run-status.ensures.answer
     (ap (map string_bytes) c.deref.ensures.value ∙ c.in_ok-words.ensures)

@@ -11,7 +11,7 @@ use Rattle.runner_tests.proofs.runner.turns.file_shown.Goals as goal
 pub test_shown-requires-clause-case : goal.test_shown-requires-clause-case
 test_shown-requires-clause-case c =
     sound_at (is_sound_case (map view_function c.args.file.now.functions)) c.args.file.now.cases 0 c.get.result.now
-    (engine_cases options c.args.flat.now c.args.file.now c.args.file.now.functions (setup_with options.trace c.args.flat.now (view_file c.args.file.now)) refl refl c.requires.file)
+    (engine_cases options c.args.flat.now c.args.file.now (map view_function c.args.file.now.functions) (setup_with options.trace c.args.flat.now (view_file c.args.file.now)) refl refl c.requires.file)
     c.get.ensures
 
 pub returns : goal.returns
