@@ -72,6 +72,7 @@ COMPARISONS = [
     Step("compare/control_texts.py"),
     Step("compare/delay_runs.py"),
     Step("compare/queue_runs.py"),
+    Step("compare/cut_runs.py"),
     Step("compare/limits.py"),
     Step("compare/pages.py"),
     Step("wrong_bodies", ["--applies"]),

@@ -8,10 +8,11 @@
 A case has a name, files, words, and the status and the lines that are wanted; each runs in a folder of its own, as many side by side as there are
 processors. What is wanted comes from the tables of the test programs, which were worked out by hand, by CPython or by a model, and from the pages of
 the examples. The script `./cocorun` is tried with a stand-in for the program (`tools/script_cases.py`), its hints on texts that are refused
-(`tools/hint_cases.py`), the program in a stack of 1 MiB on texts with long rows of like parts (`tools/long_texts.py`), the pages on what they
-show (`tools/snippet_cases.py`), and `tools/where.py` on all examples (`tools/where_cases.py`); the tables are made anew by the scripts that need
-nothing else than Python (`tools/make.py --check`). Each case that differs is told with both texts. The last line is `N passed, M failed`,
-and the status is 1 where one failed. It needs `sh` and Python 3.9, and 3.10 for the tables.
+(`tools/hint_cases.py`), the program in a stack of 1 MiB on texts with long rows of like parts (`tools/long_texts.py`) and on damaged copies of the
+examples (`tools/damaged.py`), the pages on what they show (`tools/snippet_cases.py`), and `tools/where.py` on all examples
+(`tools/where_cases.py`); the tables are made anew by the scripts that need nothing else than Python (`tools/make.py --check`). Each case that
+differs is told with both texts. The last line is `N passed, M failed`, and the status is 1 where one failed. It needs `sh` and Python 3.9, and 3.10
+for the tables.
 """
 import argparse
 import difflib
@@ -26,6 +27,7 @@ import time
 from collections import namedtuple
 from pathlib import Path
 
+import damaged
 import hint_cases
 import long_texts
 import script_cases
@@ -44,8 +46,10 @@ USAGE = b"usage: cocorun [--top NAME] [--budget N] [--seed N] [--trace | --vcd] 
 SMALL_DESIGN = b"module top(input a);\nendmodule\n"
 SMALL_TESTS = b"import cocotb\n\n@cocotb.test()\nasync def t(dut):\n    pass\n"
 SMALL_LINES = b"0 TEST t\n0 PASS t\n** TESTS=1 PASS=1 FAIL=0 SKIP=0 TIME=0 **\n"
-# Cases of the table of hints, of what stands on pages, and of the tool that tells lines, by their kinds.
-BESIDE = {hint_cases.HintCase: hint_cases, snippet_cases.SnippetCase: snippet_cases, where_cases.WhereCase: where_cases}
+# Cases of the table of hints, of what stands on pages, of the tool that tells lines, and of damaged texts, by their kinds.
+BESIDE = {
+    hint_cases.HintCase: hint_cases, snippet_cases.SnippetCase: snippet_cases, where_cases.WhereCase: where_cases, damaged.DamagedCase: damaged,
+}
 # Of how many bytes the stack may be while a long text runs.
 SMALL_STACK = 1 << 20
 # Seconds that a case may take.
