@@ -25,6 +25,8 @@ PAGE = ROOT / "docs" / "DEFINITIONS.md"
 ROOTS = [("command", "run_process"), ("command", "cocorun")]
 # The store and the sink that the process hands to the call, and what their traits let them say.
 HANDED = [("port_io", "DirStore"), ("port_io", "WriteSink")]
+# A part that is handed to the call and that no clause of it names: what is promised holds of each that keeps its contract, so that nobody needs to read that.
+UNSAID = {"FileRunner"}
 PORT = ("files", "gives", "misses", "told", "takes", "breaks", "faults")
 MODEL = ("Value", "view", "invariant")
 MEANS = "A means of proof:"
@@ -351,7 +353,7 @@ class Book:
         while self.work:
             here = self.work.pop(0)
             for target in self.named_at(here):
-                if target and target[0] != "module" and target not in self.reached:
+                if target and target[0] != "module" and target not in self.reached and target[-1] not in UNSAID:
                     self.reached[target] = here
                     self.work.append(target)
 
